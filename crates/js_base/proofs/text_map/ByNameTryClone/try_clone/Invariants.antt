@@ -1,0 +1,5 @@
+use Rattle.std.proofs.Common.{◌≡◌, ◌++◌}
+use Rattle.js_base.proofs.text_map.ByNameTryClone.try_clone.Given as goal
+
+abbrev pub invariant-loop-name : goal.invariant-loop-name
+invariant-loop-name g l = l.self ≡ l.map.entries ++ l.name-iterator

@@ -1,0 +1,35 @@
+ghost use Rattle.std.specs.Prelude.{◌≡◌};
+ghost use Rattle.js_base.specs.Clock.{is_due, is_over};
+
+/// A length of time in whole nanoseconds.
+pub type Nanos = u64;
+
+/// A moment: whole nanoseconds from a beginning that the caller chooses.
+pub type Moment = u64;
+
+/// Whether a wait of `wait` nanoseconds that was set at `set` is over at `now`. A wait that would end past `u64::MAX` is
+/// never over.
+pub fn due(now: Moment, set: Moment, wait: Nanos) -> bool
+    ensures { result ≡ is_over set wait now }
+{
+    match set.checked_add(wait) {
+        Some(end) => end <= now,
+        None => false,
+    }
+}
+
+/// A wait that began at a moment.
+#[derive(Clone, Copy, Debug, PartialEq, Eq)]
+pub struct Timer {
+    pub set: Moment,
+    pub wait: Nanos,
+}
+
+impl Timer {
+    /// Whether the wait is over at `now`.
+    pub fn is_due(&self, now: Moment) -> bool
+        ensures { result ≡ is_due self.now now }
+    {
+        due(now, self.set, self.wait)
+    }
+}
