@@ -1,0 +1,17 @@
+pub mod DeliverPolicies
+pub mod ConsumerPolicies
+pub mod ConsumerConfig
+pub mod ConsumerSequenceInfo
+pub mod ClusterInfo
+pub mod ConsumerPriorityGroup
+pub mod ConsumerInfo
+pub mod Batch
+pub mod Responses
+pub mod Creation
+pub mod Special
+pub mod AccountLimits
+pub mod AccountRequests
+pub mod AccountTier
+pub mod AccountAccountInfo
+pub mod PublishAck
+pub mod Conversions

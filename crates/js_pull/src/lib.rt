@@ -1,0 +1,5 @@
+//! The pull reader: what it asks for, what it counts, and what it makes of arrivals.
+#![tactic(auto)]
+
+/// A batch that an ordered consumer asks for.
+pub const ORDERED_BATCH: u64 = 500;
