@@ -1,0 +1,5 @@
+pub mod Kind
+pub mod Limits
+pub mod Reader
+pub mod Stream
+pub mod Passes

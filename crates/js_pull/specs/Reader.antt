@@ -1,0 +1,343 @@
+-- The pull reader, row by row.
+use Rattle.std.specs.Prelude.{ℕ, ◌+◌, ◌-◌, ◌*◌, ◌/◌, ◌^◌, Bool, true, false, ◌&&◌, ◌||◌, not, List, [], ◌∷◌, ◌++◌, Option, Some, None, option_map, Result, Ok, Err, min, nat_le, nat_lt, ◌==◌, codes, unwrap_or, if◌then◌else◌}
+use Rattle.js_base.specs.declared.message.Message.{Message}
+use Rattle.js_base.specs.declared.message.StatusCode.{StatusCode}
+use Rattle.js_base.specs.Headers.{last_value, all_headers}
+use Rattle.js_base.specs.Clock.{is_due, is_any_due, second}
+use Rattle.js_base.specs.declared.clock.Timer.{Timer}
+use Rattle.js_base.specs.declared.message.State.{State}
+use Rattle.js_base.specs.declared.message.State.TheVariants.{Pending, Connected, Disconnected}
+use Rattle.js_json.specs.declared.consumer.info.Info.{Info}
+use Rattle.js_json.specs.declared.response.Response.{Response}
+use Rattle.js_json.specs.declared.response.Response.TheVariants as response
+use Rattle.js_json.specs.Responses.{response_of}
+use Rattle.js_json.specs.ConsumerInfo.{info_fields}
+use Rattle.js_fields.specs.declared.error.ReadError.{ReadError}
+use Rattle.js_fields.specs.Reading.{float_free}
+use Rattle.js_link.specs.Passing.{Passing}
+use Rattle.js_link.specs.Met.{Wish, Met, Publishes, Requests, Reads, Awaits, reply_of}
+use Rattle.js_link.specs.Met as link
+use Rattle.js_link.specs.declared.sent.Sent.{Sent}
+use Rattle.js_link.specs.declared.sent.Sent.TheVariants.{Request, Publish}
+use Rattle.js_pull.specs.Kind.{Kind, Delivered, Quiet, Deleted, PushBased, Limit, Gone, Bad, Ledger, pull_kind}
+use Rattle.js_pull.specs.Limits.{pull_body}
+use Rattle.js_pull.specs.declared.reader.Source.{Source}
+use Rattle.js_pull.specs.declared.reader.Reader.{Reader}
+use Rattle.js_pull.specs.declared.reader.MessagesErrorKind.{MessagesErrorKind}
+use Rattle.js_pull.specs.declared.reader.MessagesErrorKind.TheVariants as error
+use Rattle.js_pull.specs.declared.reader.Inquiry.{Inquiry}
+use Rattle.js_pull.specs.declared.reader.Inquiry.TheVariants.{NoInquiry, Asked, Resting}
+use Rattle.js_pull.specs.declared.reader.Reason.{Reason}
+use Rattle.js_pull.specs.declared.reader.Reason.TheVariants.{Low, Expired, Informed}
+use Rattle.js_pull.specs.declared.reader.Row.{Row}
+use Rattle.js_pull.specs.declared.reader.Row.TheVariants.{Begin, Ask, Threshold, Arm, Inquire, FailInquiry, CheckInquiry, Answered, CheckExpiry, CheckArrival, CheckSilence}
+use Rattle.js_pull.specs.declared.reader.Told.{Told}
+use Rattle.js_pull.specs.declared.reader.Told.TheVariants.{Nothing, Hands, Tells}
+
+-- a reader that has asked for nothing yet
+abbrev pub new_reader : Source → Reader
+new_reader source = record {
+  source = source;
+  pending = 0;
+  pending_bytes = 0;
+  waiting = false;
+  extra = 0;
+  pin = None;
+  expiry = None;
+  silence = None;
+  inquiry = NoInquiry;
+  ended = false;
+}
+
+-- the answer to a request: none where the replier is gone
+pub record Answer : Type 0 where
+  pub request : ℕ
+  pub reply : Option Message
+
+-- a row was passed: the reader after it, what went out, what its user is told, and the rows that follow at once
+pub record Passed : Type 0 where
+  pub reader : Reader
+  pub sent : List Sent
+  pub told : Told
+  pub next : List Row
+
+-- nothing goes out, and nothing is told
+abbrev pub quietly : Reader → List Row → Passed
+quietly reader rows = record { reader = reader; sent = []; told = Nothing; next = rows }
+
+-- the user is told of an error
+abbrev pub tell : MessagesErrorKind → Reader → List Row → Passed
+tell kind reader rows = record { reader = reader; sent = []; told = Tells kind; next = rows }
+
+-- the last number that a counter holds
+abbrev pub u64_max : ℕ
+u64_max = 2 ^ 64 - 1
+
+-- the wait after the nth failure
+abbrev pub retry_wait : ℕ → ℕ
+retry_wait n = if nat_lt n 5 then n * 500_000_000 else 10 * second
+
+-- ---- texts
+
+-- the dot between tokens
+abbrev pub dot : List ℕ
+dot = codes "."
+
+-- of a pull request
+abbrev pub pull_subject : Source → List ℕ
+pull_subject s = s.api ++ codes ".CONSUMER.MSG.NEXT." ++ s.stream ++ dot ++ s.name
+
+-- of an info request
+abbrev pub info_subject : Source → List ℕ
+info_subject s = s.api ++ codes ".CONSUMER.INFO." ++ s.stream ++ dot ++ s.name
+
+-- ---- timers
+
+-- a wait, or none where it is longer than any time
+abbrev pub timer_from : ℕ → ℕ → Option Timer
+timer_from now wait = if nat_le wait u64_max then Some (record { set = now; wait = wait }) else None
+
+-- five seconds after the expiry, where there is one above 0
+abbrev pub armed_expiry : ℕ → Option ℕ → Option Timer
+armed_expiry now None = None
+armed_expiry now (Some expires) = if expires == 0 then None else timer_from now (expires + 5 * second)
+
+-- twice the heartbeat, where it is above 0
+abbrev pub armed_silence : ℕ → ℕ → Option Timer
+armed_silence now heartbeat = if heartbeat == 0 then None else timer_from now (2 * heartbeat)
+
+-- a bound on an answer, where there is one
+abbrev pub timeout_from : ℕ → Option ℕ → Option Timer
+timeout_from now None = None
+timeout_from now (Some wait) = Some (record { set = now; wait = wait })
+
+-- the expiry is armed
+abbrev pub with_expiry : ℕ → Reader → Reader
+with_expiry now r = record r { expiry = armed_expiry now r.source.config.expires }
+
+-- the heartbeat is armed
+abbrev pub with_silence : ℕ → Reader → Reader
+with_silence now r = record r { silence = armed_silence now r.source.config.idle_heartbeat }
+
+-- ---- the ledger
+
+-- a request that sets what is pending, and does not add to it
+abbrev pub resets : Reason → Bool
+resets Low = false
+resets Expired = true
+resets (Informed reset) = reset
+
+-- what is pending after a request for so much
+abbrev pub raised : Bool → ℕ → ℕ → ℕ
+raised reset amount pending = if reset then amount else min (pending + amount) u64_max
+
+-- the count of extra requests after a request
+abbrev pub extra_after : Reason → ℕ → ℕ
+extra_after Low extra = extra
+extra_after Expired extra = 0
+extra_after (Informed reset) extra = if reset then 0 else min (extra + 1) u64_max
+
+-- a request has gone out
+abbrev pub asked : Reason → Reader → Reader
+asked reason r = record r {
+  pending = raised (resets reason) r.source.config.batch r.pending;
+  pending_bytes = raised (resets reason) r.source.config.max_bytes r.pending_bytes;
+  waiting = false;
+  extra = extra_after reason r.extra;
+}
+
+-- a pull request; the expiry is armed whether it goes out or not
+abbrev pub ask : Passing → Reason → Reader → Passed
+ask p reason r =
+    let armed = with_expiry p.now r in
+    if p.up
+    then record {
+      reader = asked reason armed;
+      sent = Publish (pull_subject r.source) (Some r.source.subject) None (pull_body r.pin r.source.config) ∷ [];
+      told = Nothing;
+      next = [];
+    }
+    else tell error.Pull armed []
+
+-- an info is open
+abbrev pub is_asking : Inquiry → Bool
+is_asking NoInquiry = false
+is_asking _ = true
+
+-- at most half of the messages are pending, or of the bytes where they are limited
+abbrev pub is_low : Reader → Bool
+is_low r =
+    nat_le r.pending (r.source.config.batch / 2)
+    || (nat_lt 0 r.source.config.max_bytes && nat_le r.pending_bytes (r.source.config.max_bytes / 2))
+
+-- where little is pending the mark is set, and a request follows unless an info is open
+abbrev pub threshold : Reader → Passed
+threshold r =
+    if is_low r && not r.waiting
+    then quietly (record r { waiting = true }) (if is_asking r.inquiry then [] else Ask Low ∷ [])
+    else quietly r []
+
+-- ---- infos
+
+-- a try: without the link it fails at once
+abbrev pub inquire : Passing → ℕ → Reader → Passed
+inquire p failures r =
+    if p.up
+    then record {
+      reader = record r { inquiry = Asked p.request (timeout_from p.now r.source.patience) failures };
+      sent = Request p.request (info_subject r.source) None (codes "{}") ∷ [];
+      told = Nothing;
+      next = [];
+    }
+    else quietly r (FailInquiry failures ∷ [])
+
+-- the sixth failure ends it
+abbrev pub fail_inquiry : Passing → ℕ → Reader → Passed
+fail_inquiry p failures r =
+    let n = failures + 1 in
+    if nat_lt n 6
+    then quietly (record r { inquiry = Resting (record { set = p.now; wait = retry_wait n }) n }) []
+    else tell error.Pull (record r { inquiry = NoInquiry }) (Ask (Informed false) ∷ [])
+
+-- nobody listens to the subject of a request
+abbrev pub is_unheard : Option StatusCode → Bool
+is_unheard None = false
+is_unheard (Some status) = status.0 == 503
+
+-- an answer that holds an info, and not an error
+abbrev pub info_in : Result (Response Info) ReadError → Option Info
+info_in (Ok (response.Ok info)) = Some info
+info_in (Ok (response.Err error)) = None
+info_in (Err error) = None
+
+-- a payload that reads as an info
+abbrev pub response_info : List ℕ → Option Info
+response_info payload = info_in (response_of (float_free info_fields) payload)
+
+-- a message that is not of status 503, and reads as an info
+abbrev pub info_of_reply : Option Message → Option Info
+info_of_reply None = None
+info_of_reply (Some message) = if is_unheard message.status then None else response_info message.payload
+
+-- a good answer brings a request, with reset where no pull request waits
+abbrev pub answered : ℕ → Option Info → Reader → Passed
+answered failures None r = quietly r (FailInquiry failures ∷ [])
+answered failures (Some info) r = quietly (record r { inquiry = NoInquiry }) (Ask (Informed (info.num_waiting == 0)) ∷ [])
+
+-- the reply to a request, if this answers it
+abbrev pub reply_to : ℕ → Option Answer → Option (Option Message)
+reply_to request None = None
+reply_to request (Some answer) = if request == answer.request then Some answer.reply else None
+
+-- an answer, which is read next, or the timeout
+abbrev pub check_asked : Passing → Option Timer → ℕ → Option (Option Message) → Reader → Passed
+check_asked p timeout failures (Some reply) r = quietly r (Answered reply failures ∷ [])
+check_asked p timeout failures None r = quietly r (if is_any_due timeout p.now then FailInquiry failures ∷ [] else [])
+
+-- an open info looks at its answer before its clock
+abbrev pub check_inquiry : Passing → Option Answer → Inquiry → Reader → Passed
+check_inquiry p answer NoInquiry r = quietly r []
+check_inquiry p answer (Asked request timeout failures) r = check_asked p timeout failures (reply_to request answer) r
+check_inquiry p answer (Resting wait failures) r = quietly r (if is_due wait p.now then Inquire failures ∷ [] else [])
+
+-- ---- arrivals
+
+-- pending falls, not below 0
+abbrev pub lowered : ℕ → ℕ → Reader → Reader
+lowered messages bytes r = record r { pending = r.pending - messages; pending_bytes = r.pending_bytes - bytes }
+
+-- after an error that ends it, no row follows
+abbrev pub end_with : MessagesErrorKind → Reader → Passed
+end_with kind r = tell kind (record r { ended = true }) []
+
+-- what an arrival of a kind does
+abbrev pub hear : Message → Kind → Reader → Passed
+hear message Delivered r = record { reader = lowered 1 message.length r; sent = []; told = Hands message; next = Threshold ∷ [] }
+hear message Quiet r = quietly r (Threshold ∷ [])
+hear message Deleted r = end_with error.ConsumerDeleted r
+hear message PushBased r = end_with error.PushBasedConsumer r
+hear message Limit r = end_with error.RequestLimitExceeded r
+hear message Gone r = tell error.NoResponders r (Threshold ∷ [])
+hear message Bad r = tell error.Other r (Threshold ∷ [])
+hear message (Ledger messages bytes) r =
+    quietly (lowered (unwrap_or messages r.source.config.batch) (unwrap_or bytes r.source.config.max_bytes) r) (Threshold ∷ [])
+
+-- the newer of two pins
+abbrev pub newer : Option (List ℕ) → Option (List ℕ) → Option (List ℕ)
+newer None old = old
+newer (Some new) old = Some new
+
+-- a message may name the pinned client, and status 423 says that it is another one
+abbrev pub pin_after : Message → Option StatusCode → Option (List ℕ) → Option (List ℕ)
+pin_after message None pin = newer (last_value (codes "Nats-Pin-Id") (all_headers message.headers)) pin
+pin_after message (Some status) pin =
+    if status.0 == 200 then newer (last_value (codes "Nats-Pin-Id") (all_headers message.headers)) pin else (
+    if status.0 == 423 then None else pin)
+
+-- only a pinned client keeps a pin
+abbrev pub with_pin : Message → Reader → Reader
+with_pin message r = record r { pin = (if r.source.pinned then pin_after message message.status r.pin else None) }
+
+-- an arrival arms the heartbeat; without one it is looked at
+abbrev pub check_arrival : Passing → Option Message → Reader → Passed
+check_arrival p None r = quietly r (CheckSilence ∷ [])
+check_arrival p (Some message) r = hear message (pull_kind message) (with_pin message (with_silence p.now r))
+
+-- a heartbeat that is missing is told, and armed anew
+abbrev pub check_silence : Passing → Reader → Passed
+check_silence p r = if is_any_due r.silence p.now then tell error.MissingHeartbeat (with_silence p.now r) [] else quietly r []
+
+-- ---- an event
+
+-- without an open info a change to Connected begins one, and another change arms the expiry, which is else looked at
+abbrev pub begin_change : Passing → Option State → Reader → Passed
+begin_change p None r = quietly r (CheckExpiry ∷ CheckArrival ∷ [])
+begin_change p (Some Connected) r = quietly r (Inquire 0 ∷ CheckArrival ∷ [])
+begin_change p (Some Pending) r = quietly (with_expiry p.now r) (CheckArrival ∷ [])
+begin_change p (Some Disconnected) r = quietly (with_expiry p.now r) (CheckArrival ∷ [])
+
+-- what an event does first; an ended reader passes nothing
+abbrev pub begin_row : Passing → Option State → Reader → Passed
+begin_row p change r =
+    if r.ended then quietly r [] else (
+    if is_asking r.inquiry then quietly r (CheckInquiry ∷ CheckArrival ∷ []) else begin_change p change r)
+
+-- what a new reader does first: it asks at once, and arms its heartbeat
+abbrev pub opening : List Row
+opening = Threshold ∷ Arm ∷ []
+
+-- ---- the rows
+
+-- one row is passed
+abbrev pub row : Passing → Option Answer → Option Message → Row → Reader → Passed
+row p answer arrival (Begin change) r = begin_row p change r
+row p answer arrival (Ask reason) r = ask p reason r
+row p answer arrival Threshold r = threshold r
+row p answer arrival Arm r = quietly (with_silence p.now r) []
+row p answer arrival (Inquire failures) r = inquire p failures r
+row p answer arrival (FailInquiry failures) r = fail_inquiry p failures r
+row p answer arrival CheckInquiry r = check_inquiry p answer r.inquiry r
+row p answer arrival (Answered reply failures) r = answered failures (info_of_reply reply) r
+row p answer arrival CheckExpiry r = quietly r (if is_any_due r.expiry p.now then Ask Expired ∷ [] else [])
+row p answer arrival CheckArrival r = check_arrival p arrival r
+row p answer arrival CheckSilence r = check_silence p r
+
+-- ---- what a row asks of the link
+
+-- an open info that was asked for waits for its answer
+abbrev pub awaited : Inquiry → Wish
+awaited (Asked request timeout failures) = Awaits request
+awaited _ = link.Nothing
+
+-- what each row asks: one thing at most
+abbrev pub wish : Row → Reader → Wish
+wish (Ask reason) r = Publishes (pull_subject r.source) (Some r.source.subject) (pull_body r.pin r.source.config)
+wish (Inquire failures) r = Requests (info_subject r.source) (codes "{}")
+wish CheckInquiry r = awaited r.inquiry
+wish CheckArrival r = Reads r.source.inbox
+wish _ r = link.Nothing
+
+-- the answer that was met
+abbrev pub answer_of : Wish → Met → Option Answer
+answer_of (Awaits request) met = option_map (λ reply. record { request = request; reply = reply }) (reply_of met)
+answer_of wish met = None

@@ -1,0 +1,231 @@
+ghost use Rattle.std.specs.Prelude.{◌≡◌, option_to_list};
+ghost use Rattle.js_pull.specs.Reader as rows;
+
+use js_base::{Message, Moment, Nanos, State, Subject, Text, Timer};
+use js_json::BatchConfig;
+
+/// What a pull reader tells of in place of a message.
+#[derive(Clone, Copy, Debug, PartialEq, Eq)]
+pub enum MessagesErrorKind {
+    /// Nothing was heard of the server for two heartbeats.
+    MissingHeartbeat,
+    /// The server has deleted the consumer. The reader has ended.
+    ConsumerDeleted,
+    /// A pull request was not sent, or the consumer's info was asked for six times in vain.
+    Pull,
+    /// An arrival that can't be read.
+    Other,
+    /// Nobody listens to the subject of a pull request.
+    NoResponders,
+    /// The server refuses requests of this size. The reader has ended.
+    RequestLimitExceeded,
+    /// The consumer is a push consumer. The reader has ended.
+    PushBasedConsumer,
+}
+
+/// Whom a reader asks, for what, and where it is answered.
+#[derive(Debug, PartialEq, Eq, Drop)]
+pub struct Source {
+    /// What the subjects of its requests begin with.
+    pub api: Text,
+    pub stream: Text,
+    /// The consumer's name.
+    pub name: Text,
+    /// The number of its inbox,
+    pub inbox: u64,
+    /// and the subject of that.
+    pub subject: Subject,
+    /// How long the answer to an info request is waited for, where there is a bound. In nanoseconds.
+    pub patience: Option<Nanos>,
+    /// What each pull request asks for.
+    pub config: BatchConfig,
+    /// One of several clients is pinned.
+    pub pinned: bool,
+}
+
+/// The info that is asked for after a reconnection.
+#[derive(Clone, Copy, Debug, PartialEq, Eq)]
+pub enum Inquiry {
+    NoInquiry,
+    /// The answer is waited for.
+    Asked {
+        request: u64,
+        timeout: Option<Timer>,
+        failures: u64,
+    },
+    /// The next try waits.
+    Resting {
+        wait: Timer,
+        failures: u64,
+    },
+}
+
+/// Why a pull request is made.
+#[derive(Clone, Copy, Debug, PartialEq, Eq)]
+pub enum Reason {
+    /// Little is pending.
+    Low,
+    /// The last one has expired.
+    Expired,
+    /// An info has come, or has failed for good. With a reset, the server has no request any more.
+    Informed { reset: bool },
+}
+
+/// One thing that a reader does. It asks the link for one thing at most.
+#[derive(Debug, PartialEq, Eq, Drop)]
+pub enum Row {
+    /// What an event does first, with the connection's change.
+    Begin {
+        change: Option<State>,
+    },
+    /// A pull request.
+    Ask {
+        reason: Reason,
+    },
+    /// Where little is pending a request follows.
+    Threshold,
+    /// The heartbeat.
+    Arm,
+    /// An info request, after so many that failed.
+    Inquire {
+        failures: u64,
+    },
+    /// It has failed once more.
+    FailInquiry {
+        failures: u64,
+    },
+    /// The answer that an open info waits for.
+    CheckInquiry,
+    /// An info request was answered: the reply is read. It is none where the replier is gone.
+    Answered {
+        reply: Option<Message>,
+        failures: u64,
+    },
+    CheckExpiry,
+    CheckArrival,
+    CheckSilence,
+}
+
+/// What a row tells the reader's user.
+#[derive(Debug, PartialEq, Eq, Drop)]
+pub enum Told {
+    Nothing,
+    Hands(Message),
+    Tells(MessagesErrorKind),
+}
+
+/// A pull reader: it keeps messages coming, and says what arrivals are.
+#[derive(Debug, PartialEq, Eq, Drop)]
+pub struct Reader {
+    pub source: Source,
+    /// The messages that are still asked for,
+    pub pending: u64,
+    /// and the bytes.
+    pub pending_bytes: u64,
+    /// Little was pending, and no request has gone out since.
+    pub waiting: bool,
+    /// The requests that ended an info without a reset, since the last reset.
+    pub extra: u64,
+    /// The name of the pinned client.
+    pub pin: Option<Text>,
+    pub expiry: Option<Timer>,
+    pub silence: Option<Timer>,
+    pub inquiry: Inquiry,
+    pub ended: bool,
+}
+
+pub fn is_asking(inquiry: &Inquiry) -> bool
+    ensures { result ≡ rows.is_asking inquiry.now }
+{
+    match inquiry {
+        Inquiry::NoInquiry => false,
+        Inquiry::Asked { .. } | Inquiry::Resting { .. } => true,
+    }
+}
+
+/// Five seconds after the expiry, where there is one above 0.
+pub fn armed_expiry(now: Moment, expires: Option<Nanos>) -> Option<Timer>
+    ensures { result ≡ rows.armed_expiry now expires }
+{
+    match expires {
+        None | Some(0) => None,
+        Some(expires) => match expires.checked_add(5_000_000_000) {
+            Some(wait) => Some(Timer { set: now, wait }),
+            None => None,
+        },
+    }
+}
+
+fn resets(reason: Reason) -> bool
+    ensures { result ≡ rows.resets reason }
+{
+    match reason {
+        Reason::Low => false,
+        Reason::Expired => true,
+        Reason::Informed { reset } => reset,
+    }
+}
+
+fn raised(reset: bool, amount: u64, pending: u64) -> u64
+    ensures { result ≡ rows.raised reset amount pending }
+{
+    if reset {
+        amount
+    } else {
+        pending.saturating_add(amount)
+    }
+}
+
+fn extra_after(reason: Reason, extra: u64) -> u64
+    ensures { result ≡ rows.extra_after reason extra }
+{
+    match reason {
+        Reason::Low => extra,
+        Reason::Expired => 0,
+        Reason::Informed { reset: true } => 0,
+        Reason::Informed { reset: false } => extra.saturating_add(1),
+    }
+}
+
+impl Reader {
+    /// At most half of the messages are pending, or of the bytes where they are limited.
+    fn is_low(&self) -> bool
+        ensures { result ≡ rows.is_low self.now }
+    {
+        let config = &self.source.config;
+        self.pending <= config.batch / 2
+            || (config.max_bytes > 0 && self.pending_bytes <= config.max_bytes / 2)
+    }
+
+    /// Where little is pending a request follows.
+    pub fn threshold(&mut self) -> Option<Row>
+        ensures reader { self.new ≡ (rows.threshold self.old).reader }
+        ensures next { option_to_list result ≡ (rows.threshold self.old).next }
+    {
+        if !self.is_low() || self.waiting {
+            return None;
+        }
+        self.waiting = true;
+        if is_asking(&self.inquiry) {
+            None
+        } else {
+            Some(Row::Ask {
+                reason: Reason::Low,
+            })
+        }
+    }
+
+    /// A pull request for this reason has gone out.
+    pub fn count_request(&mut self, reason: Reason)
+        ensures { self.new ≡ rows.asked reason self.old }
+    {
+        let reset = resets(reason);
+        let config = &self.source.config;
+        let pending = raised(reset, config.batch, self.pending);
+        let pending_bytes = raised(reset, config.max_bytes, self.pending_bytes);
+        self.pending = pending;
+        self.pending_bytes = pending_bytes;
+        self.waiting = false;
+        self.extra = extra_after(reason, self.extra);
+    }
+}
