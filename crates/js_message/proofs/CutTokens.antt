@@ -1,0 +1,17 @@
+-- How a text is cut into its tokens.
+use Rattle.std.proofs.Common.{◌≡◌, ℕ, lit<, ◌∷◌, [], List, eqb, refl, sym, ◌∙◌, Some, None, Bor}
+use Rattle.std.proofs.lemmas.Bool.{ne_eqb}
+use Rattle.std.proofs.lemmas.Str.Pattern.{IsSplitOnceResult, split_once_first, split_parts}
+use Rattle.std.proofs.lemmas.List.Splits.{slice_split_first, slice_split_none}
+use Rattle.std.proofs.lemmas.Grind.{get_or_default_zero}
+use Rattle.js_base.specs.Match.{tokens}
+
+pub tokens_cut : (text : List ℕ) (x : Bor (List ℕ) × Bor (List ℕ)) → IsSplitOnceResult 46 text (Some x) → tokens text ≡ x.0.now ∷ tokens x.1.now
+tokens_cut text x h =
+    let parts = split_once_first 46 text (Some x) h (lit< tt) in
+    slice_split_first (λ b. eqb b 46) text 0 parts.0 ∙ rw (parts.1, parts.2) refl
+
+pub tokens_last : (text : List ℕ) → IsSplitOnceResult 46 text None → tokens text ≡ text ∷ []
+tokens_last text h =
+    let parts = split_parts 46 text None h (lit< tt) in
+    slice_split_none (λ b. eqb b 46) text (λ k d low. ne_eqb _ _ (λ e. parts k low (sym (get_or_default_zero text k d low) ∙ e)))

@@ -1,0 +1,3 @@
+pub mod ReadNumbers
+pub mod CutTokens
+pub mod HeldInstants

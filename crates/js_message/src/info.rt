@@ -1,0 +1,24 @@
+use jiff::Timestamp;
+
+/// What an acknowledgement subject says. Its texts lie in the subject.
+#[derive(Clone, Debug, Drop)]
+pub struct Info<'a> {
+    /// The domain of the stream, where it has one.
+    pub domain: Option<&'a str>,
+    /// The hash of the account, which the long form alone has.
+    pub acc_hash: Option<&'a str>,
+    pub stream: &'a str,
+    pub consumer: &'a str,
+    /// The message's sequence in its stream.
+    pub stream_sequence: u64,
+    /// The number of this delivery by its consumer, from 1 on.
+    pub consumer_sequence: u64,
+    /// How often the message was delivered.
+    pub delivered: i64,
+    /// How many messages the consumer has yet to deliver.
+    pub pending: u64,
+    /// When the stream stored the message.
+    pub published: Timestamp,
+    /// The tenth token, where there is one.
+    pub token: Option<&'a str>,
+}

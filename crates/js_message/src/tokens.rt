@@ -1,0 +1,75 @@
+ghost use Rattle.std.specs.Prelude.{◌≡◌, ◌<◌, ◌∷◌, length, [], MatchOption, count_by, ◌==◌};
+ghost use Rattle.std.specs.Option.{option_copied};
+ghost use Rattle.js_base.specs.Match.{tokens};
+ghost use Rattle.js_message.specs.Tokens.{tokens_left};
+
+use std::marker::Model;
+
+/// The tokens of a text that are left, cut off one by one. Contracts see their list.
+#[derive(Drop)]
+pub(crate) struct Tokens<'a> {
+    rest: Option<&'a str>,
+}
+
+impl<'a> Model for Tokens<'a> {
+    ghost use Rattle.std.specs.Prelude.{ℕ, List};
+    ghost use Rattle.std.specs.Option.{option_copied};
+    ghost use Rattle.js_message.specs.Tokens.{tokens_left};
+
+    ghost Value = { List (List ℕ) };
+
+    ghost view = { λ t. tokens_left (option_copied t.rest) };
+}
+
+impl<'a> Tokens<'a> {
+    pub(crate) fn new(text: &'a str) -> Tokens<'a>
+        ensures { result ≡ tokens text.now }
+    {
+        Tokens { rest: Some(text) }
+    }
+
+    /// The next token, where one is left.
+    pub(crate) fn next(&mut self) -> Option<&'a str>
+        ensures cut { MatchOption result (self.old ≡ []) (λ token. self.old ≡ token.now ∷ self.new) }
+        ensures end { MatchOption result (self.new ≡ []) (λ _. 0 < length self.old) }
+    {
+        let text = self.rest?;
+        let (token, rest) = cut(text);
+        self.rest = rest;
+        Some(token)
+    }
+
+    /// The next token, where the caller knows that one is left.
+    pub(crate) fn take(&mut self) -> &'a str
+        requires { 0 < length self.old }
+        ensures { self.old ≡ result.now ∷ self.new }
+    {
+        let text = self.rest.unwrap();
+        let (token, rest) = cut(text);
+        self.rest = rest;
+        token
+    }
+}
+
+/// The first token, and what follows its dot.
+fn cut(text: &str) -> (&str, Option<&str>)
+    ensures { tokens text.now ≡ result.0.now ∷ tokens_left (option_copied result.1) }
+{
+    match text.split_once('.') {
+        Some((token, rest)) => (token, Some(rest)),
+        None => (text, None),
+    }
+}
+
+fn dot_count(text: &str) -> usize
+    ensures { result ≡ count_by (λ byte. byte == 46) text.now }
+{
+    text.bytes().filter(|byte| *byte == b'.').count()
+}
+
+/// How many tokens a text has.
+pub(crate) fn token_count(text: &str) -> u64
+    ensures { result ≡ length (tokens text.now) }
+{
+    dot_count(text) as u64 + 1
+}
