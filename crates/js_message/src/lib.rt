@@ -9,4 +9,5 @@ mod tokens;
 
 pub use info::Info;
 pub use info_error::InfoError;
+pub use numbers::read_u64;
 pub use parse::parse_info;

@@ -3,7 +3,7 @@ ghost use Rattle.js_message.specs.Number.{u64_of};
 ghost use Rattle.js_message.specs.Ack.{i64_of, i128_of};
 
 /// The text as a `u64`.
-pub(crate) fn read_u64(text: &str) -> Option<u64>
+pub fn read_u64(text: &str) -> Option<u64>
     ensures { result ≡ u64_of text.now }
 {
     text.parse::<u64>().ok()

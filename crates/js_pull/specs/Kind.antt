@@ -1,5 +1,5 @@
 -- What an arrival is to a pull reader, by its status, its description and its headers.
-use Rattle.std.specs.Prelude.{ℕ, ◌||◌, ◌==◌, List, [], Option, Some, None, codes, nat_eq, unwrap_or, if◌then◌else◌}
+use Rattle.std.specs.Prelude.{ℕ, Bool, ◌||◌, ◌==◌, List, [], Option, Some, None, codes, nat_eq, unwrap_or, if◌then◌else◌}
 use Rattle.std.specs.List.{starts_with}
 use Rattle.std.specs.Str.{bytes_eq}
 use Rattle.js_base.specs.declared.headers.Header.{Header}
@@ -7,29 +7,23 @@ use Rattle.js_base.specs.declared.message.Message.{Message}
 use Rattle.js_base.specs.declared.message.StatusCode.{StatusCode}
 use Rattle.js_base.specs.Headers.{first_value, all_headers}
 use Rattle.js_message.specs.Number.{u64_of}
-
--- what an arrival is
-pub data Kind : Type 0 where
-  Delivered Quiet Deleted PushBased Limit Gone Bad : Kind
-  Ledger : (messages bytes : Option ℕ) → Kind  -- what is no longer to come, as far as it says so
-
--- a number that is absent, or readable, or neither
-pub data Told : Type 0 where
-  Absent Unreadable : Told
-  Number : ℕ → Told
+use Rattle.js_pull.specs.declared.kind.Kind.{Kind}
+use Rattle.js_pull.specs.declared.kind.Kind.TheVariants.{Delivered, Quiet, Deleted, PushBased, Limit, Gone, Ledger, Bad}
+use Rattle.js_pull.specs.declared.kind.HeaderNumber.{HeaderNumber}
+use Rattle.js_pull.specs.declared.kind.HeaderNumber.TheVariants.{Absent, Unreadable, Number}
 
 -- a number that was read, or not
-abbrev pub readable : Option ℕ → Told
+abbrev pub readable : Option ℕ → HeaderNumber
 readable None = Unreadable
 readable (Some n) = Number n
 
 -- the number that a header names
-abbrev pub number_told : Option (List ℕ) → Told
+abbrev pub number_told : Option (List ℕ) → HeaderNumber
 number_told None = Absent
 number_told (Some text) = readable (u64_of text)
 
 -- a ledger status names messages and bytes, each absent or a number
-abbrev pub ledger : Told → Told → Kind
+abbrev pub ledger : HeaderNumber → HeaderNumber → Kind
 ledger Unreadable _ = Bad
 ledger Absent Unreadable = Bad
 ledger Absent Absent = Ledger None None
@@ -38,12 +32,24 @@ ledger (Number messages) Unreadable = Bad
 ledger (Number messages) Absent = Ledger (Some messages) None
 ledger (Number messages) (Number bytes) = Ledger (Some messages) (Some bytes)
 
+-- what the server says of a consumer that is deleted
+abbrev pub is_deleted : List ℕ → Bool
+is_deleted description = bytes_eq description (codes "Consumer Deleted")
+
+-- what it says of a push consumer
+abbrev pub is_push_based : List ℕ → Bool
+is_push_based description = bytes_eq description (codes "Consumer is push based")
+
+-- what it says of a request that was too large
+abbrev pub is_limit : List ℕ → Bool
+is_limit description = starts_with nat_eq description (codes "Exceeded MaxRequest")
+
 -- a status that ends a request
 abbrev pub ended_request : List ℕ → List Header → Kind
 ended_request description headers =
-    if bytes_eq description (codes "Consumer Deleted") then Deleted else (
-    if bytes_eq description (codes "Consumer is push based") then PushBased else (
-    if starts_with nat_eq description (codes "Exceeded MaxRequest") then Limit else
+    if is_deleted description then Deleted else (
+    if is_push_based description then PushBased else (
+    if is_limit description then Limit else
     ledger (number_told (first_value (codes "Nats-Pending-Messages") headers))
     (number_told (first_value (codes "Nats-Pending-Bytes") headers))))
 

@@ -19,7 +19,9 @@ use Rattle.js_link.specs.Met.{Wish, Met, Publishes, Requests, Reads, Awaits, rep
 use Rattle.js_link.specs.Met as link
 use Rattle.js_link.specs.declared.sent.Sent.{Sent}
 use Rattle.js_link.specs.declared.sent.Sent.TheVariants.{Request, Publish}
-use Rattle.js_pull.specs.Kind.{Kind, Delivered, Quiet, Deleted, PushBased, Limit, Gone, Bad, Ledger, pull_kind}
+use Rattle.js_pull.specs.declared.kind.Kind.{Kind}
+use Rattle.js_pull.specs.declared.kind.Kind.TheVariants.{Delivered, Quiet, Deleted, PushBased, Limit, Gone, Bad, Ledger}
+use Rattle.js_pull.specs.Kind.{pull_kind}
 use Rattle.js_pull.specs.Limits.{pull_body}
 use Rattle.js_pull.specs.declared.reader.Source.{Source}
 use Rattle.js_pull.specs.declared.reader.Reader.{Reader}
@@ -83,13 +85,17 @@ retry_wait n = if nat_lt n 5 then n * 500_000_000 else 10 * second
 abbrev pub dot : List ℕ
 dot = codes "."
 
+-- of a request to the API that speaks of a consumer
+abbrev pub api_subject : List ℕ → List ℕ → List ℕ → List ℕ → List ℕ
+api_subject api verb stream name = api ++ codes ".CONSUMER." ++ verb ++ dot ++ stream ++ dot ++ name
+
 -- of a pull request
 abbrev pub pull_subject : Source → List ℕ
-pull_subject s = s.api ++ codes ".CONSUMER.MSG.NEXT." ++ s.stream ++ dot ++ s.name
+pull_subject s = api_subject s.api (codes "MSG.NEXT") s.stream s.name
 
 -- of an info request
 abbrev pub info_subject : Source → List ℕ
-info_subject s = s.api ++ codes ".CONSUMER.INFO." ++ s.stream ++ dot ++ s.name
+info_subject s = api_subject s.api (codes "INFO") s.stream s.name
 
 -- ---- timers
 

@@ -1,0 +1,57 @@
+//! What a pull request asks for, as the consumer's info caps it.
+ghost use Rattle.std.specs.Prelude.{◌≡◌};
+ghost use Rattle.js_pull.specs.Limits as limits;
+
+use js_base::Nanos;
+use js_json::BatchConfig;
+use js_json::consumer::Info;
+
+const SECOND: Nanos = 1_000_000_000;
+
+/// A batch as `max_batch` caps it. A cap of 0 or below is none.
+pub fn clamp_batch(batch: u64, max_batch: i64) -> u64
+    ensures { result ≡ limits.clamp_batch batch max_batch }
+{
+    if max_batch <= 0 {
+        batch
+    } else {
+        batch.min(max_batch as u64)
+    }
+}
+
+/// An expiry in nanoseconds as `max_expires` caps it. A cap of 0 is none.
+pub fn clamp_expires(expires: Nanos, max_expires: Nanos) -> Nanos
+    ensures { result ≡ limits.clamp_expires expires max_expires }
+{
+    if max_expires == 0 {
+        expires
+    } else {
+        expires.min(max_expires)
+    }
+}
+
+/// A heartbeat in nanoseconds, which is at most half of the expiry.
+pub fn clamp_heartbeat(heartbeat: Nanos, expires: Nanos) -> Nanos
+    ensures { result ≡ limits.clamp_heartbeat heartbeat expires }
+{
+    heartbeat.min(expires / 2)
+}
+
+/// What an ordered consumer with this info asks for: 500 messages within 30 seconds, with a heartbeat of 15, each as the
+/// info caps it. No bytes are asked for.
+pub fn ordered_batch_config(info: &Info) -> BatchConfig
+    ensures { result ≡ limits.ordered_batch_config info.now }
+{
+    let expires = clamp_expires(30 * SECOND, info.config.max_expires);
+    BatchConfig {
+        batch: clamp_batch(500, info.config.max_batch),
+        expires: Some(expires),
+        no_wait: false,
+        max_bytes: 0,
+        idle_heartbeat: clamp_heartbeat(15 * SECOND, expires),
+        min_pending: None,
+        min_ack_pending: None,
+        group: None,
+        priority: None,
+    }
+}
