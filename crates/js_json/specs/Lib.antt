@@ -1,4 +1,4 @@
-pub mod DeliverPolicies
+pub mod DeliverPolicy
 pub mod ConsumerPolicies
 pub mod ConsumerConfig
 pub mod ConsumerSequenceInfo
@@ -7,7 +7,7 @@ pub mod ConsumerPriorityGroup
 pub mod ConsumerInfo
 pub mod Batch
 pub mod Responses
-pub mod Creation
+pub mod CreateRequest
 pub mod Special
 pub mod AccountLimits
 pub mod AccountRequests
@@ -15,3 +15,5 @@ pub mod AccountTier
 pub mod AccountAccountInfo
 pub mod PublishAck
 pub mod Conversions
+pub mod PullConfig
+pub mod PushConfig

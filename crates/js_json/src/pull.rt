@@ -1,18 +1,223 @@
-//! Pull consumers.
-use crate::consumer::{DeliverPolicy, ReplayPolicy};
+//! Pull consumers: their configurations and their requests.
+
+ghost use Rattle.std.specs.Prelude.{◌≡◌, refl};
+ghost use Rattle.js_json.specs.PullConfig.{new_pull_config, new_ordered_pull_config};
+ghost use Rattle.js_json.specs.Conversions.{pull_config, as_pull_config, ordered_pull_config, as_ordered_pull_config};
+
+mod batch;
+
+use crate::consumer::{
+    self, AckPolicy, ConfigError, DeliverPolicy, FromConsumer, IntoConsumerConfig,
+    ORDERED_INACTIVE_THRESHOLD, PriorityPolicy, ReplayPolicy,
+};
+pub use batch::BatchConfig;
+use jiff::Timestamp;
 use js_base::{Items, Nanos, OutOfMemory, Text, TextMap, TryClone};
+use std::alloc::Global;
+
+/// The configuration of a pull consumer.
+#[derive(Debug, PartialEq, Eq, Drop)]
+pub struct Config {
+    pub durable_name: Option<Text>,
+    pub name: Option<Text>,
+    pub description: Option<Text>,
+    pub deliver_policy: DeliverPolicy,
+    pub ack_policy: AckPolicy,
+    /// How long the server waits for an acknowledgement, in nanoseconds.
+    pub ack_wait: Nanos,
+    /// How often a message is delivered at most; 0 leaves it to the server, and -1 sets no bound.
+    pub max_deliver: i64,
+    /// The subjects that are read; empty for all of the stream.
+    pub filter_subject: Text,
+    pub filter_subjects: Items<Text>,
+    pub replay_policy: ReplayPolicy,
+    /// In bits a second; 0 for none.
+    pub rate_limit: u64,
+    /// The share of acknowledgements that are sampled, in percent.
+    pub sample_frequency: u8,
+    pub max_waiting: i64,
+    pub max_ack_pending: i64,
+    pub headers_only: bool,
+    pub max_batch: i64,
+    pub max_bytes: i64,
+    /// How long a pull request may wait at most, in nanoseconds; 0 for no bound.
+    pub max_expires: Nanos,
+    /// How long the consumer outlives its last reader, in nanoseconds.
+    pub inactive_threshold: Nanos,
+    /// 0 for as many as the stream has.
+    pub num_replicas: u64,
+    pub memory_storage: bool,
+    pub metadata: TextMap,
+    /// The waits before the further deliveries, in nanoseconds.
+    pub backoff: Items<Nanos>,
+    pub priority_policy: PriorityPolicy,
+    pub priority_groups: Items<Text>,
+    /// In nanoseconds.
+    pub priority_timeout: Nanos,
+    pub pause_until: Option<Timestamp>,
+}
+
+impl Config {
+    /// The default, which takes no memory.
+    pub fn new(alloc: Global) -> Config
+        ensures { result ≡ new_pull_config }
+    {
+        Config {
+            durable_name: None,
+            name: None,
+            description: None,
+            deliver_policy: DeliverPolicy::All,
+            ack_policy: AckPolicy::Explicit,
+            ack_wait: 0,
+            max_deliver: 0,
+            filter_subject: Text::new(alloc),
+            filter_subjects: Items::new(alloc),
+            replay_policy: ReplayPolicy::Instant,
+            rate_limit: 0,
+            sample_frequency: 0,
+            max_waiting: 0,
+            max_ack_pending: 0,
+            headers_only: false,
+            max_batch: 0,
+            max_bytes: 0,
+            max_expires: 0,
+            inactive_threshold: 0,
+            num_replicas: 0,
+            memory_storage: false,
+            metadata: TextMap::new(alloc),
+            backoff: Items::new(alloc),
+            priority_policy: PriorityPolicy::None,
+            priority_groups: Items::new(alloc),
+            priority_timeout: 0,
+            pause_until: None,
+        }
+    }
+}
+
+impl TryClone for Config {
+    fn try_clone(&self) -> Result<Config, OutOfMemory> {
+        Ok(Config {
+            durable_name: self.durable_name.try_clone()?,
+            name: self.name.try_clone()?,
+            description: self.description.try_clone()?,
+            deliver_policy: self.deliver_policy,
+            ack_policy: self.ack_policy,
+            ack_wait: self.ack_wait,
+            max_deliver: self.max_deliver,
+            filter_subject: self.filter_subject.try_clone()?,
+            filter_subjects: self.filter_subjects.try_clone()?,
+            replay_policy: self.replay_policy,
+            rate_limit: self.rate_limit,
+            sample_frequency: self.sample_frequency,
+            max_waiting: self.max_waiting,
+            max_ack_pending: self.max_ack_pending,
+            headers_only: self.headers_only,
+            max_batch: self.max_batch,
+            max_bytes: self.max_bytes,
+            max_expires: self.max_expires,
+            inactive_threshold: self.inactive_threshold,
+            num_replicas: self.num_replicas,
+            memory_storage: self.memory_storage,
+            metadata: self.metadata.try_clone()?,
+            backoff: self.backoff.try_clone()?,
+            priority_policy: self.priority_policy,
+            priority_groups: self.priority_groups.try_clone()?,
+            priority_timeout: self.priority_timeout,
+            pause_until: self.pause_until,
+        })
+    }
+}
+
+impl IntoConsumerConfig for Config {
+    ghost config = { pull_config };
+
+    fn into_consumer_config(self, alloc: Global) -> consumer::Config {
+        consumer::Config {
+            durable_name: self.durable_name,
+            name: self.name,
+            description: self.description,
+            deliver_policy: self.deliver_policy,
+            ack_policy: self.ack_policy,
+            ack_wait: self.ack_wait,
+            max_deliver: self.max_deliver,
+            filter_subject: self.filter_subject,
+            filter_subjects: self.filter_subjects,
+            replay_policy: self.replay_policy,
+            rate_limit: self.rate_limit,
+            sample_frequency: self.sample_frequency,
+            max_waiting: self.max_waiting,
+            max_ack_pending: self.max_ack_pending,
+            headers_only: self.headers_only,
+            max_batch: self.max_batch,
+            max_bytes: self.max_bytes,
+            max_expires: self.max_expires,
+            inactive_threshold: self.inactive_threshold,
+            num_replicas: self.num_replicas,
+            memory_storage: self.memory_storage,
+            metadata: self.metadata,
+            backoff: self.backoff,
+            priority_policy: self.priority_policy,
+            priority_groups: self.priority_groups,
+            priority_timeout: self.priority_timeout,
+            pause_until: self.pause_until,
+            ..consumer::Config::new(alloc)
+        }
+    }
+}
+
+impl FromConsumer for Config {
+    ghost of_config = { as_pull_config };
+
+    ghost there_and_back = { λ _. refl };
+
+    fn try_from_consumer_config(config: consumer::Config) -> Result<Config, ConfigError> {
+        if config.deliver_subject.is_some() {
+            return Err(ConfigError::HasDeliverSubject);
+        }
+        Ok(Config {
+            durable_name: config.durable_name,
+            name: config.name,
+            description: config.description,
+            deliver_policy: config.deliver_policy,
+            ack_policy: config.ack_policy,
+            ack_wait: config.ack_wait,
+            max_deliver: config.max_deliver,
+            filter_subject: config.filter_subject,
+            filter_subjects: config.filter_subjects,
+            replay_policy: config.replay_policy,
+            rate_limit: config.rate_limit,
+            sample_frequency: config.sample_frequency,
+            max_waiting: config.max_waiting,
+            max_ack_pending: config.max_ack_pending,
+            headers_only: config.headers_only,
+            max_batch: config.max_batch,
+            max_bytes: config.max_bytes,
+            max_expires: config.max_expires,
+            inactive_threshold: config.inactive_threshold,
+            num_replicas: config.num_replicas,
+            memory_storage: config.memory_storage,
+            metadata: config.metadata,
+            backoff: config.backoff,
+            priority_policy: config.priority_policy,
+            priority_groups: config.priority_groups,
+            priority_timeout: config.priority_timeout,
+            pause_until: config.pause_until,
+        })
+    }
+}
 
 /// The configuration of an ordered pull consumer. What is not here is chosen for it.
 #[derive(Debug, PartialEq, Eq, Drop)]
 pub struct OrderedConfig {
     pub name: Option<Text>,
     pub description: Option<Text>,
+    /// The subjects that are read; empty for all of the stream.
     pub filter_subject: Text,
     pub filter_subjects: Items<Text>,
     pub replay_policy: ReplayPolicy,
-    /// In bits a second.
+    /// In bits a second; 0 for none.
     pub rate_limit: u64,
-    /// In percent.
+    /// The share of acknowledgements that are sampled, in percent.
     pub sample_frequency: u8,
     pub headers_only: bool,
     pub deliver_policy: DeliverPolicy,
@@ -20,7 +225,32 @@ pub struct OrderedConfig {
     pub metadata: TextMap,
     pub max_batch: i64,
     pub max_bytes: i64,
+    /// How long a pull request may wait at most, in nanoseconds; 0 for no bound.
     pub max_expires: Nanos,
+}
+
+impl OrderedConfig {
+    /// The default, which takes no memory.
+    pub fn new(alloc: Global) -> OrderedConfig
+        ensures { result ≡ new_ordered_pull_config }
+    {
+        OrderedConfig {
+            name: None,
+            description: None,
+            filter_subject: Text::new(alloc),
+            filter_subjects: Items::new(alloc),
+            replay_policy: ReplayPolicy::Instant,
+            rate_limit: 0,
+            sample_frequency: 0,
+            headers_only: false,
+            deliver_policy: DeliverPolicy::All,
+            max_waiting: 0,
+            metadata: TextMap::new(alloc),
+            max_batch: 0,
+            max_bytes: 0,
+            max_expires: 0,
+        }
+    }
 }
 
 impl TryClone for OrderedConfig {
@@ -40,6 +270,60 @@ impl TryClone for OrderedConfig {
             max_batch: self.max_batch,
             max_bytes: self.max_bytes,
             max_expires: self.max_expires,
+        })
+    }
+}
+
+impl IntoConsumerConfig for OrderedConfig {
+    ghost config = { ordered_pull_config };
+
+    fn into_consumer_config(self, alloc: Global) -> consumer::Config {
+        consumer::Config {
+            name: self.name,
+            description: self.description,
+            deliver_policy: self.deliver_policy,
+            ack_policy: AckPolicy::None,
+            max_deliver: 1,
+            filter_subject: self.filter_subject,
+            filter_subjects: self.filter_subjects,
+            replay_policy: self.replay_policy,
+            rate_limit: self.rate_limit,
+            sample_frequency: self.sample_frequency,
+            max_waiting: self.max_waiting,
+            headers_only: self.headers_only,
+            max_batch: self.max_batch,
+            max_bytes: self.max_bytes,
+            max_expires: self.max_expires,
+            inactive_threshold: ORDERED_INACTIVE_THRESHOLD,
+            num_replicas: 1,
+            memory_storage: true,
+            metadata: self.metadata,
+            ..consumer::Config::new(alloc)
+        }
+    }
+}
+
+impl FromConsumer for OrderedConfig {
+    ghost of_config = { as_ordered_pull_config };
+
+    ghost there_and_back = { λ _. refl };
+
+    fn try_from_consumer_config(config: consumer::Config) -> Result<OrderedConfig, ConfigError> {
+        Ok(OrderedConfig {
+            name: config.name,
+            description: config.description,
+            filter_subject: config.filter_subject,
+            filter_subjects: config.filter_subjects,
+            replay_policy: config.replay_policy,
+            rate_limit: config.rate_limit,
+            sample_frequency: config.sample_frequency,
+            headers_only: config.headers_only,
+            deliver_policy: config.deliver_policy,
+            max_waiting: config.max_waiting,
+            metadata: config.metadata,
+            max_batch: config.max_batch,
+            max_bytes: config.max_bytes,
+            max_expires: config.max_expires,
         })
     }
 }
