@@ -3,11 +3,12 @@ use Rattle.std.specs.Prelude.{ℕ, zero, suc, ◌*◌, ◌==◌, false, List, []
 use Rattle.js_base.specs.Clock.{second}
 use Rattle.js_json.specs.declared.consumer.config.Config.{Config}
 use Rattle.js_json.specs.declared.consumer.info.Info.{Info}
-use Rattle.js_json.specs.declared.recreation.Creation.{Creation}
+use Rattle.js_json.specs.declared.consumer.create_request.Action.TheVariants as action
+use Rattle.js_json.specs.declared.consumer.create_request.CreateRequest.{CreateRequest}
 use Rattle.js_json.specs.Conversions.{ordered_pull_config, ordered_push_config}
-use Rattle.js_json.specs.Creation.{creation_value}
-use Rattle.js_json.specs.declared.consumer.policy.DeliverPolicy.{DeliverPolicy}
-use Rattle.js_json.specs.declared.consumer.policy.DeliverPolicy.TheVariants as policy
+use Rattle.js_json.specs.CreateRequest.{create_request_value}
+use Rattle.js_json.specs.declared.consumer.deliver_policy.DeliverPolicy.{DeliverPolicy}
+use Rattle.js_json.specs.declared.consumer.deliver_policy.DeliverPolicy.TheVariants as policy
 use Rattle.js_pull.specs.Limits.{ordered_batch_config, body_of}
 use Rattle.js_pull.specs.declared.reader.Source.{Source}
 use Rattle.js_pull.specs.Reader.{dot}
@@ -111,12 +112,12 @@ asked_config g r = record (config_of g.setup) {
 }
 
 -- what a create request asks for
-abbrev pub creation : Given → Recreation → Creation
-creation g r = record { action = []; config = asked_config g r; stream_name = g.first.stream_name }
+abbrev pub create_request : Given → Recreation → CreateRequest
+create_request g r = record { action = action.CreateOrUpdate; config = asked_config g r; stream_name = g.first.stream_name }
 
 -- the body of a create request
 abbrev pub create_body : Given → Recreation → List ℕ
-create_body g r = body_of (creation_value (creation g r))
+create_body g r = body_of (create_request_value (create_request g r))
 
 -- ---- readers
 

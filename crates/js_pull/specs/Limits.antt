@@ -2,7 +2,7 @@
 use Rattle.std.specs.Prelude.{ℕ, ℤ, pos, zero, suc, negsuc, ◌/◌, ◌*◌, false, min, List, [], Option, Some, None, Result, Ok, Err}
 use Rattle.serde_json.specs.Data.{Data}
 use Rattle.js_base.specs.Clock.{second}
-use Rattle.js_json.specs.declared.batch.BatchConfig.{BatchConfig}
+use Rattle.js_json.specs.declared.pull.batch.BatchConfig.{BatchConfig}
 use Rattle.js_json.specs.declared.consumer.info.Info.{Info}
 use Rattle.js_fields.specs.declared.error.ReadError.{ReadError}
 use Rattle.js_fields.specs.Rows.{text_of}

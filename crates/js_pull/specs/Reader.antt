@@ -268,6 +268,10 @@ hear message Bad r = tell error.Other r (Threshold ∷ [])
 hear message (Ledger messages bytes) r =
     quietly (lowered (unwrap_or messages r.source.config.batch) (unwrap_or bytes r.source.config.max_bytes) r) (Threshold ∷ [])
 
+-- the header that names the pinned client
+abbrev pub pin_header : List ℕ
+pin_header = codes "Nats-Pin-Id"
+
 -- the newer of two pins
 abbrev pub newer : Option (List ℕ) → Option (List ℕ) → Option (List ℕ)
 newer None old = old
@@ -275,9 +279,9 @@ newer (Some new) old = Some new
 
 -- a message may name the pinned client, and status 423 says that it is another one
 abbrev pub pin_after : Message → Option StatusCode → Option (List ℕ) → Option (List ℕ)
-pin_after message None pin = newer (last_value (codes "Nats-Pin-Id") (all_headers message.headers)) pin
+pin_after message None pin = newer (last_value pin_header (all_headers message.headers)) pin
 pin_after message (Some status) pin =
-    if status.0 == 200 then newer (last_value (codes "Nats-Pin-Id") (all_headers message.headers)) pin else (
+    if status.0 == 200 then newer (last_value pin_header (all_headers message.headers)) pin else (
     if status.0 == 423 then None else pin)
 
 -- only a pinned client keeps a pin

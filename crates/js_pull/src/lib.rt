@@ -4,11 +4,13 @@
 mod kind;
 mod limits;
 mod reader;
+mod replies;
 mod requests;
 
 pub use kind::{HeaderNumber, Kind, header_number, pull_kind};
 pub use limits::{clamp_batch, clamp_expires, clamp_heartbeat, ordered_batch_config};
 pub use reader::{
-    Inquiry, MessagesErrorKind, Reader, Reason, Row, Source, Told, armed_expiry, is_asking,
+    Inquiry, MessagesErrorKind, Reader, Reason, Row, Source, Told, is_any_due, is_asking,
+    retry_wait, timeout_from,
 };
-
+pub use replies::info_of_reply;

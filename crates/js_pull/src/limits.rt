@@ -3,8 +3,8 @@ ghost use Rattle.std.specs.Prelude.{◌≡◌};
 ghost use Rattle.js_pull.specs.Limits as limits;
 
 use js_base::Nanos;
-use js_json::BatchConfig;
 use js_json::consumer::Info;
+use js_json::pull::BatchConfig;
 
 const SECOND: Nanos = 1_000_000_000;
 

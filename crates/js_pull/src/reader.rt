@@ -1,8 +1,11 @@
-ghost use Rattle.std.specs.Prelude.{◌≡◌, option_to_list};
+ghost use Rattle.std.specs.Prelude.{◌≡◌};
+ghost use Rattle.js_base.specs.Clock as clock;
+ghost use Rattle.js_pull.specs.Passes.{asks_if};
+ghost use Rattle.js_pull.specs.Reader.{new_reader};
 ghost use Rattle.js_pull.specs.Reader as rows;
 
 use js_base::{Message, Moment, Nanos, State, Subject, Text, Timer};
-use js_json::BatchConfig;
+use js_json::pull::BatchConfig;
 
 /// What a pull reader tells of in place of a message.
 #[derive(Clone, Copy, Debug, PartialEq, Eq)]
@@ -144,7 +147,7 @@ pub fn is_asking(inquiry: &Inquiry) -> bool
 }
 
 /// Five seconds after the expiry, where there is one above 0.
-pub fn armed_expiry(now: Moment, expires: Option<Nanos>) -> Option<Timer>
+fn armed_expiry(now: Moment, expires: Option<Nanos>) -> Option<Timer>
     ensures { result ≡ rows.armed_expiry now expires }
 {
     match expires {
@@ -153,6 +156,50 @@ pub fn armed_expiry(now: Moment, expires: Option<Nanos>) -> Option<Timer>
             Some(wait) => Some(Timer { set: now, wait }),
             None => None,
         },
+    }
+}
+
+/// Twice the heartbeat, where that is above 0.
+fn armed_silence(now: Moment, heartbeat: Nanos) -> Option<Timer>
+    ensures { result ≡ rows.armed_silence now heartbeat }
+{
+    if heartbeat == 0 {
+        return None;
+    }
+    match heartbeat.checked_mul(2) {
+        Some(wait) => Some(Timer { set: now, wait }),
+        None => None,
+    }
+}
+
+/// A wait that begins now, where there is one.
+pub fn timeout_from(now: Moment, wait: Option<Nanos>) -> Option<Timer>
+    ensures { result ≡ rows.timeout_from now wait }
+{
+    match wait {
+        Some(wait) => Some(Timer { set: now, wait }),
+        None => None,
+    }
+}
+
+/// Whether there is a wait that is over.
+pub fn is_any_due(timer: &Option<Timer>, now: Moment) -> bool
+    ensures { result ≡ clock.is_any_due timer.now now }
+{
+    match timer {
+        Some(timer) => timer.is_due(now),
+        None => false,
+    }
+}
+
+/// The wait after so many failures, in nanoseconds.
+pub fn retry_wait(failures: u64) -> Nanos
+    ensures { result ≡ rows.retry_wait failures }
+{
+    if failures < 5 {
+        failures * 500_000_000
+    } else {
+        10_000_000_000
     }
 }
 
@@ -188,6 +235,24 @@ fn extra_after(reason: Reason, extra: u64) -> u64
 }
 
 impl Reader {
+    /// A reader that has asked for nothing yet.
+    pub fn new(source: Source) -> Reader
+        ensures { result ≡ new_reader source }
+    {
+        Reader {
+            source,
+            pending: 0,
+            pending_bytes: 0,
+            waiting: false,
+            extra: 0,
+            pin: None,
+            expiry: None,
+            silence: None,
+            inquiry: Inquiry::NoInquiry,
+            ended: false,
+        }
+    }
+
     /// At most half of the messages are pending, or of the bytes where they are limited.
     fn is_low(&self) -> bool
         ensures { result ≡ rows.is_low self.now }
@@ -197,22 +262,38 @@ impl Reader {
             || (config.max_bytes > 0 && self.pending_bytes <= config.max_bytes / 2)
     }
 
-    /// Where little is pending a request follows.
-    pub fn threshold(&mut self) -> Option<Row>
+    /// Where little is pending the mark is set. Whether a request follows, which an open info prevents.
+    pub fn threshold(&mut self) -> bool
         ensures reader { self.new ≡ (rows.threshold self.old).reader }
-        ensures next { option_to_list result ≡ (rows.threshold self.old).next }
+        ensures next { asks_if result ≡ (rows.threshold self.old).next }
     {
         if !self.is_low() || self.waiting {
-            return None;
+            return false;
         }
         self.waiting = true;
-        if is_asking(&self.inquiry) {
-            None
-        } else {
-            Some(Row::Ask {
-                reason: Reason::Low,
-            })
-        }
+        !is_asking(&self.inquiry)
+    }
+
+    /// Arms the expiry: five seconds after that of a pull request.
+    pub fn arm_expiry(&mut self, now: Moment)
+        ensures { self.new ≡ rows.with_expiry now self.old }
+    {
+        self.expiry = armed_expiry(now, self.source.config.expires);
+    }
+
+    /// Arms the heartbeat: twice that of a pull request.
+    pub fn arm_silence(&mut self, now: Moment)
+        ensures { self.new ≡ rows.with_silence now self.old }
+    {
+        self.silence = armed_silence(now, self.source.config.idle_heartbeat);
+    }
+
+    /// So many messages and bytes are no longer to come.
+    pub fn lower(&mut self, messages: u64, bytes: u64)
+        ensures { self.new ≡ rows.lowered messages bytes self.old }
+    {
+        self.pending = self.pending.saturating_sub(messages);
+        self.pending_bytes = self.pending_bytes.saturating_sub(bytes);
     }
 
     /// A pull request for this reason has gone out.

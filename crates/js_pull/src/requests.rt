@@ -3,10 +3,9 @@ ghost use Rattle.std.specs.Prelude.{◌≡◌, IfOk, string_bytes};
 ghost use Rattle.js_pull.specs.Reader as rows;
 ghost use Rattle.js_pull.specs.Limits.{pull_body};
 
-use crate::reader::Source;
+use crate::reader::{Reader, Source};
 use bytes::Bytes;
-use js_base::{OutOfMemory, Subject, Text};
-use js_json::BatchConfig;
+use js_base::{OutOfMemory, Subject};
 use std::alloc::{AllocError, Global};
 
 /// The subject of a request to the API that speaks of a consumer.
@@ -57,5 +56,17 @@ impl Source {
             self.name.as_str(),
         )?;
         Ok(Subject::from(text))
+    }
+}
+
+impl Reader {
+    /// The body of a pull request.
+    pub fn pull_body(&self, alloc: Global) -> Result<Bytes, OutOfMemory>
+        ensures { IfOk result (λ body. body ≡ pull_body self.now.pin self.now.source.config) }
+    {
+        match self.source.config.request_text(alloc, self.pin.as_ref()) {
+            Ok(text) => Ok(Bytes::from_string(text)?),
+            Err(_) => Err(OutOfMemory),
+        }
     }
 }

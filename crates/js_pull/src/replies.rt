@@ -1,0 +1,103 @@
+//! What a reader makes of the messages that it is sent.
+ghost use Rattle.std.specs.Prelude.{◌≡◌, IfOk, OnOk, option_map};
+ghost use Rattle.std.specs.Option.{option_copied};
+ghost use Rattle.js_base.specs.Headers.{all_headers, last_value};
+ghost use Rattle.js_pull.specs.Reader as rows;
+
+use crate::reader::Reader;
+use js_base::{HeaderMap, Message, OutOfMemory, StatusCode, Text};
+use js_fields::ReadError;
+use js_json::consumer::Info;
+use js_json::{Response, response_as};
+use std::alloc::Global;
+
+fn is_unheard(status: Option<StatusCode>) -> bool
+    ensures { result ≡ rows.is_unheard status }
+{
+    match status {
+        None => false,
+        Some(StatusCode(status)) => status == 503,
+    }
+}
+
+/// The info that a payload holds, where it reads as one and not as an error.
+fn response_info(alloc: Global, payload: &[u8]) -> Result<Option<Info>, OutOfMemory>
+    ensures { IfOk result (λ info. info ≡ rows.response_info payload.now) }
+{
+    match response_as::<Info>(alloc, payload) {
+        Ok(Response::Ok(info)) => Ok(Some(info)),
+        Ok(Response::Err { .. }) => Ok(None),
+        Err(ReadError::OutOfMemory) => Err(OutOfMemory),
+        Err(ReadError::Missing { .. }) => Ok(None),
+        Err(ReadError::WrongKind { .. }) => Ok(None),
+        Err(ReadError::OutOfRange { .. }) => Ok(None),
+        Err(ReadError::Float) => Ok(None),
+        Err(ReadError::NotJson) => Ok(None),
+    }
+}
+
+/// The info that an answer holds. A status of 503 holds none, nor does a replier that is gone.
+pub fn info_of_reply(alloc: Global, reply: Option<&Message>) -> Result<Option<Info>, OutOfMemory>
+    ensures { IfOk result (λ info. info ≡ rows.info_of_reply (option_copied reply.entry)) }
+{
+    match reply {
+        None => Ok(None),
+        Some(message) => {
+            if is_unheard(message.status) {
+                return Ok(None);
+            }
+            response_info(alloc, message.payload.as_slice())
+        }
+    }
+}
+
+/// The pin that a message names.
+fn named_pin(alloc: Global, headers: &Option<HeaderMap>) -> Result<Option<Text>, OutOfMemory>
+    ensures { IfOk result (λ pin. pin ≡ last_value (rows.pin_header) (all_headers headers.now)) }
+{
+    match headers {
+        None => Ok(None),
+        Some(headers) => match headers.get_last("Nats-Pin-Id") {
+            None => Ok(None),
+            Some(pin) => Ok(Some(Text::from_str(alloc, pin)?)),
+        },
+    }
+}
+
+fn newer(new: Option<Text>, old: Option<Text>) -> Option<Text>
+    ensures { result ≡ rows.newer new old }
+{
+    match new {
+        None => old,
+        Some(new) => Some(new),
+    }
+}
+
+/// The pin after an arrival. Status 423 says that another client is pinned.
+fn pin_after(
+    alloc: Global,
+    message: &Message,
+    pin: Option<Text>,
+) -> Result<Option<Text>, OutOfMemory>
+    ensures { IfOk result (λ new. new ≡ rows.pin_after message.now message.now.status pin) }
+{
+    match message.status {
+        None => Ok(newer(named_pin(alloc, &message.headers)?, pin)),
+        Some(StatusCode(200)) => Ok(newer(named_pin(alloc, &message.headers)?, pin)),
+        Some(StatusCode(423)) => Ok(None),
+        Some(_) => Ok(pin),
+    }
+}
+
+impl Reader {
+    /// Keeps the pin that an arrival names, if clients are pinned at all. After a refusal the pin is gone.
+    pub fn note_pin(&mut self, alloc: Global, message: &Message) -> Result<(), OutOfMemory>
+        ensures { OnOk result (self.new ≡ rows.with_pin message.now self.old) }
+    {
+        let pin = self.pin.take();
+        if self.source.pinned {
+            self.pin = pin_after(alloc, message, pin)?;
+        }
+        Ok(())
+    }
+}
