@@ -16,3 +16,6 @@ pub mod Promises
 pub mod Wishes
 pub mod Told
 pub mod Asked
+pub mod Worked
+pub mod Rows
+pub mod Honest
