@@ -1,6 +1,7 @@
 -- A server that sends each sequence of its log is honest, and so are the worked rows.
-use Rattle.std.proofs.Common.{◌≡◌, ℕ, zero, suc, ◌+◌, ◌-◌, ◌<◌, ◌≤◌, List, [], ◌∷◌, length, slice_index, Some, refl, sym, ◌∙◌, subst, inl, arith}
+use Rattle.std.proofs.Common.{◌≡◌, ℕ, zero, suc, ◌+◌, ◌-◌, ◌<◌, ◌≤◌, List, [], ◌∷◌, length, slice_index, Some, refl, sym, ◌∙◌, subst, inl, inr, arith, ◌⊎◌, Contains}
 use Rattle.std.specs.Prelude.{slice_get, codes, IsTrue}
+use Rattle.std.specs.List.Sorted.{IsStrictlyIncreasing}
 use Rattle.std.proofs.lemmas.Grind.{get_or_default_zero}
 use Rattle.std.specs.Global.{Global}
 use Rattle.js_base.specs.declared.message.Message.{Message}
@@ -8,7 +9,7 @@ use Rattle.js_base.specs.Match.{filters_match}
 use Rattle.js_message.specs.Ack.{Place, readable_as}
 use Rattle.js_ordered.specs.Texts.{filters}
 use Rattle.js_ordered.specs.Fold.{fold}
-use Rattle.js_ordered.specs.Gapless.{Logged, Server, IsMatching, IsWhole, IsDelivery, IsHonestArrival, IsHonest, IsGapless, entry_of, yields, all_outputs}
+use Rattle.js_ordered.specs.Gapless.{Logged, Server, IsMatching, IsWhole, IsDelivery, IsHonestArrival, IsHonest, IsGapless, entry_of, yields, sequences, all_outputs}
 use Rattle.js_ordered.specs.declared.setup.OrderedSetup.{OrderedSetup}
 use Rattle.js_ordered.specs.declared.event.Event as events
 use Rattle.js_ordered.proofs.Worked.{replays_on_literals, numbered, by_pull, by_push, arrives, answers, ok, info_text, push_text}
@@ -77,7 +78,7 @@ delivers : (s : Server) (setup : OrderedSetup) (inbox : ℕ) (message : Message)
 delivers s setup inbox message place reads delivery other is reads_other =
     some_same (λ (place : Place). IsDelivery s inbox place.number (entry_of place message)) place other (sym reads ∙ reads_other) delivery
 
--- ---- worked rows beside their logs, from which nothing was removed
+-- ---- worked runs beside their logs
 
 abbrev log_of : List (List ℕ) → List Logged
 log_of [] = []
@@ -174,3 +175,71 @@ held_honest heap = record {
 -- so they leave no gap
 held_gapless : (heap : Global) → IsGapless server_held by_push.setup (yields (all_outputs (fold by_push 0 (held heap))))
 held_gapless heap = replay_gapless by_push 0 (held heap) server_held (held_honest heap)
+
+-- ---- a run in which a sequence was removed
+
+-- after the gap, sequence 3 is gone, and 4 is the first that is sent again
+abbrev removed : Global → List events.Event
+removed heap = arrives heap 1 0 1 1 (codes "a") ∷ arrives heap 2 0 2 2 (codes "b") ∷ arrives heap 3 0 4 4 (codes "d") ∷ answers heap 4 1 ok ∷ answers heap 5 2 (info_text (codes "c1_1")) ∷ arrives heap 6 1 1 4 (codes "d") ∷ []
+
+-- what is left from 3 on
+abbrev left : List ℕ
+left = 4 ∷ []
+
+abbrev server_removed : Server
+server_removed = record server_gap { removed = 3 ∷ []; lists = lists }
+  where
+    lists : ℕ → List ℕ
+    lists zero = count_from 1 4
+    lists (suc inbox) = left
+
+left_whole : IsWhole by_pull.setup server_removed.log (3 ∷ []) 3 left
+left_whole = record { rising = rising; past_start = past_start; matching = matching; whole = whole }
+  where
+    rising : IsStrictlyIncreasing left
+    rising zero inside = absurd (omega arith)
+    rising (suc k) inside = absurd (omega arith)
+
+    past_start : (k : ℕ) → k < length left → 3 ≤ slice_index left k
+    past_start zero inside = omega arith
+    past_start (suc k) inside = absurd (omega arith)
+
+    matching : (k : ℕ) → k < length left → IsMatching by_pull.setup server_removed.log (slice_index left k)
+    matching zero inside = all_match by_pull.setup server_removed.log 4 refl (omega arith) (omega arith)
+    matching (suc k) inside = absurd (omega arith)
+
+    whole : (q k : ℕ) → IsMatching by_pull.setup server_removed.log q → 3 ≤ q → k < length left → q < slice_index left k → Contains left q ⊎ Contains (3 ∷ []) q
+    whole q zero match from inside below =
+        let is : 3 ≡ q = omega (arith, from, below) in
+        inr (0, omega arith, is)
+    whole q (suc k) match from inside below = absurd (omega arith)
+
+lists_removed : (inbox : ℕ) → IsWhole by_pull.setup server_removed.log (3 ∷ []) (server_removed.starts inbox) (server_removed.lists inbox)
+lists_removed zero = count_whole by_pull.setup server_removed.log (3 ∷ []) 1 4 refl (omega arith) (omega arith)
+lists_removed (suc inbox) = left_whole
+
+removed_honest : (heap : Global) → IsHonest server_removed by_pull.setup (removed heap) (fold by_pull 0 (removed heap))
+unfolding replays_on_literals
+removed_honest heap = record {
+  lists = lists_removed;
+  first = tt;
+  later = (refl, tt);
+  arrivals = (
+    sends server_removed by_pull.setup 0 1 1 (codes "a") refl (record { above = omega arith; within = omega arith; listed = refl; logged = refl }),
+    (
+      sends server_removed by_pull.setup 0 2 2 (codes "b") refl (record { above = omega arith; within = omega arith; listed = refl; logged = refl }),
+      (
+        sends server_removed by_pull.setup 0 4 4 (codes "d") refl (record { above = omega arith; within = omega arith; listed = refl; logged = refl }),
+        (tt, (tt, (sends server_removed by_pull.setup 1 1 4 (codes "d") refl (record { above = omega arith; within = omega arith; listed = refl; logged = refl }), tt))),
+      ),
+    ),
+  );
+}
+
+-- it yields 1, 2 and 4, and leaves no gap
+removed_yields : (heap : Global) → sequences (yields (all_outputs (fold by_pull 0 (removed heap)))) ≡ 1 ∷ 2 ∷ 4 ∷ []
+unfolding replays_on_literals
+removed_yields heap = refl
+
+removed_gapless : (heap : Global) → IsGapless server_removed by_pull.setup (yields (all_outputs (fold by_pull 0 (removed heap))))
+removed_gapless heap = replay_gapless by_pull 0 (removed heap) server_removed (removed_honest heap)
