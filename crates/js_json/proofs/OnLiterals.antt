@@ -4,18 +4,18 @@ use Rattle.std.specs.Str.{is_utf8, chars}
 use Rattle.js_fields.proofs.OnLiterals.{reading_on_literals, writing_on_literals}
 use Rattle.js_codes.specs.Codes.{error_code}
 use Rattle.js_codes.specs.Error.{error_fields, parts as error_parts}
-use Rattle.js_json.specs.DeliverPolicies.{plain_policy_named, deliver_policy_of}
+use Rattle.js_json.specs.DeliverPolicy.{plain_policy_named, deliver_policy_of}
 use Rattle.js_json.specs.ConsumerPolicies.{ack_policy_named, replay_policy_named, priority_policy_named}
 use Rattle.js_json.specs.ConsumerConfig.{names, delivery, limits, priorities, config_fields, config_value}
 use Rattle.js_json.specs.ConsumerSequenceInfo.{sequence_info_fields, parts as sequence_parts}
 use Rattle.js_json.specs.ConsumerInfo.{identity, counts, states, info_fields}
 use Rattle.js_json.specs.Responses.{error_in, response_of}
 use Rattle.js_json.specs.Batch.{batch_config_value, pull_request_value}
-use Rattle.js_json.specs.Creation.{creation_value}
+use Rattle.js_json.specs.CreateRequest.{create_request_value}
 
 -- what an answer unfolds to compute the body of a known request
 unfoldable pub requests_on_literals : ⊤
-unfolding writing_on_literals config_value creation_value batch_config_value pull_request_value
+unfolding writing_on_literals config_value create_request_value batch_config_value pull_request_value
 requests_on_literals = tt
 
 -- and to read a known answer as the info of a consumer

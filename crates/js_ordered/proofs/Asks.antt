@@ -26,7 +26,9 @@ use Rattle.js_ordered.specs.declared.consumer.Given.{Given}
 use Rattle.js_ordered.specs.declared.consumer.Phase.{Phase}
 use Rattle.js_ordered.specs.declared.consumer.Phase.TheVariants.{Pulls, Pushes, Recreates, Idle, Ended, Exhausted}
 use Rattle.js_ordered.specs.Recreation.{start_row, create_row, succeed_row, succeed_push, message_on}
-use Rattle.js_ordered.specs.Reading.{message_row, told, PushKind, Delivered, Quiet, Bad, Beat, push_kind, hear_kind, hear_row, armed}
+use Rattle.js_ordered.specs.Reading.{message_row, told, push_kind, hear_kind, hear_row, armed}
+use Rattle.js_ordered.specs.declared.kind.PushKind.{PushKind}
+use Rattle.js_ordered.specs.declared.kind.PushKind.TheVariants.{Delivered, Quiet, Bad, Beat}
 use Rattle.js_ordered.specs.Turn.{go_on, is_connected, changed, watcher_ended, event_change, event_row, same_state, reader_row, row_at}
 use Rattle.js_ordered.specs.declared.setup.OrderedSetup.{OrderedSetup}
 use Rattle.js_ordered.specs.declared.setup.OrderedSetup.TheVariants.{Pull, Push}

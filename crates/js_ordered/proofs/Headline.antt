@@ -2,6 +2,7 @@
 use Rattle.std.proofs.Common.{◌≡◌, ℕ, zero, suc, List, [], ◌∷◌, ◌++◌, map, refl, sym, subst, arith}
 use Rattle.std.specs.Prelude.{IfSome}
 use Rattle.std.specs.List.{AllByRecursion}
+use Rattle.js_ordered.specs.declared.world.World.{World}
 use Rattle.js_ordered.specs.Texts.{configured_start}
 use Rattle.js_ordered.specs.declared.consumer.Consumer.{Consumer}
 use Rattle.js_ordered.specs.State.{Matter, Passed}
@@ -9,7 +10,7 @@ use Rattle.js_ordered.specs.declared.row.Row.{Row}
 use Rattle.js_ordered.specs.declared.row.Row.TheVariants.{Event}
 use Rattle.js_ordered.specs.declared.consumer.Given.{Given}
 use Rattle.js_ordered.specs.Turn.{pass}
-use Rattle.js_ordered.specs.Fold.{World, Ran, passing, after, pass_all, pass_each, pass_to, rank, tick, matter_of, link_after, event, run_events, first_phase, opening_rows, first_world, opening, fold, step_of}
+use Rattle.js_ordered.specs.Fold.{Ran, passing, after, pass_all, pass_each, pass_to, rank, tick, matter_of, link_after, event, run_events, first_phase, opening_rows, first_world, opening, fold, step_of}
 use Rattle.js_ordered.specs.Gapless.{Server, IsWhole, IsHonest, IsHonestEvent, FollowsStarts, IsGapless, joined, all_outputs, yields}
 use Rattle.js_ordered.specs.Kept.{IsKept, IsKeptAt, IsKeptOn, IsPull, IsPush, IsHonestRow, IsHonestMatter, Extends}
 use Rattle.js_ordered.specs.declared.setup.OrderedSetup.{OrderedSetup}

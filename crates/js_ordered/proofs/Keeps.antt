@@ -13,7 +13,9 @@ use Rattle.js_message.specs.Ack.{Place, readable_as}
 use Rattle.js_link.specs.Passing.{Passing}
 use Rattle.js_link.specs.declared.sent.Sent.{Sent}
 use Rattle.js_link.specs.declared.sent.Sent.TheVariants as goes
-use Rattle.js_pull.specs.Kind as kind
+use Rattle.js_pull.specs.Kind.{pull_kind}
+use Rattle.js_pull.specs.declared.Kind.{Kind}
+use Rattle.js_pull.specs.declared.Kind.TheVariants as kind
 use Rattle.js_pull.specs.Reader as pull
 use Rattle.js_pull.specs.declared.reader.Row.TheVariants as read
 use Rattle.js_pull.specs.declared.reader.Inquiry.TheVariants as inquiries
@@ -37,7 +39,9 @@ use Rattle.js_ordered.specs.declared.consumer.Phase.{Phase}
 use Rattle.js_ordered.specs.declared.consumer.Stage.TheVariants.{Between, Deleting, Creating, Waiting}
 use Rattle.js_ordered.specs.declared.consumer.Phase.TheVariants.{Pulls, Pushes, Recreates, Idle, Ended, Exhausted}
 use Rattle.js_ordered.specs.Recreation.{start_row, try_row, create_row, ask_row, succeed_row, succeed_pull, succeed_push, fail_row, message_on, hold, held_in, hold_row, stage_rows, recreation_rows, created, answered, has_subject}
-use Rattle.js_ordered.specs.Reading.{message_row, told, with_sent, PushKind, Delivered, Quiet, Bad, Beat, push_kind, beat_answer, beat_rows, hear_kind, hear_row, silence_row, armed}
+use Rattle.js_ordered.specs.Reading.{message_row, told, with_sent, push_kind, beat_answer, beat_rows, hear_kind, hear_row, silence_row, armed}
+use Rattle.js_ordered.specs.declared.kind.PushKind.{PushKind}
+use Rattle.js_ordered.specs.declared.kind.PushKind.TheVariants.{Delivered, Quiet, Bad, Beat}
 use Rattle.js_ordered.specs.Turn.{push_rows, go_on, is_connected, changed, watcher_ended, event_change, event_row, same_state, reader_row, row_at, pass}
 use Rattle.js_ordered.specs.declared.setup.OrderedSetup.{OrderedSetup}
 use Rattle.js_ordered.specs.declared.setup.OrderedSetup.TheVariants.{Pull, Push}
@@ -219,14 +223,14 @@ message_keeps setup s inbox phase at whole c k (Some place) message delivered =
 
 -- what a reader's row leaves: the same source, and a message only where one arrived
 abbrev pub HandsOnly : Option Message → PullTold → Type 0
-HandsOnly arrival (tells.Hands message) = (arrival ≡ Some message) × (kind.pull_kind message ≡ kind.Delivered)
+HandsOnly arrival (tells.Hands message) = (arrival ≡ Some message) × (pull_kind message ≡ kind.Delivered)
 HandsOnly arrival _ = ⊤
 
 pub record IsRead (reader : PullReader) (arrival : Option Message) (passed : pull.Passed) : Type 0 where
   pub source : passed.reader.source ≡ reader.source
   pub hands : HandsOnly arrival passed.told
 
-hear_read : (reader : PullReader) (message : Message) (k : kind.Kind) (r : PullReader) → r.source ≡ reader.source → kind.pull_kind message ≡ k
+hear_read : (reader : PullReader) (message : Message) (k : Kind) (r : PullReader) → r.source ≡ reader.source → pull_kind message ≡ k
     → IsRead reader (Some message) (pull.hear message k r)
 hear_read reader message kind.Delivered r same is = record { source = same; hands = (refl, is) }
 hear_read reader message kind.Quiet r same is = record { source = same; hands = tt }
@@ -239,7 +243,7 @@ hear_read reader message (kind.Ledger messages bytes) r same is = record { sourc
 
 arrival_read : (p : Passing) (arrival : Option Message) (r : PullReader) → IsRead r arrival (pull.check_arrival p arrival r)
 arrival_read p None r = record { source = refl; hands = tt }
-arrival_read p (Some message) r = hear_read r message (kind.pull_kind message) (pull.with_pin message (pull.with_silence p.now r)) refl refl
+arrival_read p (Some message) r = hear_read r message (pull_kind message) (pull.with_pin message (pull.with_silence p.now r)) refl refl
 
 answered_read : (arrival : Option Message) (failures : ℕ) (info : Option Info) (r : PullReader) → IsRead r arrival (pull.answered failures info r)
 answered_read arrival failures None r = record { source = refl; hands = tt }
@@ -307,7 +311,7 @@ told_keeps : (g : Given) (s : Server) (setup : OrderedSetup) (reader : PullReade
     → IsWhole setup s.log s.removed (s.starts reader.source.inbox) (s.lists reader.source.inbox)
     → IsPull setup → IsKeptOn setup s c.num c.last c.serial reader.source.inbox
     → HandsOnly arrival t
-    → ((message : Message) → arrival ≡ Some message → kind.pull_kind message ≡ kind.Delivered → DeliveredAs setup s reader.source.inbox (readable_as message.reply) message)
+    → ((message : Message) → arrival ≡ Some message → pull_kind message ≡ kind.Delivered → DeliveredAs setup s reader.source.inbox (readable_as message.reply) message)
     → Keeps setup s c.last (told t (at_phase (Pulls reader) c))
 told_keeps g s setup reader c arrival tells.Nothing whole mode k hands delivered = record { kept = (mode, k); rows = tt; extends = refl }
 told_keeps g s setup reader c arrival (tells.Hands message) whole mode k hands delivered =
@@ -353,7 +357,7 @@ hear_kind_keeps setup s p inbox silence c message (Beat n) whole mode k delivere
 
 -- ---- a mode's messages
 
-pull_message : (setup : OrderedSetup) (message : Message) → IsPull setup → kind.pull_kind message ≡ kind.Delivered → IsMessage setup message
+pull_message : (setup : OrderedSetup) (message : Message) → IsPull setup → pull_kind message ≡ kind.Delivered → IsMessage setup message
 pull_message (Pull setup) message mode is = is
 pull_message (Push setup) message mode is = absurd mode
 
@@ -380,7 +384,7 @@ reader_keeps g s p m row reader c whole mode k honest =
     (delivery arrival (on_inbox g.setup s reader.source.inbox m.arrival honest) message is kind_is place place_is)))
   where
     delivery : (arrival : Option Message) → IfSome arrival (λ message. IsHonestArrival g.setup s (record { inbox = reader.source.inbox; message = message }))
-        → (message : Message) → arrival ≡ Some message → kind.pull_kind message ≡ kind.Delivered
+        → (message : Message) → arrival ≡ Some message → pull_kind message ≡ kind.Delivered
         → (place : Place) → readable_as message.reply ≡ Some place → IsDelivery s reader.source.inbox place.number (entry_of place message)
     delivery arrival h message is kind_is place place_is =
         let h' : IsHonestArrival g.setup s (record { inbox = reader.source.inbox; message = message }) =

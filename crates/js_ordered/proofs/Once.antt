@@ -18,6 +18,7 @@ use Rattle.js_pull.specs.declared.reader.Row.TheVariants as read
 use Rattle.js_pull.specs.declared.reader.Told.{Told as PullTold}
 use Rattle.js_pull.specs.declared.reader.Told.TheVariants as tells
 use Rattle.js_pull.specs.declared.reader.MessagesErrorKind.TheVariants as error
+use Rattle.js_ordered.specs.declared.world.World.{World}
 use Rattle.js_ordered.specs.declared.consumer.Consumer.{Consumer}
 use Rattle.js_ordered.specs.State.{Matter, Change, Unchanged, Becomes, WatcherEnds, Passed, at_phase, output_of}
 use Rattle.js_ordered.specs.declared.consumer.Recreation.{Recreation}
@@ -30,9 +31,11 @@ use Rattle.js_ordered.specs.declared.consumer.Stage.TheVariants.{Between, Deleti
 use Rattle.js_ordered.specs.declared.consumer.Phase.{Phase}
 use Rattle.js_ordered.specs.declared.consumer.Phase.TheVariants.{Pulls, Pushes, Recreates, Idle, Ended, Exhausted}
 use Rattle.js_ordered.specs.Recreation.{start_row, try_row, create_row, ask_row, succeed_row, succeed_push, fail_row, message_on, stage_rows, recreation_rows, created, answered, has_subject}
-use Rattle.js_ordered.specs.Reading.{in_place_of, message_row, told, PushKind, Delivered, Quiet, Bad, Beat, push_kind, beat_answer, beat_rows, hear_kind, armed}
+use Rattle.js_ordered.specs.Reading.{in_place_of, message_row, told, push_kind, beat_answer, beat_rows, hear_kind, armed}
+use Rattle.js_ordered.specs.declared.kind.PushKind.{PushKind}
+use Rattle.js_ordered.specs.declared.kind.PushKind.TheVariants.{Delivered, Quiet, Bad, Beat}
 use Rattle.js_ordered.specs.Turn.{push_rows, go_on, is_connected, changed, watcher_ended, event_change, event_row, same_state, reader_row, row_at, pass}
-use Rattle.js_ordered.specs.Fold.{World, Ran, passing, after, stays, and_then, rank, pass_each, pass_to, pass_all, tick, matter_of, link_after, event, run_events, opening_rows, first_world, opening, fold, step_of}
+use Rattle.js_ordered.specs.Fold.{Ran, passing, after, stays, and_then, rank, pass_each, pass_to, pass_all, tick, matter_of, link_after, event, run_events, opening_rows, first_world, opening, fold, step_of}
 use Rattle.js_ordered.specs.Valid.{recreations, HasOneRecreation}
 use Rattle.js_ordered.specs.declared.setup.OrderedSetup.{OrderedSetup}
 use Rattle.js_ordered.specs.declared.setup.OrderedSetup.TheVariants.{Pull, Push}
@@ -355,7 +358,7 @@ go_on_leads g p m Exhausted c = record { none = refl; next = tt }
 
 changed_leads : (g : Given) (p : Passing) (m : Matter) (old new : State) (phase : Phase) (c : Consumer) → Leads IsInside (changed g p m old new phase c)
 changed_leads g p m old new (Pulls reader) c = reader_inside p m (read.Begin (Some new)) reader (record c { connection = new })
-changed_leads g p m old new (Pushes inbox silence) c = 
+changed_leads g p m old new (Pushes inbox silence) c =
     if_both (Leads IsInside) (is_connected old || is_connected new) _ _ (record { none = refl; next = (tt, tt) }) (go_on_leads g p m (Pushes inbox silence) (record c { connection = new }))
 changed_leads g p m old new (Recreates r) c = go_on_leads g p m (Recreates r) (record c { connection = new })
 changed_leads g p m old new Idle c = go_on_leads g p m Idle (record c { connection = new })

@@ -30,7 +30,9 @@ use Rattle.js_ordered.specs.declared.consumer.Stage.TheVariants.{Between, Deleti
 use Rattle.js_ordered.specs.declared.consumer.Phase.{Phase}
 use Rattle.js_ordered.specs.declared.consumer.Phase.TheVariants.{Pulls, Pushes, Recreates, Idle, Ended, Exhausted}
 use Rattle.js_ordered.specs.Recreation.{start_row, try_row, create_row, ask_row, succeed_row, succeed_push, fail_row, message_on, hold, held_in, stage_rows, recreation_rows, created, answered, has_subject}
-use Rattle.js_ordered.specs.Reading.{message_row, told, PushKind, Delivered, Quiet, Bad, Beat, push_kind, beat_rows, hear_kind, hear_row, armed}
+use Rattle.js_ordered.specs.Reading.{message_row, told, push_kind, beat_rows, hear_kind, hear_row, armed}
+use Rattle.js_ordered.specs.declared.kind.PushKind.{PushKind}
+use Rattle.js_ordered.specs.declared.kind.PushKind.TheVariants.{Delivered, Quiet, Bad, Beat}
 use Rattle.js_ordered.specs.Turn.{push_rows, go_on, is_connected, changed, watcher_ended, event_change, event_row, same_state, reader_row, row_at, pass}
 use Rattle.js_ordered.specs.Valid.{IsBelowEnd}
 use Rattle.js_ordered.specs.declared.setup.OrderedSetup.{OrderedSetup}
@@ -195,7 +197,7 @@ go_on_opens g p m Exhausted c k kp h = absurd kp
 
 changed_opens : (g : Given) (p : Passing) (m : Matter) (old new : State) (phase : Phase) (c : Consumer) → Last c → IsOpenPhase phase → IsOpenMatter m → Opens (changed g p m old new phase (at_phase phase c))
 changed_opens g p m old new (Pulls reader) c k kp h = reader_opens p m (read.Begin (Some new)) reader (record c { connection = new }) k h
-changed_opens g p m old new (Pushes inbox silence) c k kp h = 
+changed_opens g p m old new (Pushes inbox silence) c k kp h =
     if_both Opens (is_connected old || is_connected new) _ _ (record { consumer = record { last = k; phase = tt }; rows = (tt, tt) }) (go_on_opens g p m (Pushes inbox silence) (record c { connection = new }) k kp h)
 changed_opens g p m old new (Recreates r) c k kp h = go_on_opens g p m (Recreates r) (record c { connection = new }) k kp h
 changed_opens g p m old new Idle c k kp h = go_on_opens g p m Idle (record c { connection = new }) k kp h

@@ -10,13 +10,16 @@ use Rattle.js_base.specs.declared.message.State.TheVariants.{Pending, Connected,
 use Rattle.js_json.specs.declared.consumer.info.Info.{Info}
 use Rattle.js_message.specs.Ack.{Place, readable_as}
 use Rattle.js_link.specs.Passing.{Passing}
-use Rattle.js_pull.specs.Kind as kind
+use Rattle.js_pull.specs.Kind.{pull_kind}
+use Rattle.js_pull.specs.declared.Kind.{Kind}
+use Rattle.js_pull.specs.declared.Kind.TheVariants as kind
 use Rattle.js_pull.specs.Reader as pull
 use Rattle.js_pull.specs.declared.reader.Row.{Row as PullRow}
 use Rattle.js_pull.specs.declared.reader.Row.TheVariants as read
 use Rattle.js_pull.specs.declared.reader.Reader.{Reader as PullReader}
 use Rattle.js_pull.specs.declared.reader.Inquiry.{Inquiry}
 use Rattle.js_pull.specs.declared.reader.Inquiry.TheVariants as inquiries
+use Rattle.js_ordered.specs.declared.world.World.{World}
 use Rattle.js_ordered.specs.declared.consumer.Consumer.{Consumer}
 use Rattle.js_ordered.specs.State.{Matter, Change, Unchanged, Becomes, WatcherEnds, Passed, at_phase}
 use Rattle.js_ordered.specs.declared.row.Row.{Row}
@@ -29,9 +32,11 @@ use Rattle.js_ordered.specs.declared.consumer.Phase.{Phase}
 use Rattle.js_ordered.specs.declared.consumer.Stage.TheVariants.{Between, Deleting, Creating, Waiting}
 use Rattle.js_ordered.specs.declared.consumer.Phase.TheVariants.{Pulls, Pushes, Recreates, Idle, Ended, Exhausted}
 use Rattle.js_ordered.specs.Recreation.{create_row, succeed_row, succeed_push, stage_rows, recreation_rows, created, answered, has_subject, message_on}
-use Rattle.js_ordered.specs.Reading.{in_place_of, message_row, read_row, PushKind, Delivered, Quiet, Bad, Beat, push_kind, beat_rows, hear_kind, armed}
+use Rattle.js_ordered.specs.Reading.{in_place_of, message_row, read_row, push_kind, beat_rows, hear_kind, armed}
+use Rattle.js_ordered.specs.declared.kind.PushKind.{PushKind}
+use Rattle.js_ordered.specs.declared.kind.PushKind.TheVariants.{Delivered, Quiet, Bad, Beat}
 use Rattle.js_ordered.specs.Turn.{push_rows, go_on, is_connected, changed, watcher_ended, event_change, event_row, same_state, row_at, pass}
-use Rattle.js_ordered.specs.Fold.{World, Ran, rank, and_then, passing, after, pass_each, pass_to}
+use Rattle.js_ordered.specs.Fold.{Ran, rank, and_then, passing, after, pass_each, pass_to}
 use Rattle.js_ordered.specs.declared.setup.OrderedSetup.{OrderedSetup}
 use Rattle.js_ordered.specs.declared.setup.OrderedSetup.TheVariants.{Pull, Push}
 use Rattle.js_ordered.proofs.Rewritten.{if_both, if_each, all_in_place}
@@ -101,7 +106,7 @@ hear_kind_falls p message (Beat last) c = beat_falls last c.num
 abbrev Reads : ℕ → Consumer → pull.Passed → Type 0
 Reads n c passed = Leads n (read_row passed c)
 
-hear_falls : (message : Message) (k : kind.Kind) (r : PullReader) (c : Consumer) → Reads 6 c (pull.hear message k r)
+hear_falls : (message : Message) (k : Kind) (r : PullReader) (c : Consumer) → Reads 6 c (pull.hear message k r)
 hear_falls message kind.Delivered r c =
     all_in_place (λ (row : Row). rank row < 6) (message_row (readable_as message.reply) message (record (at_phase (Pulls (pull.lowered 1 message.length r)) c) { missed = false })).next (Read read.Threshold ∷ [])
     (message_falls 6 (omega arith) (readable_as message.reply) message (record (at_phase (Pulls (pull.lowered 1 message.length r)) c) { missed = false })) (omega arith, tt)
@@ -116,7 +121,7 @@ hear_falls message (kind.Ledger messages bytes) r c = (omega arith, tt)
 
 arrival_falls : (p : Passing) (arrival : Option Message) (r : PullReader) (c : Consumer) → Reads 6 c (pull.check_arrival p arrival r)
 arrival_falls p None r c = (omega arith, tt)
-arrival_falls p (Some message) r c = hear_falls message (kind.pull_kind message) (pull.with_pin message (pull.with_silence p.now r)) c
+arrival_falls p (Some message) r c = hear_falls message (pull_kind message) (pull.with_pin message (pull.with_silence p.now r)) c
 
 silence_falls : (p : Passing) (r : PullReader) (c : Consumer) → Reads 5 c (pull.check_silence p r)
 silence_falls p r c =

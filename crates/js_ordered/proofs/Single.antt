@@ -9,7 +9,9 @@ use Rattle.js_base.specs.declared.message.State.TheVariants.{Pending, Connected,
 use Rattle.js_json.specs.declared.consumer.info.Info.{Info}
 use Rattle.js_message.specs.Ack.{Place, readable_as}
 use Rattle.js_link.specs.Passing.{Passing}
-use Rattle.js_pull.specs.Kind as kind
+use Rattle.js_pull.specs.Kind.{pull_kind}
+use Rattle.js_pull.specs.declared.Kind.{Kind}
+use Rattle.js_pull.specs.declared.Kind.TheVariants as kind
 use Rattle.js_pull.specs.Reader as pull
 use Rattle.js_pull.specs.declared.reader.Row.{Row as PullRow}
 use Rattle.js_pull.specs.declared.reader.Row.TheVariants as read
@@ -26,7 +28,9 @@ use Rattle.js_ordered.specs.State.{Matter, Change, Unchanged, Becomes, WatcherEn
 use Rattle.js_ordered.specs.declared.row.Row.{Row}
 use Rattle.js_ordered.specs.declared.row.Row.TheVariants.{Event, Start, Try, Create, Ask, Await, Answered, Hold, Succeed, Fail, CheckArrival, Hear, CheckSilence, Arm, Read}
 use Rattle.js_ordered.specs.Recreation.{create_row, succeed_row, succeed_push, message_on}
-use Rattle.js_ordered.specs.Reading.{message_row, read_row, PushKind, Delivered, Quiet, Bad, Beat, push_kind, beat_answer, hear_kind, armed}
+use Rattle.js_ordered.specs.Reading.{message_row, read_row, push_kind, beat_answer, hear_kind, armed}
+use Rattle.js_ordered.specs.declared.kind.PushKind.{PushKind}
+use Rattle.js_ordered.specs.declared.kind.PushKind.TheVariants.{Delivered, Quiet, Bad, Beat}
 use Rattle.js_ordered.specs.Turn.{go_on, is_connected, changed, watcher_ended, event_change, event_row, same_state, row_at}
 use Rattle.js_ordered.specs.Turns.{handed, sent}
 use Rattle.js_ordered.specs.declared.setup.OrderedSetup.{OrderedSetup}
@@ -63,7 +67,7 @@ succeed_single (Push setup) g p info r c = push_single p r.opened c
 abbrev Reads : Consumer → pull.Passed → Type 0
 Reads c passed = Single (read_row passed c)
 
-arrived_single : (message : Message) (k : kind.Kind) (r : PullReader) (c : Consumer) → Reads c (pull.hear message k r)
+arrived_single : (message : Message) (k : Kind) (r : PullReader) (c : Consumer) → Reads c (pull.hear message k r)
 arrived_single message kind.Delivered r c = message_single (readable_as message.reply) message (record (at_phase (Pulls (pull.lowered 1 message.length r)) c) { missed = false })
 arrived_single message kind.Quiet r c = nothing
 arrived_single message kind.Deleted r c = nothing
@@ -75,7 +79,7 @@ arrived_single message (kind.Ledger messages bytes) r c = nothing
 
 arrival_single : (p : Passing) (arrival : Option Message) (r : PullReader) (c : Consumer) → Reads c (pull.check_arrival p arrival r)
 arrival_single p None r c = nothing
-arrival_single p (Some message) r c = arrived_single message (kind.pull_kind message) (pull.with_pin message (pull.with_silence p.now r)) c
+arrival_single p (Some message) r c = arrived_single message (pull_kind message) (pull.with_pin message (pull.with_silence p.now r)) c
 
 answer_single : (failures : ℕ) (info : Option Info) (r : PullReader) (c : Consumer) → Reads c (pull.answered failures info r)
 answer_single failures None r c = nothing
@@ -123,7 +127,7 @@ go_on_single g p m Exhausted c = nothing
 
 changed_single : (g : Given) (p : Passing) (m : Matter) (old new : State) (phase : Phase) (c : Consumer) → Single (changed g p m old new phase c)
 changed_single g p m old new (Pulls reader) c = reader_single p m.answer (message_on reader.source.inbox m.arrival) (read.Begin (Some new)) reader (record c { connection = new })
-changed_single g p m old new (Pushes inbox silence) c = 
+changed_single g p m old new (Pushes inbox silence) c =
     if_both Single (is_connected old || is_connected new) _ _ nothing (go_on_single g p m (Pushes inbox silence) (record c { connection = new }))
 changed_single g p m old new (Recreates r) c = go_on_single g p m (Recreates r) (record c { connection = new })
 changed_single g p m old new Idle c = go_on_single g p m Idle (record c { connection = new })

@@ -31,12 +31,13 @@ use Rattle.js_ordered.specs.declared.consumer.Stage.TheVariants.{Between, Deleti
 use Rattle.js_ordered.specs.declared.consumer.Phase.{Phase}
 use Rattle.js_ordered.specs.declared.consumer.Phase.TheVariants.{Pulls, Pushes, Recreates, Idle, Ended, Exhausted}
 use Rattle.js_ordered.specs.Recreation.{try_row, create_row, ask_row, succeed_row, succeed_push, fail_row, hold, held_in, message_on, stage_rows, created}
-use Rattle.js_ordered.specs.Reading.{read_row, PushKind, Delivered, Quiet, Bad, Beat, push_kind, beat_answer, hear_kind, armed}
+use Rattle.js_ordered.specs.Reading.{read_row, push_kind, beat_answer, hear_kind, armed}
+use Rattle.js_ordered.specs.declared.kind.PushKind.{PushKind}
+use Rattle.js_ordered.specs.declared.kind.PushKind.TheVariants.{Delivered, Quiet, Bad, Beat}
 use Rattle.js_ordered.specs.Turn.{push_rows, go_on, changed, watcher_ended, event_change, same_state, row_at, pass}
 use Rattle.js_ordered.specs.Wishes.{awaited, opened_read, opened_dropped, create_wish, succeed_wish, beat_wish, wish_at, wish, change_of, arrival_of, matter_of, watched, givings, met_in}
 use Rattle.js_ordered.specs.declared.setup.OrderedSetup.{OrderedSetup}
 use Rattle.js_ordered.specs.declared.setup.OrderedSetup.TheVariants.{Pull, Push}
-
 use Rattle.js_ordered.proofs.Wishes.{each, chosen}
 
 -- a row at a phase, met by what an event brings

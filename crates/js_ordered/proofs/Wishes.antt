@@ -31,7 +31,9 @@ use Rattle.js_ordered.specs.declared.consumer.Stage.TheVariants.{Between, Deleti
 use Rattle.js_ordered.specs.declared.consumer.Phase.{Phase}
 use Rattle.js_ordered.specs.declared.consumer.Phase.TheVariants.{Pulls, Pushes, Recreates, Idle, Ended, Exhausted}
 use Rattle.js_ordered.specs.Recreation.{start_row, create_row, succeed_row, succeed_push, fail_row, message_on}
-use Rattle.js_ordered.specs.Reading.{message_row, told, PushKind, Delivered, Quiet, Bad, Beat, push_kind, beat_answer, hear_kind, armed}
+use Rattle.js_ordered.specs.Reading.{message_row, told, push_kind, beat_answer, hear_kind, armed}
+use Rattle.js_ordered.specs.declared.kind.PushKind.{PushKind}
+use Rattle.js_ordered.specs.declared.kind.PushKind.TheVariants.{Delivered, Quiet, Bad, Beat}
 use Rattle.js_ordered.specs.Turn.{go_on, is_connected, changed, watcher_ended, event_change, event_row, same_state, reader_row, row_at}
 use Rattle.js_ordered.specs.Turns.{sent}
 use Rattle.js_ordered.specs.Wishes.{awaited, opened_read, opened_dropped, dropped, create_wish, succeed_wish, beat_wish, wish_at, wish}

@@ -10,12 +10,12 @@ use Rattle.js_json.specs.declared.consumer.config.Config.{Config}
 use Rattle.js_json.specs.declared.consumer.info.Info.{Info}
 use Rattle.js_json.specs.declared.consumer.sequence_info.SequenceInfo.{SequenceInfo}
 use Rattle.js_json.specs.declared.consumer.policies.ReplayPolicy.TheVariants as replay
-use Rattle.js_json.specs.declared.consumer.policy.DeliverPolicy.{DeliverPolicy}
+use Rattle.js_json.specs.declared.consumer.deliver_policy.DeliverPolicy.{DeliverPolicy}
 use Rattle.js_json.specs.declared.pull.OrderedConfig as pulls
 use Rattle.js_json.specs.declared.push.OrderedConfig as pushes
 use Rattle.js_json.specs.Conversions.{ordered_pull_config, ordered_push_config}
 use Rattle.js_json.proofs.OnLiterals.{requests_on_literals, infos_on_literals}
-use Rattle.js_json.specs.declared.consumer.policy.DeliverPolicy.TheVariants as policy
+use Rattle.js_json.specs.declared.consumer.deliver_policy.DeliverPolicy.TheVariants as policy
 use Rattle.js_ordered.specs.declared.setup.Settings.{Settings}
 use Rattle.js_ordered.specs.declared.consumer.Given.{Given}
 use Rattle.js_ordered.specs.declared.setup.OrderedSetup.TheVariants.{Pull, Push}

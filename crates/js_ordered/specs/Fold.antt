@@ -5,6 +5,7 @@ use Rattle.js_link.specs.Passing.{Passing}
 use Rattle.js_pull.specs.Reader as pull
 use Rattle.js_pull.specs.declared.reader.Row.{Row as PullRow}
 use Rattle.js_pull.specs.declared.reader.Row.TheVariants as read
+use Rattle.js_ordered.specs.declared.world.World.{World}
 use Rattle.js_ordered.specs.declared.run.Run.{Run}
 use Rattle.js_ordered.specs.declared.run.Step.{Step}
 use Rattle.js_ordered.specs.declared.consumer.Consumer.{Consumer}
@@ -24,13 +25,6 @@ use Rattle.js_ordered.specs.declared.event.What.{What}
 use Rattle.js_ordered.specs.declared.event.What.TheVariants as what
 use Rattle.js_ordered.specs.declared.run.Output.{Output}
 use Rattle.js_ordered.specs.declared.run.Output.TheVariants as out
-
--- a consumer beside its link: whether the link is up, and how many requests and inboxes there were
-pub record World : Type 0 where
-  pub consumer : Consumer
-  pub up : Bool
-  pub asked : ℕ
-  pub made : ℕ
 
 -- what passing some rows leads to, and what it puts out
 pub record Ran : Type 0 where

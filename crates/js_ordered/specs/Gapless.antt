@@ -5,11 +5,13 @@ use Rattle.std.specs.List.Sorted.{IsStrictlyIncreasing}
 use Rattle.js_base.specs.declared.message.Message.{Message}
 use Rattle.js_base.specs.Match.{filters_match}
 use Rattle.js_message.specs.Ack.{Place, readable_as}
-use Rattle.js_pull.specs.Kind as pull_kinds
+use Rattle.js_pull.specs.Kind.{pull_kind}
+use Rattle.js_pull.specs.declared.kind.Kind.TheVariants as pull_kinds
 use Rattle.js_ordered.specs.declared.run.Run.{Run}
 use Rattle.js_ordered.specs.declared.run.Step.{Step}
 use Rattle.js_ordered.specs.Texts.{filters, configured_start}
-use Rattle.js_ordered.specs.Reading.{Delivered, push_kind}
+use Rattle.js_ordered.specs.Reading.{push_kind}
+use Rattle.js_ordered.specs.declared.kind.PushKind.TheVariants.{Delivered}
 use Rattle.js_ordered.specs.declared.row.Arrival.{Arrival}
 use Rattle.js_ordered.specs.declared.setup.OrderedSetup.{OrderedSetup}
 use Rattle.js_ordered.specs.declared.setup.OrderedSetup.TheVariants.{Pull, Push}
@@ -78,7 +80,7 @@ entry_of place message = record { subject = message.subject; sequence = place.se
 
 -- it brings one of the stream's messages, and not a status
 abbrev pub IsMessage : OrderedSetup → Message → Type 0
-IsMessage (Pull setup) message = pull_kinds.pull_kind message ≡ pull_kinds.Delivered
+IsMessage (Pull setup) message = pull_kind message ≡ pull_kinds.Delivered
 IsMessage (Push setup) message = push_kind message ≡ Delivered
 
 -- an arrival that is a readable message is a delivery

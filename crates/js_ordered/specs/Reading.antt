@@ -7,12 +7,15 @@ use Rattle.js_base.specs.declared.clock.Timer.{Timer}
 use Rattle.js_base.specs.Clock.{is_due, second}
 use Rattle.js_message.specs.Ack.{Place, readable_as}
 use Rattle.js_link.specs.Passing.{Passing}
-use Rattle.js_pull.specs.Kind as kind
+use Rattle.js_pull.specs.declared.kind.HeaderNumber.{HeaderNumber}
+use Rattle.js_pull.specs.declared.kind.HeaderNumber.TheVariants as number
 use Rattle.js_pull.specs.Kind.{number_told}
 use Rattle.js_pull.specs.Reader as pull
 use Rattle.js_pull.specs.declared.reader.Told.TheVariants as tells
 use Rattle.js_pull.specs.declared.reader.Told.{Told as PullTold}
 use Rattle.js_pull.specs.declared.reader.MessagesErrorKind.TheVariants as error
+use Rattle.js_ordered.specs.declared.kind.PushKind.{PushKind}
+use Rattle.js_ordered.specs.declared.kind.PushKind.TheVariants.{Delivered, Quiet, Bad, Beat}
 use Rattle.js_ordered.specs.declared.consumer.Consumer.{Consumer}
 use Rattle.js_ordered.specs.State.{Passed, quietly, at_phase, output_of}
 use Rattle.js_ordered.specs.declared.row.Arrival.{Arrival}
@@ -83,16 +86,11 @@ read_row passed c =
 
 -- ---- push
 
--- what an arrival is to a push reader
-pub data PushKind : Type 0 where
-  Delivered Quiet Bad : PushKind
-  Beat : Option ℕ → PushKind  -- the last number that was delivered
-
 -- a beat with a bad number is bad
-abbrev pub beat : kind.Told → PushKind
-beat kind.Absent = Beat None
-beat kind.Unreadable = Bad
-beat (kind.Number n) = Beat (Some n)
+abbrev pub beat : HeaderNumber → PushKind
+beat number.Absent = Beat None
+beat number.Unreadable = Bad
+beat (number.Number n) = Beat (Some n)
 
 -- by the status, and by the last value of a header
 abbrev pub push_kind_of : Message → Option StatusCode → PushKind

@@ -3,6 +3,7 @@ use Rattle.std.specs.Prelude.{◌≡◌, ℕ, Bool, true, false, List, [], ◌�
 use Rattle.std.specs.List.{AllByRecursion, list_any}
 use Rattle.js_link.specs.Passing.{Passing}
 use Rattle.js_link.specs.Met.{Wish, Met, passing_of, IsClosing}
+use Rattle.js_ordered.specs.declared.world.World.{World}
 use Rattle.js_ordered.specs.Wishes.{wish, matter_of, met_in}
 use Rattle.js_ordered.specs.declared.consumer.Consumer.{Consumer}
 use Rattle.js_ordered.specs.State.{Matter, Passed}
@@ -10,7 +11,7 @@ use Rattle.js_ordered.specs.declared.row.Row.{Row}
 use Rattle.js_ordered.specs.declared.row.Row.TheVariants.{Event}
 use Rattle.js_ordered.specs.declared.consumer.Given.{Given}
 use Rattle.js_ordered.specs.declared.consumer.Phase.TheVariants.{Ended, Exhausted}
-use Rattle.js_ordered.specs.Fold.{World, is_subscribe, passing, after}
+use Rattle.js_ordered.specs.Fold.{is_subscribe, passing, after}
 use Rattle.js_ordered.specs.Turn.{pass}
 use Rattle.js_ordered.specs.Gapless.{Server, IsWhole}
 use Rattle.js_ordered.specs.Kept.{Joins, IsKept, IsHonestRow, IsHonestMatter, OpensAsAsked}

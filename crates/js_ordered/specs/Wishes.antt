@@ -11,7 +11,9 @@ use Rattle.js_ordered.specs.declared.consumer.Consumer.{Consumer}
 use Rattle.js_ordered.specs.State.{Matter, Change, Unchanged, Becomes, WatcherEnds}
 use Rattle.js_ordered.specs.declared.consumer.Opened.{Opened}
 use Rattle.js_ordered.specs.Texts.{delete_subject, create_subject, create_body}
-use Rattle.js_ordered.specs.Reading.{PushKind, Beat, push_kind}
+use Rattle.js_ordered.specs.Reading.{push_kind}
+use Rattle.js_ordered.specs.declared.kind.PushKind.{PushKind}
+use Rattle.js_ordered.specs.declared.kind.PushKind.TheVariants.{Beat}
 use Rattle.js_ordered.specs.declared.row.Arrival.{Arrival}
 use Rattle.js_ordered.specs.declared.row.Row.{Row}
 use Rattle.js_ordered.specs.declared.row.Row.TheVariants.{Event, Start, Try, Create, Ask, Await, Hold, Succeed, Fail, CheckArrival, Hear, Read}

@@ -3,12 +3,16 @@
 
 mod consumer;
 mod event;
+mod kind;
 mod row;
 mod run;
 mod setup;
+mod world;
 
 pub use consumer::{Consumer, Given, Opened, Phase, Recreation, Stage};
 pub use event::{Event, What};
+pub use kind::{PushKind, push_kind};
 pub use row::{Arrival, Row};
 pub use run::{Field, ItemKind, Output, ReplayError, Run, Start, Step};
 pub use setup::{OrderedSetup, Settings};
+pub use world::World;

@@ -11,7 +11,9 @@ use Rattle.js_json.specs.declared.consumer.info.Info.{Info}
 use Rattle.js_link.specs.Passing.{Passing}
 use Rattle.js_link.specs.Met.{Wish, Awaits, passing_of, message_of}
 use Rattle.js_link.specs.Given.{Givings, given, took, got, sends_of}
-use Rattle.js_pull.specs.Kind.{Kind, Delivered, Quiet, Deleted, PushBased, Limit, Gone, Bad, Ledger, pull_kind}
+use Rattle.js_pull.specs.declared.kind.Kind.{Kind}
+use Rattle.js_pull.specs.declared.kind.Kind.TheVariants.{Delivered, Quiet, Deleted, PushBased, Limit, Gone, Bad, Ledger}
+use Rattle.js_pull.specs.Kind.{pull_kind}
 use Rattle.js_pull.specs.declared.reader.Reader.{Reader}
 use Rattle.js_pull.specs.Reader as rows
 use Rattle.js_pull.specs.declared.reader.Inquiry.{Inquiry}

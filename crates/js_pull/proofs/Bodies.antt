@@ -2,7 +2,7 @@
 use Rattle.std.specs.Prelude.{◌≡◌, refl, ℕ, pos, negsuc, true, false, List, [], ◌∷◌, Some, None, codes, ⊤}
 use Rattle.js_fields.proofs.OnLiterals.{writing_on_literals}
 use Rattle.js_base.specs.declared.message.Message.{Message}
-use Rattle.js_json.specs.declared.batch.BatchConfig.{BatchConfig}
+use Rattle.js_json.specs.declared.pull.batch.BatchConfig.{BatchConfig}
 use Rattle.js_json.specs.Batch.{pull_request_value}
 use Rattle.js_link.specs.declared.sent.Sent.{Sent}
 use Rattle.js_link.specs.declared.sent.Sent.TheVariants as goes
