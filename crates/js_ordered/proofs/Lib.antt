@@ -19,3 +19,5 @@ pub mod Asked
 pub mod Worked
 pub mod Rows
 pub mod Honest
+pub mod Rans
+pub mod Recreating

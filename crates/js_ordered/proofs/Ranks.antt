@@ -231,7 +231,7 @@ row_falls g p m _ phase c = tt
 
 -- ---- so nothing is cut off
 
-each_same : (one other : Row → World → Ran) (n : ℕ) → ((row : Row) (w : World) → rank row < n → one row w ≡ other row w)
+pub each_same : (one other : Row → World → Ran) (n : ℕ) → ((row : Row) (w : World) → rank row < n → one row w ≡ other row w)
     → (rows : List Row) (w : World) → AreBelow n rows → pass_each one rows w ≡ pass_each other rows w
 each_same one other n same [] w below = refl
 each_same one other n same (row ∷ rows) w below =

@@ -1,22 +1,38 @@
--- What a function says that passes one row.
-use Rattle.std.specs.Prelude.{◌≡◌, ℕ, true, List, [], ◌∷◌, Option, Some, None}
-use Rattle.js_pull.specs.Passes.{publishing}
+-- What passing rows comes to in a replay, as the functions that pass them say it.
+use Rattle.std.specs.Prelude.{◌≡◌, ℕ, suc, List, ◌++◌}
+use Rattle.js_ordered.specs.State.{Matter, Passed, at_phase}
+use Rattle.js_ordered.specs.Fold.{Ran, rank, and_then, pass_each, pass_to, after, matter_of}
 use Rattle.js_ordered.specs.declared.consumer.Given.{Given}
-use Rattle.js_ordered.specs.declared.consumer.Consumer.{Consumer}
-use Rattle.js_ordered.specs.declared.row.Row.TheVariants.{Fail}
-use Rattle.js_ordered.specs.Fold.{tick}
-use Rattle.js_ordered.specs.Turn.{pass}
-use Rattle.js_ordered.specs.declared.run.ItemKind.{ItemKind}
+use Rattle.js_ordered.specs.declared.consumer.Phase.{Phase}
+use Rattle.js_ordered.specs.declared.row.Row.{Row}
 use Rattle.js_ordered.specs.declared.run.Output.{Output}
-use Rattle.js_ordered.specs.declared.run.Output.TheVariants as out
+use Rattle.js_ordered.specs.declared.turn.Turn.{Turn}
+use Rattle.js_ordered.specs.declared.world.World.{World}
 
--- an item that is put out, or nothing
-abbrev pub item_outputs : Option ItemKind → List Output
-item_outputs None = []
-item_outputs (Some kind) = out.Item kind ∷ []
+-- what a consumer is made with
+abbrev pub given_of : Turn → Given
+given_of turn = record { settings = turn.settings.now; setup = turn.setup.now; first = turn.first.now }
 
--- a try of a recreation has failed
-abbrev pub Fails : Given → ℕ → Consumer → Consumer → Option ItemKind → Type 0
-Fails g now old new item =
-    let passed = pass g (publishing now true) tick Fail old in
-    (new ≡ passed.consumer) × (item_outputs item ≡ passed.outputs)
+-- what happens to it now
+abbrev pub matter_now : Turn → Matter
+matter_now turn = matter_of turn.what.now
+
+-- what a row and the rows that follow it at once come to
+unfoldable pub ran : Given → ℕ → Matter → Row → World → Ran
+ran g now m row w = pass_to g now m (suc (rank row)) row w
+
+-- what comes of a row that was passed: the rows that follow it
+unfoldable pub from : Given → ℕ → Matter → Passed → World → Ran
+from g now m passed w = and_then passed.outputs (pass_each (ran g now m) passed.next (after w passed))
+
+-- the world with its consumer at another phase
+abbrev pub at : Phase → World → World
+at phase w = record w { consumer = at_phase phase w.consumer }
+
+-- this came of it: the world after it, and what was put out
+abbrev pub Comes : Ran → World → List Output → List Output → Type 0
+Comes r new before after = (new ≡ r.world) × (after ≡ before ++ r.outputs)
+
+-- a row was passed, with the rows that follow it at once
+abbrev pub Passes : Turn → Row → World → World → List Output → List Output → Type 0
+Passes turn row old new before after = Comes (ran (given_of turn) turn.moment (matter_now turn) row old) new before after

@@ -1,10 +1,6 @@
-ghost use Rattle.std.specs.Prelude.{◌≡◌};
-ghost use Rattle.js_pull.specs.Reader as rows;
-ghost use Rattle.js_ordered.specs.Passes.{Fails};
-
-use crate::run::{ItemKind, Start};
+use crate::run::Start;
 use crate::setup::{OrderedSetup, Settings};
-use js_base::{Items, Message, Moment, Nanos, State, Subject, Text, Timer};
+use js_base::{Items, Message, State, Subject, Text, Timer};
 use js_json::consumer;
 use js_pull::Reader;
 
@@ -82,40 +78,4 @@ pub struct Consumer {
     /// Pull: a limit was met, and nothing was accepted since.
     pub limited: bool,
     pub connection: State,
-}
-
-/// The wait after so many failures.
-pub(crate) fn retry_wait(failures: u64) -> Nanos
-    ensures { result ≡ rows.retry_wait failures }
-{
-    if failures < 5 {
-        failures * 500_000_000
-    } else {
-        10_000_000_000
-    }
-}
-
-/// A try of a recreation fails: after more failures than retries an item closes it, otherwise the next try waits.
-pub(crate) fn fail(consumer: &mut Consumer, given: &Given, now: Moment) -> Option<ItemKind>
-    ensures { Fails given.now now consumer.old consumer.new result }
-{
-    if let Phase::Recreates(recreation) = &mut consumer.phase {
-        let failures = recreation.failures.saturating_add(1);
-        if failures > given.settings.retries as u64 {
-            consumer.phase = Phase::Idle;
-            Some(ItemKind::Recreate)
-        } else {
-            recreation.failures = failures;
-            recreation.opened = None;
-            recreation.stage = Stage::Waiting {
-                wait: Timer {
-                    set: now,
-                    wait: retry_wait(failures),
-                },
-            };
-            None
-        }
-    } else {
-        None
-    }
 }

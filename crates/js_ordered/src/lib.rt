@@ -7,6 +7,8 @@ mod kind;
 mod row;
 mod run;
 mod setup;
+mod texts;
+mod turn;
 mod world;
 
 pub use consumer::{Consumer, Given, Opened, Phase, Recreation, Stage};
@@ -15,4 +17,5 @@ pub use kind::{PushKind, push_kind};
 pub use row::{Arrival, Row};
 pub use run::{Field, ItemKind, Output, ReplayError, Run, Start, Step};
 pub use setup::{OrderedSetup, Settings};
+pub use turn::Turn;
 pub use world::World;

@@ -1,0 +1,133 @@
+-- What each row of a recreation comes to, case by case.
+use Rattle.std.proofs.Common.{◌≡◌, ℕ, ◌+◌, Bool, true, false, List, [], ◌∷◌, ◌++◌, Option, Some, None, map, min, refl, ap, ◌∙◌}
+use Rattle.std.specs.Prelude.{◌==◌, nat_lt, is_some, codes}
+use Rattle.js_base.specs.declared.message.Message.{Message}
+use Rattle.js_base.specs.declared.clock.Timer.{Timer}
+use Rattle.js_base.specs.Clock.{is_due}
+use Rattle.js_json.specs.declared.consumer.info.Info.{Info}
+use Rattle.js_json.specs.declared.pull.OrderedConfig as pull_config
+use Rattle.js_json.specs.declared.push.OrderedConfig as push_config
+use Rattle.js_pull.specs.Reader as pull
+use Rattle.js_pull.specs.Reader.{new_reader}
+use Rattle.js_pull.specs.declared.reader.Row.TheVariants as read
+use Rattle.js_ordered.specs.State.{Matter, Passed, quietly, at_phase}
+use Rattle.js_ordered.specs.Texts.{configured_start, consumer_name, delete_subject, create_subject, create_body, inbox_subject, recreation_timeout, source_of}
+use Rattle.js_ordered.specs.Recreation.{start_after, recreation, at_stage, answered, stage_rows, hold, message_on, has_subject}
+use Rattle.js_ordered.specs.Fold.{Ran, passing, stays, and_then, pass_each}
+use Rattle.js_ordered.specs.Turn.{pass}
+use Rattle.js_ordered.specs.Passes.{ran, from, at}
+use Rattle.js_ordered.specs.declared.consumer.Given.{Given}
+use Rattle.js_ordered.specs.declared.consumer.Consumer.{Consumer}
+use Rattle.js_ordered.specs.declared.consumer.Opened.{Opened}
+use Rattle.js_ordered.specs.declared.consumer.Recreation.{Recreation}
+use Rattle.js_ordered.specs.declared.consumer.Phase.TheVariants.{Pulls, Pushes, Recreates, Idle, Ended, Exhausted}
+use Rattle.js_ordered.specs.declared.consumer.Stage.{Stage}
+use Rattle.js_ordered.specs.declared.consumer.Stage.TheVariants.{Between, Deleting, Creating, Waiting}
+use Rattle.js_ordered.specs.declared.row.Row.{Row}
+use Rattle.js_ordered.specs.declared.row.Row.TheVariants.{Start, Try, Create, Ask, Await, Answered, Hold, Succeed, Fail, Hear, Arm, Read}
+use Rattle.js_ordered.specs.declared.run.ItemKind.TheVariants as item
+use Rattle.js_ordered.specs.declared.run.Output.{Output}
+use Rattle.js_ordered.specs.declared.run.Output.TheVariants as out
+use Rattle.js_ordered.specs.declared.setup.OrderedSetup.TheVariants.{Pull, Push}
+use Rattle.js_ordered.specs.declared.world.World.{World}
+use Rattle.js_ordered.proofs.Rans.{ran_from, then_row, from_rest, from_step, from_rows, from_output, from_output_step, from_request, from_inbox_step, from_inbox_two}
+
+-- ---- Start
+
+-- the consumer whose recreation begins
+abbrev pub restarted : Given → Consumer → Consumer
+restarted g c =
+    let serial = min (c.serial + 1) pull.u64_max in
+    record c { phase = Recreates (recreation g c); num = 0; serial = serial; name = consumer_name g serial }
+
+pub start_exhausted : (g : Given) (now : ℕ) (m : Matter) (w : World) → (w.consumer.last == pull.u64_max) ≡ true → ran g now m Start w ≡ stays (at Exhausted w)
+start_exhausted g now m w last =
+    ran_from g now m Start w (quietly (at_phase Exhausted w.consumer) []) (rw last refl) ∙ from_rest g now m (at_phase Exhausted w.consumer) w
+
+pub start_goes_on : (g : Given) (now : ℕ) (m : Matter) (w : World) → (w.consumer.last == pull.u64_max) ≡ false
+    → ran g now m Start w ≡ and_then (out.Recreate (min (w.consumer.serial + 1) pull.u64_max) (start_after (configured_start g.setup) w.consumer.last) ∷ []) (ran g now m Try (record w { consumer = restarted g w.consumer }))
+start_goes_on g now m w last =
+    let outputs : List Output = out.Recreate (min (w.consumer.serial + 1) pull.u64_max) (start_after (configured_start g.setup) w.consumer.last) ∷ [] in
+    ran_from g now m Start w (record { consumer = restarted g w.consumer; outputs = outputs; next = Try ∷ [] }) (rw last refl)
+    ∙ from_output_step g now m (restarted g w.consumer) outputs Try w refl refl
+
+-- ---- Try
+
+-- a wait for an answer that began at this moment
+abbrev pub timeout_at : Given → ℕ → Timer
+timeout_at g now = record { set = now; wait = recreation_timeout g.settings }
+
+pub try_sent : (g : Given) (now : ℕ) (m : Matter) (r : Recreation) (w : World) → w.up ≡ true
+    → ran g now m Try (at (Recreates r) w) ≡ record {
+      world = record (at (Recreates (record r { stage = Deleting (w.asked + 1) (timeout_at g now) })) w) { asked = w.asked + 1 };
+      outputs = out.Request (w.asked + 1) (delete_subject g r) (codes "{}") ∷ [];
+    }
+try_sent g now m r w up =
+    let c : Consumer = at_stage (Deleting (w.asked + 1) (timeout_at g now)) r (at_phase (Recreates r) w.consumer) in
+    ran_from g now m Try (at (Recreates r) w) (record { consumer = c; outputs = out.Request (w.asked + 1) (delete_subject g r) (codes "{}") ∷ []; next = [] }) (rw up refl)
+    ∙ from_request g now m c (w.asked + 1) (delete_subject g r) (codes "{}") (at (Recreates r) w)
+
+pub try_passed_over : (g : Given) (now : ℕ) (m : Matter) (r : Recreation) (w : World) → w.up ≡ false → ran g now m Try (at (Recreates r) w) ≡ ran g now m Create (at (Recreates r) w)
+try_passed_over g now m r w up =
+    ran_from g now m Try (at (Recreates r) w) (quietly (at_phase (Recreates r) w.consumer) (Create ∷ [])) (rw up refl)
+    ∙ from_step g now m (at_phase (Recreates r) w.consumer) Create (at (Recreates r) w)
+
+-- ---- Create
+
+pub create_pull : (g : Given) (now : ℕ) (m : Matter) (r : Recreation) (w : World) (setup : pull_config.OrderedConfig) → g.setup ≡ Pull setup → ran g now m Create (at (Recreates r) w) ≡ ran g now m Ask (at (Recreates r) w)
+create_pull g now m r w setup is =
+    ran_from g now m Create (at (Recreates r) w) (quietly (at_phase (Recreates r) w.consumer) (Ask ∷ [])) (rw is refl)
+    ∙ from_step g now m (at_phase (Recreates r) w.consumer) Ask (at (Recreates r) w)
+
+pub create_subscribes : (g : Given) (now : ℕ) (m : Matter) (r : Recreation) (w : World) (setup : push_config.OrderedConfig) → g.setup ≡ Push setup → w.up ≡ true
+    → ran g now m Create (at (Recreates r) w) ≡ and_then (out.Subscribe w.made (inbox_subject g w.made) ∷ [])
+    (ran g now m Ask (record (at (Recreates (record r { opened = Some (record { inbox = w.made; subject = inbox_subject g w.made; held = [] }) })) w) { made = w.made + 1 }))
+create_subscribes g now m r w setup is up =
+    let opened : Opened = record { inbox = w.made; subject = inbox_subject g w.made; held = [] } in
+    let c : Consumer = at_phase (Recreates (record r { opened = Some opened })) w.consumer in
+    ran_from g now m Create (at (Recreates r) w) (record { consumer = c; outputs = out.Subscribe w.made (inbox_subject g w.made) ∷ []; next = Ask ∷ [] }) (rw (is, up) refl)
+    ∙ from_inbox_step g now m c w.made (inbox_subject g w.made) Ask (at (Recreates r) w)
+
+pub create_fails : (g : Given) (now : ℕ) (m : Matter) (r : Recreation) (w : World) (setup : push_config.OrderedConfig) → g.setup ≡ Push setup → w.up ≡ false → ran g now m Create (at (Recreates r) w) ≡ ran g now m Fail (at (Recreates r) w)
+create_fails g now m r w setup is up =
+    ran_from g now m Create (at (Recreates r) w) (quietly (at_phase (Recreates r) w.consumer) (Fail ∷ [])) (rw (is, up) refl)
+    ∙ from_step g now m (at_phase (Recreates r) w.consumer) Fail (at (Recreates r) w)
+
+-- ---- Ask
+
+pub ask_sent : (g : Given) (now : ℕ) (m : Matter) (r : Recreation) (w : World) → w.up ≡ true
+    → ran g now m Ask (at (Recreates r) w) ≡ record {
+      world = record (at (Recreates (record r { stage = Creating (w.asked + 1) (timeout_at g now) })) w) { asked = w.asked + 1 };
+      outputs = out.Request (w.asked + 1) (create_subject g r) (create_body g r) ∷ [];
+    }
+ask_sent g now m r w up =
+    let c : Consumer = at_stage (Creating (w.asked + 1) (timeout_at g now)) r (at_phase (Recreates r) w.consumer) in
+    ran_from g now m Ask (at (Recreates r) w) (record { consumer = c; outputs = out.Request (w.asked + 1) (create_subject g r) (create_body g r) ∷ []; next = [] }) (rw up refl)
+    ∙ from_request g now m c (w.asked + 1) (create_subject g r) (create_body g r) (at (Recreates r) w)
+
+pub ask_fails : (g : Given) (now : ℕ) (m : Matter) (r : Recreation) (w : World) → w.up ≡ false → ran g now m Ask (at (Recreates r) w) ≡ ran g now m Fail (at (Recreates r) w)
+ask_fails g now m r w up =
+    ran_from g now m Ask (at (Recreates r) w) (quietly (at_phase (Recreates r) w.consumer) (Fail ∷ [])) (rw up refl)
+    ∙ from_step g now m (at_phase (Recreates r) w.consumer) Fail (at (Recreates r) w)
+
+-- ---- Fail
+
+pub fail_closes : (g : Given) (now : ℕ) (m : Matter) (r : Recreation) (w : World) → nat_lt g.settings.retries (r.failures + 1) ≡ true
+    → ran g now m Fail (at (Recreates r) w) ≡ record { world = at Idle w; outputs = out.Item item.Recreate ∷ [] }
+fail_closes g now m r w more =
+    ran_from g now m Fail (at (Recreates r) w) (record { consumer = at_phase Idle w.consumer; outputs = out.Item item.Recreate ∷ []; next = [] }) (rw more refl)
+    ∙ from_output g now m (at_phase Idle w.consumer) (out.Item item.Recreate ∷ []) (at (Recreates r) w) refl refl
+
+-- the recreation waits for its next try
+abbrev pub waiting : ℕ → Recreation → Recreation
+waiting now r = record r {
+  failures = r.failures + 1;
+  opened = None;
+  stage = Waiting (record { set = now; wait = pull.retry_wait (r.failures + 1) });
+}
+
+pub fail_waits : (g : Given) (now : ℕ) (m : Matter) (r : Recreation) (w : World) → nat_lt g.settings.retries (r.failures + 1) ≡ false
+    → ran g now m Fail (at (Recreates r) w) ≡ stays (at (Recreates (waiting now r)) w)
+fail_waits g now m r w more =
+    ran_from g now m Fail (at (Recreates r) w) (quietly (at_phase (Recreates (waiting now r)) w.consumer) []) (rw more refl)
+    ∙ from_rest g now m (at_phase (Recreates (waiting now r)) w.consumer) (at (Recreates r) w)
