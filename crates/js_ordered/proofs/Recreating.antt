@@ -1,6 +1,8 @@
 -- What each row of a recreation comes to, case by case.
-use Rattle.std.proofs.Common.{◌≡◌, ℕ, ◌+◌, Bool, true, false, List, [], ◌∷◌, ◌++◌, Option, Some, None, map, min, refl, ap, ◌∙◌}
-use Rattle.std.specs.Prelude.{◌==◌, nat_lt, is_some, codes}
+use Rattle.std.proofs.Common.{◌≡◌, ℕ, ◌+◌, ◌<◌, ◌≤◌, arith, Bool, true, false, List, [], ◌∷◌, ◌++◌, Option, Some, None, map, min, refl, ap, ◌∙◌}
+use Rattle.std.proofs.lemmas.Bool.{ne_eqb, le-ltb}
+use Rattle.std.proofs.lemmas.Bool.Decides.{nat_tests}
+use Rattle.std.specs.Prelude.{◌==◌, nat_lt, is_some, codes, if◌then◌else◌}
 use Rattle.js_base.specs.declared.message.Message.{Message}
 use Rattle.js_base.specs.declared.clock.Timer.{Timer}
 use Rattle.js_base.specs.Clock.{is_due}
@@ -12,10 +14,13 @@ use Rattle.js_pull.specs.Reader.{new_reader}
 use Rattle.js_pull.specs.declared.reader.Row.TheVariants as read
 use Rattle.js_ordered.specs.State.{Matter, Passed, quietly, at_phase}
 use Rattle.js_ordered.specs.Texts.{configured_start, consumer_name, delete_subject, create_subject, create_body, inbox_subject, recreation_timeout, source_of}
-use Rattle.js_ordered.specs.Recreation.{start_after, recreation, at_stage, answered, stage_rows, hold, message_on, has_subject}
+use Rattle.js_link.specs.Passing.{Passing}
+use Rattle.js_ordered.specs.Kept.{IsPush}
+use Rattle.js_ordered.specs.declared.setup.OrderedSetup.{OrderedSetup}
+use Rattle.js_ordered.specs.Recreation.{create_row, opened_by, start_after, recreation, at_stage, answered, stage_rows, hold, message_on, has_subject}
 use Rattle.js_ordered.specs.Fold.{Ran, passing, stays, and_then, pass_each}
 use Rattle.js_ordered.specs.Turn.{pass}
-use Rattle.js_ordered.specs.Passes.{ran, from, at}
+use Rattle.js_ordered.specs.Passes.{ran, from, at, timeout_at, restarted, opened_as, waiting}
 use Rattle.js_ordered.specs.declared.consumer.Given.{Given}
 use Rattle.js_ordered.specs.declared.consumer.Consumer.{Consumer}
 use Rattle.js_ordered.specs.declared.consumer.Opened.{Opened}
@@ -34,28 +39,19 @@ use Rattle.js_ordered.proofs.Rans.{ran_from, then_row, from_rest, from_step, fro
 
 -- ---- Start
 
--- the consumer whose recreation begins
-abbrev pub restarted : Given → Consumer → Consumer
-restarted g c =
-    let serial = min (c.serial + 1) pull.u64_max in
-    record c { phase = Recreates (recreation g c); num = 0; serial = serial; name = consumer_name g serial }
-
-pub start_exhausted : (g : Given) (now : ℕ) (m : Matter) (w : World) → (w.consumer.last == pull.u64_max) ≡ true → ran g now m Start w ≡ stays (at Exhausted w)
+pub start_exhausted : (g : Given) (now : ℕ) (m : Matter) (w : World) → w.consumer.last ≡ pull.u64_max → ran g now m Start w ≡ stays (at Exhausted w)
 start_exhausted g now m w last =
     ran_from g now m Start w (quietly (at_phase Exhausted w.consumer) []) (rw last refl) ∙ from_rest g now m (at_phase Exhausted w.consumer) w
 
-pub start_goes_on : (g : Given) (now : ℕ) (m : Matter) (w : World) → (w.consumer.last == pull.u64_max) ≡ false
+pub start_goes_on : (g : Given) (now : ℕ) (m : Matter) (w : World) → w.consumer.last < pull.u64_max
     → ran g now m Start w ≡ and_then (out.Recreate (min (w.consumer.serial + 1) pull.u64_max) (start_after (configured_start g.setup) w.consumer.last) ∷ []) (ran g now m Try (record w { consumer = restarted g w.consumer }))
-start_goes_on g now m w last =
+start_goes_on g now m w below =
+    let last : (w.consumer.last == pull.u64_max) ≡ false = ne_eqb w.consumer.last pull.u64_max (λ e. omega arith) in
     let outputs : List Output = out.Recreate (min (w.consumer.serial + 1) pull.u64_max) (start_after (configured_start g.setup) w.consumer.last) ∷ [] in
     ran_from g now m Start w (record { consumer = restarted g w.consumer; outputs = outputs; next = Try ∷ [] }) (rw last refl)
     ∙ from_output_step g now m (restarted g w.consumer) outputs Try w refl refl
 
 -- ---- Try
-
--- a wait for an answer that began at this moment
-abbrev pub timeout_at : Given → ℕ → Timer
-timeout_at g now = record { set = now; wait = recreation_timeout g.settings }
 
 pub try_sent : (g : Given) (now : ℕ) (m : Matter) (r : Recreation) (w : World) → w.up ≡ true
     → ran g now m Try (at (Recreates r) w) ≡ record {
@@ -79,18 +75,31 @@ create_pull g now m r w setup is =
     ran_from g now m Create (at (Recreates r) w) (quietly (at_phase (Recreates r) w.consumer) (Ask ∷ [])) (rw is refl)
     ∙ from_step g now m (at_phase (Recreates r) w.consumer) Ask (at (Recreates r) w)
 
-pub create_subscribes : (g : Given) (now : ℕ) (m : Matter) (r : Recreation) (w : World) (setup : push_config.OrderedConfig) → g.setup ≡ Push setup → w.up ≡ true
-    → ran g now m Create (at (Recreates r) w) ≡ and_then (out.Subscribe w.made (inbox_subject g w.made) ∷ [])
-    (ran g now m Ask (record (at (Recreates (record r { opened = Some (record { inbox = w.made; subject = inbox_subject g w.made; held = [] }) })) w) { made = w.made + 1 }))
-create_subscribes g now m r w setup is up =
-    let opened : Opened = record { inbox = w.made; subject = inbox_subject g w.made; held = [] } in
-    let c : Consumer = at_phase (Recreates (record r { opened = Some opened })) w.consumer in
-    ran_from g now m Create (at (Recreates r) w) (record { consumer = c; outputs = out.Subscribe w.made (inbox_subject g w.made) ∷ []; next = Ask ∷ [] }) (rw (is, up) refl)
-    ∙ from_inbox_step g now m c w.made (inbox_subject g w.made) Ask (at (Recreates r) w)
+-- the next inbox is subscribed
+abbrev pub subscribing : Given → Recreation → World → Passed
+subscribing g r w = record {
+  consumer = at_phase (Recreates (record r { opened = Some (opened_as w.made (inbox_subject g w.made)) })) w.consumer;
+  outputs = out.Subscribe w.made (inbox_subject g w.made) ∷ [];
+  next = Ask ∷ [];
+}
 
-pub create_fails : (g : Given) (now : ℕ) (m : Matter) (r : Recreation) (w : World) (setup : push_config.OrderedConfig) → g.setup ≡ Push setup → w.up ≡ false → ran g now m Create (at (Recreates r) w) ≡ ran g now m Fail (at (Recreates r) w)
-create_fails g now m r w setup is up =
-    ran_from g now m Create (at (Recreates r) w) (quietly (at_phase (Recreates r) w.consumer) (Fail ∷ [])) (rw (is, up) refl)
+push_creates : (setup : OrderedSetup) (p : Passing) (r : Recreation) (c : Consumer) → IsPush setup
+    → create_row setup p r c ≡ (if p.up
+    then record { consumer = at_phase (Recreates (record r { opened = Some (opened_by p) })) c; outputs = out.Subscribe p.inbox p.subject ∷ []; next = Ask ∷ [] }
+    else quietly c (Fail ∷ []))
+push_creates (Pull setup) p r c push = absurd push
+push_creates (Push setup) p r c push = refl
+
+pub create_subscribes : (g : Given) (now : ℕ) (m : Matter) (r : Recreation) (w : World) → IsPush g.setup → w.up ≡ true
+    → ran g now m Create (at (Recreates r) w) ≡ and_then (out.Subscribe w.made (inbox_subject g w.made) ∷ [])
+    (ran g now m Ask (record (at (Recreates (record r { opened = Some (opened_as w.made (inbox_subject g w.made)) })) w) { made = w.made + 1 }))
+create_subscribes g now m r w push up =
+    ran_from g now m Create (at (Recreates r) w) (subscribing g r w) (push_creates g.setup (passing g now w) r (at_phase (Recreates r) w.consumer) push ∙ rw up refl)
+    ∙ from_inbox_step g now m (subscribing g r w).consumer w.made (inbox_subject g w.made) Ask (at (Recreates r) w)
+
+pub create_fails : (g : Given) (now : ℕ) (m : Matter) (r : Recreation) (w : World) → IsPush g.setup → w.up ≡ false → ran g now m Create (at (Recreates r) w) ≡ ran g now m Fail (at (Recreates r) w)
+create_fails g now m r w push up =
+    ran_from g now m Create (at (Recreates r) w) (quietly (at_phase (Recreates r) w.consumer) (Fail ∷ [])) (push_creates g.setup (passing g now w) r (at_phase (Recreates r) w.consumer) push ∙ rw up refl)
     ∙ from_step g now m (at_phase (Recreates r) w.consumer) Fail (at (Recreates r) w)
 
 -- ---- Ask
@@ -112,22 +121,16 @@ ask_fails g now m r w up =
 
 -- ---- Fail
 
-pub fail_closes : (g : Given) (now : ℕ) (m : Matter) (r : Recreation) (w : World) → nat_lt g.settings.retries (r.failures + 1) ≡ true
+pub fail_closes : (g : Given) (now : ℕ) (m : Matter) (r : Recreation) (w : World) → g.settings.retries ≤ r.failures
     → ran g now m Fail (at (Recreates r) w) ≡ record { world = at Idle w; outputs = out.Item item.Recreate ∷ [] }
-fail_closes g now m r w more =
+fail_closes g now m r w over =
+    let more : nat_lt g.settings.retries (r.failures + 1) ≡ true = grind (arith, nat_tests) in
     ran_from g now m Fail (at (Recreates r) w) (record { consumer = at_phase Idle w.consumer; outputs = out.Item item.Recreate ∷ []; next = [] }) (rw more refl)
     ∙ from_output g now m (at_phase Idle w.consumer) (out.Item item.Recreate ∷ []) (at (Recreates r) w) refl refl
 
--- the recreation waits for its next try
-abbrev pub waiting : ℕ → Recreation → Recreation
-waiting now r = record r {
-  failures = r.failures + 1;
-  opened = None;
-  stage = Waiting (record { set = now; wait = pull.retry_wait (r.failures + 1) });
-}
-
-pub fail_waits : (g : Given) (now : ℕ) (m : Matter) (r : Recreation) (w : World) → nat_lt g.settings.retries (r.failures + 1) ≡ false
+pub fail_waits : (g : Given) (now : ℕ) (m : Matter) (r : Recreation) (w : World) → r.failures < g.settings.retries
     → ran g now m Fail (at (Recreates r) w) ≡ stays (at (Recreates (waiting now r)) w)
-fail_waits g now m r w more =
+fail_waits g now m r w under =
+    let more : nat_lt g.settings.retries (r.failures + 1) ≡ false = le-ltb g.settings.retries (r.failures + 1) (omega arith) in
     ran_from g now m Fail (at (Recreates r) w) (quietly (at_phase (Recreates (waiting now r)) w.consumer) []) (rw more refl)
     ∙ from_rest g now m (at_phase (Recreates (waiting now r)) w.consumer) (at (Recreates r) w)

@@ -1,5 +1,14 @@
 -- What passing rows comes to in a replay, as the functions that pass them say it.
-use Rattle.std.specs.Prelude.{◌≡◌, ℕ, suc, List, ◌++◌}
+use Rattle.std.specs.Prelude.{◌≡◌, ℕ, suc, ◌+◌, min, List, [], ◌++◌, Option, None}
+use Rattle.js_base.specs.declared.clock.Timer.{Timer}
+use Rattle.js_ordered.specs.Texts.{recreation_timeout, consumer_name}
+use Rattle.js_ordered.specs.Recreation.{recreation}
+use Rattle.js_pull.specs.Reader.{u64_max, retry_wait}
+use Rattle.js_ordered.specs.declared.consumer.Consumer.{Consumer}
+use Rattle.js_ordered.specs.declared.consumer.Opened.{Opened}
+use Rattle.js_ordered.specs.declared.consumer.Recreation.{Recreation}
+use Rattle.js_ordered.specs.declared.consumer.Phase.TheVariants.{Recreates}
+use Rattle.js_ordered.specs.declared.consumer.Stage.TheVariants.{Waiting}
 use Rattle.js_ordered.specs.State.{Matter, Passed, at_phase}
 use Rattle.js_ordered.specs.Fold.{Ran, rank, and_then, pass_each, pass_to, after, matter_of}
 use Rattle.js_ordered.specs.declared.consumer.Given.{Given}
@@ -36,3 +45,27 @@ Comes r new before after = (new ≡ r.world) × (after ≡ before ++ r.outputs)
 -- a row was passed, with the rows that follow it at once
 abbrev pub Passes : Turn → Row → World → World → List Output → List Output → Type 0
 Passes turn row old new before after = Comes (ran (given_of turn) turn.moment (matter_now turn) row old) new before after
+
+-- the bound on an answer that is waited for from a moment on
+abbrev pub timeout_at : Given → ℕ → Timer
+timeout_at g now = record { set = now; wait = recreation_timeout g.settings }
+
+-- ---- what a recreation makes of a consumer
+
+-- the consumer whose recreation begins
+abbrev pub restarted : Given → Consumer → Consumer
+restarted g c =
+    let serial = min (c.serial + 1) u64_max in
+    record c { phase = Recreates (recreation g c); num = 0; serial = serial; name = consumer_name g serial }
+
+-- an inbox that holds nothing yet
+abbrev pub opened_as : ℕ → List ℕ → Opened
+opened_as inbox subject = record { inbox = inbox; subject = subject; held = [] }
+
+-- the recreation waits for its next try
+abbrev pub waiting : ℕ → Recreation → Recreation
+waiting now r = record r {
+  failures = r.failures + 1;
+  opened = None;
+  stage = Waiting (record { set = now; wait = retry_wait (r.failures + 1) });
+}

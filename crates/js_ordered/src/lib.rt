@@ -4,6 +4,7 @@
 mod consumer;
 mod event;
 mod kind;
+mod recreation;
 mod row;
 mod run;
 mod setup;

@@ -1,4 +1,7 @@
-use crate::consumer::Consumer;
+ghost use Rattle.std.specs.Prelude.{◌≡◌, ◌+◌, IfOk, OnOk};
+
+use crate::consumer::{Consumer, Phase};
+use js_base::OutOfMemory;
 
 /// A consumer beside the link of a replay.
 #[derive(Debug, PartialEq, Eq, Drop)]
@@ -10,4 +13,47 @@ pub struct World {
     pub asked: u64,
     /// The inboxes so far.
     pub made: u64,
+}
+
+/// The number after this one.
+///
+/// What is numbered stands among the outputs, so memory ends long before the numbers do.
+fn next(number: u64) -> Result<u64, OutOfMemory>
+    ensures { IfOk result (λ next. next ≡ number + 1) }
+{
+    match number.checked_add(1) {
+        Some(next) => Ok(next),
+        None => Err(OutOfMemory),
+    }
+}
+
+impl World {
+    ghost use Rattle.js_ordered.specs.Passes.{at};
+
+    /// The consumer is at this phase from now on.
+    pub(crate) fn enter(&mut self, phase: Phase)
+        ensures { self.new ≡ at phase self.old }
+    {
+        self.consumer.phase = phase;
+    }
+
+    /// The number of the request that goes out next.
+    pub(crate) fn number_request(&mut self) -> Result<u64, OutOfMemory>
+        ensures number { IfOk result (λ number. number ≡ self.old.asked + 1) }
+        ensures counted { OnOk result (self.new ≡ record self.old { asked = self.old.asked + 1 }) }
+    {
+        let number = next(self.asked)?;
+        self.asked = number;
+        Ok(number)
+    }
+
+    /// The number of the inbox that is opened next.
+    pub(crate) fn number_inbox(&mut self) -> Result<u64, OutOfMemory>
+        ensures number { IfOk result (λ number. number ≡ self.old.made) }
+        ensures counted { OnOk result (self.new ≡ record self.old { made = self.old.made + 1 }) }
+    {
+        let number = self.made;
+        self.made = next(number)?;
+        Ok(number)
+    }
 }
