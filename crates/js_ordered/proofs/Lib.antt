@@ -21,3 +21,5 @@ pub mod Rows
 pub mod Honest
 pub mod Rans
 pub mod Recreating
+pub mod PullReading
+pub mod Comings

@@ -4,7 +4,7 @@ use Rattle.js_ordered.specs.State.{Matter, Passed, quietly}
 use Rattle.js_ordered.specs.declared.row.Row.{Row}
 use Rattle.js_ordered.specs.declared.consumer.Given.{Given}
 use Rattle.js_ordered.specs.declared.world.World.{World}
-use Rattle.js_ordered.specs.Passes.{ran, from, at}
+use Rattle.js_ordered.specs.Passes.{ran, from, at, then_row}
 use Rattle.js_ordered.specs.declared.consumer.Consumer.{Consumer}
 use Rattle.js_ordered.specs.Fold.{Ran, passing, after, stays, and_then, rank, pass_each, pass_to, pass_all, is_request, is_subscribe}
 use Rattle.js_ordered.specs.Turn.{pass}
@@ -45,10 +45,6 @@ ran_from g now m row w passed is =
 -- the consumer is another one
 abbrev pub with_consumer : Consumer → World → World
 with_consumer c w = record w { consumer = c }
-
--- one row after what another came to
-abbrev pub then_row : Given → ℕ → Matter → Row → Ran → Ran
-then_row g now m row first = and_then first.outputs (ran g now m row first.world)
 
 -- a consumer passed a row with these outputs
 abbrev pub put_out : Consumer → List Output → List Row → Passed

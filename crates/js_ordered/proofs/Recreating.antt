@@ -20,7 +20,7 @@ use Rattle.js_ordered.specs.declared.setup.OrderedSetup.{OrderedSetup}
 use Rattle.js_ordered.specs.Recreation.{create_row, opened_by, start_after, recreation, at_stage, answered, stage_rows, hold, message_on, has_subject}
 use Rattle.js_ordered.specs.Fold.{Ran, passing, stays, and_then, pass_each}
 use Rattle.js_ordered.specs.Turn.{pass}
-use Rattle.js_ordered.specs.Passes.{ran, from, at, timeout_at, restarted, opened_as, waiting}
+use Rattle.js_ordered.specs.Passes.{ran, from, at, then_row, timeout_at, restarted, opened_as, waiting}
 use Rattle.js_ordered.specs.declared.consumer.Given.{Given}
 use Rattle.js_ordered.specs.declared.consumer.Consumer.{Consumer}
 use Rattle.js_ordered.specs.declared.consumer.Opened.{Opened}
@@ -35,7 +35,7 @@ use Rattle.js_ordered.specs.declared.run.Output.{Output}
 use Rattle.js_ordered.specs.declared.run.Output.TheVariants as out
 use Rattle.js_ordered.specs.declared.setup.OrderedSetup.TheVariants.{Pull, Push}
 use Rattle.js_ordered.specs.declared.world.World.{World}
-use Rattle.js_ordered.proofs.Rans.{ran_from, then_row, from_rest, from_step, from_rows, from_output, from_output_step, from_request, from_inbox_step, from_inbox_two}
+use Rattle.js_ordered.proofs.Rans.{ran_from, from_rest, from_step, from_rows, from_output, from_output_step, from_request, from_inbox_step, from_inbox_two}
 
 -- ---- Start
 

@@ -1,13 +1,19 @@
 -- What passing rows comes to in a replay, as the functions that pass them say it.
-use Rattle.std.specs.Prelude.{◌≡◌, ℕ, suc, ◌+◌, min, List, [], ◌++◌, Option, None}
+use Rattle.std.specs.Prelude.{◌≡◌, ℕ, suc, ◌+◌, min, List, [], ◌++◌, Option, Some, None, option_map, ◌==◌, false}
 use Rattle.js_base.specs.declared.clock.Timer.{Timer}
 use Rattle.js_ordered.specs.Texts.{recreation_timeout, consumer_name}
 use Rattle.js_ordered.specs.Recreation.{recreation}
-use Rattle.js_pull.specs.Reader.{u64_max, retry_wait}
+use Rattle.js_base.specs.declared.message.Message.{Message}
+use Rattle.js_pull.specs.Reader.{u64_max, retry_wait, info_of_reply, with_pin, with_silence}
+use Rattle.js_pull.specs.declared.reader.Reason.{Reason}
+use Rattle.js_pull.specs.declared.reader.Reason.TheVariants.{Informed}
 use Rattle.js_ordered.specs.declared.consumer.Consumer.{Consumer}
 use Rattle.js_ordered.specs.declared.consumer.Opened.{Opened}
 use Rattle.js_ordered.specs.declared.consumer.Recreation.{Recreation}
-use Rattle.js_ordered.specs.declared.consumer.Phase.TheVariants.{Recreates}
+use Rattle.js_pull.specs.declared.reader.Reader.{Reader}
+use Rattle.js_pull.specs.declared.reader.Row.{Row as PullRow}
+use Rattle.js_ordered.specs.declared.row.Row.TheVariants.{Read}
+use Rattle.js_ordered.specs.declared.consumer.Phase.TheVariants.{Pulls, Recreates}
 use Rattle.js_ordered.specs.declared.consumer.Stage.TheVariants.{Waiting}
 use Rattle.js_ordered.specs.State.{Matter, Passed, at_phase}
 use Rattle.js_ordered.specs.Fold.{Ran, rank, and_then, pass_each, pass_to, after, matter_of}
@@ -15,6 +21,10 @@ use Rattle.js_ordered.specs.declared.consumer.Given.{Given}
 use Rattle.js_ordered.specs.declared.consumer.Phase.{Phase}
 use Rattle.js_ordered.specs.declared.row.Row.{Row}
 use Rattle.js_ordered.specs.declared.run.Output.{Output}
+use Rattle.js_message.specs.Ack as ack
+use Rattle.js_ordered.specs.declared.place.Place.{Place}
+use Rattle.js_ordered.specs.declared.answer.Reply.{Reply}
+use Rattle.js_ordered.specs.declared.answer.Reply.TheVariants as reply
 use Rattle.js_ordered.specs.declared.turn.Turn.{Turn}
 use Rattle.js_ordered.specs.declared.world.World.{World}
 
@@ -50,6 +60,23 @@ Passes turn row old new before after = Comes (ran (given_of turn) turn.moment (m
 abbrev pub timeout_at : Given → ℕ → Timer
 timeout_at g now = record { set = now; wait = recreation_timeout g.settings }
 
+-- one row after what another came to
+abbrev pub then_row : Given → ℕ → Matter → Row → Ran → Ran
+then_row g now m row first = and_then first.outputs (ran g now m row first.world)
+
+-- one row was passed after the other
+abbrev pub PassesBoth : Turn → Row → Row → World → World → List Output → List Output → Type 0
+PassesBoth turn first second old new before after =
+    Comes (then_row (given_of turn) turn.moment (matter_now turn) second (ran (given_of turn) turn.moment (matter_now turn) first old)) new before after
+
+-- a row of a pull reader was passed, which goes on reading
+abbrev pub Reads : Turn → PullRow → Reader → Reader → World → World → List Output → List Output → Type 0
+Reads turn row reader reader' old new before after = Passes turn (Read row) (at (Pulls reader) old) (at (Pulls reader') new) before after
+
+-- why messages are asked for after an answer that holds an info: with a reset where no request waits
+abbrev pub informed_by : Option Message → Option Reason
+informed_by reply = option_map (λ info. Informed (info.num_waiting == 0)) (info_of_reply reply)
+
 -- ---- what a recreation makes of a consumer
 
 -- the consumer whose recreation begins
@@ -69,3 +96,23 @@ waiting now r = record r {
   opened = None;
   stage = Waiting (record { set = now; wait = retry_wait (r.failures + 1) });
 }
+
+-- what became of a request, as the replay's code tells it
+abbrev pub reply_shown : Reply → Option (Option Message)
+reply_shown reply.Waiting = None
+reply_shown reply.Gone = Some None
+reply_shown (reply.Got message) = Some (Some message.now)
+
+-- ---- a message
+
+-- its place, as the replay's code tells it
+abbrev pub place_shown : Place → ack.Place
+place_shown place = record { sequence = place.sequence; number = place.number }
+
+-- the world whose consumer has yielded the message at this place
+abbrev pub accepting : ack.Place → World → World
+accepting place w = record w { consumer = record w.consumer { num = place.number; last = place.sequence; limited = false } }
+
+-- the reader that has heard a message
+abbrev pub heard : ℕ → Message → Reader → Reader
+heard now message r = with_pin message (with_silence now r)

@@ -1,9 +1,12 @@
 //! Ordered consumers: their events, their outputs, and the replay of a list of events.
 #![tactic(auto)]
 
+mod answer;
 mod consumer;
 mod event;
 mod kind;
+mod place;
+mod reading;
 mod recreation;
 mod row;
 mod run;
