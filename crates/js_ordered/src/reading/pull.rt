@@ -1,5 +1,5 @@
 //! Pull: the reader asks for messages, and its arrivals are yielded, told, or show that the consumer must be made anew.
-ghost use Rattle.std.specs.Prelude.{◌≡◌, ◌+◌, IfOk, OnOk, Option, None, Some, codes, option_map};
+ghost use Rattle.std.specs.Prelude.{◌≡◌, ◌+◌, ◌⊎◌, IfOk, OnOk, Option, None, Some, codes, option_map};
 ghost use Rattle.std.specs.Option.{option_copied};
 ghost use Rattle.js_message.specs.Ack.{readable_as};
 ghost use Rattle.js_ordered.specs.Passes.{Passes, PassesBoth, Reads, at, heard, informed_by, matter_now, place_shown};
@@ -391,6 +391,218 @@ fn hear_message(
             drop(reader);
             world.consumer.missed = false;
             recreation::start(alloc, turn, world, outputs)
+        }
+    }
+}
+
+/// The server speaks of a request that has ended, or says that it is there: the reader goes on.
+#[tactic(auto, using(std::proofs::lemmas::Grind::common_steps, crate::proofs::PullReading::heartbeat_arrives))]
+fn hear_heartbeat(
+    alloc: Global,
+    turn: &Turn<'_>,
+    world: &mut World,
+    mut reader: Reader,
+    message: &Message,
+    outputs: &mut Items<Output>,
+) -> Result<(), OutOfMemory>
+    requires arrives { message_on reader.source.inbox (matter_now turn.now).arrival ≡ Some message.now }
+    requires kind { kind_of message.now ≡ Kind.Quiet }
+    ensures { OnOk result (Passes turn.now (row.Read read.CheckArrival) (at (Phase.Pulls reader) world.old) world.new outputs.old outputs.new) }
+{
+    hear(alloc, turn, &mut reader, message)?;
+    go_on(alloc, turn, world, reader, outputs)
+}
+
+/// A request has ended: what it had still asked for is not pending any more.
+#[tactic(auto, using(std::proofs::lemmas::Grind::common_steps, crate::proofs::PullReading::ledger_arrives))]
+fn hear_ledger(
+    alloc: Global,
+    turn: &Turn<'_>,
+    world: &mut World,
+    mut reader: Reader,
+    message: &Message,
+    messages: Option<u64>,
+    bytes: Option<u64>,
+    outputs: &mut Items<Output>,
+) -> Result<(), OutOfMemory>
+    requires arrives { message_on reader.source.inbox (matter_now turn.now).arrival ≡ Some message.now }
+    requires kind { kind_of message.now ≡ Kind.Ledger messages bytes }
+    ensures { OnOk result (Passes turn.now (row.Read read.CheckArrival) (at (Phase.Pulls reader) world.old) world.new outputs.old outputs.new) }
+{
+    let messages = messages.unwrap_or(reader.source.config.batch);
+    let bytes = bytes.unwrap_or(reader.source.config.max_bytes);
+    hear(alloc, turn, &mut reader, message)?;
+    reader.lower(messages, bytes);
+    go_on(alloc, turn, world, reader, outputs)
+}
+
+/// An arrival that can't be read.
+#[tactic(auto, using(std::proofs::lemmas::Grind::common_steps, crate::proofs::PullReading::bad_status_arrives))]
+fn hear_bad(
+    alloc: Global,
+    turn: &Turn<'_>,
+    world: &mut World,
+    mut reader: Reader,
+    message: &Message,
+    outputs: &mut Items<Output>,
+) -> Result<(), OutOfMemory>
+    requires arrives { message_on reader.source.inbox (matter_now turn.now).arrival ≡ Some message.now }
+    requires kind { kind_of message.now ≡ Kind.Bad }
+    ensures { OnOk result (Passes turn.now (row.Read read.CheckArrival) (at (Phase.Pulls reader) world.old) world.new outputs.old outputs.new) }
+{
+    outputs.push(Output::Item {
+        kind: ItemKind::Other,
+    })?;
+    hear(alloc, turn, &mut reader, message)?;
+    go_on(alloc, turn, world, reader, outputs)
+}
+
+/// The server refuses requests of this size: the first time the consumer is made anew, the second time it ends.
+#[tactic(auto, using(std::proofs::lemmas::Grind::common_steps, crate::proofs::PullReading::limit_ends, crate::proofs::PullReading::limit_restarts))]
+fn hear_limit(
+    alloc: Global,
+    turn: &Turn<'_>,
+    world: &mut World,
+    reader: Reader,
+    message: &Message,
+    outputs: &mut Items<Output>,
+) -> Result<(), OutOfMemory>
+    requires arrives { message_on reader.source.inbox (matter_now turn.now).arrival ≡ Some message.now }
+    requires kind { kind_of message.now ≡ Kind.Limit }
+    ensures { OnOk result (Passes turn.now (row.Read read.CheckArrival) (at (Phase.Pulls reader) world.old) world.new outputs.old outputs.new) }
+{
+    drop(reader);
+    if world.consumer.limited {
+        world.enter(Phase::Ended);
+        return outputs.push(Output::Item {
+            kind: ItemKind::RequestLimitExceeded,
+        });
+    }
+    world.consumer.limited = true;
+    recreation::start(alloc, turn, world, outputs)
+}
+
+/// The consumer is a push consumer, which a pull reader can't read.
+#[tactic(auto, using(std::proofs::lemmas::Grind::common_steps, crate::proofs::PullReading::consumer_is_push_based))]
+fn hear_push_based(
+    turn: &Turn<'_>,
+    world: &mut World,
+    reader: Reader,
+    message: &Message,
+    outputs: &mut Items<Output>,
+) -> Result<(), OutOfMemory>
+    requires arrives { message_on reader.source.inbox (matter_now turn.now).arrival ≡ Some message.now }
+    requires kind { kind_of message.now ≡ Kind.PushBased }
+    ensures { OnOk result (Passes turn.now (row.Read read.CheckArrival) (at (Phase.Pulls reader) world.old) world.new outputs.old outputs.new) }
+{
+    drop(reader);
+    world.enter(Phase::Ended);
+    outputs.push(Output::Item {
+        kind: ItemKind::PushBasedConsumer,
+    })
+}
+
+/// The consumer is gone, or nobody listens to its requests.
+#[tactic(auto, using(std::proofs::lemmas::Grind::common_steps, crate::proofs::PullReading::consumer_is_deleted, crate::proofs::PullReading::nobody_responds))]
+fn hear_gone(
+    alloc: Global,
+    turn: &Turn<'_>,
+    world: &mut World,
+    reader: Reader,
+    message: &Message,
+    outputs: &mut Items<Output>,
+) -> Result<(), OutOfMemory>
+    requires arrives { message_on reader.source.inbox (matter_now turn.now).arrival ≡ Some message.now }
+    requires kind { (kind_of message.now ≡ Kind.Deleted) ⊎ (kind_of message.now ≡ Kind.Gone) }
+    ensures { OnOk result (Passes turn.now (row.Read read.CheckArrival) (at (Phase.Pulls reader) world.old) world.new outputs.old outputs.new) }
+{
+    drop(reader);
+    recreation::start(alloc, turn, world, outputs)
+}
+
+/// An arrival on the reader's inbox.
+fn hear_arrival(
+    alloc: Global,
+    turn: &Turn<'_>,
+    world: &mut World,
+    reader: Reader,
+    message: &Message,
+    outputs: &mut Items<Output>,
+) -> Result<(), OutOfMemory>
+    requires { message_on reader.source.inbox (matter_now turn.now).arrival ≡ Some message.now }
+    ensures { OnOk result (Passes turn.now (row.Read read.CheckArrival) (at (Phase.Pulls reader) world.old) world.new outputs.old outputs.new) }
+{
+    match pull_kind(message) {
+        Kind::Delivered => hear_message(alloc, turn, world, reader, message, outputs),
+        Kind::Quiet => hear_heartbeat(alloc, turn, world, reader, message, outputs),
+        Kind::Ledger { messages, bytes } => {
+            hear_ledger(
+                alloc, turn, world, reader, message, messages, bytes, outputs,
+            )
+        }
+        Kind::Bad => hear_bad(alloc, turn, world, reader, message, outputs),
+        Kind::Limit => hear_limit(alloc, turn, world, reader, message, outputs),
+        Kind::PushBased => hear_push_based(turn, world, reader, message, outputs),
+        Kind::Deleted => hear_gone(alloc, turn, world, reader, message, outputs),
+        Kind::Gone => hear_gone(alloc, turn, world, reader, message, outputs),
+    }
+}
+
+/// What arrives on the reader's inbox in this event is heard. Where nothing does, the heartbeat is looked at.
+#[tactic(auto, using(std::proofs::lemmas::Grind::common_steps, crate::proofs::PullReading::nothing_arrives))]
+fn check_arrival(
+    alloc: Global,
+    turn: &Turn<'_>,
+    world: &mut World,
+    reader: Reader,
+    outputs: &mut Items<Output>,
+) -> Result<(), OutOfMemory>
+    ensures { OnOk result (Passes turn.now (row.Read read.CheckArrival) (at (Phase.Pulls reader) world.old) world.new outputs.old outputs.new) }
+{
+    match turn.what.message_on(reader.source.inbox) {
+        Some(message) => hear_arrival(alloc, turn, world, reader, message, outputs),
+        None => check_silence(alloc, turn, world, reader, outputs),
+    }
+}
+
+// ---- an event
+
+/// The reader's part of an event, in which the connection may have changed to this state.
+#[tactic(auto, using(std::proofs::lemmas::Grind::common_steps, crate::proofs::PullReading::ended_reader, crate::proofs::PullReading::begin_inquiring, crate::proofs::PullReading::begin_as_before, crate::proofs::PullReading::begin_connected, crate::proofs::PullReading::begin_disconnected, crate::proofs::PullReading::begin_pending))]
+pub(crate) fn begin(
+    alloc: Global,
+    turn: &Turn<'_>,
+    world: &mut World,
+    mut reader: Reader,
+    change: Option<State>,
+    outputs: &mut Items<Output>,
+) -> Result<(), OutOfMemory>
+    ensures { OnOk result (Passes turn.now (row.Read (read.Begin change)) (at (Phase.Pulls reader) world.old) world.new outputs.old outputs.new) }
+{
+    if reader.ended {
+        world.enter(Phase::Pulls(reader));
+        return Ok(());
+    }
+    if is_asking(&reader.inquiry) {
+        check_inquiry(alloc, turn, world, &mut reader, outputs)?;
+        return check_arrival(alloc, turn, world, reader, outputs);
+    }
+    match change {
+        None => {
+            check_expiry(alloc, turn, world, &mut reader, outputs)?;
+            check_arrival(alloc, turn, world, reader, outputs)
+        }
+        Some(State::Connected) => {
+            inquire(alloc, turn, world, &mut reader, 0, outputs)?;
+            check_arrival(alloc, turn, world, reader, outputs)
+        }
+        Some(State::Disconnected) => {
+            reader.arm_expiry(turn.moment);
+            check_arrival(alloc, turn, world, reader, outputs)
+        }
+        Some(State::Pending) => {
+            reader.arm_expiry(turn.moment);
+            check_arrival(alloc, turn, world, reader, outputs)
         }
     }
 }
