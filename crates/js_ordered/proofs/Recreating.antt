@@ -15,12 +15,16 @@ use Rattle.js_pull.specs.declared.reader.Row.TheVariants as read
 use Rattle.js_ordered.specs.State.{Matter, Passed, quietly, at_phase}
 use Rattle.js_ordered.specs.Texts.{configured_start, consumer_name, delete_subject, create_subject, create_body, inbox_subject, recreation_timeout, source_of}
 use Rattle.js_link.specs.Passing.{Passing}
-use Rattle.js_ordered.specs.Kept.{IsPush}
+use Rattle.js_pull.specs.declared.reader.Reader.{Reader}
+use Rattle.js_pull.specs.Reader.{reply_to}
+use Rattle.js_ordered.specs.Kept.{IsPull, IsPush}
+use Rattle.js_ordered.specs.Reading.{armed}
+use Rattle.js_ordered.specs.declared.consumer.Phase.{Phase}
 use Rattle.js_ordered.specs.declared.setup.OrderedSetup.{OrderedSetup}
-use Rattle.js_ordered.specs.Recreation.{create_row, opened_by, start_after, recreation, at_stage, answered, stage_rows, hold, message_on, has_subject}
+use Rattle.js_ordered.specs.Recreation.{create_row, succeed_row, succeed_pull, succeed_push, opened_by, start_after, recreation, at_stage, answered, stage_rows, hold, message_on, has_subject}
 use Rattle.js_ordered.specs.Fold.{Ran, passing, stays, and_then, pass_each}
-use Rattle.js_ordered.specs.Turn.{pass}
-use Rattle.js_ordered.specs.Passes.{ran, from, at, then_row, timeout_at, restarted, opened_as, waiting}
+use Rattle.js_ordered.specs.Turn.{pass, row_at}
+use Rattle.js_ordered.specs.Passes.{ran, from, at, then_row, timeout_at, restarted, opened_as, waiting, reader_of, held_rows, holding}
 use Rattle.js_ordered.specs.declared.consumer.Given.{Given}
 use Rattle.js_ordered.specs.declared.consumer.Consumer.{Consumer}
 use Rattle.js_ordered.specs.declared.consumer.Opened.{Opened}
@@ -134,3 +138,134 @@ fail_waits g now m r w under =
     let more : nat_lt g.settings.retries (r.failures + 1) ≡ false = le-ltb g.settings.retries (r.failures + 1) (omega arith) in
     ran_from g now m Fail (at (Recreates r) w) (quietly (at_phase (Recreates (waiting now r)) w.consumer) []) (rw more refl)
     ∙ from_rest g now m (at_phase (Recreates (waiting now r)) w.consumer) (at (Recreates r) w)
+
+-- ---- Succeed
+
+pull_succeeds : (setup : OrderedSetup) (g : Given) (p : Passing) (info : Info) (r : Recreation) (c : Consumer) → IsPull setup → succeed_row setup g p info r c ≡ succeed_pull g p info c
+pull_succeeds (Pull setup) g p info r c pulls = refl
+pull_succeeds (Push setup) g p info r c pulls = absurd pulls
+
+push_succeeds : (setup : OrderedSetup) (g : Given) (p : Passing) (info : Info) (r : Recreation) (c : Consumer) → IsPush setup → succeed_row setup g p info r c ≡ succeed_push p r.opened c
+push_succeeds (Pull setup) g p info r c pushes = absurd pushes
+push_succeeds (Push setup) g p info r c pushes = refl
+
+pub succeed_opens : (g : Given) (now : ℕ) (m : Matter) (info : Info) (r : Recreation) (w : World) → IsPull g.setup → w.up ≡ true
+    → ran g now m (Succeed info) (at (Recreates r) w) ≡ and_then (out.Subscribe w.made (inbox_subject g w.made) ∷ [])
+    (then_row g now m (Read read.Arm) (ran g now m (Read read.Threshold) (record (at (Pulls (reader_of g info w)) w) { made = w.made + 1 })))
+succeed_opens g now m info r w pulls up =
+    let c : Consumer = at_phase (Pulls (reader_of g info w)) w.consumer in
+    ran_from g now m (Succeed info) (at (Recreates r) w) (record { consumer = c; outputs = out.Subscribe w.made (inbox_subject g w.made) ∷ []; next = Read read.Threshold ∷ Read read.Arm ∷ [] })
+    (pull_succeeds g.setup g (passing g now (at (Recreates r) w)) info r (at_phase (Recreates r) w.consumer) pulls ∙ rw up refl)
+    ∙ from_inbox_two g now m c w.made (inbox_subject g w.made) (Read read.Threshold) (Read read.Arm) (at (Recreates r) w)
+
+pub succeed_fails : (g : Given) (now : ℕ) (m : Matter) (info : Info) (r : Recreation) (w : World) → IsPull g.setup → w.up ≡ false
+    → ran g now m (Succeed info) (at (Recreates r) w) ≡ ran g now m Fail (at (Recreates r) w)
+succeed_fails g now m info r w pulls up =
+    ran_from g now m (Succeed info) (at (Recreates r) w) (quietly (at_phase (Recreates r) w.consumer) (Fail ∷ []))
+    (pull_succeeds g.setup g (passing g now (at (Recreates r) w)) info r (at_phase (Recreates r) w.consumer) pulls ∙ rw up refl)
+    ∙ from_step g now m (at_phase (Recreates r) w.consumer) Fail (at (Recreates r) w)
+
+pub succeed_without_inbox : (g : Given) (now : ℕ) (m : Matter) (info : Info) (r : Recreation) (w : World) → IsPush g.setup → r.opened ≡ None
+    → ran g now m (Succeed info) (at (Recreates r) w) ≡ stays (at (Recreates r) w)
+succeed_without_inbox g now m info r w pushes none =
+    ran_from g now m (Succeed info) (at (Recreates r) w) (quietly (at_phase (Recreates r) w.consumer) [])
+    (push_succeeds g.setup g (passing g now (at (Recreates r) w)) info r (at_phase (Recreates r) w.consumer) pushes ∙ rw none refl)
+    ∙ from_rest g now m (at_phase (Recreates r) w.consumer) (at (Recreates r) w)
+
+pub succeed_hears : (g : Given) (now : ℕ) (m : Matter) (info : Info) (r : Recreation) (opened : Opened) (w : World) → IsPush g.setup → r.opened ≡ Some opened
+    → ran g now m (Succeed info) (at (Recreates r) w)
+    ≡ pass_each (ran g now m) (held_rows opened.inbox opened.held) (at (Pushes opened.inbox (armed now)) w)
+succeed_hears g now m info r opened w pushes some =
+    ran_from g now m (Succeed info) (at (Recreates r) w) (quietly (at_phase (Pushes opened.inbox (armed now)) w.consumer) (held_rows opened.inbox opened.held))
+    (push_succeeds g.setup g (passing g now (at (Recreates r) w)) info r (at_phase (Recreates r) w.consumer) pushes ∙ rw some refl)
+    ∙ from_rows g now m (at_phase (Pushes opened.inbox (armed now)) w.consumer) (held_rows opened.inbox opened.held) (at (Recreates r) w)
+
+-- ---- Answered
+
+pub answer_is_bad : (g : Given) (now : ℕ) (m : Matter) (reply : Option Message) (r : Recreation) (w : World) → pull.info_of_reply reply ≡ None
+    → ran g now m (Answered reply) (at (Recreates r) w) ≡ ran g now m Fail (at (Recreates r) w)
+answer_is_bad g now m reply r w none =
+    ran_from g now m (Answered reply) (at (Recreates r) w) (quietly (at_phase (Recreates r) w.consumer) (Fail ∷ []))
+    (ap (λ (o : Option Info). quietly (at_phase (Recreates r) w.consumer) (answered g.setup o ∷ [])) none)
+    ∙ from_step g now m (at_phase (Recreates r) w.consumer) Fail (at (Recreates r) w)
+
+pub answer_lacks_subject : (g : Given) (now : ℕ) (m : Matter) (reply : Option Message) (info : Info) (r : Recreation) (w : World) → pull.info_of_reply reply ≡ Some info → has_subject g.setup info ≡ false
+    → ran g now m (Answered reply) (at (Recreates r) w) ≡ ran g now m Fail (at (Recreates r) w)
+answer_lacks_subject g now m reply info r w some lacks =
+    ran_from g now m (Answered reply) (at (Recreates r) w) (quietly (at_phase (Recreates r) w.consumer) (Fail ∷ []))
+    (ap (λ (o : Option Info). quietly (at_phase (Recreates r) w.consumer) (answered g.setup o ∷ [])) some
+    ∙ ap (λ (b : Bool). quietly (at_phase (Recreates r) w.consumer) ((if b then Succeed info else Fail) ∷ [])) lacks)
+    ∙ from_step g now m (at_phase (Recreates r) w.consumer) Fail (at (Recreates r) w)
+
+pub answer_is_good : (g : Given) (now : ℕ) (m : Matter) (reply : Option Message) (info : Info) (r : Recreation) (w : World) → pull.info_of_reply reply ≡ Some info → has_subject g.setup info ≡ true
+    → ran g now m (Answered reply) (at (Recreates r) w) ≡ ran g now m (Succeed info) (at (Recreates r) w)
+answer_is_good g now m reply info r w some has =
+    ran_from g now m (Answered reply) (at (Recreates r) w) (quietly (at_phase (Recreates r) w.consumer) (Succeed info ∷ []))
+    (ap (λ (o : Option Info). quietly (at_phase (Recreates r) w.consumer) (answered g.setup o ∷ [])) some
+    ∙ ap (λ (b : Bool). quietly (at_phase (Recreates r) w.consumer) ((if b then Succeed info else Fail) ∷ [])) has)
+    ∙ from_step g now m (at_phase (Recreates r) w.consumer) (Succeed info) (at (Recreates r) w)
+
+-- ---- Await
+
+-- a stage that goes on with one row, or with none
+awaits : (g : Given) (now : ℕ) (m : Matter) (r : Recreation) (next : Row) (w : World) → stage_rows g (passing g now (at (Recreates r) w)) m r.stage ≡ next ∷ []
+    → ran g now m Await (at (Recreates r) w) ≡ ran g now m next (at (Recreates r) w)
+awaits g now m r next w rows =
+    ran_from g now m Await (at (Recreates r) w) (quietly (at_phase (Recreates r) w.consumer) (next ∷ [])) (ap (λ (rows : List Row). quietly (at_phase (Recreates r) w.consumer) rows) rows)
+    ∙ from_step g now m (at_phase (Recreates r) w.consumer) next (at (Recreates r) w)
+
+awaits_on : (g : Given) (now : ℕ) (m : Matter) (r : Recreation) (w : World) → stage_rows g (passing g now (at (Recreates r) w)) m r.stage ≡ []
+    → ran g now m Await (at (Recreates r) w) ≡ stays (at (Recreates r) w)
+awaits_on g now m r w rows =
+    ran_from g now m Await (at (Recreates r) w) (quietly (at_phase (Recreates r) w.consumer) []) (ap (λ (rows : List Row). quietly (at_phase (Recreates r) w.consumer) rows) rows)
+    ∙ from_rest g now m (at_phase (Recreates r) w.consumer) (at (Recreates r) w)
+
+pub await_nothing : (g : Given) (now : ℕ) (m : Matter) (r : Recreation) (w : World) → r.stage ≡ Between → ran g now m Await (at (Recreates r) w) ≡ stays (at (Recreates r) w)
+await_nothing g now m r w is = awaits_on g now m r w (rw is refl)
+
+pub delete_answered : (g : Given) (now : ℕ) (m : Matter) (request : ℕ) (timeout : Timer) (reply : Option Message) (r : Recreation) (w : World) → r.stage ≡ Deleting request timeout → reply_to request m.answer ≡ Some reply
+    → ran g now m Await (at (Recreates r) w) ≡ ran g now m Create (at (Recreates r) w)
+delete_answered g now m request timeout reply r w is some = awaits g now m r Create w (rw (is, some) refl)
+
+pub delete_times_out : (g : Given) (now : ℕ) (m : Matter) (request : ℕ) (timeout : Timer) (r : Recreation) (w : World) → r.stage ≡ Deleting request timeout → reply_to request m.answer ≡ None → is_due timeout now ≡ true
+    → ran g now m Await (at (Recreates r) w) ≡ ran g now m Create (at (Recreates r) w)
+delete_times_out g now m request timeout r w is none due = awaits g now m r Create w (rw (is, none, due) refl)
+
+pub delete_waits : (g : Given) (now : ℕ) (m : Matter) (request : ℕ) (timeout : Timer) (r : Recreation) (w : World) → r.stage ≡ Deleting request timeout → reply_to request m.answer ≡ None → is_due timeout now ≡ false
+    → ran g now m Await (at (Recreates r) w) ≡ stays (at (Recreates r) w)
+delete_waits g now m request timeout r w is none due = awaits_on g now m r w (rw (is, none, due) refl)
+
+pub create_answered : (g : Given) (now : ℕ) (m : Matter) (request : ℕ) (timeout : Timer) (reply : Option Message) (r : Recreation) (w : World) → r.stage ≡ Creating request timeout → reply_to request m.answer ≡ Some reply
+    → ran g now m Await (at (Recreates r) w) ≡ ran g now m (Answered reply) (at (Recreates r) w)
+create_answered g now m request timeout reply r w is some = awaits g now m r (Answered reply) w (rw (is, some) refl)
+
+pub create_times_out : (g : Given) (now : ℕ) (m : Matter) (request : ℕ) (timeout : Timer) (r : Recreation) (w : World) → r.stage ≡ Creating request timeout → reply_to request m.answer ≡ None → is_due timeout now ≡ true
+    → ran g now m Await (at (Recreates r) w) ≡ ran g now m Fail (at (Recreates r) w)
+create_times_out g now m request timeout r w is none due = awaits g now m r Fail w (rw (is, none, due) refl)
+
+pub create_waits : (g : Given) (now : ℕ) (m : Matter) (request : ℕ) (timeout : Timer) (r : Recreation) (w : World) → r.stage ≡ Creating request timeout → reply_to request m.answer ≡ None → is_due timeout now ≡ false
+    → ran g now m Await (at (Recreates r) w) ≡ stays (at (Recreates r) w)
+create_waits g now m request timeout r w is none due = awaits_on g now m r w (rw (is, none, due) refl)
+
+pub next_try : (g : Given) (now : ℕ) (m : Matter) (wait : Timer) (r : Recreation) (w : World) → r.stage ≡ Waiting wait → is_due wait now ≡ true
+    → ran g now m Await (at (Recreates r) w) ≡ ran g now m Try (at (Recreates r) w)
+next_try g now m wait r w is due = awaits g now m r Try w (rw (is, due) refl)
+
+pub try_waits : (g : Given) (now : ℕ) (m : Matter) (wait : Timer) (r : Recreation) (w : World) → r.stage ≡ Waiting wait → is_due wait now ≡ false
+    → ran g now m Await (at (Recreates r) w) ≡ stays (at (Recreates r) w)
+try_waits g now m wait r w is due = awaits_on g now m r w (rw (is, due) refl)
+
+-- ---- Hold
+
+holds : (g : Given) (p : Passing) (m : Matter) (phase : Phase) (c : Consumer) → row_at g p m Hold phase (at_phase phase c) ≡ quietly (at_phase (holding m.arrival phase) c) []
+holds g p m (Pulls reader) c = refl
+holds g p m (Pushes inbox silence) c = refl
+holds g p m (Recreates r) c = refl
+holds g p m Idle c = refl
+holds g p m Ended c = refl
+holds g p m Exhausted c = refl
+
+pub hold_is : (g : Given) (now : ℕ) (m : Matter) (w : World) → ran g now m Hold w ≡ stays (at (holding m.arrival w.consumer.phase) w)
+hold_is g now m w =
+    ran_from g now m Hold w (quietly (at_phase (holding m.arrival w.consumer.phase) w.consumer) []) (holds g (passing g now w) m w.consumer.phase w.consumer)
+    ∙ from_rest g now m (at_phase (holding m.arrival w.consumer.phase) w.consumer) w

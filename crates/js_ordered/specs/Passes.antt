@@ -1,10 +1,11 @@
 -- What passing rows comes to in a replay, as the functions that pass them say it.
-use Rattle.std.specs.Prelude.{◌≡◌, ℕ, suc, ◌+◌, min, List, [], ◌++◌, Option, Some, None, option_map, ◌==◌, false}
+use Rattle.std.specs.Prelude.{◌≡◌, ℕ, suc, ◌+◌, min, List, [], ◌∷◌, ◌++◌, map, Option, Some, None, option_map, ◌==◌, false}
 use Rattle.js_base.specs.declared.clock.Timer.{Timer}
-use Rattle.js_ordered.specs.Texts.{recreation_timeout, consumer_name}
-use Rattle.js_ordered.specs.Recreation.{recreation}
+use Rattle.js_ordered.specs.Texts.{recreation_timeout, consumer_name, inbox_subject, source_of}
+use Rattle.js_ordered.specs.Recreation.{recreation, held_in}
 use Rattle.js_base.specs.declared.message.Message.{Message}
-use Rattle.js_pull.specs.Reader.{u64_max, retry_wait, info_of_reply, with_pin, with_silence}
+use Rattle.js_pull.specs.Reader.{new_reader, u64_max, retry_wait, info_of_reply, with_pin, with_silence}
+use Rattle.js_json.specs.declared.consumer.info.Info.{Info}
 use Rattle.js_pull.specs.declared.reader.Reason.{Reason}
 use Rattle.js_pull.specs.declared.reader.Reason.TheVariants.{Informed}
 use Rattle.js_ordered.specs.declared.consumer.Consumer.{Consumer}
@@ -12,8 +13,9 @@ use Rattle.js_ordered.specs.declared.consumer.Opened.{Opened}
 use Rattle.js_ordered.specs.declared.consumer.Recreation.{Recreation}
 use Rattle.js_pull.specs.declared.reader.Reader.{Reader}
 use Rattle.js_pull.specs.declared.reader.Row.{Row as PullRow}
-use Rattle.js_ordered.specs.declared.row.Row.TheVariants.{Read}
-use Rattle.js_ordered.specs.declared.consumer.Phase.TheVariants.{Pulls, Recreates}
+use Rattle.js_ordered.specs.declared.row.Row.TheVariants.{Read, Hear, Arm}
+use Rattle.js_ordered.specs.declared.row.Arrival.{Arrival}
+use Rattle.js_ordered.specs.declared.consumer.Phase.TheVariants.{Pulls, Pushes, Recreates, Idle, Ended, Exhausted}
 use Rattle.js_ordered.specs.declared.consumer.Stage.TheVariants.{Waiting}
 use Rattle.js_ordered.specs.State.{Matter, Passed, at_phase}
 use Rattle.js_ordered.specs.Fold.{Ran, rank, and_then, pass_each, pass_to, after, matter_of}
@@ -116,3 +118,22 @@ accepting place w = record w { consumer = record w.consumer { num = place.number
 -- the reader that has heard a message
 abbrev pub heard : ℕ → Message → Reader → Reader
 heard now message r = with_pin message (with_silence now r)
+
+-- the reader that a recreation opens
+abbrev pub reader_of : Given → Info → World → Reader
+reader_of g info w = new_reader (source_of g w.consumer.serial w.made (inbox_subject g w.made) info)
+
+-- ---- what an open recreation holds
+
+-- the rows that a good answer brings to push: what was held is heard, and then the heartbeat is armed
+abbrev pub held_rows : ℕ → List Message → List Row
+held_rows inbox held = map (λ message. Hear (record { inbox = inbox; message = message })) held ++ Arm ∷ []
+
+-- the phase after an arrival was held, where a recreation holds arrivals
+abbrev pub holding : Option Arrival → Phase → Phase
+holding arrival (Recreates r) = Recreates (record r { opened = held_in arrival r.opened })
+holding arrival (Pulls reader) = Pulls reader
+holding arrival (Pushes inbox silence) = Pushes inbox silence
+holding arrival Idle = Idle
+holding arrival Ended = Ended
+holding arrival Exhausted = Exhausted
