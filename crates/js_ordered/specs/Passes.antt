@@ -1,5 +1,5 @@
 -- What passing rows comes to in a replay, as the functions that pass them say it.
-use Rattle.std.specs.Prelude.{◌≡◌, ℕ, suc, ◌+◌, min, List, [], ◌++◌, Option, Some, None, option_map, ◌==◌, false}
+use Rattle.std.specs.Prelude.{◌≡◌, ℕ, suc, ◌+◌, min, Bool, true, false, List, [], ◌∷◌, ◌++◌, map, Option, Some, None, option_map, ◌==◌}
 use Rattle.js_base.specs.declared.clock.Timer.{Timer}
 use Rattle.js_ordered.specs.Texts.{recreation_timeout, consumer_name}
 use Rattle.js_ordered.specs.Recreation.{recreation}
@@ -12,8 +12,8 @@ use Rattle.js_ordered.specs.declared.consumer.Opened.{Opened}
 use Rattle.js_ordered.specs.declared.consumer.Recreation.{Recreation}
 use Rattle.js_pull.specs.declared.reader.Reader.{Reader}
 use Rattle.js_pull.specs.declared.reader.Row.{Row as PullRow}
-use Rattle.js_ordered.specs.declared.row.Row.TheVariants.{Read}
-use Rattle.js_ordered.specs.declared.consumer.Phase.TheVariants.{Pulls, Recreates}
+use Rattle.js_ordered.specs.declared.row.Row.TheVariants.{Start, Hear, Read}
+use Rattle.js_ordered.specs.declared.consumer.Phase.TheVariants.{Pulls, Pushes, Recreates}
 use Rattle.js_ordered.specs.declared.consumer.Stage.TheVariants.{Waiting}
 use Rattle.js_ordered.specs.State.{Matter, Passed, at_phase}
 use Rattle.js_ordered.specs.Fold.{Ran, rank, and_then, pass_each, pass_to, after, matter_of}
@@ -69,6 +69,10 @@ abbrev pub PassesBoth : Turn → Row → Row → World → World → List Output
 PassesBoth turn first second old new before after =
     Comes (then_row (given_of turn) turn.moment (matter_now turn) second (ran (given_of turn) turn.moment (matter_now turn) first old)) new before after
 
+-- rows were passed in order
+abbrev pub PassesEach : Turn → List Row → World → World → List Output → List Output → Type 0
+PassesEach turn rows old new before after = Comes (pass_each (ran (given_of turn) turn.moment (matter_now turn)) rows old) new before after
+
 -- a row of a pull reader was passed, which goes on reading
 abbrev pub Reads : Turn → PullRow → Reader → Reader → World → World → List Output → List Output → Type 0
 Reads turn row reader reader' old new before after = Passes turn (Read row) (at (Pulls reader) old) (at (Pulls reader') new) before after
@@ -116,3 +120,19 @@ accepting place w = record w { consumer = record w.consumer { num = place.number
 -- the reader that has heard a message
 abbrev pub heard : ℕ → Message → Reader → Reader
 heard now message r = with_pin message (with_silence now r)
+
+-- ---- push
+
+-- push listens to this inbox now
+abbrev pub listens_to : ℕ → Phase → Bool
+listens_to inbox (Pushes current silence) = inbox == current
+listens_to inbox _ = false
+
+-- the rows that hear these messages in order
+abbrev pub hearings : ℕ → List Message → List Row
+hearings inbox messages = map (λ message. Hear (record { inbox = inbox; message = message })) messages
+
+-- a recreation follows or not
+abbrev pub starts_if : Bool → List Row
+starts_if true = Start ∷ []
+starts_if false = []
