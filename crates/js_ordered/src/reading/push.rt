@@ -32,7 +32,7 @@ fn armed(now: Moment) -> Timer
 }
 
 /// The consumer listens to this inbox, whose heartbeat is armed.
-fn listen(turn: &Turn<'_>, world: &mut World, inbox: u64)
+pub(crate) fn listen(turn: &Turn<'_>, world: &mut World, inbox: u64)
     ensures { world.new ≡ at (Phase.Pushes inbox (reading.armed turn.now.moment)) world.old }
 {
     world.enter(Phase::Pushes {
@@ -41,9 +41,9 @@ fn listen(turn: &Turn<'_>, world: &mut World, inbox: u64)
     });
 }
 
-/// Where the consumer listens, its heartbeat is armed.
+/// Where the consumer listens, its heartbeat is armed. Nothing is put out.
 #[tactic(auto, using(std::proofs::lemmas::Grind::common_steps, crate::proofs::PushReading::arm_here, crate::proofs::PushReading::arm_elsewhere))]
-fn arm(turn: &Turn<'_>, world: &mut World)
+pub(crate) fn arm(turn: &Turn<'_>, world: &mut World)
     ensures { Passes turn.now row.Arm world.old world.new [] [] }
 {
     match world.consumer.phase {
