@@ -1,17 +1,17 @@
 -- What each row of push comes to, case by case.
-use Rattle.std.proofs.Common.{◌≡◌, ℕ, ◌+◌, ◌≢◌, ◌<◌, Bool, true, false, List, [], ◌∷◌, ◌++◌, Option, Some, None, map, length, drop, get_or, refl, ap, sym, subst, ◌∙◌, arith, append_assoc, append-nil, count_by}
+use Rattle.std.proofs.Common.{◌≡◌, ℕ, ◌+◌, ◌≢◌, ◌<◌, Bool, true, false, List, [], ◌∷◌, ◌++◌, Option, Some, None, length, drop, get_or, refl, ap, sym, subst, ◌∙◌, arith, append_assoc, append-nil, count_by}
 use Rattle.std.proofs.lemmas.Bool.{ne_eqb}
 use Rattle.std.proofs.lemmas.Bool.Decides.{nat_tests}
 use Rattle.std.proofs.lemmas.List.{at_drop_more}
-use Rattle.std.specs.Prelude.{◌==◌, ◌≤◌, if◌then◌else◌}
+use Rattle.std.specs.Prelude.{◌==◌, if◌then◌else◌}
 use Rattle.js_base.specs.declared.message.Message.{Message}
 use Rattle.js_base.specs.declared.clock.Timer.{Timer}
 use Rattle.js_base.specs.Clock.{is_due}
 use Rattle.js_message.specs.Ack.{Place, readable_as}
 use Rattle.js_link.specs.Passing.{Passing}
-use Rattle.js_ordered.specs.State.{Matter, Passed, quietly, at_phase}
+use Rattle.js_ordered.specs.State.{Matter, quietly, at_phase}
 use Rattle.js_ordered.specs.Recreation.{message_on}
-use Rattle.js_ordered.specs.Reading.{push_kind, hear_kind, message_row, accepted, beat_answer, beat_rows, armed, silence_row}
+use Rattle.js_ordered.specs.Reading.{push_kind, hear_kind, message_row, accepted, beat_answer, beat_rows, armed}
 use Rattle.js_ordered.specs.Fold.{Ran, passing, stays, and_then, pass_each, is_request, is_subscribe}
 use Rattle.js_ordered.specs.Turn.{row_at, push_rows}
 use Rattle.js_ordered.specs.Passes.{ran, from, at, accepting, listens_to, hearings, starts_if, Comes}
@@ -209,11 +209,12 @@ nothing_arrives g now m inbox silence w none =
 pub each_more : (one : Row → World → Ran) (row : Row) (rows : List Row) (w u new : World) (before between after : List Output)
     → Comes (one row w) u before between → Comes (pass_each one rows u) new between after → Comes (pass_each one (row ∷ rows) w) new before after
 each_more one row rows w u new before between after first rest =
-    let step : Ran = one row w in
-    (rest.0 ∙ ap (λ (v : World). (pass_each one rows v).world) first.0,
-    rest.1 ∙ ap (λ (b : List Output). b ++ (pass_each one rows u).outputs) first.1
-    ∙ append_assoc before step.outputs (pass_each one rows u).outputs
-    ∙ ap (λ (v : World). before ++ (step.outputs ++ (pass_each one rows v).outputs)) first.0)
+    let step : Ran = one row w in (
+      rest.0 ∙ ap (λ (v : World). (pass_each one rows v).world) first.0,
+      rest.1 ∙ ap (λ (b : List Output). b ++ (pass_each one rows u).outputs) first.1
+          ∙ append_assoc before step.outputs (pass_each one rows u).outputs
+          ∙ ap (λ (v : World). before ++ (step.outputs ++ (pass_each one rows v).outputs)) first.0,
+    )
 
 -- one is passed after all others
 pass_last : (one : Row → World → Ran) (rows : List Row) (row : Row) (w : World)
@@ -232,9 +233,10 @@ pub each_last : (one : Row → World → Ran) (rows : List Row) (row : Row) (w u
 each_last one rows row w u new before after first last =
     let all : Ran = pass_each one rows w in
     let none : (one row all.world).outputs ≡ [] = ap (λ (v : World). (one row v).outputs) (sym first.0) ∙ sym last.1 in
-    let is : pass_each one (rows ++ row ∷ []) w ≡ and_then all.outputs (one row all.world) = pass_last one rows row w in
-    (last.0 ∙ ap (λ (v : World). (one row v).world) first.0 ∙ ap (λ (r : Ran). r.world) (sym is),
-    first.1 ∙ ap (λ (o : List Output). before ++ o) (sym (append-nil all.outputs) ∙ ap (λ (o : List Output). all.outputs ++ o) (sym none)) ∙ ap (λ (r : Ran). before ++ r.outputs) (sym is))
+    let is : pass_each one (rows ++ row ∷ []) w ≡ and_then all.outputs (one row all.world) = pass_last one rows row w in (
+      last.0 ∙ ap (λ (v : World). (one row v).world) first.0 ∙ ap (λ (r : Ran). r.world) (sym is),
+      first.1 ∙ ap (λ (o : List Output). before ++ o) (sym (append-nil all.outputs) ∙ ap (λ (o : List Output). all.outputs ++ o) (sym none)) ∙ ap (λ (r : Ran). before ++ r.outputs) (sym is),
+    )
 
 -- ---- messages in order
 

@@ -144,11 +144,7 @@ fn hear_message(
 // ---- a beat
 
 /// A beat that asks for an answer gets an empty one, where the link is up.
-fn answer_beat(
-    up: bool,
-    message: &Message,
-    outputs: &mut Items<Output>,
-) -> Result<(), OutOfMemory>
+fn answer_beat(up: bool, message: &Message, outputs: &mut Items<Output>) -> Result<(), OutOfMemory>
     ensures { OnOk result (outputs.new ≡ outputs.old ++ reading.beat_answer up message.now.reply) }
 {
     match &message.reply {

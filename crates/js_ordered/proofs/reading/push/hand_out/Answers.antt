@@ -1,4 +1,4 @@
-use Rattle.std.proofs.Common.{◌≡◌, List, [], ◌∷◌, ◌++◌, sym, ap, ◌∙◌}
+use Rattle.std.proofs.Common.{◌≡◌, [], ◌∷◌, ◌++◌, sym, ap, ◌∙◌}
 use Rattle.js_ordered.specs.Fold.{Ran}
 use Rattle.js_ordered.specs.Reading.{armed}
 use Rattle.js_ordered.specs.Passes.{given_of, matter_now, ran, at, place_shown, accepting}
@@ -19,6 +19,7 @@ returns c =
     let output : Output = Yield place.sequence place.number message.subject message.payload in
     let is : ran (given_of turn) turn.moment (matter_now turn) (hearing c.args.inbox message) w
     ≡ record { world = at (Pushes c.args.inbox (armed turn.moment)) (accepting (place_shown place) w); outputs = output ∷ [] }
-    = message_is_next (given_of turn) turn.moment (matter_now turn) c.args.inbox message place.sequence place.number w c.requires.listens c.requires.kind c.requires.place c.requires.next in
-    (c.listen.ensures ∙ ap (λ (u : World). at (Pushes c.args.inbox (armed turn.moment)) u) c.accept.ensures ∙ ap (λ (r : Ran). r.world) (sym is),
-    c.in_ok-push.ensures.ok ∙ ap (λ (o : Output). before ++ o ∷ []) c.in_ok-yield_of.ensures ∙ ap (λ (r : Ran). before ++ r.outputs) (sym is))
+    = message_is_next (given_of turn) turn.moment (matter_now turn) c.args.inbox message place.sequence place.number w c.requires.listens c.requires.kind c.requires.place c.requires.next in (
+      c.listen.ensures ∙ ap (λ (u : World). at (Pushes c.args.inbox (armed turn.moment)) u) c.accept.ensures ∙ ap (λ (r : Ran). r.world) (sym is),
+      c.in_ok-push.ensures.ok ∙ ap (λ (o : Output). before ++ o ∷ []) c.in_ok-yield_of.ensures ∙ ap (λ (r : Ran). before ++ r.outputs) (sym is),
+    )

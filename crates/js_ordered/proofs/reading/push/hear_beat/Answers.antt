@@ -1,6 +1,5 @@
 use Rattle.std.proofs.Common.{◌≡◌, true, ◌∙◌, ap, sym}
 use Rattle.std.specs.Prelude.{Bool}
-use Rattle.js_ordered.specs.Fold.{and_then}
 use Rattle.js_ordered.specs.Reading.{beat_answer, beat_rows}
 use Rattle.js_ordered.specs.Passes.{given_of, matter_now, ran, starts_if}
 use Rattle.js_ordered.specs.declared.row.Row.TheVariants.{Start}
