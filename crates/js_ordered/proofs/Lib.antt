@@ -22,4 +22,5 @@ pub mod Honest
 pub mod Rans
 pub mod Recreating
 pub mod PullReading
+pub mod PushReading
 pub mod Comings

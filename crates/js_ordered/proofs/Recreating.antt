@@ -24,7 +24,7 @@ use Rattle.js_ordered.specs.declared.setup.OrderedSetup.{OrderedSetup}
 use Rattle.js_ordered.specs.Recreation.{create_row, succeed_row, succeed_pull, succeed_push, opened_by, start_after, recreation, at_stage, answered, stage_rows, hold, message_on, has_subject}
 use Rattle.js_ordered.specs.Fold.{Ran, passing, stays, and_then, pass_each}
 use Rattle.js_ordered.specs.Turn.{pass, row_at}
-use Rattle.js_ordered.specs.Passes.{ran, from, at, then_row, timeout_at, restarted, opened_as, waiting, reader_of, held_rows, holding}
+use Rattle.js_ordered.specs.Passes.{ran, from, at, then_row, timeout_at, restarted, opened_as, waiting, reader_of, hearings, holding}
 use Rattle.js_ordered.specs.declared.consumer.Given.{Given}
 use Rattle.js_ordered.specs.declared.consumer.Consumer.{Consumer}
 use Rattle.js_ordered.specs.declared.consumer.Opened.{Opened}
@@ -174,11 +174,11 @@ succeed_without_inbox g now m info r w pushes none =
 
 pub succeed_hears : (g : Given) (now : ℕ) (m : Matter) (info : Info) (r : Recreation) (opened : Opened) (w : World) → IsPush g.setup → r.opened ≡ Some opened
     → ran g now m (Succeed info) (at (Recreates r) w)
-    ≡ pass_each (ran g now m) (held_rows opened.inbox opened.held) (at (Pushes opened.inbox (armed now)) w)
+    ≡ pass_each (ran g now m) (hearings opened.inbox opened.held ++ Arm ∷ []) (at (Pushes opened.inbox (armed now)) w)
 succeed_hears g now m info r opened w pushes some =
-    ran_from g now m (Succeed info) (at (Recreates r) w) (quietly (at_phase (Pushes opened.inbox (armed now)) w.consumer) (held_rows opened.inbox opened.held))
+    ran_from g now m (Succeed info) (at (Recreates r) w) (quietly (at_phase (Pushes opened.inbox (armed now)) w.consumer) (hearings opened.inbox opened.held ++ Arm ∷ []))
     (push_succeeds g.setup g (passing g now (at (Recreates r) w)) info r (at_phase (Recreates r) w.consumer) pushes ∙ rw some refl)
-    ∙ from_rows g now m (at_phase (Pushes opened.inbox (armed now)) w.consumer) (held_rows opened.inbox opened.held) (at (Recreates r) w)
+    ∙ from_rows g now m (at_phase (Pushes opened.inbox (armed now)) w.consumer) (hearings opened.inbox opened.held ++ Arm ∷ []) (at (Recreates r) w)
 
 -- ---- Answered
 

@@ -1,5 +1,5 @@
 -- What passing rows comes to in a replay, as the functions that pass them say it.
-use Rattle.std.specs.Prelude.{◌≡◌, ℕ, suc, ◌+◌, min, List, [], ◌∷◌, ◌++◌, map, Option, Some, None, option_map, ◌==◌, false}
+use Rattle.std.specs.Prelude.{◌≡◌, ℕ, suc, ◌+◌, min, Bool, true, List, [], ◌∷◌, ◌++◌, map, Option, Some, None, option_map, ◌==◌, false}
 use Rattle.js_base.specs.declared.clock.Timer.{Timer}
 use Rattle.js_ordered.specs.Texts.{recreation_timeout, consumer_name, inbox_subject, source_of}
 use Rattle.js_ordered.specs.Recreation.{recreation, held_in}
@@ -13,7 +13,7 @@ use Rattle.js_ordered.specs.declared.consumer.Opened.{Opened}
 use Rattle.js_ordered.specs.declared.consumer.Recreation.{Recreation}
 use Rattle.js_pull.specs.declared.reader.Reader.{Reader}
 use Rattle.js_pull.specs.declared.reader.Row.{Row as PullRow}
-use Rattle.js_ordered.specs.declared.row.Row.TheVariants.{Read, Hear, Arm}
+use Rattle.js_ordered.specs.declared.row.Row.TheVariants.{Start, Read, Hear}
 use Rattle.js_ordered.specs.declared.row.Arrival.{Arrival}
 use Rattle.js_ordered.specs.declared.consumer.Phase.TheVariants.{Pulls, Pushes, Recreates, Idle, Ended, Exhausted}
 use Rattle.js_ordered.specs.declared.consumer.Stage.TheVariants.{Waiting}
@@ -71,6 +71,10 @@ abbrev pub PassesBoth : Turn → Row → Row → World → World → List Output
 PassesBoth turn first second old new before after =
     Comes (then_row (given_of turn) turn.moment (matter_now turn) second (ran (given_of turn) turn.moment (matter_now turn) first old)) new before after
 
+-- rows were passed in order
+abbrev pub PassesEach : Turn → List Row → World → World → List Output → List Output → Type 0
+PassesEach turn rows old new before after = Comes (pass_each (ran (given_of turn) turn.moment (matter_now turn)) rows old) new before after
+
 -- a row of a pull reader was passed, which goes on reading
 abbrev pub Reads : Turn → PullRow → Reader → Reader → World → World → List Output → List Output → Type 0
 Reads turn row reader reader' old new before after = Passes turn (Read row) (at (Pulls reader) old) (at (Pulls reader') new) before after
@@ -125,10 +129,6 @@ reader_of g info w = new_reader (source_of g w.consumer.serial w.made (inbox_sub
 
 -- ---- what an open recreation holds
 
--- the rows that a good answer brings to push: what was held is heard, and then the heartbeat is armed
-abbrev pub held_rows : ℕ → List Message → List Row
-held_rows inbox held = map (λ message. Hear (record { inbox = inbox; message = message })) held ++ Arm ∷ []
-
 -- the phase after an arrival was held, where a recreation holds arrivals
 abbrev pub holding : Option Arrival → Phase → Phase
 holding arrival (Recreates r) = Recreates (record r { opened = held_in arrival r.opened })
@@ -137,3 +137,19 @@ holding arrival (Pushes inbox silence) = Pushes inbox silence
 holding arrival Idle = Idle
 holding arrival Ended = Ended
 holding arrival Exhausted = Exhausted
+
+-- ---- push
+
+-- push listens to this inbox now
+abbrev pub listens_to : ℕ → Phase → Bool
+listens_to inbox (Pushes current silence) = inbox == current
+listens_to inbox _ = false
+
+-- the rows that hear these messages in order
+abbrev pub hearings : ℕ → List Message → List Row
+hearings inbox messages = map (λ message. Hear (record { inbox = inbox; message = message })) messages
+
+-- a recreation follows or not
+abbrev pub starts_if : Bool → List Row
+starts_if true = Start ∷ []
+starts_if false = []

@@ -319,10 +319,7 @@ fn succeed_push(
         }
         Some(opened) => {
             drop(recreation);
-            world.enter(Phase::Pushes {
-                inbox: opened.inbox,
-                silence: push::armed(turn.moment),
-            });
+            push::listen(turn, world, opened.inbox);
             let heard = push::hear_held(alloc, turn, world, opened.inbox, &opened.held, outputs);
             drop(opened);
             heard
