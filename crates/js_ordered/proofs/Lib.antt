@@ -21,3 +21,4 @@ pub mod Rows
 pub mod Honest
 pub mod Rans
 pub mod Recreating
+pub mod Replaying

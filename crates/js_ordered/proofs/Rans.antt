@@ -60,7 +60,7 @@ after_is w c outputs rows asked made e f =
     let same : ℕ → ℕ → World = λ a b. record w { consumer = c; asked = a; made = b } in
     ap (λ (a : ℕ). same a (w.made + count_by is_subscribe outputs)) e ∙ ap (λ (b : ℕ). same asked b) f
 
-no_more : (r : Ran) → and_then r.outputs (stays r.world) ≡ r
+pub no_more : (r : Ran) → and_then r.outputs (stays r.world) ≡ r
 no_more r =
     let with_outputs : List Output → Ran = λ outputs. record { world = r.world; outputs = outputs } in
     ap with_outputs (append-nil r.outputs)
