@@ -1,7 +1,7 @@
 -- From rows to a replay: the opening, one event, all events, and what is answered.
 use Rattle.std.proofs.Common.{◌≡◌, ◌≢◌, ℕ, ◌+◌, ◌<◌, ◌≤◌, Bool, true, false, List, [], ◌∷◌, ◌++◌, Option, Some, None, refl, sym, ap, ◌∙◌, map, drop, length, get_or, append_assoc, append-nil}
 use Rattle.std.proofs.lemmas.List.{drop_more, drop_all}
-use Rattle.std.specs.Prelude.{Ok, Err, option_map, if◌then◌else◌}
+use Rattle.std.specs.Prelude.{Ok, Err, option_map}
 use Rattle.js_ordered.specs.declared.consumer.Given.{Given}
 use Rattle.js_ordered.specs.declared.event.Event as events
 use Rattle.js_ordered.specs.declared.row.Row.TheVariants.{Event}
@@ -58,17 +58,19 @@ refused_next : (ran : Ran) (rans : List Ran) (place : ℕ) → is_exhausted ran.
 refused_next ran rans place open_still = rw open_still refl
 
 -- after one more event
-pub goes_on : (g : Given) (es : List events.Event) (first : World) (place : ℕ) (w : World) (steps : List Step) (e : events.Event) → Goes g es first place w steps
-    → place < length es → e ≡ get_or es place e → is_exhausted (event g e w).world.consumer.phase ≡ false
-    → Goes g es first (place + 1) (event g e w).world (steps ++ step_of (event g e w) ∷ [])
-goes_on g es first place w steps e goes below is open_still =
+pub goes_on : (g : Given) (es : List events.Event) (first : World) (place : ℕ) (w after : World) (steps grown : List Step) (e : events.Event) (step : Step) → Goes g es first place w steps
+    → place < length es → e ≡ get_or es place e → step ≡ step_of (event g e w) → after ≡ (event g e w).world
+    → is_exhausted after.consumer.phase ≡ false → grown ≡ steps ++ step ∷ [] → Goes g es first (place + 1) after grown
+goes_on g es first place w after steps grown e step goes below is steps_as comes open_still grows =
     let ran : Ran = event g e w in
-    let left : List Ran = run_events g (drop (place + 1) es) ran.world in
-    let one : run_events g (drop place es) w ≡ ran ∷ left = next g es place w e below is in
+    let left : World → List Ran = λ v. run_events g (drop (place + 1) es) v in
+    let one : run_events g (drop place es) w ≡ ran ∷ left after = next g es place w e below is ∙ ap (λ (v : World). ran ∷ left v) (sym comes) in
+    let stays : is_exhausted ran.world.consumer.phase ≡ false = ap (λ (v : World). is_exhausted v.consumer.phase) (sym comes) ∙ open_still in
     record {
-      so_far = append_assoc steps (step_of ran ∷ []) (map step_of left) ∙ ap (λ (rans : List Ran). steps ++ map step_of rans) (sym one) ∙ goes.so_far;
-      world = ap (λ (rans : List Ran). last_world w rans) (sym one) ∙ goes.world;
-      refused = sym (refused_next ran left place open_still) ∙ ap (λ (rans : List Ran). first_exhausted place rans) (sym one) ∙ goes.refused;
+      so_far = ap (λ (done : List Step). done ++ map step_of (left after)) (grows ∙ ap (λ (s : Step). steps ++ s ∷ []) steps_as)
+          ∙ append_assoc steps (step_of ran ∷ []) (map step_of (left after)) ∙ ap (λ (rans : List Ran). steps ++ map step_of rans) (sym one) ∙ goes.so_far;
+      world = ap (λ (v : World). last_world v (left after)) comes ∙ ap (λ (rans : List Ran). last_world w rans) (sym one) ∙ goes.world;
+      refused = sym (refused_next ran (left after) place stays) ∙ ap (λ (rans : List Ran). first_exhausted place rans) (sym one) ∙ goes.refused;
     }
 
 -- at an event after which the sequences are at their end
@@ -133,7 +135,9 @@ run_folded g start es first last run accepted opens opened stepped ends goes_on 
     let refused : refuse_end (rest (opening g start).world) ≡ None = ap (λ (w : World). refuse_end (rest w)) (sym opens) ∙ goes_on in
     let steps : run.steps ≡ map step_of (rest (opening g start).world) = stepped ∙ ap (λ (w : World). map step_of (rest w)) opens in
     let over : run.ended ≡ is_over (last_world (opening g start).world (rest (opening g start).world)).consumer.phase =
-        ended ∙ ap (λ (w : World). is_over w.consumer.phase) ends ∙ ap (λ (w : World). is_over (last_world w (rest w)).consumer.phase) opens in
-    (rw accepted refused, ap (λ (outputs : List Output). built (record { outputs = outputs }) run.steps run.ended) opened
-    ∙ ap (λ (steps : List Step). built (step_of (opening g start)) steps run.ended) steps
-    ∙ ap (λ (ended : Bool). built (step_of (opening g start)) (map step_of (rest (opening g start).world)) ended) over)
+    ended ∙ ap (λ (w : World). is_over w.consumer.phase) ends ∙ ap (λ (w : World). is_over (last_world w (rest w)).consumer.phase) opens in (
+      rw accepted refused,
+      ap (λ (outputs : List Output). built (record { outputs = outputs }) run.steps run.ended) opened
+          ∙ ap (λ (steps : List Step). built (step_of (opening g start)) steps run.ended) steps
+          ∙ ap (λ (ended : Bool). built (step_of (opening g start)) (map step_of (rest (opening g start).world)) ended) over,
+    )

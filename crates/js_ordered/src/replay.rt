@@ -3,7 +3,7 @@ ghost use Rattle.std.specs.Prelude.{◌≡◌, ◌≢◌, [], map, IfOk, OnOk, I
 ghost use Rattle.js_ordered.specs.Fold as fold;
 ghost use Rattle.js_ordered.specs.Passes.{Comes, given_of};
 ghost use Rattle.js_ordered.specs.Refusal.{is_exhausted, refuse_end, refuse_input};
-ghost use Rattle.js_ordered.specs.Valid.{IsAnswer, IsFolded};
+ghost use Rattle.js_ordered.specs.Valid.{IsAnswer, IsFolded, IsValid};
 ghost use Rattle.js_ordered.specs.declared.event.What.TheVariants.{Tick};
 
 use crate::consumer::{Consumer, Phase};
@@ -66,11 +66,7 @@ fn first_world(alloc: Global, turn: &Turn<'_>) -> Result<World, OutOfMemory>
 
 /// The opening, from the first world on.
 #[tactic(auto, using(crate::proofs::Replaying::opening_rows_pass))]
-fn open(
-    alloc: Global,
-    turn: &Turn<'_>,
-    outputs: &mut Items<Output>,
-) -> Result<World, OutOfMemory>
+fn open(alloc: Global, turn: &Turn<'_>, outputs: &mut Items<Output>) -> Result<World, OutOfMemory>
     requires tick { turn.now.what.now ≡ Tick }
     requires empty { outputs.old ≡ [] }
     ensures world { IfOk result (λ world. world ≡ (fold.opening (given_of turn.now) turn.now.moment).world) }
@@ -170,7 +166,7 @@ fn steps_for(alloc: Global, events: &[Event]) -> Result<Items<Step>, OutOfMemory
 }
 
 /// The steps of a list of events, one for each.
-#[tactic(auto, using(crate::proofs::Replaying::goes_first, crate::proofs::Replaying::goes_on, crate::proofs::Replaying::goes_no_further, crate::proofs::Replaying::steps_all, crate::proofs::Replaying::world_last, crate::proofs::Replaying::none_refused))]
+#[tactic(auto, using(crate::proofs::Replaying::goes_first, crate::proofs::Replaying::goes_no_further, crate::proofs::Replaying::steps_all, crate::proofs::Replaying::world_last, crate::proofs::Replaying::none_refused))]
 fn steps_of(
     alloc: Global,
     turn: &Turn<'_>,
@@ -252,7 +248,7 @@ fn replay(alloc: Global, turn: &Turn<'_>, events: &[Event]) -> Result<Run, Repla
 ///   sequences was yielded.
 ///
 /// `OutOfMemory` may come in place of a run or of any of them.
-#[tactic(auto, using(crate::proofs::Promises::folded_answers))]
+#[tactic(auto, using(crate::proofs::Promises::folded_answers, crate::proofs::Promises::folded_valid))]
 pub fn replay_ordered(
     alloc: Global,
     settings: &Settings,
@@ -261,7 +257,11 @@ pub fn replay_ordered(
     start: Moment,
     events: &[Event],
 ) -> Result<Run, ReplayError>
-    ensures { IsAnswer (record { settings = settings.now; setup = setup.now; first = first.now }) start events.now result }
+    ensures answer { IsAnswer (record { settings = settings.now; setup = setup.now; first = first.now }) start events.now result }
+
+    // Valid input is never refused: want of memory is its only error.
+    ensures valid { IsValid (record { settings = settings.now; setup = setup.now; first = first.now }) start events.now
+        → IfErr result (λ refusal. refusal ≡ ReplayError.OutOfMemory) }
 {
     let tick = What::Tick;
     let turn = Turn {
