@@ -230,10 +230,11 @@ fn replay(alloc: Global, turn: &Turn<'_>, events: &[Event]) -> Result<Run, Repla
 /// `first` is what the server told of the consumer that was made before the opening, at the moment `start`. That
 /// consumer's inbox has the number 0, sends go through, and the connection is up.
 ///
-/// The run has one step for each event, in their order. An event after the end of the consumer is passed over and puts
-/// out nothing; its moment still has to be in order. Where the server is honest, the yields of a run are the messages
-/// that the filter selects, each once, in order, and with none left out from the start on; and no step begins more than
-/// one recreation.
+/// The run has one step for each event, in their order, and no step begins more than one recreation. An event after the
+/// end of the consumer is passed over and puts out nothing; its moment still has to be in order.
+///
+/// Where the server is honest, the yields leave no gap: they are messages of the stream that the filter selects, in
+/// rising order, and every such message between two of them, or from a configured start up to the first, was removed.
 ///
 /// # Errors
 ///
