@@ -15,3 +15,7 @@ pub on_after : {A E : Type 0} (result : Result A E) (r s : Ran) (outputs before 
     → r ≡ and_then outputs s → between ≡ before ++ outputs → OnOk result (Comes s new between after) → OnOk result (Comes r new before after)
 on_after (Ok value) r s outputs before between after new is put comes = came_after r s outputs before after new is (subst (λ (b : List Output). Comes s new b after) put comes)
 on_after (Err error) r s outputs before between after new is put comes = tt
+
+-- a callee passes just this
+pub on_same : {A E : Type 0} (result : Result A E) (r s : Ran) (before after : List Output) (new : World) → r ≡ s → OnOk result (Comes s new before after) → OnOk result (Comes r new before after)
+on_same result r s before after new is comes = subst (λ (r : Ran). OnOk result (Comes r new before after)) (sym is) comes

@@ -24,3 +24,5 @@ pub mod Recreating
 pub mod PullReading
 pub mod PushReading
 pub mod Comings
+pub mod Replaying
+pub mod Turning

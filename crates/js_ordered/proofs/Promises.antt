@@ -1,6 +1,6 @@
 -- Both halves of what a replay answers.
 use Rattle.std.proofs.Common.{◌≡◌, ℕ, List, ◌∷◌, None, sym, subst, Some, refl, ◌∙◌}
-use Rattle.std.specs.Prelude.{Result, Ok, Err}
+use Rattle.std.specs.Prelude.{Result, Ok, Err, IfErr}
 use Rattle.std.specs.List.{AllByRecursion}
 use Rattle.js_ordered.specs.declared.run.Run.{Run}
 use Rattle.js_ordered.specs.declared.consumer.Given.{Given}
@@ -54,3 +54,9 @@ valid_answers g start es (error.SequenceEnd place) valid answer = absurd (never 
   where
     never : None ≡ Some (error.SequenceEnd place) → ⊥
     never e = cc
+
+-- and what follows the table does so
+pub folded_valid : (g : Given) (start : ℕ) (es : List events.Event) (result : Result Run ReplayError) → IsFolded g start es result → IsValid g start es
+    → IfErr result (λ (refusal : ReplayError). refusal ≡ error.OutOfMemory)
+folded_valid g start es (Ok run) folded valid = tt
+folded_valid g start es (Err refusal) folded valid = valid_answers g start es refusal valid (folded_answers g start es (Err refusal) folded)

@@ -82,7 +82,7 @@ pub from_rows : (g : Given) (now : ℕ) (m : Matter) (c : Consumer) (rows : List
 unfolding from
 from_rows g now m c rows w = ap (λ (u : World). pass_each (ran g now m) rows u) (after_is w c [] rows w.asked w.made (omega arith) (omega arith))
 
-two_rows : (g : Given) (now : ℕ) (m : Matter) (first second : Row) (w : World) → pass_each (ran g now m) (first ∷ second ∷ []) w ≡ then_row g now m second (ran g now m first w)
+pub two_rows : (g : Given) (now : ℕ) (m : Matter) (first second : Row) (w : World) → pass_each (ran g now m) (first ∷ second ∷ []) w ≡ then_row g now m second (ran g now m first w)
 two_rows g now m first second w =
     let r : Ran = ran g now m first w in
     ap (λ (rest : Ran). and_then r.outputs rest) (ends g now m second r.world r.world refl)

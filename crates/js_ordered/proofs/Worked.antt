@@ -26,7 +26,7 @@ use Rattle.js_ordered.specs.declared.run.Output.{Output}
 use Rattle.js_ordered.specs.declared.run.Output.TheVariants as out
 use Rattle.js_ordered.specs.Texts.{inbox_subject}
 use Rattle.js_ordered.specs.Fold.{event, run_events, opening, fold}
-use Rattle.js_ordered.specs.Refusal.{refuse}
+use Rattle.js_ordered.specs.Refusal.{refuse_input, refuse}
 
 abbrev pub settings : Settings
 settings = record { api_prefix = codes "$JS.API"; inbox_prefix = codes "_INBOX.t"; context_timeout = None; request_timeout = Some 10_000_000_000; retries = 4_294_967_295 }
@@ -174,5 +174,5 @@ deletes number name = out.Request number (codes "$JS.API.CONSUMER.DELETE.events.
 
 -- what a worked row unfolds to be computed
 unfoldable pub replays_on_literals : ⊤
-unfolding requests_on_literals infos_on_literals event run_events opening fold refuse
+unfolding requests_on_literals infos_on_literals event run_events opening fold refuse refuse_input
 replays_on_literals = tt

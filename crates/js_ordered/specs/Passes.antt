@@ -18,7 +18,12 @@ use Rattle.js_ordered.specs.declared.row.Arrival.{Arrival}
 use Rattle.js_ordered.specs.declared.consumer.Phase.TheVariants.{Pulls, Pushes, Recreates, Idle, Ended, Exhausted}
 use Rattle.js_ordered.specs.declared.consumer.Stage.TheVariants.{Waiting}
 use Rattle.js_ordered.specs.State.{Matter, Passed, at_phase}
-use Rattle.js_ordered.specs.Fold.{Ran, rank, and_then, pass_each, pass_to, after, matter_of}
+use Rattle.js_ordered.specs.Fold.{Ran, rank, and_then, pass_each, pass_to, passing, after, matter_of}
+use Rattle.js_ordered.specs.Turn.{go_on, changed}
+use Rattle.js_base.specs.declared.message.State.{State}
+use Rattle.js_ordered.specs.State as state
+use Rattle.js_ordered.specs.declared.passing.Change.{Change}
+use Rattle.js_ordered.specs.declared.passing.Change.TheVariants as change
 use Rattle.js_ordered.specs.declared.consumer.Given.{Given}
 use Rattle.js_ordered.specs.declared.consumer.Phase.{Phase}
 use Rattle.js_ordered.specs.declared.row.Row.{Row}
@@ -127,6 +132,10 @@ heard now message r = with_pin message (with_silence now r)
 abbrev pub reader_of : Given → Info → World → Reader
 reader_of g info w = new_reader (source_of g w.consumer.serial w.made (inbox_subject g w.made) info)
 
+-- the reader of the first inbox
+abbrev pub first_reader_of : Given → Reader
+first_reader_of g = new_reader (source_of g 0 0 (inbox_subject g 0) g.first)
+
 -- ---- what an open recreation holds
 
 -- the phase after an arrival was held, where a recreation holds arrivals
@@ -153,3 +162,27 @@ hearings inbox messages = map (λ message. Hear (record { inbox = inbox; message
 abbrev pub starts_if : Bool → List Row
 starts_if true = Start ∷ []
 starts_if false = []
+
+-- ---- an event
+
+-- what it says of the connection, as the replay's code tells it
+abbrev pub change_shown : Change → state.Change
+change_shown change.Unchanged = state.Unchanged
+change_shown (change.Becomes now) = state.Becomes now
+change_shown change.WatcherEnds = state.WatcherEnds
+
+-- this came of a row that was passed
+abbrev pub Follows : Turn → Passed → World → World → List Output → List Output → Type 0
+Follows turn passed old new before after = Comes (from (given_of turn) turn.moment (matter_now turn) passed old) new before after
+
+-- an event went on from this phase
+abbrev pub GoesOn : Turn → Phase → World → World → List Output → List Output → Type 0
+GoesOn turn phase old new before after =
+    let w = at phase old in
+    Follows turn (go_on (given_of turn) (passing (given_of turn) turn.moment w) (matter_now turn) phase w.consumer) w new before after
+
+-- the connection was another one from then on
+abbrev pub Changes : Turn → State → Phase → World → World → List Output → List Output → Type 0
+Changes turn state phase old new before after =
+    let w = at phase old in
+    Follows turn (changed (given_of turn) (passing (given_of turn) turn.moment w) (matter_now turn) w.consumer.connection state phase w.consumer) w new before after

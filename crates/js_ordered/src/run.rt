@@ -104,3 +104,14 @@ pub enum ReplayError {
     SequenceEnd { place: u64 },
     OutOfMemory,
 }
+
+impl From<js_base::OutOfMemory> for ReplayError {
+    ghost use Rattle.std.specs.Prelude.{◌≡◌};
+    ghost use Rattle.js_ordered.specs.declared.run.ReplayError.TheVariants.{OutOfMemory};
+
+    ghost from_gives = { λ _ e. e ≡ OutOfMemory };
+
+    fn from(_error: js_base::OutOfMemory) -> ReplayError {
+        ReplayError::OutOfMemory
+    }
+}

@@ -1,0 +1,10 @@
+use Rattle.std.proofs.Common.{◌≡◌, []}
+use Rattle.js_ordered.specs.Passes.{given_of}
+use Rattle.js_ordered.proofs.Replaying.{Goes}
+use Rattle.js_ordered.proofs.replay.steps_of.Given as goal
+
+abbrev pub invariant-loop-place : goal.invariant-loop-place
+invariant-loop-place l = record {
+  goes : Goes (given_of l.turn) l.events l.fn.world l.place l.world l.steps;
+  outputs : l.outputs ≡ [];
+}

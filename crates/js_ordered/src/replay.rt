@@ -1,0 +1,267 @@
+//! The replay of an ordered consumer over a list of events.
+ghost use Rattle.std.specs.Prelude.{◌≡◌, ◌≢◌, [], map, IfOk, OnOk, IfErr, Some, None};
+ghost use Rattle.js_ordered.specs.Fold as fold;
+ghost use Rattle.js_ordered.specs.Passes.{Comes, at, first_reader_of, given_of};
+ghost use Rattle.js_ordered.specs.Refusal.{is_exhausted, refuse_end, refuse_input};
+ghost use Rattle.js_ordered.specs.Valid.{IsAnswer, IsFolded, IsValid};
+ghost use Rattle.js_ordered.specs.declared.event.What.TheVariants.{Tick};
+
+use crate::consumer::{Consumer, Phase};
+use crate::event::{Event, What};
+use crate::passing::{is_over, pass_event};
+use crate::reading::{pull, push};
+use crate::refusal::refuse_input;
+use crate::run::{Output, ReplayError, Run, Step};
+use crate::setup::{OrderedSetup, Settings};
+use crate::texts;
+use crate::turn::Turn;
+use crate::world::World;
+use js_base::{Items, Moment, OutOfMemory, State, TryClone};
+use js_json::consumer::Info;
+use js_pull::Reader;
+use std::alloc::Global;
+use std::mem;
+
+// ---- the opening
+
+/// The reader of the first inbox.
+fn first_reader(alloc: Global, turn: &Turn<'_>) -> Result<Reader, OutOfMemory>
+    ensures { IfOk result (λ reader. reader ≡ first_reader_of (given_of turn.now)) }
+{
+    let subject = texts::inbox_subject(alloc, turn, 0)?;
+    Ok(Reader::new(texts::source_of(turn, 0, 0, subject, turn.first)?))
+}
+
+/// Nothing was asked or yielded yet, and no inbox is read.
+fn first_world(turn: &Turn<'_>) -> Result<World, OutOfMemory>
+    ensures { IfOk result (λ world. world ≡ at Phase.Idle (fold.first_world (given_of turn.now) turn.now.moment)) }
+{
+    Ok(World {
+        consumer: Consumer {
+            phase: Phase::Idle,
+            num: 0,
+            last: 0,
+            serial: 0,
+            name: turn.first.name.try_clone()?,
+            missed: false,
+            limited: false,
+            connection: State::Connected,
+        },
+        up: true,
+        asked: 0,
+        made: 1,
+    })
+}
+
+/// The opening, from the first world on: pull asks at once, and either arms its heartbeat.
+#[tactic(auto, using(std::proofs::lemmas::Grind::common_steps, crate::proofs::Replaying::opening_asks, crate::proofs::Replaying::opening_listens))]
+fn open(alloc: Global, turn: &Turn<'_>, outputs: &mut Items<Output>) -> Result<World, OutOfMemory>
+    requires tick { turn.now.what.now ≡ Tick }
+    requires empty { outputs.old ≡ [] }
+    ensures world { IfOk result (λ world. world ≡ (fold.opening (given_of turn.now) turn.now.moment).world) }
+    ensures outputs { OnOk result (outputs.new ≡ (fold.opening (given_of turn.now) turn.now.moment).outputs) }
+{
+    let mut world = first_world(turn)?;
+    match turn.setup {
+        OrderedSetup::Pull(_) => {
+            let reader = first_reader(alloc, turn)?;
+            pull::open(alloc, turn, &mut world, reader, outputs)?;
+            Ok(world)
+        }
+        OrderedSetup::Push(_) => {
+            push::listen(turn, &mut world, 0);
+            Ok(world)
+        }
+    }
+}
+
+// ---- one event
+
+/// The link after an event.
+fn link_after(what: &What, was: bool) -> bool
+    ensures { result ≡ fold.link_after what.now was }
+{
+    match what {
+        What::Link { up } => *up,
+        _ => was,
+    }
+}
+
+/// One event is passed at its moment, with the link as it then stands.
+#[tactic(auto, using(crate::proofs::Replaying::event_passes))]
+fn pass(
+    alloc: Global,
+    turn: &Turn<'_>,
+    event: &Event,
+    world: &mut World,
+    outputs: &mut Items<Output>,
+) -> Result<(), OutOfMemory>
+    ensures { OnOk result (Comes (fold.event (given_of turn.now) event.now world.old) world.new outputs.old outputs.new) }
+{
+    world.up = link_after(&event.what, world.up);
+    let turn = Turn {
+        settings: turn.settings,
+        setup: turn.setup,
+        first: turn.first,
+        moment: event.at,
+        what: &event.what,
+    };
+    pass_event(alloc, &turn, world, outputs)
+}
+
+/// The outputs so far become a step that takes no more memory than they need. What held them is empty and keeps its
+/// room for those of the next event.
+fn take_step(alloc: Global, outputs: &mut Items<Output>) -> Result<Step, OutOfMemory>
+    ensures step { IfOk result (λ step. step.outputs ≡ outputs.old) }
+    ensures emptied { OnOk result (outputs.new ≡ []) }
+{
+    let mut room = mem::replace(outputs, Items::new(alloc)).into_vec();
+    let taken = room.split_off(0)?;
+    *outputs = Items::from(room);
+    Ok(Step {
+        outputs: Items::from(taken),
+    })
+}
+
+/// The step of one event.
+fn step(
+    alloc: Global,
+    turn: &Turn<'_>,
+    event: &Event,
+    world: &mut World,
+    outputs: &mut Items<Output>,
+) -> Result<Step, OutOfMemory>
+    requires { outputs.old ≡ [] }
+    ensures step { IfOk result (λ step. step ≡ fold.step_of (fold.event (given_of turn.now) event.now world.old)) }
+    ensures world { OnOk result (world.new ≡ (fold.event (given_of turn.now) event.now world.old).world) }
+    ensures emptied { OnOk result (outputs.new ≡ []) }
+{
+    pass(alloc, turn, event, world, outputs)?;
+    take_step(alloc, outputs)
+}
+
+// ---- all events
+
+/// The consumer has no sequence to go on from.
+fn is_exhausted(phase: &Phase) -> bool
+    ensures { result ≡ is_exhausted phase.now }
+{
+    matches!(phase, Phase::Exhausted)
+}
+
+/// No steps yet, with room for as many as there are events.
+fn steps_for(alloc: Global, events: &[Event]) -> Result<Items<Step>, OutOfMemory>
+    ensures { IfOk result (λ steps. steps ≡ []) }
+{
+    Ok(Items::from(Vec::with_capacity(alloc, events.len())?))
+}
+
+/// The steps of a list of events, one for each.
+#[tactic(auto, using(crate::proofs::Replaying::goes_first, crate::proofs::Replaying::goes_no_further, crate::proofs::Replaying::steps_all, crate::proofs::Replaying::world_last, crate::proofs::Replaying::none_refused))]
+fn steps_of(
+    alloc: Global,
+    turn: &Turn<'_>,
+    world: &mut World,
+    outputs: &mut Items<Output>,
+    events: &[Event],
+) -> Result<Items<Step>, ReplayError>
+    requires { outputs.old ≡ [] }
+    ensures steps { IfOk result (λ steps. steps ≡ map fold.step_of (fold.run_events (given_of turn.now) events.now world.old)) }
+    ensures world { OnOk result (world.new ≡ fold.last_world world.old (fold.run_events (given_of turn.now) events.now world.old)) }
+    ensures accepted { OnOk result (refuse_end (fold.run_events (given_of turn.now) events.now world.old) ≡ None) }
+    ensures refused { IfErr result (λ e. e ≢ ReplayError.OutOfMemory → refuse_end (fold.run_events (given_of turn.now) events.now world.old) ≡ Some e) }
+{
+    let mut steps = steps_for(alloc, events)?;
+    for (place, event) in events.iter().enumerate() {
+        let step = step(alloc, turn, event, world, outputs)?;
+        if is_exhausted(&world.consumer.phase) {
+            return Err(ReplayError::SequenceEnd {
+                place: place as u64,
+            });
+        }
+        steps.push(step)?;
+    }
+    Ok(steps)
+}
+
+// ---- a replay
+
+/// The run of the events of input that is not refused.
+#[tactic(auto, using(crate::proofs::Replaying::run_folded, crate::proofs::Replaying::end_folded))]
+fn run(alloc: Global, turn: &Turn<'_>, events: &[Event]) -> Result<Run, ReplayError>
+    requires tick { turn.now.what.now ≡ Tick }
+    requires accepted { refuse_input (given_of turn.now) turn.now.moment events.now ≡ None }
+    ensures { IsFolded (given_of turn.now) turn.now.moment events.now result }
+{
+    let mut outputs = Items::new(alloc);
+    let mut world = open(alloc, turn, &mut outputs)?;
+    let opening = take_step(alloc, &mut outputs)?;
+    let steps = steps_of(alloc, turn, &mut world, &mut outputs, events)?;
+    Ok(Run {
+        opening,
+        steps,
+        ended: is_over(&world.consumer.phase),
+    })
+}
+
+/// The run, or the refusal that applies.
+#[tactic(auto, using(crate::proofs::Replaying::input_folded))]
+fn replay(alloc: Global, turn: &Turn<'_>, events: &[Event]) -> Result<Run, ReplayError>
+    requires { turn.now.what.now ≡ Tick }
+    ensures { IsFolded (given_of turn.now) turn.now.moment events.now result }
+{
+    if let Some(refusal) = refuse_input(turn, events) {
+        return Err(refusal);
+    }
+    run(alloc, turn, events)
+}
+
+/// What an ordered consumer does at its opening and at each event, and whether it has ended after the last one.
+///
+/// `first` is what the server told of the consumer that was made before the opening, at the moment `start`. That
+/// consumer's inbox has the number 0, sends go through, and the connection is up.
+///
+/// The run has one step for each event, in their order, and no step begins more than one recreation. An event after the
+/// end of the consumer is passed over and puts out nothing; its moment still has to be in order.
+///
+/// Where the server is honest, the yields leave no gap: they are messages of the stream that the filter selects, in
+/// rising order, and every such message between two of them, or from a configured start up to the first, was removed.
+///
+/// # Errors
+///
+/// The first of these that applies:
+///
+/// - `NoDeliverSubject`: push, and `first` has no deliver subject.
+/// - `BadSettings`: a field is no valid name or subject; the first one, in the order of `Field`. An empty filter is
+///   none, and the deliver subject is looked at for push alone.
+/// - `BadEvent`: the moment of the event at this place is below the one before it, or below `start` for the first. All
+///   events are looked at, also those after the end.
+/// - `SequenceEnd`: at the event at this place a recreation has no sequence to start from, since the last of all
+///   sequences was yielded.
+///
+/// `OutOfMemory` may come in place of a run or of any of them.
+#[tactic(auto, using(crate::proofs::Promises::folded_answers, crate::proofs::Promises::folded_valid))]
+pub fn replay_ordered(
+    alloc: Global,
+    settings: &Settings,
+    setup: &OrderedSetup,
+    first: &Info,
+    start: Moment,
+    events: &[Event],
+) -> Result<Run, ReplayError>
+    ensures answer { IsAnswer (record { settings = settings.now; setup = setup.now; first = first.now }) start events.now result }
+
+    // Valid input is never refused: want of memory is its only error.
+    ensures valid { IsValid (record { settings = settings.now; setup = setup.now; first = first.now }) start events.now
+        → IfErr result (λ refusal. refusal ≡ ReplayError.OutOfMemory) }
+{
+    let tick = What::Tick;
+    let turn = Turn {
+        settings,
+        setup,
+        first,
+        moment: start,
+        what: &tick,
+    };
+    replay(alloc, &turn, events)
+}
