@@ -5,7 +5,6 @@ mod info;
 mod info_error;
 mod numbers;
 mod parse;
-mod tokens;
 
 pub use info::Info;
 pub use info_error::InfoError;
