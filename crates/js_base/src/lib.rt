@@ -24,3 +24,6 @@ pub use text::Text;
 pub use text_map::{ByName, TextMap};
 pub use tokens::{Tokens, token_count};
 pub use turn::{Next, Turn};
+
+#[cfg(test)]
+mod tests;

@@ -9,3 +9,6 @@ mod sent;
 pub use link::{Answer, Link, LinkError, Taken, Watch};
 pub use memory::MemoryLink;
 pub use sent::{InboxId, RequestId, Sent};
+
+#[cfg(test)]
+mod tests;

@@ -21,3 +21,6 @@ pub use message::{Message, MessageInfoError};
 pub use parse::parse_info;
 pub use publish::{OutboundMessage, PublishMessage};
 pub use stream_message::{StreamMessage, StreamMessageError, StreamMessageErrorKind};
+
+#[cfg(test)]
+mod tests;
