@@ -25,7 +25,10 @@ fn filters_match_token_by_token(rt: HostRuntime) {
         ("", "", true),
     ];
     for (filter, subject, matches) in rows {
-        assert!(rt; subject_matches(filter, subject) == matches, "{filter} at {subject}");
+        assert!(rt;
+            subject_matches(filter, subject) == matches,
+            "{filter} at {subject}"
+        );
     }
 }
 
@@ -90,13 +93,19 @@ fn values_print(rt: HostRuntime) -> Result<(), Fail> {
         description: Some(Text::from_str(alloc, "stream not found")?),
     };
     let refused = Error::with_source(StatusCode::TIMEOUT, refusal).to_string(alloc)?;
-    assert_eq!(rt; refused.as_str(), "408: stream not found (code 404, error code 10059)");
+    assert_eq!(rt;
+        refused.as_str(),
+        "408: stream not found (code 404, error code 10059)"
+    );
     let unknown = Source::Api {
         code: 404,
         err_code: 0,
         description: None,
     };
-    assert_eq!(rt; unknown.to_string(alloc)?.as_str(), "unknown (code 404, error code 0)");
+    assert_eq!(rt;
+        unknown.to_string(alloc)?.as_str(),
+        "unknown (code 404, error code 0)"
+    );
     Ok(())
 }
 

@@ -90,12 +90,21 @@ fn a_link_that_is_down_sends_nothing(rt: HostRuntime) -> Result<(), Fail> {
     let mut link = MemoryLink::new(alloc, "_INBOX.t")?;
     link.publish(alloc, "a", Some("b"), None, b"1")?;
     link.set_up(false);
-    assert_eq!(rt; link.publish(alloc, "a", None, None, b"2"), Err(LinkError::Failed));
-    assert_eq!(rt; link.request(alloc, "a", None, b"2"), Err(LinkError::Failed));
+    assert_eq!(rt;
+        link.publish(alloc, "a", None, None, b"2"),
+        Err(LinkError::Failed)
+    );
+    assert_eq!(rt;
+        link.request(alloc, "a", None, b"2"),
+        Err(LinkError::Failed)
+    );
     assert_eq!(rt; link.subscribe(alloc, "a", None), Err(LinkError::Failed));
     assert_eq!(rt; link.sent().len(), 1);
     link.set_up(true);
-    assert_eq!(rt; link.subscribe(alloc, "events.>", Some("g")), Ok(InboxId(0)));
+    assert_eq!(rt;
+        link.subscribe(alloc, "events.>", Some("g")),
+        Ok(InboxId(0))
+    );
     assert!(rt; opens(alloc, &mut link, 1, "_INBOX.t.1"));
     Ok(())
 }
@@ -126,11 +135,13 @@ fn a_publish_is_kept_as_it_was_handed_in(rt: HostRuntime) -> Result<(), Fail> {
     let mut link = MemoryLink::new(alloc, "_INBOX.t")?;
     link.publish(alloc, "a", Some("b"), Some(&headers), b"1")?;
     let kept = match link.sent() {
-        [Sent::Publish {
-            subject,
-            headers: Some(found),
-            ..
-        }] => subject.as_str() == "a" && *found == headers,
+        [
+            Sent::Publish {
+                subject,
+                headers: Some(found),
+                ..
+            },
+        ] => subject.as_str() == "a" && *found == headers,
         _ => false,
     };
     assert!(rt; kept);

@@ -1,39 +1,51 @@
 use crate::{
-    AckError, AckKind, DoubleAck, InfoError, Message, MessageInfoError, OutboundMessage,
-    PublishMessage, StreamMessage, StreamMessageErrorKind, parse_info,
+    AckError, AckKind, Acker, DoubleAck, InfoError, Message, MessageInfoError, PublishMessage,
+    StreamMessage, StreamMessageErrorKind, parse_info,
 };
 use bytes::Bytes;
-use js_base::{HeaderMap, Subject, TryClone, Turn};
+use js_base::{HeaderMap, Moment, OutOfMemory, Subject, Turn};
 use js_link::{InboxId, Link, MemoryLink, Sent};
 use std::alloc::Global;
-use std::test::Fail;
+
+/// The numbers of an acknowledgement subject, in the order of its tokens.
+fn numbers(subject: &str) -> Option<(i64, u64, u64, i128, u64)> {
+    match parse_info(subject) {
+        Ok(info) => Some((
+            info.delivered,
+            info.stream_sequence,
+            info.consumer_sequence,
+            info.published.as_nanosecond(),
+            info.pending,
+        )),
+        Err(_) => None,
+    }
+}
+
+/// Whether the texts of an acknowledgement subject are these, with `none` for one that is not there.
+fn has_texts(subject: &str, texts: [&str; 5]) -> bool {
+    match parse_info(subject) {
+        Ok(info) => {
+            info.domain.unwrap_or("none") == texts[0]
+                && info.acc_hash.unwrap_or("none") == texts[1]
+                && info.stream == texts[2]
+                && info.consumer == texts[3]
+                && info.token.unwrap_or("none") == texts[4]
+        }
+        Err(_) => false,
+    }
+}
 
 #[test]
-fn both_forms_are_read(rt: HostRuntime) -> Result<(), Fail> {
-    let short = parse_info("$JS.ACK.events.c1.1.4.3.1790230470084404000.5")?;
-    assert_eq!(rt; short.stream, "events");
-    assert_eq!(rt; short.consumer, "c1");
-    assert_eq!(rt; short.delivered, 1);
-    assert_eq!(rt; short.stream_sequence, 4);
-    assert_eq!(rt; short.consumer_sequence, 3);
-    assert_eq!(rt; short.published.as_nanosecond(), 1790230470084404000);
-    assert_eq!(rt; short.pending, 5);
-    assert!(rt; short.domain.is_none() && short.acc_hash.is_none() && short.token.is_none());
-    let long = parse_info(
-        "$JS.ACK.hub.szMpdrwD.events.durable.2.50.9.1790230470084404000.0.rand.future.more",
-    )?;
-    assert_eq!(rt; long.domain, Some("hub"));
-    assert_eq!(rt; long.acc_hash, Some("szMpdrwD"));
-    assert_eq!(rt; long.consumer, "durable");
-    assert_eq!(rt; long.delivered, 2);
-    assert_eq!(rt; long.stream_sequence, 50);
-    assert_eq!(rt; long.consumer_sequence, 9);
-    assert_eq!(rt; long.token, Some("rand"));
-    let nine = parse_info("$JS.ACK._.szMpdrwD.events.4z6UI6IG.1.1.+7.1790230470084404000.1")?;
-    assert_eq!(rt; nine.domain, None);
-    assert_eq!(rt; nine.consumer_sequence, 7);
-    assert_eq!(rt; nine.token, None);
-    Ok(())
+fn both_forms_are_read(rt: HostRuntime) {
+    let short = "$JS.ACK.events.c1.1.4.3.1790230470084404000.5";
+    assert_eq!(rt; numbers(short), Some((1, 4, 3, 1790230470084404000, 5)));
+    assert!(rt; has_texts(short, ["none", "none", "events", "c1", "none"]));
+    let long = "$JS.ACK.hub.szMpdrwD.events.durable.2.50.9.1790230470084404000.0.rand.future.more";
+    assert_eq!(rt; numbers(long), Some((2, 50, 9, 1790230470084404000, 0)));
+    assert!(rt; has_texts(long, ["hub", "szMpdrwD", "events", "durable", "rand"]));
+    let nine = "$JS.ACK._.szMpdrwD.events.4z6UI6IG.1.1.+7.1790230470084404000.1";
+    assert_eq!(rt; numbers(nine), Some((1, 1, 7, 1790230470084404000, 1)));
+    assert!(rt; has_texts(nine, ["none", "szMpdrwD", "events", "4z6UI6IG", "none"]));
 }
 
 #[test]
@@ -42,14 +54,13 @@ fn other_subjects_are_refused(rt: HostRuntime) {
         ("$JS.FC.events.x", InfoError::Prefix),
         ("$JS.ACK", InfoError::Prefix),
         ("$JS.ACK.", InfoError::TokenCount { n: 1 }),
-        ("$JS.ACK.hub.szMpdrwD.events.durable.2.50.9.1790230470084404000", InfoError::TokenCount { n: 8 }),
-        ("$JS.ACK.events.durable.3.abc.7.1790230470084404000.42", InfoError::Number { place: 3 }),
+        ("$JS.ACK.hub.szMpdrwD.events.durable.2.50.9.1", InfoError::TokenCount { n: 8 }),
+        ("$JS.ACK.events.durable.3.abc.7.1.42", InfoError::Number { place: 3 }),
         ("$JS.ACK.events.durable..1.x.1.1", InfoError::Number { place: 2 }),
-        ("$JS.ACK.events.durable.3.-1.7.1790230470084404000.42", InfoError::Number { place: 3 }),
-        ("$JS.ACK.events.durable.3.1.7.1.18446744073709551616", InfoError::Number { place: 6 }),
-        ("$JS.ACK.events.durable.3.1.7.253402207201000000000.1", InfoError::Instant),
-        ("$JS.ACK.events.durable.3.1.7.253402207201000000000.x", InfoError::Instant),
-        ("$JS.ACK._.h.events.durable.3.1.7.170141183460469231731687303715884105728.1", InfoError::Number { place: 7 }),
+        ("$JS.ACK.events.durable.3.-1.7.1.42", InfoError::Number { place: 3 }),
+        ("$JS.ACK.e.d.3.1.7.1.18446744073709551616", InfoError::Number { place: 6 }),
+        ("$JS.ACK.e.d.3.1.7.253402207201000000000.x", InfoError::Instant),
+        ("$JS.ACK._.h.e.d.3.1.7.170141183460469231731687303715884105728.1", InfoError::Number { place: 7 }),
     ];
     for (subject, error) in rows {
         assert!(rt; matches!(&parse_info(subject), Err(found) if *found == error), "{subject}");
@@ -57,7 +68,7 @@ fn other_subjects_are_refused(rt: HostRuntime) {
 }
 
 #[test]
-fn bodies_are_those_of_the_protocol(rt: HostRuntime) -> Result<(), Fail> {
+fn bodies_are_those_of_the_protocol(rt: HostRuntime) -> Result<(), OutOfMemory> {
     let rows = [
         (AckKind::Ack, "+ACK"),
         (AckKind::Nak(None), "-NAK"),
@@ -72,170 +83,187 @@ fn bodies_are_those_of_the_protocol(rt: HostRuntime) -> Result<(), Fail> {
     Ok(())
 }
 
-#[test]
-fn setters_set_one_header_each(rt: HostRuntime) -> Result<(), Fail> {
-    let alloc = rt.alloc();
-    let message = PublishMessage::build()
-        .payload(Bytes::copy_from_slice(alloc, b"a")?)
+fn with_all_headers(alloc: Global) -> Result<PublishMessage, OutOfMemory> {
+    PublishMessage::build()
         .message_id(alloc, "x")?
         .message_id(alloc, "id")?
         .expected_last_message_id(alloc, "before")?
-        .expected_last_sequence(alloc, 7)?;
-    let message = message
+        .expected_last_sequence(alloc, 7)?
         .expected_last_subject_sequence(alloc, 8)?
         .expected_stream(alloc, "events")?
-        .ttl(alloc, 1_500_000_000)?
-        .outbound_message(alloc, "events.a")?;
-    let mut headers = HeaderMap::new(alloc);
-    headers.append(alloc, "Nats-Msg-Id", "id")?;
-    headers.append(alloc, "Nats-Expected-Last-Msg-Id", "before")?;
-    headers.append(alloc, "Nats-Expected-Last-Sequence", "7")?;
-    headers.append(alloc, "Nats-Expected-Last-Subject-Sequence", "8")?;
-    headers.append(alloc, "Nats-Expected-Stream", "events")?;
-    headers.append(alloc, "Nats-TTL", "1")?;
-    let subject = Subject::new(alloc, "events.a")?;
-    let expected =
-        OutboundMessage::new(subject, Bytes::copy_from_slice(alloc, b"a")?, Some(headers));
-    assert!(rt; message == expected);
+        .ttl(alloc, 1_500_000_000)
+}
+
+#[test]
+fn setters_set_one_header_each(rt: HostRuntime) -> Result<(), OutOfMemory> {
+    let message = with_all_headers(rt.alloc())?.outbound_message(rt.alloc(), "events.a")?;
+    assert_eq!(rt; message.subject.as_str(), "events.a");
+    let pairs = [
+        ("Nats-Msg-Id", "id"),
+        ("Nats-Expected-Last-Msg-Id", "before"),
+        ("Nats-Expected-Last-Sequence", "7"),
+        ("Nats-Expected-Last-Subject-Sequence", "8"),
+        ("Nats-Expected-Stream", "events"),
+        ("Nats-TTL", "1"),
+    ];
+    let same = match &message.headers {
+        Some(headers) => headers.iter().eq(pairs.iter().copied()),
+        None => false,
+    };
+    assert!(rt; same);
     Ok(())
 }
 
-fn received(alloc: Global, reply: Option<&str>) -> Result<js_base::Message, Fail> {
-    let reply = match reply {
-        Some(reply) => Some(Subject::new(alloc, reply)?),
-        None => None,
-    };
+const REPLY: &str = "$JS.ACK.events.c1.1.4.3.1790230470084404000.0";
+
+const START: Moment = 1_790_000_000_000_000_000;
+
+fn received(alloc: Global, headers: Option<HeaderMap>) -> Result<js_base::Message, OutOfMemory> {
     Ok(js_base::Message {
         subject: Subject::new(alloc, "events.a")?,
-        reply,
+        reply: None,
         payload: Bytes::copy_from_slice(alloc, b"a")?,
-        headers: None,
+        headers,
         status: None,
         description: None,
         length: 0,
     })
 }
 
-fn delivered(alloc: Global, reply: Option<&str>) -> Result<Message, Fail> {
+fn delivered(alloc: Global, reply: &str) -> Result<Message, OutOfMemory> {
+    let mut message = received(alloc, None)?;
+    message.reply = Some(Subject::new(alloc, reply)?);
     Ok(Message {
-        message: received(alloc, reply)?,
+        message,
         timeout: 5_000_000_000,
     })
 }
 
-const REPLY: &str = "$JS.ACK.events.c1.1.4.3.1790230470084404000.0";
+fn acker(alloc: Global) -> Result<Acker, OutOfMemory> {
+    let (_, acker) = delivered(alloc, REPLY)?.split();
+    Ok(acker)
+}
 
 #[test]
-fn a_message_tells_its_place_and_is_split(rt: HostRuntime) -> Result<(), Fail> {
-    let alloc = rt.alloc();
-    let message = delivered(alloc, Some(REPLY))?;
+fn a_message_tells_its_place(rt: HostRuntime) -> Result<(), OutOfMemory> {
+    let message = delivered(rt.alloc(), REPLY)?;
     assert!(rt; matches!(&message.info(), Ok(info) if info.stream_sequence == 4));
-    let (bare, acker) = message.split();
-    assert!(rt; bare == received(alloc, None)?);
-    let mut link = MemoryLink::new(alloc, "_INBOX.t")?;
-    acker.ack(alloc, &mut link)?;
-    acker.ack_with(alloc, &mut link, AckKind::Term)?;
-    let sent = [
-        Sent::Publish {
-            subject: Subject::new(alloc, REPLY)?,
-            reply: None,
-            headers: None,
-            payload: Bytes::new(),
-        },
-        Sent::Publish {
-            subject: Subject::new(alloc, REPLY)?,
-            reply: None,
-            headers: None,
-            payload: Bytes::copy_from_slice(alloc, b"+TERM")?,
-        },
-    ];
-    assert!(rt; link.sent() == sent.as_slice());
-    let lost = delivered(alloc, None)?;
+    let (message, _) = message.split();
+    assert!(rt; message.reply.is_none());
+    let lost = Message {
+        message,
+        timeout: 0,
+    };
     assert!(rt; matches!(&lost.info(), Err(MessageInfoError::NoReply)));
-    assert_eq!(rt; lost.ack(alloc, &mut link), Err(AckError::NoReply));
-    link.set_up(false);
-    assert_eq!(rt; acker.ack(alloc, &mut link), Err(AckError::LinkFailed));
     Ok(())
 }
 
-const START: u64 = 1_790_000_000_000_000_000;
-
-fn begun(alloc: Global, link: &mut MemoryLink) -> Result<DoubleAck, Fail> {
-    let call = delivered(alloc, Some(REPLY))?.double_ack(alloc)?;
-    match call.poll(alloc, link, START) {
-        Turn::Pending(call) => Ok(call),
-        Turn::Ready(_) | Turn::OutOfMemory(_) => Err("not pending")?,
+/// Whether the last thing that was sent is this body, to the reply subject.
+fn sent_last(link: &MemoryLink, body: &[u8]) -> bool {
+    match link.sent() {
+        [.., Sent::Publish {
+            subject, payload, ..
+        }] => subject.as_str() == REPLY && payload.as_slice() == body,
+        _ => false,
     }
 }
 
 #[test]
-fn a_double_ack_waits_for_its_answer(rt: HostRuntime) -> Result<(), Fail> {
+fn an_ack_is_sent_once(rt: HostRuntime) -> Result<(), OutOfMemory> {
+    let alloc = rt.alloc();
+    let acker = acker(alloc)?;
+    let mut link = MemoryLink::new(alloc, "_INBOX.t")?;
+    assert_eq!(rt; acker.ack(alloc, &mut link), Ok(()));
+    assert!(rt; sent_last(&link, b""));
+    assert_eq!(rt; acker.ack_with(alloc, &mut link, AckKind::Term), Ok(()));
+    assert!(rt; sent_last(&link, b"+TERM"));
+    link.set_up(false);
+    assert_eq!(rt; acker.ack(alloc, &mut link), Err(AckError::LinkFailed));
+    assert_eq!(rt; link.sent().len(), 2);
+    assert_eq!(rt; Acker::new(0, None).ack(alloc, &mut link), Err(AckError::NoReply));
+    Ok(())
+}
+
+/// A double ack after its first poll, if that left it pending.
+fn begun(alloc: Global, link: &mut MemoryLink) -> Result<Option<DoubleAck>, OutOfMemory> {
+    let call = acker(alloc)?.double_ack(alloc)?;
+    match call.poll(alloc, link, START) {
+        Turn::Pending(call) => Ok(Some(call)),
+        Turn::Ready(_) | Turn::OutOfMemory(_) => Ok(None),
+    }
+}
+
+/// What the poll of a double ack answers at the end, if it is at its end.
+fn ends(
+    alloc: Global,
+    link: &mut MemoryLink,
+    call: Option<DoubleAck>,
+    after: u64,
+) -> Option<Result<(), AckError>> {
+    match call?.poll(alloc, link, START.saturating_add(after)) {
+        Turn::Ready(answer) => Some(answer),
+        Turn::Pending(_) | Turn::OutOfMemory(_) => None,
+    }
+}
+
+#[test]
+fn a_double_ack_has_its_answer(rt: HostRuntime) -> Result<(), OutOfMemory> {
     let alloc = rt.alloc();
     let mut link = MemoryLink::new(alloc, "_INBOX.t")?;
     let call = begun(alloc, &mut link)?;
-    let publish = Sent::Publish {
-        subject: Subject::new(alloc, REPLY)?,
-        reply: Some(Subject::new(alloc, "_INBOX.t.0")?),
-        headers: None,
-        payload: Bytes::copy_from_slice(alloc, b"+ACK")?,
-    };
-    assert!(rt; link.sent().last() == Some(&publish));
+    assert!(rt; sent_last(&link, b"+ACK"));
     link.deliver(InboxId(0), received(alloc, None)?)?;
-    assert!(rt; matches!(&call.poll(alloc, &mut link, START + 5_000_000_000), Turn::Ready(Ok(()))));
+    assert_eq!(rt; ends(alloc, &mut link, call, 5_000_000_000), Some(Ok(())));
     Ok(())
 }
 
 #[test]
-fn a_double_ack_gives_up(rt: HostRuntime) -> Result<(), Fail> {
+fn a_double_ack_gives_up(rt: HostRuntime) -> Result<(), OutOfMemory> {
     let alloc = rt.alloc();
     let mut link = MemoryLink::new(alloc, "_INBOX.t")?;
     let call = begun(alloc, &mut link)?;
-    let Turn::Pending(call) = call.poll(alloc, &mut link, START + 4_999_999_999) else {
-        return Err("too early")?;
-    };
-    let late = call.poll(alloc, &mut link, START + 5_000_000_000);
-    assert!(rt; matches!(&late, Turn::Ready(Err(AckError::TimedOut))));
+    assert_eq!(rt; ends(alloc, &mut link, call, 4_999_999_999), None);
     let call = begun(alloc, &mut link)?;
-    link.unsubscribe(InboxId(1));
-    let dropped = call.poll(alloc, &mut link, START);
-    assert!(rt; matches!(&dropped, Turn::Ready(Err(AckError::SubscriptionDropped))));
-    let lost = delivered(alloc, None)?.double_ack_with(alloc, AckKind::Next)?;
-    let none = lost.poll(alloc, &mut link, START);
-    assert!(rt; matches!(&none, Turn::Ready(Err(AckError::NoReply))));
+    assert_eq!(rt; ends(alloc, &mut link, call, 5_000_000_000), Some(Err(AckError::TimedOut)));
+    let call = begun(alloc, &mut link)?;
+    link.unsubscribe(InboxId(2));
+    assert_eq!(rt; ends(alloc, &mut link, call, 0), Some(Err(AckError::SubscriptionDropped)));
+    let lost = Acker::new(0, None).double_ack_with(alloc, AckKind::Next)?;
+    assert_eq!(rt; ends(alloc, &mut link, Some(lost), 0), Some(Err(AckError::NoReply)));
     Ok(())
 }
 
-fn stored(alloc: Global, sequence: &str) -> Result<js_base::Message, Fail> {
+fn stored(alloc: Global, sequence: &str) -> Result<js_base::Message, OutOfMemory> {
     let mut headers = HeaderMap::new(alloc);
     headers.append(alloc, "Nats-Sequence", "x")?;
     headers.append(alloc, "Nats-Sequence", sequence)?;
     headers.append(alloc, "Nats-Time-Stamp", "2026-01-01T00:00:00Z")?;
     headers.append(alloc, "Nats-Subject", "events")?;
-    let mut message = received(alloc, None)?;
-    message.headers = Some(headers);
-    Ok(message)
+    received(alloc, Some(headers))
+}
+
+/// The sequence, the time and whether the subject is `events`, or why the message does not tell them.
+fn read(
+    alloc: Global,
+    message: js_base::Message,
+) -> Result<(u64, i128, bool), StreamMessageErrorKind> {
+    match StreamMessage::try_from_message(alloc, message) {
+        Ok(read) => Ok((
+            read.sequence,
+            read.time.as_nanosecond(),
+            read.subject.as_str() == "events",
+        )),
+        Err(error) => Err(*error.kind()),
+    }
 }
 
 #[test]
-fn headers_tell_how_a_message_is_stored(rt: HostRuntime) -> Result<(), Fail> {
+fn headers_tell_how_a_message_is_stored(rt: HostRuntime) -> Result<(), OutOfMemory> {
     let alloc = rt.alloc();
-    let message = stored(alloc, "7")?;
-    let headers = message.headers.try_clone()?;
-    let Ok(read) = StreamMessage::try_from_message(alloc, message) else {
-        return Err("not read")?;
-    };
-    assert_eq!(rt; read.sequence, 7);
-    assert_eq!(rt; read.subject.as_str(), "events");
-    assert_eq!(rt; read.time.as_nanosecond(), 1_767_225_600_000_000_000);
-    assert!(rt; Some(read.headers) == headers);
-    let Err(parse) = StreamMessage::try_from_message(alloc, stored(alloc, "x")?) else {
-        return Err("read")?;
-    };
-    assert_eq!(rt; *parse.kind(), StreamMessageErrorKind::ParseError);
-    assert_eq!(rt; parse.to_string(alloc)?.as_str(), "parse error");
-    let Err(missing) = StreamMessage::try_from_message(alloc, received(alloc, None)?) else {
-        return Err("read")?;
-    };
-    assert_eq!(rt; *missing.kind(), StreamMessageErrorKind::MissingHeader);
+    assert_eq!(rt; read(alloc, stored(alloc, "7")?), Ok((7, 1_767_225_600_000_000_000, true)));
+    assert_eq!(rt; read(alloc, stored(alloc, "y")?), Err(StreamMessageErrorKind::ParseError));
+    assert_eq!(rt; read(alloc, received(alloc, None)?), Err(StreamMessageErrorKind::MissingHeader));
+    let printed = StreamMessageErrorKind::MissingHeader.to_string(alloc)?;
+    assert_eq!(rt; printed.as_str(), "missing message header");
     Ok(())
 }
