@@ -271,8 +271,7 @@ impl Link for MemoryLink {
             headers: copy_headers(headers)?,
             payload: Bytes::copy_from_slice(alloc, payload)?,
         };
-        self.sent.push(sent)?;
-        Ok(())
+        Ok(self.sent.push(sent)?)
     }
 
     fn request(

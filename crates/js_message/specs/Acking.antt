@@ -1,5 +1,5 @@
 -- Acknowledgements, and what they send.
-use Rattle.std.specs.Prelude.{ℕ, ◌≡◌, ◌++◌, ◌⊎◌, Bool, true, false, Option, Some, None, List, [], Result, Ok, Err, codes}
+use Rattle.std.specs.Prelude.{ℕ, ◌≡◌, ◌++◌, ◌⊎◌, true, false, Option, Some, None, List, [], Result, Ok, Err, codes}
 use Rattle.std.specs.Fmt.{decimal}
 use Rattle.js_base.specs.Clock.{is_over}
 use Rattle.js_base.specs.declared.turn.Turn.{Turn}

@@ -95,12 +95,7 @@ impl PublishMessage {
         })
     }
 
-    fn number(
-        self,
-        alloc: Global,
-        name: &str,
-        number: u64,
-    ) -> Result<PublishMessage, OutOfMemory>
+    fn number(self, alloc: Global, name: &str, number: u64) -> Result<PublishMessage, OutOfMemory>
         ensures { IfOk result (λ message. message ≡ with_header name.now (decimal number) self) }
     {
         let text = number_text(alloc, number)?;

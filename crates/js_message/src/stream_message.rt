@@ -94,7 +94,9 @@ impl StreamMessage {
         ensures { ReadsMessage message result }
     {
         let Message {
-            headers, payload, ..
+            headers,
+            payload,
+            ..
         } = message;
         let Some(headers) = headers else {
             return Err(Error::new(StreamMessageErrorKind::MissingHeader));

@@ -54,16 +54,40 @@ fn other_subjects_are_refused(rt: HostRuntime) {
         ("$JS.FC.events.x", InfoError::Prefix),
         ("$JS.ACK", InfoError::Prefix),
         ("$JS.ACK.", InfoError::TokenCount { n: 1 }),
-        ("$JS.ACK.hub.szMpdrwD.events.durable.2.50.9.1", InfoError::TokenCount { n: 8 }),
-        ("$JS.ACK.events.durable.3.abc.7.1.42", InfoError::Number { place: 3 }),
-        ("$JS.ACK.events.durable..1.x.1.1", InfoError::Number { place: 2 }),
-        ("$JS.ACK.events.durable.3.-1.7.1.42", InfoError::Number { place: 3 }),
-        ("$JS.ACK.e.d.3.1.7.1.18446744073709551616", InfoError::Number { place: 6 }),
-        ("$JS.ACK.e.d.3.1.7.253402207201000000000.x", InfoError::Instant),
-        ("$JS.ACK._.h.e.d.3.1.7.170141183460469231731687303715884105728.1", InfoError::Number { place: 7 }),
+        (
+            "$JS.ACK.hub.szMpdrwD.events.durable.2.50.9.1",
+            InfoError::TokenCount { n: 8 },
+        ),
+        (
+            "$JS.ACK.events.durable.3.abc.7.1.42",
+            InfoError::Number { place: 3 },
+        ),
+        (
+            "$JS.ACK.events.durable..1.x.1.1",
+            InfoError::Number { place: 2 },
+        ),
+        (
+            "$JS.ACK.events.durable.3.-1.7.1.42",
+            InfoError::Number { place: 3 },
+        ),
+        (
+            "$JS.ACK.e.d.3.1.7.1.18446744073709551616",
+            InfoError::Number { place: 6 },
+        ),
+        (
+            "$JS.ACK.e.d.3.1.7.253402207201000000000.x",
+            InfoError::Instant,
+        ),
+        (
+            "$JS.ACK._.h.e.d.3.1.7.170141183460469231731687303715884105728.1",
+            InfoError::Number { place: 7 },
+        ),
     ];
     for (subject, error) in rows {
-        assert!(rt; matches!(&parse_info(subject), Err(found) if *found == error), "{subject}");
+        assert!(rt;
+            matches!(&parse_info(subject), Err(found) if *found == error),
+            "{subject}"
+        );
     }
 }
 
@@ -72,7 +96,10 @@ fn bodies_are_those_of_the_protocol(rt: HostRuntime) -> Result<(), OutOfMemory> 
     let rows = [
         (AckKind::Ack, "+ACK"),
         (AckKind::Nak(None), "-NAK"),
-        (AckKind::Nak(Some(1_000_000_000)), "-NAK {\"delay\":1000000000}"),
+        (
+            AckKind::Nak(Some(1_000_000_000)),
+            "-NAK {\"delay\":1000000000}",
+        ),
         (AckKind::Progress, "+WPI"),
         (AckKind::Next, "+NXT"),
         (AckKind::Term, "+TERM"),
@@ -161,9 +188,14 @@ fn a_message_tells_its_place(rt: HostRuntime) -> Result<(), OutOfMemory> {
 /// Whether the last thing that was sent is this body, to the reply subject.
 fn sent_last(link: &MemoryLink, body: &[u8]) -> bool {
     match link.sent() {
-        [.., Sent::Publish {
-            subject, payload, ..
-        }] => subject.as_str() == REPLY && payload.as_slice() == body,
+        [
+            ..,
+            Sent::Publish {
+                subject,
+                payload,
+                ..
+            },
+        ] => subject.as_str() == REPLY && payload.as_slice() == body,
         _ => false,
     }
 }
@@ -180,7 +212,10 @@ fn an_ack_is_sent_once(rt: HostRuntime) -> Result<(), OutOfMemory> {
     link.set_up(false);
     assert_eq!(rt; acker.ack(alloc, &mut link), Err(AckError::LinkFailed));
     assert_eq!(rt; link.sent().len(), 2);
-    assert_eq!(rt; Acker::new(0, None).ack(alloc, &mut link), Err(AckError::NoReply));
+    assert_eq!(rt;
+        Acker::new(0, None).ack(alloc, &mut link),
+        Err(AckError::NoReply)
+    );
     Ok(())
 }
 
@@ -224,12 +259,21 @@ fn a_double_ack_gives_up(rt: HostRuntime) -> Result<(), OutOfMemory> {
     let call = begun(alloc, &mut link)?;
     assert_eq!(rt; ends(alloc, &mut link, call, 4_999_999_999), None);
     let call = begun(alloc, &mut link)?;
-    assert_eq!(rt; ends(alloc, &mut link, call, 5_000_000_000), Some(Err(AckError::TimedOut)));
+    assert_eq!(rt;
+        ends(alloc, &mut link, call, 5_000_000_000),
+        Some(Err(AckError::TimedOut))
+    );
     let call = begun(alloc, &mut link)?;
     link.unsubscribe(InboxId(2));
-    assert_eq!(rt; ends(alloc, &mut link, call, 0), Some(Err(AckError::SubscriptionDropped)));
+    assert_eq!(rt;
+        ends(alloc, &mut link, call, 0),
+        Some(Err(AckError::SubscriptionDropped))
+    );
     let lost = Acker::new(0, None).double_ack_with(alloc, AckKind::Next)?;
-    assert_eq!(rt; ends(alloc, &mut link, Some(lost), 0), Some(Err(AckError::NoReply)));
+    assert_eq!(rt;
+        ends(alloc, &mut link, Some(lost), 0),
+        Some(Err(AckError::NoReply))
+    );
     Ok(())
 }
 
@@ -260,9 +304,18 @@ fn read(
 #[test]
 fn headers_tell_how_a_message_is_stored(rt: HostRuntime) -> Result<(), OutOfMemory> {
     let alloc = rt.alloc();
-    assert_eq!(rt; read(alloc, stored(alloc, "7")?), Ok((7, 1_767_225_600_000_000_000, true)));
-    assert_eq!(rt; read(alloc, stored(alloc, "y")?), Err(StreamMessageErrorKind::ParseError));
-    assert_eq!(rt; read(alloc, received(alloc, None)?), Err(StreamMessageErrorKind::MissingHeader));
+    assert_eq!(rt;
+        read(alloc, stored(alloc, "7")?),
+        Ok((7, 1_767_225_600_000_000_000, true))
+    );
+    assert_eq!(rt;
+        read(alloc, stored(alloc, "y")?),
+        Err(StreamMessageErrorKind::ParseError)
+    );
+    assert_eq!(rt;
+        read(alloc, received(alloc, None)?),
+        Err(StreamMessageErrorKind::MissingHeader)
+    );
     let printed = StreamMessageErrorKind::MissingHeader.to_string(alloc)?;
     assert_eq!(rt; printed.as_str(), "missing message header");
     Ok(())
