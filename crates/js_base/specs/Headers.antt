@@ -1,5 +1,5 @@
 -- Looking up headers.
-use Rattle.std.specs.Prelude.{ℕ, List, [], ◌∷◌, reverse, Option, Some, None, if◌then◌else◌}
+use Rattle.std.specs.Prelude.{ℕ, ◌+◌, ◌-◌, ◌^◌, List, [], ◌∷◌, ◌++◌, length, map, filter, sum_by, min, not, reverse, Option, Some, None, if◌then◌else◌}
 use Rattle.std.specs.Str.{bytes_eq}
 use Rattle.js_base.specs.declared.headers.Header.{Header}
 
@@ -16,3 +16,24 @@ last_value name headers = first_value name (reverse headers)
 abbrev pub all_headers : Option (List Header) → List Header
 all_headers None = []
 all_headers (Some headers) = headers
+
+-- the headers but those of a name
+abbrev pub without_name : List ℕ → List Header → List Header
+without_name name headers = filter (λ header. not (bytes_eq name header.name)) headers
+
+-- the headers with one value of a name, the last of all
+abbrev pub with_only : List ℕ → List ℕ → List Header → List Header
+with_only name value headers = without_name name headers ++ record { name = name; value = value } ∷ []
+
+-- names and values
+abbrev pub pairs : List Header → List (List ℕ × List ℕ)
+pairs headers = map (λ header. (header.name, header.value)) headers
+
+-- the bytes of one header on the wire: `: ` and a line's end stand between names and values
+abbrev pub line_len : Header → ℕ
+line_len header = length header.name + length header.value + 4
+
+-- the bytes of all headers on the wire: none where there is no header, and else 12 for the first and the last line
+abbrev pub wire_len : List Header → ℕ
+wire_len [] = 0
+wire_len (header ∷ headers) = min (12 + sum_by line_len (header ∷ headers)) (2 ^ 64 - 1)

@@ -1,3 +1,5 @@
 pub mod Clock
 pub mod Headers
 pub mod Match
+pub mod Errors
+pub mod Statuses

@@ -1,8 +1,8 @@
-ghost use Rattle.std.specs.Prelude.{◌≡◌, [], ◌∷◌, ◌++◌, ◌&&◌, nat_eq, OnOk, OnErr};
+ghost use Rattle.std.specs.Prelude.{◌≡◌, [], ◌∷◌, ◌++◌, ◌-◌, ◌^◌, ◌&&◌, nat_eq, min, OnOk, OnErr};
 ghost use Rattle.std.specs.Cmp.{on_per, and_per, on_equiv, and_equiv, partial_equiv_from_equiv};
 ghost use Rattle.std.specs.Cmp.Lexicographic.{pointwise, lists_per, lists_equiv, nat_list_eq_equiv};
 ghost use Rattle.std.specs.Option.{option_copied};
-ghost use Rattle.js_base.specs.Headers.{first_value, last_value};
+ghost use Rattle.js_base.specs.Headers.{first_value, last_value, with_only, wire_len, line_len, without_name};
 
 use crate::items::Items;
 use crate::memory::{OutOfMemory, TryClone};
@@ -15,6 +15,19 @@ use std::marker::Model;
 pub struct Header {
     pub name: Text,
     pub value: Text,
+}
+
+impl Header {
+    ghost use Rattle.js_base.specs.Headers.{line_len};
+
+    /// The bytes of one line, up to the type's end.
+    fn wire_len(&self) -> u64
+        ensures { result ≡ min (line_len self.now) (2 ^ 64 - 1) }
+    {
+        let name = self.name.as_str().len() as u64;
+        let value = self.value.as_str().len() as u64;
+        name.saturating_add(value).saturating_add(4)
+    }
 }
 
 impl TryClone for Header {
@@ -52,6 +65,20 @@ impl HeaderMap {
         }
     }
 
+    /// Sets the one value of a name: all others of that name go, and it stands after all that stay. After a refusal the
+    /// headers are what they were.
+    pub fn insert(&mut self, alloc: Global, name: &str, value: &str) -> Result<(), OutOfMemory>
+        ensures ok { OnOk result (self.new ≡ with_only name.now value.now self.old) }
+        ensures err { OnErr result (self.new ≡ self.old) }
+    {
+        let header = Header {
+            name: Text::from_str(alloc, name)?,
+            value: Text::from_str(alloc, value)?,
+        };
+        self.headers
+            .keep_and_push(|other| name != other.name.as_str(), header)
+    }
+
     /// Adds a value of a name after all others. After a refusal the headers are what they were.
     pub fn append(&mut self, alloc: Global, name: &str, value: &str) -> Result<(), OutOfMemory>
         ensures ok { OnOk result (self.new ≡ self.old ++ record { name = name.now; value = value.now } ∷ []) }
@@ -86,6 +113,62 @@ impl HeaderMap {
             }
         }
         None
+    }
+
+    /// The names and values in order.
+    pub fn iter(&self) -> HeaderIter<'_>
+        ensures { result ≡ self.now }
+    {
+        HeaderIter {
+            rest: self.headers.as_slice(),
+        }
+    }
+
+    /// How many bytes the headers take on the wire: none where there are none, and else 12 and, for each header, both
+    /// lengths and 4. The sum stops at `u64::MAX`.
+    pub fn wire_len(&self) -> u64
+        ensures { result ≡ wire_len self.now }
+    {
+        if self.headers.is_empty() {
+            return 0;
+        }
+        let mut len = 12u64;
+        for header in self.headers.as_slice() {
+            len = len.saturating_add(header.wire_len());
+        }
+        len
+    }
+}
+
+/// The names and values of headers, in order. Contracts see the headers that are left.
+#[derive(Drop)]
+pub struct HeaderIter<'a> {
+    rest: &'a [Header],
+}
+
+impl<'a> Model for HeaderIter<'a> {
+    ghost use Rattle.std.specs.Prelude.{List};
+    ghost use Rattle.js_base.specs.declared.headers.Header.{Header};
+
+    ghost Value = { List Header };
+
+    ghost view = { λ s. s.rest.now };
+}
+
+impl<'a> Iterator for HeaderIter<'a> {
+    ghost use Rattle.std.specs.Iterator.{YieldsFirstBy, item_count};
+    ghost use Rattle.js_base.specs.Headers.{pairs};
+
+    type Item = (&'a str, &'a str);
+
+    ghost next_gives = { YieldsFirstBy (λ item. (item.0.now, item.1.now)) pairs };
+
+    ghost remaining = { item_count pairs };
+
+    fn next(&mut self) -> Option<(&'a str, &'a str)> {
+        let (first, rest) = self.rest.split_first()?;
+        self.rest = rest;
+        Some((first.name.as_str(), first.value.as_str()))
     }
 }
 

@@ -1,4 +1,6 @@
-ghost use Rattle.std.specs.Prelude.{◌≡◌, [], ◌∷◌, ◌++◌, length, IfOk, OnOk, OnErr, ◌<◌, ◌==◌};
+ghost use Rattle.std.specs.Prelude.{◌≡◌, List, [], ◌∷◌, ◌++◌, length, IfOk, OnOk, OnErr, ◌<◌, ◌==◌};
+ghost use Rattle.std.specs.List.Retain.{IsFiltered};
+ghost use Rattle.std.specs.Fn.{CalledAt};
 ghost use Rattle.std.specs.Cmp.Lexicographic.{pointwise, lists_per, lists_equiv};
 
 use crate::memory::{OutOfMemory, TryClone};
@@ -56,6 +58,25 @@ impl<T: Drop> Items<T> {
         ensures err { OnErr result (self.new ≡ self.old) }
     {
         self.items.push(item)?;
+        Ok(())
+    }
+}
+
+impl<T: Drop> Items<T> {
+    /// Keeps the items that pass a test, and adds an item after them. After a refusal, which drops that item, the items are
+    /// what they were.
+    pub fn keep_and_push<F: FnMut(&T) -> bool>(
+        &mut self,
+        keep: F,
+        item: T,
+    ) -> Result<(), OutOfMemory>
+        requires { F.IsAlwaysCallable keep }
+        ensures ok { OnOk result ((kept : List T) × IsFiltered (CalledAt F.FnMut) keep self.old kept × (self.new ≡ kept ++ item ∷ [])) }
+        ensures err { OnErr result (self.new ≡ self.old) }
+    {
+        self.items.reserve(1)?;
+        self.items.retain(keep);
+        self.items.push_reserved(item);
         Ok(())
     }
 }

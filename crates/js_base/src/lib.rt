@@ -2,6 +2,7 @@
 #![tactic(auto)]
 
 mod clock;
+mod error;
 mod headers;
 mod items;
 mod memory;
@@ -9,12 +10,20 @@ mod message;
 mod subject;
 mod text;
 mod text_map;
+mod tokens;
+mod turn;
 
 pub use clock::{Moment, Nanos, Timer, due};
-pub use headers::{Header, HeaderMap};
+pub use error::{Error, Source};
+pub use headers::{Header, HeaderIter, HeaderMap};
 pub use items::Items;
 pub use memory::{OutOfMemory, TryClone};
 pub use message::{Message, State, StatusCode};
-pub use subject::{Subject};
+pub use subject::{Subject, is_valid_subject, subject_matches};
 pub use text::Text;
 pub use text_map::{ByName, TextMap};
+pub use tokens::{Tokens, token_count};
+pub use turn::{Next, Turn};
+
+#[cfg(test)]
+mod tests;

@@ -1,8 +1,12 @@
+ghost use Rattle.std.specs.Prelude.{Some};
+ghost use Rattle.js_base.specs.Statuses.{three_digits};
+
 use crate::headers::HeaderMap;
 use crate::memory::{OutOfMemory, TryClone};
 use crate::subject::Subject;
 use crate::text::Text;
 use bytes::Bytes;
+use std::fmt;
 
 /// Where the connection stands.
 #[derive(Clone, Copy, Debug, PartialEq, Eq)]
@@ -12,15 +16,19 @@ pub enum State {
     Disconnected,
 }
 
-/// The status of a message that the server sends in place of a stream's message. Any `u16` may stand here.
+/// The status of a message that the server sends in place of a stream's message. Any `u16` may stand here. It prints three
+/// digits at least.
 #[derive(Clone, Copy, Debug, PartialEq, Eq)]
 pub struct StatusCode(pub u16);
 
 impl StatusCode {
     /// The server is there, and has nothing to send.
     pub const IDLE_HEARTBEAT: StatusCode = StatusCode(100);
+
     pub const OK: StatusCode = StatusCode(200);
+
     pub const NOT_FOUND: StatusCode = StatusCode(404);
+
     pub const TIMEOUT: StatusCode = StatusCode(408);
     /// A pull request ended before all that it asked for had come.
     pub const REQUEST_TERMINATED: StatusCode = StatusCode(409);
@@ -28,6 +36,21 @@ impl StatusCode {
     pub const PIN_ID_MISMATCH: StatusCode = StatusCode(423);
     /// Nobody listens to the subject of a request.
     pub const NO_RESPONDERS: StatusCode = StatusCode(503);
+}
+
+impl fmt::Display for StatusCode {
+    ghost output = { λ status. Some (three_digits status.0) };
+
+    fn fmt<W: fmt::Write>(&self, f: &mut fmt::Formatter<W>) -> fmt::Result {
+        let number = self.0;
+        if number < 10 {
+            write!(f, "00{number}")
+        } else if number < 100 {
+            write!(f, "0{number}")
+        } else {
+            write!(f, "{number}")
+        }
+    }
 }
 
 /// A message as the link delivers it.

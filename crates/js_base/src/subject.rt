@@ -1,8 +1,12 @@
-ghost use Rattle.std.specs.Prelude.{◌≡◌, IfOk, string_bytes, nat_eq};
+ghost use Rattle.std.specs.Prelude.{◌≡◌, ◌==◌, ◌∷◌, [], IfOk, string_bytes, nat_eq, not};
 ghost use Rattle.std.specs.Cmp.Lexicographic.{pointwise, nat_list_eq_equiv};
 ghost use Rattle.std.specs.Cmp.{partial_equiv_from_equiv};
+ghost use Rattle.std.specs.List.{list_all};
+ghost use Rattle.std.specs.Str.{bytes_eq};
+ghost use Rattle.js_base.specs.Match.{is_space, is_valid_subject, token_matches, subject_matches};
 
 use crate::memory::{OutOfMemory, TryClone};
+use crate::tokens::Tokens;
 use std::alloc::Global;
 use std::marker::Model;
 
@@ -65,4 +69,61 @@ impl PartialEq for Subject {
 
 impl Eq for Subject {
     ghost laws = { nat_list_eq_equiv };
+}
+
+fn is_space(byte: u8) -> bool
+    ensures { result ≡ is_space byte }
+{
+    matches!(byte, b' ' | b'\t' | b'\n' | 0x0C | b'\r')
+}
+
+fn has_no_space(text: &[u8]) -> bool
+    ensures { result ≡ list_all (λ c. not (is_space c)) text.now }
+{
+    text.iter().all(|byte| !is_space(*byte))
+}
+
+/// Whether a text may be a subject: it is not empty, has no ASCII white space, and neither begins nor ends with a dot.
+pub fn is_valid_subject(subject: &str) -> bool
+    ensures { result ≡ is_valid_subject subject.now }
+{
+    match subject.as_bytes() {
+        [] => false,
+        [first, ..] => has_no_space(subject.as_bytes())
+            && *first != b'.'
+            && !subject.ends_with('.'),
+    }
+}
+
+fn token_matches(filter: &str, token: &str) -> bool
+    ensures { result ≡ token_matches filter.now token.now }
+{
+    filter == "*" || filter == token
+}
+
+fn is_rest(filter: &str) -> bool
+    ensures { result ≡ bytes_eq filter.now (62 ∷ []) }
+{
+    filter == ">"
+}
+
+/// Whether a filter matches a subject. Both are cut at every dot and compared token by token: a `*` of the filter stands
+/// for one token, a last `>` for one or more, and every other token for itself.
+pub fn subject_matches(filter: &str, subject: &str) -> bool
+    ensures { result ≡ subject_matches filter.now subject.now }
+{
+    let mut filters = Tokens::new(filter);
+    let mut tokens = Tokens::new(subject);
+    while let Some(filter) = filters.next() {
+        let Some(token) = tokens.next() else {
+            return false;
+        };
+        if filters.is_empty() && is_rest(filter) {
+            return true;
+        }
+        if !token_matches(filter, token) {
+            return false;
+        }
+    }
+    tokens.is_empty()
 }

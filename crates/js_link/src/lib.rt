@@ -1,6 +1,14 @@
 //! The connection that polled states are run over: what it sends, and what it has received.
 #![tactic(auto)]
 
+mod error;
+mod link;
+mod memory;
 mod sent;
 
+pub use link::{Answer, Link, LinkError, Taken, Watch};
+pub use memory::MemoryLink;
 pub use sent::{InboxId, RequestId, Sent};
+
+#[cfg(test)]
+mod tests;

@@ -1,3 +1,2 @@
 pub mod ReadNumbers
-pub mod CutTokens
 pub mod HeldInstants

@@ -1,13 +1,27 @@
-//! Messages of a stream: their acknowledgement subjects.
+//! Messages of a stream: their acknowledgement subjects and their acknowledgement, and messages to be published.
 #![tactic(auto)]
 
+mod ack_kind;
+mod acker;
+mod double_ack;
 mod info;
 mod info_error;
+mod message;
 mod numbers;
 mod parse;
-mod tokens;
+mod publish;
+mod stream_message;
 
+pub use ack_kind::AckKind;
+pub use acker::{AckError, Acker};
+pub use double_ack::DoubleAck;
 pub use info::Info;
 pub use info_error::InfoError;
+pub use message::{Message, MessageInfoError};
 pub use numbers::read_u64;
 pub use parse::parse_info;
+pub use publish::{OutboundMessage, PublishMessage};
+pub use stream_message::{StreamMessage, StreamMessageError, StreamMessageErrorKind};
+
+#[cfg(test)]
+mod tests;

@@ -7,8 +7,8 @@ ghost use Rattle.js_message.specs.Shown.{shown_result, instant_of, BeginsWith};
 use crate::info::Info;
 use crate::info_error::InfoError;
 use crate::numbers::{read_i64, read_i128, read_u64};
-use crate::tokens::{Tokens, token_count};
 use jiff::Timestamp;
+use js_base::{Tokens, token_count};
 
 /// The seven tokens that both forms have, and what follows them.
 #[derive(Clone, Copy)]

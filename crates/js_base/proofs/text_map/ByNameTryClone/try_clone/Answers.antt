@@ -1,7 +1,6 @@
 use Rattle.std.proofs.Common.{◌≡◌, [], ◌∷◌, ◌++◌, nat_cmp, sym, ap, ◌∙◌, subst, append_assoc}
 use Rattle.std.specs.Cmp.Lexicographic.{slice_cmp}
 use Rattle.std.specs.List.Sorted.{IsStrictlySortedBy}
-use Rattle.std.specs.BTreeMap.{insert_entry}
 use Rattle.std.specs.Map.{keys_of}
 use Rattle.js_base.proofs.Names.{Entry, insert_last}
 use Rattle.js_base.proofs.text_map.ByNameTryClone.try_clone.Goals as goal

@@ -1,5 +1,5 @@
-use Rattle.js_message.proofs.CutTokens.{tokens_cut, tokens_last}
-use Rattle.js_message.proofs.tokens.cut.Goals as goal
+use Rattle.js_base.proofs.CutTokens.{tokens_cut, tokens_last}
+use Rattle.js_base.proofs.tokens.cut.Goals as goal
 
 pub returns-in-Some : goal.returns-in-Some
 returns-in-Some c = tokens_cut c.args.text.now (c.in-Some.token, c.in-Some.rest) c.in-Some.ensures.cases

@@ -1,20 +1,19 @@
-ghost use Rattle.std.specs.Prelude.{◌≡◌, ◌<◌, ◌∷◌, length, [], MatchOption, count_by, ◌==◌};
+ghost use Rattle.std.specs.Prelude.{◌≡◌, ◌<◌, ◌∷◌, ◌==◌, length, [], MatchOption, count_by};
 ghost use Rattle.std.specs.Option.{option_copied};
-ghost use Rattle.js_base.specs.Match.{tokens};
-ghost use Rattle.js_message.specs.Tokens.{tokens_left};
+ghost use Rattle.js_base.specs.Match.{tokens, tokens_left};
 
 use std::marker::Model;
 
-/// The tokens of a text that are left, cut off one by one. Contracts see their list.
+/// The tokens of a text, which is cut at every dot, one by one. Contracts see the list of those that are left.
 #[derive(Drop)]
-pub(crate) struct Tokens<'a> {
+pub struct Tokens<'a> {
     rest: Option<&'a str>,
 }
 
 impl<'a> Model for Tokens<'a> {
     ghost use Rattle.std.specs.Prelude.{ℕ, List};
     ghost use Rattle.std.specs.Option.{option_copied};
-    ghost use Rattle.js_message.specs.Tokens.{tokens_left};
+    ghost use Rattle.js_base.specs.Match.{tokens_left};
 
     ghost Value = { List (List ℕ) };
 
@@ -22,14 +21,22 @@ impl<'a> Model for Tokens<'a> {
 }
 
 impl<'a> Tokens<'a> {
-    pub(crate) fn new(text: &'a str) -> Tokens<'a>
+    /// All tokens of a text: one more than it has dots.
+    pub fn new(text: &'a str) -> Tokens<'a>
         ensures { result ≡ tokens text.now }
     {
         Tokens { rest: Some(text) }
     }
 
+    /// Whether no token is left.
+    pub fn is_empty(&self) -> bool
+        ensures { result ≡ (length self.now == 0) }
+    {
+        self.rest.is_none()
+    }
+
     /// The next token, where one is left.
-    pub(crate) fn next(&mut self) -> Option<&'a str>
+    pub fn next(&mut self) -> Option<&'a str>
         ensures cut { MatchOption result (self.old ≡ []) (λ token. self.old ≡ token.now ∷ self.new) }
         ensures end { MatchOption result (self.new ≡ []) (λ _. 0 < length self.old) }
     {
@@ -40,7 +47,7 @@ impl<'a> Tokens<'a> {
     }
 
     /// The next token, where the caller knows that one is left.
-    pub(crate) fn take(&mut self) -> &'a str
+    pub fn take(&mut self) -> &'a str
         requires { 0 < length self.old }
         ensures { self.old ≡ result.now ∷ self.new }
     {
@@ -68,7 +75,7 @@ fn dot_count(text: &str) -> usize
 }
 
 /// How many tokens a text has.
-pub(crate) fn token_count(text: &str) -> u64
+pub fn token_count(text: &str) -> u64
     ensures { result ≡ length (tokens text.now) }
 {
     dot_count(text) as u64 + 1

@@ -1,0 +1,340 @@
+ghost use Rattle.std.specs.Prelude.{◌≡◌, ◌≢◌, ◌+◌, IfOk, OnOk, OnErr, MatchOption, Err, ◌↔◌, Some, string_bytes};
+ghost use Rattle.std.specs.Option.{option_copied};
+ghost use Rattle.js_link.specs.Calls.{Refused, NamesOf};
+ghost use Rattle.js_link.specs.LinkView.{Waits};
+ghost use Rattle.js_link.specs.Memory.{memory_view, new_view, inbox_subject, fresh_subject, fresh_count, prefix_of, request_after, closed_is_empty, counted, Delivers, Responds, WaitsAt};
+
+use crate::link::{Answer, Link, LinkError, Taken, Watch};
+use crate::sent::{InboxId, RequestId, Sent};
+use bytes::Bytes;
+use js_base::{HeaderMap, Message, Nanos, OutOfMemory, State, Subject, Text, TryClone};
+use std::alloc::Global;
+use std::collections::VecDeque;
+
+/// What has become of a request.
+#[derive(Drop)]
+enum Request {
+    Waits,
+    Answered(Message),
+    Ended,
+}
+
+/// A link in memory: what it sends is kept, and what it receives is given to it.
+///
+/// Inboxes are numbered from 0 and requests from 1, in the order in which they are made. Both take memory, so that their
+/// numbers never come to their type's end.
+#[derive(Drop)]
+pub struct MemoryLink {
+    prefix: Text,
+    inboxes: Vec<Option<VecDeque<Message>>>,
+    requests: Vec<Request>,
+    sent: Vec<Sent>,
+    fresh: u64,
+    faults: u64,
+    up: bool,
+    watch: Watch,
+    max_payload: u64,
+    request_timeout: Option<Nanos>,
+}
+
+fn answered(reply: Option<Message>) -> Request
+    ensures { result ≡ request_after reply }
+{
+    match reply {
+        Some(reply) => Request::Answered(reply),
+        None => Request::Ended,
+    }
+}
+
+fn copy_headers(headers: Option<&HeaderMap>) -> Result<Option<HeaderMap>, OutOfMemory>
+    ensures { IfOk result (λ copy. copy ≡ option_copied headers.entry) }
+{
+    match headers {
+        Some(headers) => Ok(Some(headers.try_clone()?)),
+        None => Ok(None),
+    }
+}
+
+fn copy_subject(alloc: Global, text: Option<&str>) -> Result<Option<Subject>, OutOfMemory>
+    ensures { IfOk result (λ copy. copy ≡ option_copied text.entry) }
+{
+    match text {
+        Some(text) => Ok(Some(Subject::new(alloc, text)?)),
+        None => Ok(None),
+    }
+}
+
+fn copy_text(alloc: Global, text: Option<&str>) -> Result<Option<Text>, OutOfMemory>
+    ensures { IfOk result (λ copy. copy ≡ option_copied text.entry) }
+{
+    match text {
+        Some(text) => Ok(Some(Text::from_str(alloc, text)?)),
+        None => Ok(None),
+    }
+}
+
+#[tactic(auto, unfolding(crate::specs::Memory::inbox_subject))]
+fn inbox_text(alloc: Global, prefix: &str, number: u64) -> Result<String, OutOfMemory>
+    ensures { IfOk result (λ text. string_bytes text ≡ inbox_subject prefix.now number) }
+{
+    Ok(format!(in alloc; "{prefix}.{number}")?)
+}
+
+#[tactic(auto, unfolding(crate::specs::Memory::fresh_subject))]
+fn fresh_text(alloc: Global, prefix: &str, number: u64) -> Result<String, OutOfMemory>
+    ensures { IfOk result (λ text. string_bytes text ≡ fresh_subject prefix.now number) }
+{
+    Ok(format!(in alloc; "{prefix}.r{number}")?)
+}
+
+impl MemoryLink {
+    /// A link that is up and connected, with no limit to a body and a request timeout of ten seconds. Its own subjects begin
+    /// with the prefix and a dot.
+    pub fn new(alloc: Global, inbox_prefix: &str) -> Result<MemoryLink, OutOfMemory>
+        ensures view { IfOk result (λ link. memory_view link ≡ new_view inbox_prefix.now) }
+        ensures fresh { IfOk result (λ link. fresh_count link ≡ 0) }
+    {
+        Ok(MemoryLink {
+            prefix: Text::from_str(alloc, inbox_prefix)?,
+            inboxes: Vec::new(alloc),
+            requests: Vec::new(alloc),
+            sent: Vec::new(alloc),
+            fresh: 0,
+            faults: 0,
+            up: true,
+            watch: Watch::State(State::Connected),
+            max_payload: u64::MAX,
+            request_timeout: Some(10_000_000_000),
+        })
+    }
+
+    /// Counts a fault.
+    fn fail(&mut self) -> LinkError
+        ensures failed { Refused result (memory_view self.old) (memory_view self.new) }
+        ensures kind { result ≡ LinkError.Failed }
+        ensures fresh { fresh_count self.new ≡ fresh_count self.old }
+    {
+        self.faults = self.faults.saturating_add(1);
+        LinkError::Failed
+    }
+
+    /// What it has sent, in order.
+    pub fn sent(&self) -> &[Sent]
+        ensures { (memory_view self.now).sent ≡ Some result.now }
+    {
+        self.sent.as_slice()
+    }
+
+    /// Puts a message behind the others of an inbox. For an inbox that is closed or was never opened, it is passed over.
+    pub fn deliver(&mut self, inbox: InboxId, message: Message) -> Result<(), OutOfMemory>
+        ensures ok { OnOk result (Delivers inbox.0 message (memory_view self.old) (memory_view self.new)) }
+        ensures err { OnErr result (memory_view self.new ≡ memory_view self.old) }
+    {
+        let i = inbox.0 as usize;
+        if i >= self.inboxes.len() {
+            return Ok(());
+        }
+        match &mut self.inboxes[i] {
+            None => Ok(()),
+            Some(messages) => {
+                messages.push_back(message)?;
+                Ok(())
+            }
+        }
+    }
+
+    /// Answers a request that waits; without a reply, its replier is gone. For a request that does not wait, it is passed
+    /// over.
+    pub fn respond(&mut self, request: RequestId, reply: Option<Message>) -> Result<(), OutOfMemory>
+        ensures ok { OnOk result (Responds request.0 reply (memory_view self.old) (memory_view self.new)) }
+        ensures err { OnErr result (memory_view self.new ≡ memory_view self.old) }
+    {
+        let Some(i) = self.waiting(request) else {
+            return Ok(());
+        };
+        self.requests[i] = answered(reply);
+        Ok(())
+    }
+
+    /// The place of a request that waits.
+    fn waiting(&self, request: RequestId) -> Option<usize>
+        ensures { MatchOption result ((memory_view self.now).status request.0 ≢ Waits) (WaitsAt request.0 self.now) }
+    {
+        if request.0 == 0 || request.0 > self.requests.len() as u64 {
+            return None;
+        }
+        let i = (request.0 - 1) as usize;
+        match &self.requests[i] {
+            Request::Waits => Some(i),
+            Request::Answered(_) => None,
+            Request::Ended => None,
+        }
+    }
+
+    /// Sets whether it is up. While it is down, its sends fail.
+    pub fn set_up(&mut self, up: bool)
+        ensures { memory_view self.new ≡ record (memory_view self.old) { up = Some up } }
+    {
+        self.up = up;
+    }
+
+    /// Sets what `state` answers.
+    pub fn set_watch(&mut self, watch: Watch)
+        ensures { memory_view self.new ≡ record (memory_view self.old) { watch = watch } }
+    {
+        self.watch = watch;
+    }
+
+    /// Sets what `max_payload` and `request_timeout` answer.
+    pub fn set_limits(&mut self, max_payload: u64, request_timeout: Option<Nanos>)
+        ensures { memory_view self.new ≡ record (memory_view self.old) { max_payload = max_payload; request_timeout = request_timeout } }
+    {
+        self.max_payload = max_payload;
+        self.request_timeout = request_timeout;
+    }
+}
+
+impl Link for MemoryLink {
+    ghost view = { memory_view };
+
+    ghost closed_is_empty = { closed_is_empty };
+
+    ghost counted = { counted };
+
+    fn subscribe(
+        &mut self,
+        alloc: Global,
+        subject: &str,
+        group: Option<&str>,
+    ) -> Result<InboxId, LinkError> {
+        if !self.up {
+            return Err(self.fail());
+        }
+        let inbox = self.inboxes.len() as u64;
+        let sent = Sent::Subscribe {
+            inbox,
+            subject: Subject::new(alloc, subject)?,
+            group: copy_text(alloc, group)?,
+        };
+        self.inboxes.reserve(1)?;
+        self.sent.push(sent)?;
+        self.inboxes.push_reserved(Some(VecDeque::new(alloc)));
+        Ok(InboxId(inbox))
+    }
+
+    fn open_inbox(&mut self, alloc: Global) -> Result<(InboxId, Subject), LinkError> {
+        if !self.up {
+            return Err(self.fail());
+        }
+        let number = self.inboxes.len() as u64;
+        let subject = Subject::from(inbox_text(alloc, self.prefix.as_str(), number)?);
+        let inbox = self.subscribe(alloc, subject.as_str(), None)?;
+        Ok((inbox, subject))
+    }
+
+    fn fresh_subject(&mut self, alloc: Global) -> Result<Subject, LinkError>
+        ensures names { NamesOf result (memory_view self.old) (memory_view self.new) }
+        ensures named { IfOk result (λ subject. subject ≡ fresh_subject (prefix_of self.old) (fresh_count self.old)) }
+        ensures next { OnOk result (fresh_count self.new ≡ fresh_count self.old + 1) }
+        ensures refused { OnErr result (fresh_count self.new ≡ fresh_count self.old) }
+        ensures end { result ≡ Err LinkError.Failed ↔ (fresh_count self.old ≡ 18446744073709551615) }
+    {
+        if self.fresh == u64::MAX {
+            return Err(self.fail());
+        }
+        let subject = Subject::from(fresh_text(alloc, self.prefix.as_str(), self.fresh)?);
+        self.fresh += 1;
+        Ok(subject)
+    }
+
+    fn unsubscribe(&mut self, inbox: InboxId) {
+        let i = inbox.0 as usize;
+        if i < self.inboxes.len() {
+            self.inboxes[i] = None;
+        }
+    }
+
+    fn publish(
+        &mut self,
+        alloc: Global,
+        subject: &str,
+        reply: Option<&str>,
+        headers: Option<&HeaderMap>,
+        payload: &[u8],
+    ) -> Result<(), LinkError> {
+        if !self.up {
+            return Err(self.fail());
+        }
+        let sent = Sent::Publish {
+            subject: Subject::new(alloc, subject)?,
+            reply: copy_subject(alloc, reply)?,
+            headers: copy_headers(headers)?,
+            payload: Bytes::copy_from_slice(alloc, payload)?,
+        };
+        Ok(self.sent.push(sent)?)
+    }
+
+    fn request(
+        &mut self,
+        alloc: Global,
+        subject: &str,
+        headers: Option<&HeaderMap>,
+        payload: &[u8],
+    ) -> Result<RequestId, LinkError> {
+        if !self.up {
+            return Err(self.fail());
+        }
+        let number = self.requests.len() as u64 + 1;
+        let sent = Sent::Request {
+            number,
+            subject: Subject::new(alloc, subject)?,
+            headers: copy_headers(headers)?,
+            payload: Bytes::copy_from_slice(alloc, payload)?,
+        };
+        self.requests.reserve(1)?;
+        self.sent.push(sent)?;
+        self.requests.push_reserved(Request::Waits);
+        Ok(RequestId(number))
+    }
+
+    fn take(&mut self, inbox: InboxId) -> Taken {
+        let i = inbox.0 as usize;
+        if i >= self.inboxes.len() {
+            return Taken::Closed;
+        }
+        match &mut self.inboxes[i] {
+            None => Taken::Closed,
+            Some(messages) => match messages.pop_front() {
+                Some(message) => Taken::Message(message),
+                None => Taken::Empty,
+            },
+        }
+    }
+
+    fn answer(&mut self, request: RequestId) -> Answer {
+        if request.0 == 0 || request.0 > self.requests.len() as u64 {
+            return Answer::Gone;
+        }
+        let i = (request.0 - 1) as usize;
+        match &self.requests[i] {
+            Request::Waits => Answer::Waiting,
+            Request::Ended => Answer::Gone,
+            Request::Answered(_) => match std::mem::replace(&mut self.requests[i], Request::Ended) {
+                Request::Answered(message) => Answer::Got(message),
+                Request::Waits | Request::Ended => Answer::Gone,
+            },
+        }
+    }
+
+    fn state(&mut self) -> Watch {
+        self.watch
+    }
+
+    fn max_payload(&self) -> u64 {
+        self.max_payload
+    }
+
+    fn request_timeout(&self) -> Option<Nanos> {
+        self.request_timeout
+    }
+}

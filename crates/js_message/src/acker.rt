@@ -1,0 +1,112 @@
+ghost use Rattle.std.specs.Prelude.{◌≡◌, [], IfOk};
+ghost use Rattle.std.specs.Option.{option_copied};
+ghost use Rattle.js_message.specs.Acking.{Acks, ack_body, unsent};
+
+use crate::ack_kind::AckKind;
+use crate::double_ack::{DoubleAck, double_acknowledge};
+use js_base::{Nanos, OutOfMemory, Subject};
+use js_link::{Link, LinkError};
+use std::alloc::Global;
+
+/// Why a message was not acknowledged.
+#[derive(Clone, Copy, Debug, PartialEq, Eq)]
+pub enum AckError {
+    /// The message has no reply subject.
+    NoReply,
+    /// The link could not send.
+    LinkFailed,
+    /// No answer came in time.
+    TimedOut,
+    /// The inbox for the answer was closed.
+    SubscriptionDropped,
+    OutOfMemory,
+}
+
+/// Sends a body to a reply subject.
+pub(crate) fn acknowledge<L: Link>(
+    alloc: Global,
+    link: &mut L,
+    reply: Option<&Subject>,
+    body: &[u8],
+) -> Result<(), AckError>
+    ensures { Acks (option_copied reply.entry) body.now result (L.view link.old) (L.view link.new) }
+{
+    let Some(subject) = reply else {
+        return Err(AckError::NoReply);
+    };
+    match link.publish(alloc, subject.as_str(), None, None, body) {
+        Ok(()) => Ok(()),
+        Err(LinkError::Failed) => Err(AckError::LinkFailed),
+        Err(LinkError::OutOfMemory) => Err(AckError::OutOfMemory),
+    }
+}
+
+/// Sends the body of a kind to a reply subject.
+pub(crate) fn acknowledge_with<L: Link>(
+    alloc: Global,
+    link: &mut L,
+    reply: Option<&Subject>,
+    kind: AckKind,
+) -> Result<(), AckError>
+    ensures { Acks (option_copied reply.entry) (ack_body kind) result (L.view link.old) (L.view link.new) }
+{
+    if reply.is_none() {
+        return Err(AckError::NoReply);
+    }
+    match kind.to_bytes(alloc) {
+        Ok(body) => acknowledge(alloc, link, reply, body.as_slice()),
+        Err(OutOfMemory) => Err(AckError::OutOfMemory),
+    }
+}
+
+/// What is needed to acknowledge a message, without the message.
+#[derive(Debug, PartialEq, Eq, Drop)]
+pub struct Acker {
+    timeout: Nanos,
+    reply: Option<Subject>,
+}
+
+impl Acker {
+    ghost use Rattle.js_message.specs.Acker.{acker, timeout_of, reply_of};
+
+    /// What acknowledges to a reply subject, with a double ack waiting so long for its answer.
+    pub fn new(timeout: Nanos, reply: Option<Subject>) -> Acker
+        ensures { result ≡ acker timeout reply }
+    {
+        Acker { timeout, reply }
+    }
+
+    /// Says that the message was handled, by an empty body. `NoReply` comes where there is no reply subject, `LinkFailed`
+    /// where the link could not send.
+    pub fn ack<L: Link>(&self, alloc: Global, link: &mut L) -> Result<(), AckError>
+        ensures { Acks (reply_of self.now) [] result (L.view link.old) (L.view link.new) }
+    {
+        acknowledge(alloc, link, self.reply.as_ref(), &[])
+    }
+
+    /// Says what became of the message. The errors are those of `ack`.
+    pub fn ack_with<L: Link>(
+        &self,
+        alloc: Global,
+        link: &mut L,
+        kind: AckKind,
+    ) -> Result<(), AckError>
+        ensures { Acks (reply_of self.now) (ack_body kind) result (L.view link.old) (L.view link.new) }
+    {
+        acknowledge_with(alloc, link, self.reply.as_ref(), kind)
+    }
+
+    /// Says that the message was handled, and waits for the server's answer.
+    pub fn double_ack(&self, alloc: Global) -> Result<DoubleAck, OutOfMemory>
+        ensures { IfOk result (λ call. call ≡ unsent (timeout_of self.now) (reply_of self.now) (ack_body AckKind.Ack)) }
+    {
+        self.double_ack_with(alloc, AckKind::Ack)
+    }
+
+    /// Says what became of the message, and waits for the server's answer.
+    pub fn double_ack_with(&self, alloc: Global, kind: AckKind) -> Result<DoubleAck, OutOfMemory>
+        ensures { IfOk result (λ call. call ≡ unsent (timeout_of self.now) (reply_of self.now) (ack_body kind)) }
+    {
+        double_acknowledge(alloc, self.timeout, self.reply.as_ref(), kind)
+    }
+}

@@ -1,0 +1,155 @@
+ghost use Rattle.std.specs.Prelude.{◌≡◌, IfOk};
+ghost use Rattle.std.specs.Option.{option_copied};
+ghost use Rattle.js_message.specs.Acking.{ack_body, unsent, opened, waiting, PollsOf, OpensAndSends, FailsToOpen, Sends, Looks};
+
+use crate::ack_kind::AckKind;
+use crate::acker::AckError;
+use bytes::Bytes;
+use js_base::{Moment, Nanos, OutOfMemory, Subject, TryClone, Turn, due};
+use js_link::{InboxId, Link, LinkError, Taken};
+use std::alloc::Global;
+
+/// A body that goes to a reply subject, and how long its answer is waited for.
+#[derive(Debug, PartialEq, Eq, Drop)]
+pub(crate) struct Outgoing {
+    to: Subject,
+    body: Bytes,
+    timeout: Nanos,
+}
+
+/// How far a double ack has come.
+#[derive(Debug, PartialEq, Eq, Drop)]
+pub(crate) enum Stage {
+    Unsent,
+    /// Its inbox is open under this subject, and nothing was sent.
+    Opened(InboxId, Subject),
+    /// It was sent at this moment.
+    Waiting(InboxId, Moment),
+}
+
+/// An acknowledgement that waits for the server's answer to it.
+///
+/// One that is dropped before its end leaves its inbox open.
+#[derive(Debug, PartialEq, Eq, Drop)]
+pub struct DoubleAck {
+    outgoing: Option<Outgoing>,
+    stage: Stage,
+}
+
+/// What one poll answers.
+type Polled = Turn<DoubleAck, Result<(), AckError>>;
+
+/// A double ack that has not begun.
+pub(crate) fn double_acknowledge(
+    alloc: Global,
+    timeout: Nanos,
+    reply: Option<&Subject>,
+    kind: AckKind,
+) -> Result<DoubleAck, OutOfMemory>
+    ensures { IfOk result (λ call. call ≡ unsent timeout (option_copied reply.entry) (ack_body kind)) }
+{
+    let outgoing = match reply {
+        None => None,
+        Some(reply) => Some(Outgoing {
+            to: reply.try_clone()?,
+            body: kind.to_bytes(alloc)?,
+            timeout,
+        }),
+    };
+    Ok(DoubleAck {
+        outgoing,
+        stage: Stage::Unsent,
+    })
+}
+
+impl DoubleAck {
+    /// Goes on with it. The first poll opens an inbox, sends the body with that inbox's subject as its reply, and starts the
+    /// clock; each looks for the answer, and then at the clock. Whatever arrives is the answer. At its end the inbox
+    /// is closed.
+    ///
+    /// `NoReply` comes where the message has no reply subject, `LinkFailed` where the link could not open the inbox or send,
+    /// `TimedOut` where no answer had come and the timeout is over, and `SubscriptionDropped` where the inbox was closed.
+    /// After `OutOfMemory` an inbox that was opened stays open, and the next poll begins with the send.
+    pub fn poll<L: Link>(
+        self,
+        alloc: Global,
+        link: &mut L,
+        now: Moment,
+    ) -> Turn<DoubleAck, Result<(), AckError>>
+        ensures { PollsOf self now result (L.view link.old) (L.view link.new) }
+    {
+        let DoubleAck { outgoing, stage } = self;
+        let Some(outgoing) = outgoing else {
+            return Turn::Ready(Err(AckError::NoReply));
+        };
+        match stage {
+            Stage::Unsent => outgoing.open(alloc, link, now),
+            Stage::Opened(inbox, subject) => outgoing.send(alloc, link, now, inbox, subject),
+            Stage::Waiting(inbox, since) => outgoing.look(link, now, inbox, since),
+        }
+    }
+}
+
+impl Outgoing {
+    ghost use Rattle.std.specs.Prelude.{◌⊎◌};
+
+    /// Opens an inbox, and goes on.
+    fn open<L: Link>(self, alloc: Global, link: &mut L, now: Moment) -> Polled
+        ensures { FailsToOpen self result (L.view link.old) (L.view link.new) ⊎ OpensAndSends self now result (L.view link.old) (L.view link.new) }
+    {
+        match link.open_inbox(alloc) {
+            Ok((inbox, subject)) => self.send(alloc, link, now, inbox, subject),
+            Err(LinkError::Failed) => Turn::Ready(Err(AckError::LinkFailed)),
+            Err(LinkError::OutOfMemory) => Turn::OutOfMemory(DoubleAck {
+                outgoing: Some(self),
+                stage: Stage::Unsent,
+            }),
+        }
+    }
+
+    /// Sends the body, and goes on.
+    fn send<L: Link>(
+        self,
+        alloc: Global,
+        link: &mut L,
+        now: Moment,
+        inbox: InboxId,
+        subject: Subject,
+    ) -> Polled
+        ensures { Sends self inbox.0 subject now result (L.view link.old) (L.view link.new) }
+    {
+        let reply = Some(subject.as_str());
+        match link.publish(alloc, self.to.as_str(), reply, None, self.body.as_slice()) {
+            Ok(()) => self.look(link, now, inbox, now),
+            Err(LinkError::Failed) => {
+                link.unsubscribe(inbox);
+                Turn::Ready(Err(AckError::LinkFailed))
+            }
+            Err(LinkError::OutOfMemory) => Turn::OutOfMemory(DoubleAck {
+                outgoing: Some(self),
+                stage: Stage::Opened(inbox, subject),
+            }),
+        }
+    }
+
+    /// Looks for the answer, and then at the clock.
+    fn look<L: Link>(self, link: &mut L, now: Moment, inbox: InboxId, since: Moment) -> Polled
+        ensures { Looks self inbox.0 since now result (L.view link.old) (L.view link.new) }
+    {
+        match link.take(inbox) {
+            Taken::Message(_) => {
+                link.unsubscribe(inbox);
+                Turn::Ready(Ok(()))
+            }
+            Taken::Closed => Turn::Ready(Err(AckError::SubscriptionDropped)),
+            Taken::Empty if due(now, since, self.timeout) => {
+                link.unsubscribe(inbox);
+                Turn::Ready(Err(AckError::TimedOut))
+            }
+            Taken::Empty => Turn::Pending(DoubleAck {
+                outgoing: Some(self),
+                stage: Stage::Waiting(inbox, since),
+            }),
+        }
+    }
+}
