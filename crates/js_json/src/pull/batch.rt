@@ -2,7 +2,7 @@
 
 ghost use Rattle.std.specs.Prelude.{◌≡◌, Ok, Option, Result, string_bytes, option_copied};
 ghost use Rattle.serde_json.specs.Data.{Members, no_members};
-ghost use Rattle.js_fields.specs.Building.{Holds};
+ghost use Rattle.js_fields.specs.Object.{Holds};
 ghost use Rattle.js_fields.specs.Reading.{GivesAs};
 ghost use Rattle.js_fields.specs.Rows.{with_row, with_rows, where_some, text_data, text_of};
 ghost use Rattle.js_fields.specs.declared.key.Key.TheVariants.{Id as id};
