@@ -1,6 +1,6 @@
 //! Whole values, and objects inside others.
 
-ghost use Rattle.std.specs.Prelude.{◌≡◌, Result};
+ghost use Rattle.std.specs.Prelude.{Result};
 ghost use Rattle.serde_json.specs.Data.{Data};
 ghost use Rattle.serde_json.specs.View.{view};
 ghost use Rattle.js_fields.specs.Reading.{Gives, nested as nested_in, float_free};

@@ -1,6 +1,6 @@
 //! Values that are written.
 
-ghost use Rattle.std.specs.Prelude.{◌≡◌, Result, string_bytes};
+ghost use Rattle.std.specs.Prelude.{Result, string_bytes};
 ghost use Rattle.serde_json.specs.Data.{Data};
 ghost use Rattle.js_fields.specs.Reading.{GivesAs};
 ghost use Rattle.js_fields.specs.Rows.{Shows, text_of};

@@ -3,7 +3,8 @@
 ghost use Rattle.std.specs.Prelude.{◌≡◌};
 ghost use Rattle.serde_json.specs.View.{view, members_view};
 ghost use Rattle.js_fields.specs.Reading.{GivesAs};
-ghost use Rattle.js_fields.specs.Values.{has_only as has_only_in, members_only, is_among as is_key_among, value_of as value_in};
+ghost use Rattle.js_fields.specs.Values.{has_only as has_only_in, members_only};
+ghost use Rattle.js_fields.specs.Values.{is_among as is_key_among, value_of as value_in};
 
 use crate::error::ReadError;
 use crate::float::has_float;
