@@ -65,7 +65,8 @@ impl BatchConfig {
     }
 
     fn put_rows(&self, alloc: Global, object: Object) -> Object
-        ensures { (rows : Result Members ReadError) → Holds object rows → Holds result (with_rows rows (batch_config_rows self.now)) }
+        ensures { (rows : Result Members ReadError) → Holds object rows
+            → Holds result (with_rows rows (batch_config_rows self.now)) }
     {
         object
             .always(alloc, Key::Batch, &self.batch)
