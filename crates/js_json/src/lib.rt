@@ -1,20 +1,16 @@
-//! Bodies as JSON values.
+//! Bodies of the JetStream API as JSON values: what consumers are configured with and what the server knows
+//! of them, pull requests, accounts, and the answers of the API.
 #![tactic(auto)]
 
 pub mod account;
-mod answers;
-mod cluster_info;
 pub mod consumer;
 mod publish_ack;
 pub mod pull;
 pub mod push;
 mod response;
-mod special;
 
-pub use answers::response_as;
-pub use cluster_info::ClusterInfo;
 pub use publish_ack::PublishAck;
-pub use response::{Response, response_from};
+pub use response::{Response, response_as, response_from};
 
 #[cfg(test)]
 mod tests;

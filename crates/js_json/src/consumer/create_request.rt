@@ -1,6 +1,6 @@
 //! The request that makes a consumer.
 
-ghost use Rattle.std.specs.Prelude.{◌≡◌, false};
+ghost use Rattle.std.specs.Prelude.{false};
 ghost use Rattle.js_json.specs.CreateRequest.{action_data, create_request_value};
 
 use crate::consumer::config::Config;

@@ -2,7 +2,7 @@
 
 ghost use Rattle.std.specs.Prelude.{◌≡◌, Ok, Option, Result, string_bytes, option_copied};
 ghost use Rattle.serde_json.specs.Data.{Members, no_members};
-ghost use Rattle.js_fields.specs.Building.{Holds};
+ghost use Rattle.js_fields.specs.Object.{Holds};
 ghost use Rattle.js_fields.specs.Reading.{GivesAs};
 ghost use Rattle.js_fields.specs.Rows.{with_row, with_rows, where_some, text_data, text_of};
 ghost use Rattle.js_fields.specs.declared.key.Key.TheVariants.{Id as id};
@@ -65,7 +65,8 @@ impl BatchConfig {
     }
 
     fn put_rows(&self, alloc: Global, object: Object) -> Object
-        ensures { (rows : Result Members ReadError) → Holds object rows → Holds result (with_rows rows (batch_config_rows self.now)) }
+        ensures { (rows : Result Members ReadError) → Holds object rows
+            → Holds result (with_rows rows (batch_config_rows self.now)) }
     {
         object
             .always(alloc, Key::Batch, &self.batch)

@@ -1,0 +1,17 @@
+-- Names of streams and consumers.
+use Rattle.std.specs.Prelude.{ℕ, List, [], ◌∷◌, Bool, true, false, not, ◌||◌, ◌&&◌, ◌==◌}
+use Rattle.std.specs.List.{list_all}
+
+-- a space, a tab, a line feed, a form feed or a carriage return
+abbrev pub is_space : ℕ → Bool
+is_space b = b == 32 || b == 9 || b == 10 || b == 12 || b == 13
+
+abbrev pub is_name_byte : ℕ → Bool
+is_name_byte b = not (is_space b || b == 46 || b == 42 || b == 62)
+
+abbrev pub is_empty : List ℕ → Bool
+is_empty [] = true
+is_empty (b ∷ bs) = false
+
+abbrev pub is_name : List ℕ → Bool
+is_name name = not (is_empty name) && list_all is_name_byte name

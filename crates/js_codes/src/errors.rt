@@ -1,0 +1,104 @@
+//! The error in an answer of the API.
+
+ghost use Rattle.std.specs.Prelude.{◌≡◌};
+ghost use Rattle.js_codes.specs.Description.{description_or_unknown};
+ghost use Rattle.js_codes.specs.Error.{error_fields, error_value};
+
+pub use crate::code::ErrorCode;
+use js_base::{OutOfMemory, Text, TryClone};
+use js_fields::{FromValue, Key, Object, ReadError, ToValue, defaulted, optional, required};
+use serde_json::Value;
+use std::alloc::Global;
+use std::fmt;
+
+/// What the API answers in place of a result.
+#[derive(Debug, PartialEq, Eq, Drop)]
+pub struct Error {
+    /// The kind of refusal, in the numbers of HTTP.
+    pub code: u64,
+    /// Which error it is.
+    pub err_code: ErrorCode,
+    pub description: Option<Text>,
+}
+
+impl Error {
+    /// The kind of refusal, in the numbers of HTTP.
+    pub fn code(&self) -> u64
+        ensures { result ≡ self.now.code }
+    {
+        self.code
+    }
+
+    /// Which error it is.
+    pub fn error_code(&self) -> ErrorCode
+        ensures { result ≡ self.now.err_code }
+    {
+        self.err_code
+    }
+
+    /// Which error it is.
+    pub fn kind(&self) -> ErrorCode
+        ensures { result ≡ self.now.err_code }
+    {
+        self.err_code
+    }
+
+    fn description(&self) -> &str
+        ensures { result.now ≡ description_or_unknown self.now.description }
+    {
+        match &self.description {
+            None => "unknown",
+            Some(text) => text.as_str(),
+        }
+    }
+}
+
+impl fmt::Display for Error {
+    ghost use Rattle.std.specs.Prelude.{Some};
+    ghost use Rattle.js_codes.specs.Error.{error_text};
+
+    ghost output = { λ e. Some (error_text e) };
+
+    fn fmt<W: fmt::Write>(&self, f: &mut fmt::Formatter<W>) -> fmt::Result {
+        let description = self.description();
+        let code = self.code;
+        let err_code = self.err_code.0;
+        write!(f, "{description} (code {code}, error code {err_code})")
+    }
+}
+
+impl TryClone for Error {
+    fn try_clone(&self) -> Result<Error, OutOfMemory> {
+        Ok(Error {
+            code: self.code,
+            err_code: self.err_code,
+            description: self.description.try_clone()?,
+        })
+    }
+}
+
+impl FromValue for Error {
+    ghost fields = { error_fields };
+
+    #[tactic(auto, unfolding(crate::specs::Error::error_fields))]
+    fn from_fields(alloc: Global, object: &Value) -> Result<Error, ReadError> {
+        Ok(Error {
+            code: required(alloc, object, Key::Code)?,
+            err_code: defaulted(alloc, object, Key::ErrCode)?,
+            description: optional(alloc, object, Key::Description)?,
+        })
+    }
+}
+
+impl ToValue for Error {
+    ghost written = { error_value };
+
+    #[tactic(auto, unfolding(crate::specs::Error::error_value))]
+    fn to_value(&self, alloc: Global) -> Result<Value, ReadError> {
+        Object::new(alloc)
+            .always(alloc, Key::Code, &self.code)
+            .always(alloc, Key::ErrCode, &self.err_code)
+            .or_null(alloc, Key::Description, &self.description)
+            .finish()
+    }
+}

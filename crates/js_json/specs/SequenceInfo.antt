@@ -1,0 +1,15 @@
+-- How far a consumer is.
+use Rattle.std.specs.Prelude.{Result, Ok}
+use Rattle.serde_json.specs.Data.{Data}
+use Rattle.js_fields.specs.declared.key.Key.TheVariants as key
+use Rattle.js_fields.specs.declared.error.ReadError.{ReadError}
+use Rattle.js_fields.specs.Reading.{◌>>=◌, required, optional, natural}
+use Rattle.js_fields.specs.Instants.{instant}
+use Rattle.js_json.specs.declared.consumer.info.SequenceInfo.{SequenceInfo}
+
+unfoldable pub sequence_info_fields : Data → Result SequenceInfo ReadError
+sequence_info_fields d = do
+  consumer_sequence ← required natural key.ConsumerSeq d
+  stream_sequence ← required natural key.StreamSeq d
+  last_active ← optional instant key.LastActive d
+  Ok (record { consumer_sequence = consumer_sequence; stream_sequence = stream_sequence; last_active = last_active })
