@@ -355,7 +355,7 @@ go_on_leads g p m Exhausted c = record { none = refl; next = tt }
 
 changed_leads : (g : Given) (p : Passing) (m : Matter) (old new : State) (phase : Phase) (c : Consumer) → Leads IsInside (changed g p m old new phase c)
 changed_leads g p m old new (Pulls reader) c = reader_inside p m (read.Begin (Some new)) reader (record c { connection = new })
-changed_leads g p m old new (Pushes inbox silence) c = 
+changed_leads g p m old new (Pushes inbox silence) c =
     if_both (Leads IsInside) (is_connected old || is_connected new) _ _ (record { none = refl; next = (tt, tt) }) (go_on_leads g p m (Pushes inbox silence) (record c { connection = new }))
 changed_leads g p m old new (Recreates r) c = go_on_leads g p m (Recreates r) (record c { connection = new })
 changed_leads g p m old new Idle c = go_on_leads g p m Idle (record c { connection = new })

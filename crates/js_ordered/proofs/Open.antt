@@ -195,7 +195,7 @@ go_on_opens g p m Exhausted c k kp h = absurd kp
 
 changed_opens : (g : Given) (p : Passing) (m : Matter) (old new : State) (phase : Phase) (c : Consumer) → Last c → IsOpenPhase phase → IsOpenMatter m → Opens (changed g p m old new phase (at_phase phase c))
 changed_opens g p m old new (Pulls reader) c k kp h = reader_opens p m (read.Begin (Some new)) reader (record c { connection = new }) k h
-changed_opens g p m old new (Pushes inbox silence) c k kp h = 
+changed_opens g p m old new (Pushes inbox silence) c k kp h =
     if_both Opens (is_connected old || is_connected new) _ _ (record { consumer = record { last = k; phase = tt }; rows = (tt, tt) }) (go_on_opens g p m (Pushes inbox silence) (record c { connection = new }) k kp h)
 changed_opens g p m old new (Recreates r) c k kp h = go_on_opens g p m (Recreates r) (record c { connection = new }) k kp h
 changed_opens g p m old new Idle c k kp h = go_on_opens g p m Idle (record c { connection = new }) k kp h

@@ -6,8 +6,6 @@ use Rattle.js_ordered.specs.Refusal.{refuse}
 use Rattle.js_ordered.specs.declared.run.ReplayError.TheVariants as error
 use Rattle.js_ordered.specs.declared.run.Field.TheVariants as field
 use Rattle.js_base.specs.declared.message.State.TheVariants.{Connected, Disconnected}
-use Rattle.js_json.specs.Conversions.{ordered_pull_config}
-use Rattle.js_json.specs.declared.consumer.policy.DeliverPolicy.TheVariants as policy
 use Rattle.js_ordered.specs.declared.consumer.Given.{Given}
 use Rattle.js_ordered.specs.declared.event.Event.{Event}
 use Rattle.js_ordered.specs.declared.event.What.TheVariants as what
@@ -33,9 +31,9 @@ create number name start = out.Request number (codes "$JS.API.CONSUMER.CREATE.ev
 
 row_gap : (heap : Global) → fold by_pull 0 (arrives heap 1 0 1 1 (codes "a") ∷ arrives heap 2 0 2 2 (codes "b") ∷ arrives heap 3 0 4 4 (codes "d") ∷ answers heap 4 1 ok ∷ answers heap 5 2 (info_text (codes "c1_1")) ∷ [])
     ≡ run_of (asks (codes "c1") 0 ∷ []) ((out.Yield 1 1 [] (codes "a") ∷ []) ∷ (out.Yield 2 2 [] (codes "b") ∷ [])
-          ∷ (out.Recreate 1 (start.From 3) ∷ deletes 1 (codes "c1") ∷ [])
-          ∷ (create 2 (codes "c1_1") (codes "\"deliver_policy\":\"by_start_sequence\",\"inactive_threshold\":30000000000,\"max_deliver\":1,\"mem_storage\":true,\"name\":\"c1_1\",\"num_replicas\":1,\"opt_start_seq\":3") ∷ [])
-          ∷ (out.Subscribe 1 (codes "_INBOX.t.1") ∷ asks (codes "c1_1") 1 ∷ []) ∷ []) false
+    ∷ (out.Recreate 1 (start.From 3) ∷ deletes 1 (codes "c1") ∷ [])
+    ∷ (create 2 (codes "c1_1") (codes "\"deliver_policy\":\"by_start_sequence\",\"inactive_threshold\":30000000000,\"max_deliver\":1,\"mem_storage\":true,\"name\":\"c1_1\",\"num_replicas\":1,\"opt_start_seq\":3") ∷ [])
+    ∷ (out.Subscribe 1 (codes "_INBOX.t.1") ∷ asks (codes "c1_1") 1 ∷ []) ∷ []) false
 unfolding replays_on_literals
 row_gap heap = refl
 
@@ -54,8 +52,8 @@ pull_within_a_second = record by_pull { settings = record settings { context_tim
 
 row_unanswered : (heap : Global) → fold pull_within_a_second 0 (arrives heap 0 0 2 2 (codes "b") ∷ tick 1_000_000_000 ∷ tick 2_000_000_000 ∷ tick 2_500_000_000 ∷ [])
     ≡ run_of (asks (codes "c1") 0 ∷ []) ((out.Recreate 1 start.All ∷ deletes 1 (codes "c1") ∷ [])
-          ∷ (create 2 (codes "c1_1") (codes "\"deliver_policy\":\"all\",\"inactive_threshold\":30000000000,\"max_deliver\":1,\"mem_storage\":true,\"name\":\"c1_1\",\"num_replicas\":1") ∷ [])
-          ∷ [] ∷ (deletes 3 (codes "c1") ∷ []) ∷ []) false
+    ∷ (create 2 (codes "c1_1") (codes "\"deliver_policy\":\"all\",\"inactive_threshold\":30000000000,\"max_deliver\":1,\"mem_storage\":true,\"name\":\"c1_1\",\"num_replicas\":1") ∷ [])
+    ∷ [] ∷ (deletes 3 (codes "c1") ∷ []) ∷ []) false
 unfolding replays_on_literals
 row_unanswered heap = refl
 
@@ -66,17 +64,17 @@ row_silent_push = refl
 
 row_held : (heap : Global) → fold by_push 0 (arrives heap 1 0 1 1 (codes "a") ∷ arrives heap 2 0 3 3 (codes "c") ∷ answers heap 3 1 ok ∷ arrives heap 4 1 1 2 (codes "b") ∷ answers heap 5 2 (push_text (codes "c1_1")) ∷ [])
     ≡ run_of [] ((out.Yield 1 1 [] (codes "a") ∷ []) ∷ (out.Recreate 1 (start.From 2) ∷ deletes 1 (codes "c1") ∷ [])
-          ∷ (out.Subscribe 1 (codes "_INBOX.t.1")
-          ∷ create 2 (codes "c1_1") (codes "\"deliver_policy\":\"by_start_sequence\",\"deliver_subject\":\"_INBOX.t.1\",\"flow_control\":true,\"idle_heartbeat\":5000000000,\"inactive_threshold\":30000000000,\"max_deliver\":1,\"mem_storage\":true,\"name\":\"c1_1\",\"num_replicas\":1,\"opt_start_seq\":2") ∷ [])
-          ∷ [] ∷ (out.Yield 2 1 [] (codes "b") ∷ []) ∷ []) false
+    ∷ (out.Subscribe 1 (codes "_INBOX.t.1")
+    ∷ create 2 (codes "c1_1") (codes "\"deliver_policy\":\"by_start_sequence\",\"deliver_subject\":\"_INBOX.t.1\",\"flow_control\":true,\"idle_heartbeat\":5000000000,\"inactive_threshold\":30000000000,\"max_deliver\":1,\"mem_storage\":true,\"name\":\"c1_1\",\"num_replicas\":1,\"opt_start_seq\":2") ∷ [])
+    ∷ [] ∷ (out.Yield 2 1 [] (codes "b") ∷ []) ∷ []) false
 unfolding replays_on_literals
 row_held heap = refl
 
 row_push_reconnects : (heap : Global) → fold by_push 0 (connection 1 Disconnected ∷ answers heap 2 1 ok ∷ connection 3 Connected ∷ answers heap 4 2 (push_text (codes "c1_1")) ∷ [])
     ≡ run_of [] ((out.Recreate 1 start.All ∷ deletes 1 (codes "c1") ∷ [])
-          ∷ (out.Subscribe 1 (codes "_INBOX.t.1")
-          ∷ create 2 (codes "c1_1") (codes "\"deliver_policy\":\"all\",\"deliver_subject\":\"_INBOX.t.1\",\"flow_control\":true,\"idle_heartbeat\":5000000000,\"inactive_threshold\":30000000000,\"max_deliver\":1,\"mem_storage\":true,\"name\":\"c1_1\",\"num_replicas\":1") ∷ [])
-          ∷ [] ∷ [] ∷ []) false
+    ∷ (out.Subscribe 1 (codes "_INBOX.t.1")
+    ∷ create 2 (codes "c1_1") (codes "\"deliver_policy\":\"all\",\"deliver_subject\":\"_INBOX.t.1\",\"flow_control\":true,\"idle_heartbeat\":5000000000,\"inactive_threshold\":30000000000,\"max_deliver\":1,\"mem_storage\":true,\"name\":\"c1_1\",\"num_replicas\":1") ∷ [])
+    ∷ [] ∷ [] ∷ []) false
 unfolding replays_on_literals
 row_push_reconnects heap = refl
 
@@ -92,7 +90,7 @@ flow_control heap = record {
 
 row_flow_control : (heap : Global) → fold by_push 0 (arrives heap 1 0 1 1 (codes "a") ∷ flow_control heap ∷ [])
     ≡ run_of [] ((out.Yield 1 1 [] (codes "a") ∷ [])
-          ∷ (out.Publish (codes "$JS.FC.x") None [] ∷ out.Recreate 1 (start.From 2) ∷ deletes 1 (codes "c1") ∷ []) ∷ []) false
+    ∷ (out.Publish (codes "$JS.FC.x") None [] ∷ out.Recreate 1 (start.From 2) ∷ deletes 1 (codes "c1") ∷ []) ∷ []) false
 unfolding replays_on_literals
 row_flow_control heap = refl
 
@@ -101,9 +99,9 @@ too_many = codes "Exceeded MaxRequestBatch of 100"
 
 row_limit_again : (heap : Global) → fold by_pull 0 (with_status heap 1 0 409 too_many ∷ answers heap 2 1 ok ∷ answers heap 3 2 (info_text (codes "c1_1")) ∷ with_status heap 4 1 409 too_many ∷ [])
     ≡ run_of (asks (codes "c1") 0 ∷ []) ((out.Recreate 1 start.All ∷ deletes 1 (codes "c1") ∷ [])
-          ∷ (create 2 (codes "c1_1") (codes "\"deliver_policy\":\"all\",\"inactive_threshold\":30000000000,\"max_deliver\":1,\"mem_storage\":true,\"name\":\"c1_1\",\"num_replicas\":1") ∷ [])
-          ∷ (out.Subscribe 1 (codes "_INBOX.t.1") ∷ asks (codes "c1_1") 1 ∷ [])
-          ∷ (out.Item item.RequestLimitExceeded ∷ []) ∷ []) true
+    ∷ (create 2 (codes "c1_1") (codes "\"deliver_policy\":\"all\",\"inactive_threshold\":30000000000,\"max_deliver\":1,\"mem_storage\":true,\"name\":\"c1_1\",\"num_replicas\":1") ∷ [])
+    ∷ (out.Subscribe 1 (codes "_INBOX.t.1") ∷ asks (codes "c1_1") 1 ∷ [])
+    ∷ (out.Item item.RequestLimitExceeded ∷ []) ∷ []) true
 unfolding replays_on_literals
 row_limit_again heap = refl
 
@@ -146,9 +144,9 @@ push_without_retries = record by_push { settings = record settings { context_tim
 
 row_held_at_timeout : (heap : Global) → fold push_without_retries 0 (arrives heap 1 0 2 2 (codes "b") ∷ answers heap 2 1 ok ∷ arrives heap 3 1 1 1 (codes "a") ∷ [])
     ≡ run_of [] ((out.Recreate 1 start.All ∷ deletes 1 (codes "c1") ∷ [])
-          ∷ (out.Subscribe 1 (codes "_INBOX.t.1")
-          ∷ create 2 (codes "c1_1") (codes "\"deliver_policy\":\"all\",\"deliver_subject\":\"_INBOX.t.1\",\"flow_control\":true,\"idle_heartbeat\":5000000000,\"inactive_threshold\":30000000000,\"max_deliver\":1,\"mem_storage\":true,\"name\":\"c1_1\",\"num_replicas\":1") ∷ [])
-          ∷ (out.Item item.Recreate ∷ []) ∷ []) false
+    ∷ (out.Subscribe 1 (codes "_INBOX.t.1")
+    ∷ create 2 (codes "c1_1") (codes "\"deliver_policy\":\"all\",\"deliver_subject\":\"_INBOX.t.1\",\"flow_control\":true,\"idle_heartbeat\":5000000000,\"inactive_threshold\":30000000000,\"max_deliver\":1,\"mem_storage\":true,\"name\":\"c1_1\",\"num_replicas\":1") ∷ [])
+    ∷ (out.Item item.Recreate ∷ []) ∷ []) false
 unfolding replays_on_literals
 row_held_at_timeout heap = refl
 
@@ -176,7 +174,7 @@ row_accepted heap = refl
 
 row_configured : (heap : Global) → fold (pull_from 5) 0 (arrives heap 1 0 2 6 (codes "b") ∷ answers heap 2 1 ok ∷ [])
     ≡ run_of (asks (codes "c1") 0 ∷ []) ((out.Recreate 1 (start.From 5) ∷ deletes 1 (codes "c1") ∷ [])
-          ∷ (create 2 (codes "c1_1") (codes "\"deliver_policy\":\"by_start_sequence\",\"inactive_threshold\":30000000000,\"max_deliver\":1,\"mem_storage\":true,\"name\":\"c1_1\",\"num_replicas\":1,\"opt_start_seq\":5") ∷ []) ∷ []) false
+    ∷ (create 2 (codes "c1_1") (codes "\"deliver_policy\":\"by_start_sequence\",\"inactive_threshold\":30000000000,\"max_deliver\":1,\"mem_storage\":true,\"name\":\"c1_1\",\"num_replicas\":1,\"opt_start_seq\":5") ∷ []) ∷ []) false
 unfolding replays_on_literals
 row_configured heap = refl
 
@@ -274,8 +272,8 @@ pull_at_once = record by_pull { settings = record settings { context_timeout = S
 
 row_at_once : (heap : Global) → fold pull_at_once 0 (arrives heap 1 0 2 2 (codes "b") ∷ tick 1 ∷ tick 1 ∷ [])
     ≡ run_of (asks (codes "c1") 0 ∷ []) ((out.Recreate 1 start.All ∷ deletes 1 (codes "c1") ∷ [])
-          ∷ (create 2 (codes "c1_1") (codes "\"deliver_policy\":\"all\",\"inactive_threshold\":30000000000,\"max_deliver\":1,\"mem_storage\":true,\"name\":\"c1_1\",\"num_replicas\":1") ∷ [])
-          ∷ [] ∷ []) false
+    ∷ (create 2 (codes "c1_1") (codes "\"deliver_policy\":\"all\",\"inactive_threshold\":30000000000,\"max_deliver\":1,\"mem_storage\":true,\"name\":\"c1_1\",\"num_replicas\":1") ∷ [])
+    ∷ [] ∷ []) false
 unfolding replays_on_literals
 row_at_once heap = refl
 

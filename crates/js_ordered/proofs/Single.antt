@@ -123,7 +123,7 @@ go_on_single g p m Exhausted c = nothing
 
 changed_single : (g : Given) (p : Passing) (m : Matter) (old new : State) (phase : Phase) (c : Consumer) → Single (changed g p m old new phase c)
 changed_single g p m old new (Pulls reader) c = reader_single p m.answer (message_on reader.source.inbox m.arrival) (read.Begin (Some new)) reader (record c { connection = new })
-changed_single g p m old new (Pushes inbox silence) c = 
+changed_single g p m old new (Pushes inbox silence) c =
     if_both Single (is_connected old || is_connected new) _ _ nothing (go_on_single g p m (Pushes inbox silence) (record c { connection = new }))
 changed_single g p m old new (Recreates r) c = go_on_single g p m (Recreates r) (record c { connection = new })
 changed_single g p m old new Idle c = go_on_single g p m Idle (record c { connection = new })

@@ -36,7 +36,6 @@ use Rattle.js_ordered.specs.Turn.{push_rows, go_on, changed, watcher_ended, even
 use Rattle.js_ordered.specs.Wishes.{awaited, opened_read, opened_dropped, create_wish, succeed_wish, beat_wish, wish_at, wish, change_of, arrival_of, matter_of, watched, givings, met_in}
 use Rattle.js_ordered.specs.declared.setup.OrderedSetup.{OrderedSetup}
 use Rattle.js_ordered.specs.declared.setup.OrderedSetup.TheVariants.{Pull, Push}
-
 use Rattle.js_ordered.proofs.Wishes.{each, chosen}
 
 -- a row at a phase, met by what an event brings

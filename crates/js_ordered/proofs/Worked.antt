@@ -1,7 +1,7 @@
 -- The two setups and the events of the worked rows.
 use Rattle.std.specs.Prelude.{ℕ, pos, Bool, false, List, [], ◌++◌, map, Some, None, codes, decimal, ⊤}
 use denote.RawPtr.{null_ptr}
-use Rattle.std.proofs.Common.{Box, arith}
+use Rattle.std.proofs.Common.{Box}
 use Rattle.std.specs.Global.{Global}
 use Rattle.jiff.specs.Types.{Timestamp}
 use Rattle.js_base.specs.declared.message.Message.{Message}
