@@ -19,8 +19,11 @@ pub struct StatusCode(pub u16);
 impl StatusCode {
     /// The server is there, and has nothing to send.
     pub const IDLE_HEARTBEAT: StatusCode = StatusCode(100);
+
     pub const OK: StatusCode = StatusCode(200);
+
     pub const NOT_FOUND: StatusCode = StatusCode(404);
+
     pub const TIMEOUT: StatusCode = StatusCode(408);
     /// A pull request ended before all that it asked for had come.
     pub const REQUEST_TERMINATED: StatusCode = StatusCode(409);
