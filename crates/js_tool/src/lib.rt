@@ -1,13 +1,12 @@
-// A library with one function.
+//! The top call of the program: transcripts are read from a source, replayed, and their runs written to a sink.
 #![tactic(auto)]
 
-ghost use Rattle.std.specs.Prelude.{◌≡◌};
-ghost use Rattle.js_tool.specs.Echo.{echo_of};
+mod lines;
+mod text;
+mod transcript;
 
-// The `ensures` clause is the contract: what `echo` returns is `echo_of` of its argument, a definition
-// in `specs/Echo.antt`, which a caller's clause can cite too.
-pub fn echo(x: usize) -> usize
-    ensures { result ≡ echo_of x }
-{
-    x
-}
+pub use js_ends::{
+    Failed, MemorySink, MemorySource, PlainSink, PlainSource, ReadSource, Sink, Source, WriteSink,
+};
+pub use text::{refusal_line, run_text};
+pub use transcript::{Mode, Setup, Transcript, Unread, read};

@@ -1,0 +1,9 @@
+use Rattle.std.proofs.Common.{◌≡◌, ◌++◌, take, drop}
+use Rattle.json.specs.Print.{escape}
+use Rattle.js_tool.proofs.text.quoted.plain_front.Given as goal
+
+abbrev pub invariant-loop-byte : goal.invariant-loop-byte
+invariant-loop-byte l = record {
+  counted : l.count ≡ l.byte-index;
+  plain : escape l.bytes ≡ take l.count l.bytes ++ escape (drop l.count l.bytes);
+}
