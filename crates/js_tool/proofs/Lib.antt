@@ -1,3 +1,4 @@
+mod Called
 mod Cuts
 mod Headers
 mod Loop

@@ -5,3 +5,6 @@ pub mod Messages
 pub mod Events
 pub mod Transcripts
 pub mod Texts
+pub mod Statuses
+pub mod Commands
+pub mod Program
