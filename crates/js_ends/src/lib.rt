@@ -2,6 +2,7 @@
 #![tactic(auto)]
 
 mod memory;
+mod pieces;
 mod plain;
 mod standard;
 mod whole;
@@ -12,6 +13,7 @@ ghost use Rattle.std.specs.Io.KnownBytes.{ReadConsumes, WriteAppends};
 ghost use Rattle.js_ends.specs.Causes.{HasCause, HasWriteCause};
 
 pub use memory::{MemorySink, MemorySource};
+pub use pieces::Pieces;
 pub use plain::{PlainSink, PlainSource};
 pub use standard::{ReadSource, WriteSink};
 pub use whole::{MOST_BYTES, Stop, read_all, write_all};

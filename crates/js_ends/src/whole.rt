@@ -5,6 +5,7 @@ ghost use Rattle.std.specs.Io.KnownBytes.{Appends};
 ghost use Rattle.js_ends.specs.Causes.{Rose, AppendsPrefix};
 ghost use Rattle.js_ends.specs.declared.whole.Stop.TheVariants.{OutOfMemory};
 
+use crate::pieces::Pieces;
 use crate::{Failed, Sink, Source};
 use std::alloc::{AllocError, Global};
 
@@ -32,10 +33,10 @@ impl From<AllocError> for Stop {
 }
 
 /// All the bytes of a source, of which there are at most `MOST_BYTES`.
-pub fn read_all<S: Source>(alloc: Global, input: &mut S) -> Result<Vec<u8>, Stop>
-    ensures whole { IfOk result (λ read. IfSome (S.left input.old) (λ bytes. read.items ≡ bytes)) }
+pub fn read_all<S: Source>(alloc: Global, input: &mut S) -> Result<Pieces, Stop>
+    ensures whole { IfOk result (λ read. IfSome (S.left input.old) (λ bytes. read ≡ bytes)) }
     ensures at_end { OnOk result (IfSome (S.left input.new) (λ rest. rest ≡ [])) }
-    ensures within { IfOk result (λ read. vec_len read ≤ MOST_BYTES) }
+    ensures within { IfOk result (λ read. length read ≤ MOST_BYTES) }
     ensures too_long { IsErrOf result Stop.TooLong
         → IfSome (S.left input.old) (λ bytes. MOST_BYTES < length bytes) }
     ensures fault { IsErrOf result Stop.Fault → Rose (S.faults input.old) (S.faults input.new) }
@@ -51,17 +52,18 @@ fn buffer(alloc: Global) -> Result<Vec<u8>, AllocError>
     vec![in alloc; 0u8; BUFFER]
 }
 
-fn read_through<S: Source>(alloc: Global, input: &mut S, buf: &mut [u8]) -> Result<Vec<u8>, Stop>
+fn read_through<S: Source>(alloc: Global, input: &mut S, buf: &mut [u8]) -> Result<Pieces, Stop>
     requires { 0 < length buf.old }
-    ensures whole { IfOk result (λ read. IfSome (S.left input.old) (λ bytes. read.items ≡ bytes)) }
+    ensures whole { IfOk result (λ read. IfSome (S.left input.old) (λ bytes. read ≡ bytes)) }
     ensures at_end { OnOk result (IfSome (S.left input.new) (λ rest. rest ≡ [])) }
-    ensures within { IfOk result (λ read. vec_len read ≤ MOST_BYTES) }
+    ensures within { IfOk result (λ read. length read ≤ MOST_BYTES) }
     ensures too_long { IsErrOf result Stop.TooLong
         → IfSome (S.left input.old) (λ bytes. MOST_BYTES < length bytes) }
     ensures fault { IsErrOf result Stop.Fault → Rose (S.faults input.old) (S.faults input.new) }
     ensures later { S.faults input.old ≤ S.faults input.new }
 {
-    let mut read = Vec::new(alloc);
+    let mut read = Pieces::new(alloc);
+    let mut length = 0;
     loop {
         let count = match input.read(buf) {
             Ok(count) => count,
@@ -70,10 +72,11 @@ fn read_through<S: Source>(alloc: Global, input: &mut S, buf: &mut [u8]) -> Resu
         if count == 0 {
             return Ok(read);
         }
-        if count > MOST_BYTES - read.len() {
+        if count > MOST_BYTES - length {
             return Err(Stop::TooLong);
         }
-        read.extend_from_slice(&buf[..count])?;
+        read.add(alloc, &buf[..count])?;
+        length += count;
     }
 }
 

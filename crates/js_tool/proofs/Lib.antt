@@ -2,3 +2,4 @@ mod Called
 mod Cuts
 mod Headers
 mod Loop
+mod Pieces

@@ -1,5 +1,5 @@
 -- What a transcript says, and which of its lines is the first that does not read.
-use Rattle.std.specs.Prelude.{◌≡◌, ℕ, ◌+◌, List, [], ◌∷◌, Result, Ok, Err, ⊤}
+use Rattle.std.specs.Prelude.{◌≡◌, ℕ, ◌+◌, List, [], ◌∷◌, ◌++◌, Result, Ok, Err, ⊤}
 use Rattle.js_fields.specs.declared.error.ReadError.{ReadError}
 use Rattle.js_ordered.specs.declared.event.Event.{Event}
 use Rattle.js_tool.specs.declared.transcript.setup.Setup.{Setup}
@@ -38,6 +38,16 @@ transcript_of (line ∷ lines) = numbered 1 (setup_line line) >>= λ setup. with
 -- what the bytes say, by their lines
 unfoldable pub transcript : List ℕ → Result Transcript ℕ
 transcript bytes = transcript_of (lines_of bytes)
+
+-- the events that were read before, and those that are still read
+abbrev pub after_lines : List Event → Result (List Event) ℕ → Result (List Event) ℕ
+after_lines before reading = reading >>= λ events. Ok (before ++ events)
+
+-- Some lines were read: whatever follows is read from the next number on, or one of them is the first that does not read.
+abbrev pub ReadsOn : List Event → ℕ → List (List ℕ) → List Event → Result ℕ Unread → Type 0
+ReadsOn before number lines after (Ok next) = (more : List (List ℕ)) → after_lines before (events_from number (lines ++ more)) ≡ after_lines after (events_from next more)
+ReadsOn before number lines after (Err unread.OutOfMemory) = ⊤
+ReadsOn before number lines after (Err (unread.BadLine n)) = (more : List (List ℕ)) → events_from number (lines ++ more) ≡ Err n
 
 abbrev pub StopsAt : {A : Type 0} → Unread → Result A ℕ → Type 0
 StopsAt unread.OutOfMemory reading = ⊤

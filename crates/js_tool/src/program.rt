@@ -14,7 +14,7 @@ use crate::command::{Command, command_of};
 use crate::status::Status;
 use crate::text::{refusal_line, run_text};
 use crate::transcript::{Transcript, Unread, read};
-use js_ends::{Sink, Source, Stop, read_all, write_all};
+use js_ends::{Pieces, Sink, Source, Stop, read_all, write_all};
 use js_ordered::{ReplayError, Run, replay_ordered};
 use std::alloc::{AllocError, Global};
 
@@ -91,17 +91,16 @@ pub fn run<S: Source, K: Sink>(
     }
 }
 
-// The bytes are given up before the replay, and the events before the text is made.
-fn replay(alloc: Global, bytes: Vec<u8>) -> Result<Reply, AllocError>
-    requires { length bytes.items ≤ 67_108_864 }
-    ensures { IfOk result (λ reply. IsReply bytes.items reply) }
+// The bytes are given up as they are read, and the events before the text is made.
+fn replay(alloc: Global, bytes: Pieces) -> Result<Reply, AllocError>
+    requires { length bytes ≤ 67_108_864 }
+    ensures { IfOk result (λ reply. IsReply bytes reply) }
 {
-    let transcript = match read(alloc, &bytes) {
+    let transcript = match read(alloc, bytes) {
         Ok(transcript) => transcript,
         Err(Unread::OutOfMemory) => return Err(AllocError),
         Err(Unread::BadLine(line)) => return Ok(Reply::BadLine(line)),
     };
-    drop(bytes);
     match run_of(alloc, transcript) {
         Ok(run) => Ok(Reply::Done(run_text(alloc, &run)?)),
         Err(ReplayError::OutOfMemory) => Err(AllocError),

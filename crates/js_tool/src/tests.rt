@@ -3,7 +3,10 @@
 mod rows;
 
 use crate::{MemorySink, MemorySource, PlainSink, PlainSource, Sink, Source, Status, run};
+use js_ends::Pieces;
 use std::alloc::{AllocError, Global};
+use std::process::Abort;
+use std::runtime::Runtime;
 use std::test::Fail;
 
 fn words(alloc: Global) -> Result<Vec<String>, AllocError> {
@@ -27,7 +30,7 @@ fn replay<S: Source, K: Sink>(
     Ok(run(alloc, words.as_slice(), input, output))
 }
 
-fn replays(rt: &HostRuntime, row: (&str, &str), status: Status) -> Result<(), Fail> {
+fn replays<R: Runtime + Abort>(rt: &R, row: (&str, &str), status: Status) -> Result<(), Fail> {
     let alloc = rt.alloc();
     let mut input = PlainSource::new(Vec::from_slice(alloc, row.0.as_bytes())?);
     let mut output = PlainSink::new(alloc);
@@ -119,7 +122,7 @@ fn a_sink_that_takes_nothing_has_failed(rt: HostRuntime) -> Result<(), Fail> {
 }
 
 // What is read of the lines is told by the first that does not read.
-fn stops_at(rt: &HostRuntime, text: &[u8], line: u64) -> Result<(), Fail> {
+fn stops_at<R: Runtime + Abort>(rt: &R, text: &[u8], line: u64) -> Result<(), Fail> {
     let alloc = rt.alloc();
     let mut input = PlainSource::new(Vec::from_slice(alloc, text)?);
     let mut output = PlainSink::new(alloc);
@@ -141,7 +144,7 @@ fn the_first_bad_line_is_named(rt: HostRuntime) -> Result<(), Fail> {
     Ok(())
 }
 
-fn stops_at_event(rt: &HostRuntime, event: &str) -> Result<(), Fail> {
+fn stops_at_event<R: Runtime + Abort>(rt: &R, event: &str) -> Result<(), Fail> {
     let alloc = rt.alloc();
     let mut text = Vec::from_slice(alloc, rows::NO_EVENTS.0.as_bytes())?;
     text.extend_from_slice(event.as_bytes())?;
@@ -181,7 +184,9 @@ fn lines_that_say_a_thing_twice_are_read(rt: HostRuntime) -> Result<(), Fail> {
     text.extend_from_slice(
         b"{\"at\":1.5,\"at\":1,\"link\":\"open\",\"link\":\"closed\"}\r\n{\"at\":2,\"answer\":{\"request\":7,\"gone\":true}}\n{\"at\":3,\"arrival\":{\"inbox\":9,\"reply\":null,\"headers\":[[\"a\",\"b\"],[\"a\",\"c\"]],\"payload\":[]}}",
     )?;
-    let transcript = match crate::read(alloc, &text) {
+    let mut bytes = Pieces::new(alloc);
+    bytes.add(alloc, &text)?;
+    let transcript = match crate::read(alloc, bytes) {
         Ok(transcript) => transcript,
         Err(_) => return Err(Fail::new("it does not read")),
     };
