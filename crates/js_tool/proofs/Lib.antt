@@ -1,4 +1,5 @@
 mod Called
+mod Compact
 mod Cuts
 mod Headers
 mod Loop

@@ -3,6 +3,7 @@ pub mod Members
 pub mod Setups
 pub mod Messages
 pub mod Events
+pub mod Compact
 pub mod Transcripts
 pub mod Texts
 pub mod Statuses

@@ -7,9 +7,11 @@ ghost use Rattle.js_tool.specs.Setups.{setup_line as setup_in};
 ghost use Rattle.js_tool.specs.Events.{event_line as event_in};
 ghost use Rattle.js_tool.specs.declared.transcript.Unread.TheVariants.{OutOfMemory};
 
+mod compact;
 mod event;
 mod members;
 mod message;
+mod payloads;
 mod setup;
 
 use crate::lines::cut_line;
@@ -18,6 +20,7 @@ use js_base::Items;
 use js_ends::Pieces;
 use js_fields::ReadError;
 use js_ordered::Event;
+use payloads::Payloads;
 use setup::setup_line;
 pub use setup::{Mode, Setup};
 use std::alloc::{AllocFailed, Global};
@@ -85,10 +88,15 @@ fn first_line(alloc: Global, line: &[u8]) -> Result<Setup, Unread>
     }
 }
 
-fn next_line(alloc: Global, number: u64, line: &[u8]) -> Result<Event, Unread>
+fn next_line(
+    alloc: Global,
+    payloads: &mut Payloads,
+    number: u64,
+    line: &[u8],
+) -> Result<Event, Unread>
     ensures { GivesLines (λ e. e) result (numbered number (event_in line.now)) }
 {
-    match event_line(alloc, line) {
+    match event_line(alloc, payloads, line) {
         Ok(event) => Ok(event),
         Err(ReadError::OutOfMemory) => Err(Unread::OutOfMemory),
         Err(_) => Err(Unread::BadLine(number)),
@@ -99,10 +107,11 @@ fn events_of(alloc: Global, piece: &[u8], mut bytes: Pieces) -> Result<Vec<Event
     requires { length piece.now + length bytes ≤ 67_108_864 }
     ensures { GivesLines (λ v. v.items) result (events_from 2 (lines_of piece.now ++ lines_of bytes)) }
 {
+    let mut payloads = Payloads::new(alloc);
     let mut events = Vec::new(alloc);
-    let mut number = add_events(alloc, &mut events, 2, piece)?;
+    let mut number = add_events(alloc, &mut payloads, &mut events, 2, piece)?;
     while let Some(piece) = next_piece(alloc, &mut bytes) {
-        number = match add_events(alloc, &mut events, number, &piece) {
+        number = match add_events(alloc, &mut payloads, &mut events, number, &piece) {
             Ok(next) => next,
             Err(unread) => return Err(unread),
         };
@@ -123,6 +132,7 @@ fn next_piece(alloc: Global, bytes: &mut Pieces) -> Option<Vec<u8>>
 // Adds what the lines of a piece say, and answers the number of the line after them.
 fn add_events(
     alloc: Global,
+    payloads: &mut Payloads,
     events: &mut Vec<Event>,
     number: u64,
     bytes: &[u8],
@@ -135,7 +145,7 @@ fn add_events(
     let mut number = number;
     while !rest.is_empty() {
         let (line, after) = cut_line(rest);
-        events.push(next_line(alloc, number, line)?)?;
+        events.push(next_line(alloc, payloads, number, line)?)?;
         number += 1;
         rest = after;
     }

@@ -33,10 +33,11 @@ fn push_text(out: &mut Vec<u8>, text: &[u8]) -> Result<(), AllocError>
     Ok(())
 }
 
-// How many bytes at the front stand for themselves.
-fn plain_front(bytes: &[u8]) -> usize
+/// How many bytes at the front stand for themselves.
+pub(crate) fn plain_front(bytes: &[u8]) -> usize
     ensures within { result ≤ length bytes.now }
     ensures plain { escape bytes.now ≡ take result bytes.now ++ escape (drop result bytes.now) }
+    ensures same { escape (take result bytes.now) ≡ take result bytes.now }
 {
     let mut count = 0;
     for byte in bytes {

@@ -7,42 +7,53 @@ ghost use Rattle.js_fields.specs.declared.key.Key.TheVariants as key;
 ghost use Rattle.js_tool.specs.Messages.{json_text as json_text_in, payload as payload_in, header_of as header_in, header as header_member, message_fields as message_in, status_code};
 
 use super::members::text_of;
+use super::payloads::Payloads;
 use bytes::Bytes;
 use js_base::{HeaderMap, Message, StatusCode, Subject, Text};
 use js_fields::{Key, ReadError, has_float, optional};
 use serde_json::Value;
 use std::alloc::Global;
 
-fn json_text(alloc: Global, value: &Value) -> Result<Bytes, ReadError>
+fn json_text(alloc: Global, payloads: &mut Payloads, value: &Value) -> Result<Bytes, ReadError>
     ensures { Gives result (json_text_in (view value.now)) }
 {
     if has_float(value) {
         return Err(ReadError::Float);
     }
-    Ok(Bytes::from_string(value.to_string(alloc)?)?)
+    let text = value.to_string(alloc)?;
+    Ok(payloads.keep(alloc, text.as_bytes())?)
 }
 
-fn payload_of(alloc: Global, key: Key, value: &Value) -> Result<Bytes, ReadError>
+fn payload_of(
+    alloc: Global,
+    payloads: &mut Payloads,
+    key: Key,
+    value: &Value,
+) -> Result<Bytes, ReadError>
     ensures { Gives result (payload_in key (view value.now)) }
 {
     match value {
         Value::Null => Ok(Bytes::new()),
         Value::Bool(_) => Err(ReadError::WrongKind { key }),
         Value::Number(_) => Err(ReadError::WrongKind { key }),
-        Value::String(text) => Ok(Bytes::copy_from_slice(alloc, text.as_bytes())?),
-        Value::Array(_) => json_text(alloc, value),
-        Value::Object(_) => json_text(alloc, value),
+        Value::String(text) => Ok(payloads.keep(alloc, text.as_bytes())?),
+        Value::Array(_) => json_text(alloc, payloads, value),
+        Value::Object(_) => json_text(alloc, payloads, value),
     }
 }
 
 #[tactic(auto, unfolding(js_fields::specs::Reading::defaulted))]
-fn payload_member(alloc: Global, object: &Value) -> Result<Bytes, ReadError>
+fn payload_member(
+    alloc: Global,
+    payloads: &mut Payloads,
+    object: &Value,
+) -> Result<Bytes, ReadError>
     ensures { Gives result (defaulted_in payload_in key.Payload [] (view object.now)) }
 {
     let key = Key::Payload;
     match object.get(key.name()) {
         None => Ok(Bytes::new()),
-        Some(value) => payload_of(alloc, key, value),
+        Some(value) => payload_of(alloc, payloads, key, value),
     }
 }
 
@@ -132,12 +143,16 @@ fn status_of(status: Option<u16>) -> Option<StatusCode>
 
 /// The message that the members of an object say. Its length is its payload's.
 #[tactic(auto, unfolding(crate::specs::Messages::message_fields))]
-pub(crate) fn message_fields(alloc: Global, object: &Value) -> Result<Message, ReadError>
+pub(crate) fn message_fields(
+    alloc: Global,
+    payloads: &mut Payloads,
+    object: &Value,
+) -> Result<Message, ReadError>
     ensures { Gives result (message_in (view object.now)) }
 {
     let subject = optional(alloc, object, Key::Subject)?;
     let reply = optional(alloc, object, Key::Reply)?;
-    let payload = payload_member(alloc, object)?;
+    let payload = payload_member(alloc, payloads, object)?;
     let status = optional(alloc, object, Key::Status)?;
     let description = optional(alloc, object, Key::Description)?;
     let headers = headers_member(alloc, object)?;
