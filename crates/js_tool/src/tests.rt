@@ -6,7 +6,6 @@ use crate::{MemorySink, MemorySource, PlainSink, PlainSource, Sink, Source, Stat
 use js_ends::Pieces;
 use std::alloc::{AllocError, Global};
 use std::process::Abort;
-use std::runtime::Runtime;
 use std::test::Fail;
 
 fn words(alloc: Global) -> Result<Vec<String>, AllocError> {
@@ -30,8 +29,7 @@ fn replay<S: Source, K: Sink>(
     Ok(run(alloc, words.as_slice(), input, output))
 }
 
-fn replays<R: Runtime + Abort>(rt: &R, row: (&str, &str), status: Status) -> Result<(), Fail> {
-    let alloc = rt.alloc();
+fn replays<R: Abort>(rt: &R, alloc: Global, row: (&str, &str), status: Status) -> Result<(), Fail> {
     let mut input = PlainSource::new(Vec::from_slice(alloc, row.0.as_bytes())?);
     let mut output = PlainSink::new(alloc);
     assert_eq!(rt; replay(alloc, &mut input, &mut output)?, status);
@@ -41,35 +39,35 @@ fn replays<R: Runtime + Abort>(rt: &R, row: (&str, &str), status: Status) -> Res
 
 #[test]
 fn transcripts_are_replayed(rt: HostRuntime) -> Result<(), Fail> {
-    replays(&rt, rows::ARRIVALS, Status::Done)?;
-    replays(&rt, rows::GAP, Status::Done)?;
-    replays(&rt, rows::GAP_AFTER_ZERO, Status::Done)?;
-    replays(&rt, rows::NO_EVENTS, Status::Done)?;
-    replays(&rt, rows::LIMITS, Status::Done)?;
-    replays(&rt, rows::MISSED_HEARTBEATS, Status::Done)?;
-    replays(&rt, rows::TRIES, Status::Done)?;
-    replays(&rt, rows::REQUEST_LIMIT, Status::Done)?;
-    replays(&rt, rows::LATE_ARRIVAL, Status::Done)?;
-    replays(&rt, rows::LINK_CLOSED, Status::Done)?;
-    replays(&rt, rows::RECONNECTED, Status::Done)?;
-    replays(&rt, rows::CONFIGURED_START, Status::Done)?;
-    replays(&rt, rows::SUBJECT, Status::Done)
+    replays(&rt, rt.alloc(), rows::ARRIVALS, Status::Done)?;
+    replays(&rt, rt.alloc(), rows::GAP, Status::Done)?;
+    replays(&rt, rt.alloc(), rows::GAP_AFTER_ZERO, Status::Done)?;
+    replays(&rt, rt.alloc(), rows::NO_EVENTS, Status::Done)?;
+    replays(&rt, rt.alloc(), rows::LIMITS, Status::Done)?;
+    replays(&rt, rt.alloc(), rows::MISSED_HEARTBEATS, Status::Done)?;
+    replays(&rt, rt.alloc(), rows::TRIES, Status::Done)?;
+    replays(&rt, rt.alloc(), rows::REQUEST_LIMIT, Status::Done)?;
+    replays(&rt, rt.alloc(), rows::LATE_ARRIVAL, Status::Done)?;
+    replays(&rt, rt.alloc(), rows::LINK_CLOSED, Status::Done)?;
+    replays(&rt, rt.alloc(), rows::RECONNECTED, Status::Done)?;
+    replays(&rt, rt.alloc(), rows::CONFIGURED_START, Status::Done)?;
+    replays(&rt, rt.alloc(), rows::SUBJECT, Status::Done)
 }
 
 #[test]
 fn push_transcripts_are_replayed(rt: HostRuntime) -> Result<(), Fail> {
-    replays(&rt, rows::SILENCE, Status::Done)?;
-    replays(&rt, rows::HELD, Status::Done)?;
-    replays(&rt, rows::DISCONNECTED, Status::Done)?;
-    replays(&rt, rows::FLOW_CONTROL, Status::Done)
+    replays(&rt, rt.alloc(), rows::SILENCE, Status::Done)?;
+    replays(&rt, rt.alloc(), rows::HELD, Status::Done)?;
+    replays(&rt, rt.alloc(), rows::DISCONNECTED, Status::Done)?;
+    replays(&rt, rt.alloc(), rows::FLOW_CONTROL, Status::Done)
 }
 
 #[test]
 fn refusals_are_written(rt: HostRuntime) -> Result<(), Fail> {
-    replays(&rt, rows::LAST_SEQUENCE, Status::Refused)?;
-    replays(&rt, rows::EARLY_EVENT, Status::Refused)?;
-    replays(&rt, rows::EMPTY_PREFIX, Status::Refused)?;
-    replays(&rt, rows::NO_DELIVER_SUBJECT, Status::Refused)
+    replays(&rt, rt.alloc(), rows::LAST_SEQUENCE, Status::Refused)?;
+    replays(&rt, rt.alloc(), rows::EARLY_EVENT, Status::Refused)?;
+    replays(&rt, rt.alloc(), rows::EMPTY_PREFIX, Status::Refused)?;
+    replays(&rt, rt.alloc(), rows::NO_DELIVER_SUBJECT, Status::Refused)
 }
 
 #[test]
@@ -122,8 +120,7 @@ fn a_sink_that_takes_nothing_has_failed(rt: HostRuntime) -> Result<(), Fail> {
 }
 
 // What is read of the lines is told by the first that does not read.
-fn stops_at<R: Runtime + Abort>(rt: &R, text: &[u8], line: u64) -> Result<(), Fail> {
-    let alloc = rt.alloc();
+fn stops_at<R: Abort>(rt: &R, alloc: Global, text: &[u8], line: u64) -> Result<(), Fail> {
     let mut input = PlainSource::new(Vec::from_slice(alloc, text)?);
     let mut output = PlainSink::new(alloc);
     let status = replay(alloc, &mut input, &mut output)?;
@@ -135,20 +132,19 @@ fn stops_at<R: Runtime + Abort>(rt: &R, text: &[u8], line: u64) -> Result<(), Fa
 #[test]
 fn the_first_bad_line_is_named(rt: HostRuntime) -> Result<(), Fail> {
     let text = rows::ARRIVALS.0.as_bytes();
-    stops_at(&rt, b"", 1)?;
-    stops_at(&rt, b"\n", 1)?;
-    stops_at(&rt, b"{}\n", 1)?;
+    stops_at(&rt, rt.alloc(), b"", 1)?;
+    stops_at(&rt, rt.alloc(), b"\n", 1)?;
+    stops_at(&rt, rt.alloc(), b"{}\n", 1)?;
     for cut in [2, 20, 60] {
-        stops_at(&rt, &text[..text.len() - cut], 3)?;
+        stops_at(&rt, rt.alloc(), &text[..text.len() - cut], 3)?;
     }
     Ok(())
 }
 
-fn stops_at_event<R: Runtime + Abort>(rt: &R, event: &str) -> Result<(), Fail> {
-    let alloc = rt.alloc();
+fn stops_at_event<R: Abort>(rt: &R, alloc: Global, event: &str) -> Result<(), Fail> {
     let mut text = Vec::from_slice(alloc, rows::NO_EVENTS.0.as_bytes())?;
     text.extend_from_slice(event.as_bytes())?;
-    stops_at(rt, &text, 2)
+    stops_at(rt, alloc, &text, 2)
 }
 
 #[test]
@@ -172,7 +168,7 @@ fn lines_that_say_too_much_are_bad(rt: HostRuntime) -> Result<(), Fail> {
         "{\"at\":1,\"answer\":{\"request\":1,\"gone\":false}}",
         "{\"at\":1,\"answer\":{\"request\":1,\"gone\":true,\"payload\":null}}",
     ] {
-        stops_at_event(&rt, event)?;
+        stops_at_event(&rt, rt.alloc(), event)?;
     }
     Ok(())
 }
