@@ -1,6 +1,7 @@
 //! Subjects, messages, headers and time: what every layer of the client speaks of.
 #![tactic(auto)]
 
+mod boxed;
 mod clock;
 mod error;
 mod headers;
@@ -13,6 +14,7 @@ mod text_map;
 mod tokens;
 mod turn;
 
+pub use boxed::Boxed;
 pub use clock::{Moment, Nanos, Timer, due};
 pub use error::{Error, Source};
 pub use headers::{Header, HeaderIter, HeaderMap};

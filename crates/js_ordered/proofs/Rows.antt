@@ -6,8 +6,6 @@ use Rattle.js_ordered.specs.Refusal.{refuse}
 use Rattle.js_ordered.specs.declared.run.ReplayError.TheVariants as error
 use Rattle.js_ordered.specs.declared.run.Field.TheVariants as field
 use Rattle.js_base.specs.declared.message.State.TheVariants.{Connected, Disconnected}
-use Rattle.js_json.specs.Conversions.{ordered_pull_config}
-use Rattle.js_json.specs.declared.consumer.deliver_policy.DeliverPolicy.TheVariants as policy
 use Rattle.js_ordered.specs.declared.consumer.Given.{Given}
 use Rattle.js_ordered.specs.declared.event.Event.{Event}
 use Rattle.js_ordered.specs.declared.event.What.TheVariants as what

@@ -1,7 +1,5 @@
 -- The two setups and the events of the worked rows.
 use Rattle.std.specs.Prelude.{ℕ, pos, Bool, false, List, [], ◌++◌, map, Some, None, codes, decimal, ⊤}
-use denote.RawPtr.{null_ptr}
-use Rattle.std.proofs.Common.{Box, arith}
 use Rattle.std.specs.Global.{Global}
 use Rattle.jiff.specs.Types.{Timestamp}
 use Rattle.js_base.specs.declared.message.Message.{Message}
@@ -109,9 +107,9 @@ pull_from sequence = record by_pull { setup = Pull (pull_config (policy.ByStartS
 abbrev pub plain : List ℕ → Message
 plain payload = record { subject = []; reply = None; payload = payload; headers = None; status = None; description = None; length = 0 }
 
--- a message in its box, which lies on some heap
-abbrev pub boxed : Global → Message → Box Message Global
-boxed heap message = record { ptr = null_ptr; alloc = heap; value = message }
+-- a message in its box, which lies on some heap, is the message
+abbrev pub boxed : Global → Message → Message
+boxed heap message = message
 
 -- a message with number n, sequence s and this payload
 abbrev pub numbered : ℕ → ℕ → List ℕ → Message

@@ -127,8 +127,8 @@ tick = record { change = Unchanged; answer = None; arrival = None }
 -- what an event brings
 abbrev pub matter_of : What → Matter
 matter_of what.Tick = tick
-matter_of (what.Arrival inbox message) = record tick { arrival = Some (record { inbox = inbox; message = message.value }) }
-matter_of (what.Answer request reply) = record tick { answer = Some (record { request = request; reply = option_map (λ message. message.value) reply }) }
+matter_of (what.Arrival inbox message) = record tick { arrival = Some (record { inbox = inbox; message = message }) }
+matter_of (what.Answer request reply) = record tick { answer = Some (record { request = request; reply = reply }) }
 matter_of (what.Link up) = tick
 matter_of (what.Connection state) = record tick { change = Becomes state }
 matter_of what.WatcherEnded = record tick { change = WatcherEnds }

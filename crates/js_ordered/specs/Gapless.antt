@@ -91,7 +91,7 @@ IsHonestArrival setup s arrival =
 
 -- an event brings a delivery, or no arrival
 abbrev pub IsHonestEvent : OrderedSetup → Server → What → Type 0
-IsHonestEvent setup s (what.Arrival inbox message) = IsHonestArrival setup s (record { inbox = inbox; message = message.value })
+IsHonestEvent setup s (what.Arrival inbox message) = IsHonestArrival setup s (record { inbox = inbox; message = message })
 IsHonestEvent setup s _ = ⊤
 
 -- `All` is 1

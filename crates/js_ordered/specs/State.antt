@@ -1,5 +1,5 @@
 -- The state of an ordered consumer, and what passing a row makes of it.
-use Rattle.std.specs.Prelude.{ℕ, Bool, List, [], Option}
+use Rattle.std.specs.Prelude.{List, [], Option}
 use Rattle.js_base.specs.declared.message.State.{State}
 use Rattle.js_pull.specs.Reader as pull
 use Rattle.js_link.specs.declared.sent.Sent.{Sent}

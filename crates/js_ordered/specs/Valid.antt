@@ -26,7 +26,7 @@ IsBelowEnd message = IfSome (readable_as message.reply) (λ place. place.sequenc
 
 -- nor does an event's arrival
 abbrev pub IsEventBelowEnd : What → Type 0
-IsEventBelowEnd (what.Arrival inbox message) = IsBelowEnd message.value
+IsEventBelowEnd (what.Arrival inbox message) = IsBelowEnd message
 IsEventBelowEnd _ = ⊤
 
 -- good settings, moments that do not fall, and no last sequence

@@ -1,4 +1,4 @@
-use js_base::{Message, Moment, State};
+use js_base::{Boxed, Message, Moment, State};
 
 /// Something that happens at a moment. The message lies in a box, since most events of a long transcript carry none.
 #[derive(Debug, PartialEq, Eq, Drop)]
@@ -14,12 +14,12 @@ pub enum What {
     /// A message arrives on the inbox with this number, from 0 in the order of subscribing.
     Arrival {
         inbox: u64,
-        message: Box<Message>,
+        message: Boxed<Message>,
     },
     /// The request with this number, from 1 in the order of sending, is answered. None: its replier is gone.
     Answer {
         request: u64,
-        reply: Option<Box<Message>>,
+        reply: Option<Boxed<Message>>,
     },
     /// From now on sends go through, or they fail.
     Link {

@@ -3,7 +3,7 @@ use Rattle.std.specs.Prelude.{◌≡◌, refl, ℕ, pos, negsuc, true, false, Li
 use Rattle.js_fields.proofs.OnLiterals.{writing_on_literals}
 use Rattle.js_base.specs.declared.message.Message.{Message}
 use Rattle.js_json.specs.declared.pull.batch.BatchConfig.{BatchConfig}
-use Rattle.js_json.specs.Batch.{pull_request_value}
+use Rattle.js_json.specs.Batch.{pull_request_value, batch_config_value}
 use Rattle.js_link.specs.declared.sent.Sent.{Sent}
 use Rattle.js_link.specs.declared.sent.Sent.TheVariants as goes
 use Rattle.js_pull.specs.Limits.{batch_of, clamp_batch, clamp_heartbeat, pull_body}
@@ -103,6 +103,11 @@ row_bytes = refl
 row_few_bytes : (walk (at 0 ∷ at 0 ∷ at 0 ∷ at 1 ∷ at 1 ∷ met 1 (record plain { length = 49 }) ∷ at 1 ∷ at 1 ∷ []) (stream (source limited))).sent ≡ asks b10 ∷ []
 unfolding streams_on_literals
 row_few_bytes = refl
+
+-- without a pin a pull request is the batch alone
+no_pin : (c : BatchConfig) → pull_request_value None c ≡ batch_config_value c
+unfolding writing_on_literals pull_request_value batch_config_value
+no_pin c = refl
 
 -- a pin is sent from the message that names it on, and forgotten at status 423
 abbrev pinned : Source

@@ -1,13 +1,21 @@
-// A library with one function.
+//! The top call of the program: a transcript is read from a source, replayed, and the text of its run written to a sink.
 #![tactic(auto)]
 
-ghost use Rattle.std.specs.Prelude.{◌≡◌};
-ghost use Rattle.js_tool.specs.Echo.{echo_of};
+mod command;
+mod lines;
+mod program;
+mod status;
+mod text;
+mod transcript;
 
-// The `ensures` clause is the contract: what `echo` returns is `echo_of` of its argument, a definition
-// in `specs/Echo.antt`, which a caller's clause can cite too.
-pub fn echo(x: usize) -> usize
-    ensures { result ≡ echo_of x }
-{
-    x
-}
+pub use command::{Command, command_of};
+pub use js_ends::{
+    Failed, MemorySink, MemorySource, PlainSink, PlainSource, ReadSource, Sink, Source, WriteSink,
+};
+pub use program::run;
+pub use status::Status;
+pub use text::{refusal_line, run_text};
+pub use transcript::{Mode, Setup, Transcript, Unread, read};
+
+#[cfg(test)]
+mod tests;

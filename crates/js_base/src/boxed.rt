@@ -1,0 +1,64 @@
+ghost use Rattle.std.specs.Prelude.{◌≡◌, IfOk};
+
+use crate::memory::{OutOfMemory, TryClone};
+use std::alloc::Global;
+use std::marker::Model;
+
+/// A value on the heap, which contracts see as the value.
+#[derive(Debug, Drop)]
+pub struct Boxed<T> {
+    inner: Box<T>,
+}
+
+impl<T> Model for Boxed<T> {
+    ghost Value = { T };
+
+    ghost view = { λ b. b.inner.value };
+}
+
+impl<T> Boxed<T> {
+    pub fn into_inner(self) -> T
+        ensures { result ≡ self }
+    {
+        let Boxed { inner } = self;
+        Box::into_inner(inner)
+    }
+
+    pub fn get(&self) -> &T
+        ensures { result.now ≡ self.now }
+    {
+        &*self.inner
+    }
+}
+
+impl<T: Drop> Boxed<T> {
+    /// Moves the value to the heap. A refusal drops it.
+    pub fn new(alloc: Global, value: T) -> Result<Boxed<T>, OutOfMemory>
+        ensures { IfOk result (λ boxed. boxed ≡ value) }
+    {
+        Ok(Boxed {
+            inner: Box::new(alloc, value)?,
+        })
+    }
+}
+
+impl<T: TryClone> TryClone for Boxed<T> {
+    fn try_clone(&self) -> Result<Boxed<T>, OutOfMemory> {
+        let copy = self.get().try_clone()?;
+        Boxed::new(*Box::allocator(&self.inner), copy)
+    }
+}
+
+impl<T: PartialEq> PartialEq for Boxed<T> {
+    ghost eq = { T.eq };
+
+    ghost laws = { T.laws };
+
+    fn eq(&self, other: &Boxed<T>) -> bool {
+        self.get() == other.get()
+    }
+}
+
+impl<T: Eq> Eq for Boxed<T> {
+    ghost laws = { T.Eq.laws };
+}

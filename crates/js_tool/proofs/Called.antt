@@ -1,0 +1,63 @@
+-- The status that an input calls for, by what it says.
+use Rattle.std.proofs.Common.{◌≡◌, ℕ, ◌<◌, ◌≤◌, List, length, true, false, nat_lt, Option, Some, None, IfSome, Ok, refl, sym, subst, arith, ◌∙◌}
+use Rattle.std.proofs.lemmas.Bool.Decides.{nat_tests}
+use Rattle.js_ordered.proofs.Accepted.{valid_accepted}
+use Rattle.js_tool.specs.declared.status.Status.{Status}
+use Rattle.js_tool.specs.declared.status.Status.TheVariants as status
+use Rattle.js_tool.specs.declared.program.Reply.{Reply}
+use Rattle.js_tool.specs.declared.program.Reply.TheVariants as reply
+use Rattle.js_tool.specs.Program.{given, IsReply, Replays, IsRefused, IsValidTranscript, IsUnlessFailed, called_for}
+use Rattle.js_tool.specs.Texts.{run_text, refusal_text}
+use Rattle.js_tool.specs.Transcripts.{transcript}
+use Rattle.js_tool.specs.declared.transcript.Transcript.{Transcript}
+use Rattle.js_ordered.specs.declared.run.Run.{Run}
+use Rattle.js_ordered.specs.declared.run.ReplayError.{ReplayError}
+use Rattle.js_ordered.specs.Refusal.{refuse}
+use Rattle.js_ordered.specs.Valid.{IsReplay}
+
+-- what holds of the bytes that were read holds of those that the source told
+pub told : (left : Option (List ℕ)) (read : List ℕ) (P : List ℕ → Type 0) → IfSome left (λ bytes. read ≡ bytes) → P read → IfSome left P
+told None read P whole h = tt
+told (Some bytes) read P whole h = subst P whole h
+
+not_long : (n : ℕ) → n ≤ 67_108_864 → nat_lt 67_108_864 n ≡ false
+not_long n within = grind (arith, nat_tests)
+
+is_long : (n : ℕ) → 67_108_864 < n → nat_lt 67_108_864 n ≡ true
+is_long n above = grind (arith, nat_tests)
+
+abbrev pub reply_status : Reply → Status
+reply_status (reply.Done text) = status.Done
+reply_status (reply.Refused text) = status.Refused
+reply_status (reply.BadLine line) = status.BadLine line
+
+pub called_reply : (r : Reply) (bytes : List ℕ) → IsReply bytes r → called_for bytes ≡ reply_status r
+unfolding called_for
+called_reply (reply.Done text) bytes (run, replays, written) = rw (not_long (length bytes) replays.within, replays.by.1, replays.by.2.accepted) refl
+called_reply (reply.Refused text) bytes (refusal, refused, written) = rw (not_long (length bytes) refused.within, refused.by.1, refused.by.2) refl
+called_reply (reply.BadLine line) bytes unread = rw (not_long (length bytes) unread.within, unread.by) refl
+
+pub called_too_long : (left : Option (List ℕ)) → IfSome left (λ bytes. 67_108_864 < length bytes) → IfSome left (λ bytes. called_for bytes ≡ status.TooLong)
+unfolding called_for
+called_too_long None long = tt
+called_too_long (Some bytes) long = rw (is_long (length bytes) long) refl
+
+-- valid input calls for its text
+called_valid : (bytes : List ℕ) → IsValidTranscript bytes → called_for bytes ≡ status.Done
+unfolding called_for
+called_valid bytes valid =
+    let t = valid.by.0 in
+    rw (not_long (length bytes) valid.within, valid.by.1, valid_accepted (given t.setup) t.setup.start t.events valid.by.2) refl
+
+-- so nothing else is answered to it, where nothing fails
+pub told_valid : (left : Option (List ℕ)) (s : Status) → IfSome left (λ bytes. IsUnlessFailed s (called_for bytes)) → IfSome left (λ bytes. IsValidTranscript bytes → IsUnlessFailed s status.Done)
+told_valid None s told = tt
+told_valid (Some bytes) s told = λ valid. subst (IsUnlessFailed s) (called_valid bytes valid) told
+
+-- the text of a run is the reply to the transcript
+pub done_reply : (bytes : List ℕ) (t : Transcript) (run : Run) (written : List ℕ) → length bytes ≤ 67_108_864 → transcript bytes ≡ Ok t → IsReplay (given t.setup) t.setup.start t.events run → written ≡ run_text run → (x : Run) × Replays bytes x × (written ≡ run_text x)
+done_reply bytes t run written within reads replays says = (run, record { within = within; by = (t, reads, replays) }, says)
+
+-- and so is the line of a refusal
+pub refused_reply : (bytes : List ℕ) (t : Transcript) (refusal : ReplayError) (written : List ℕ) → length bytes ≤ 67_108_864 → transcript bytes ≡ Ok t → refuse (given t.setup) t.setup.start t.events ≡ Some refusal → written ≡ refusal_text refusal → (x : ReplayError) × IsRefused bytes x × (written ≡ refusal_text x)
+refused_reply bytes t refusal written within reads refuses says = (refusal, record { within = within; by = (t, reads, refuses) }, says)

@@ -1,0 +1,54 @@
+-- The first line feed cuts the first line off.
+use Rattle.std.proofs.Common.{◌≡◌, ℕ, zero, suc, ◌+◌, ◌<◌, ◌==◌, Bool, List, [], ◌∷◌, length, get_or, take, drop, true, false, refl, arith, add-one}
+use Rattle.std.proofs.Common.{◌++◌, append_assoc, append-nil, if◌then◌else◌}
+use Rattle.js_ends.specs.Pieces.{EndsLine}
+use Rattle.js_tool.specs.Lines.{lines_of, onto_first}
+
+is_false : (b : Bool) → (b ≡ true → ⊥) → b ≡ false
+is_false true never = absurd (never refl)
+is_false false never = refl
+
+pub cut_found : (bytes : List ℕ) (i : ℕ) → i < length bytes → (get_or bytes i 0 == 10) ≡ true → ((k : ℕ) → k < i → (get_or bytes k 0 == 10) ≡ true → ⊥) → lines_of bytes ≡ take i bytes ∷ lines_of (drop (i + 1) bytes)
+cut_found [] i lt here below = absurd (omega arith)
+cut_found (b ∷ bytes) zero lt here below = rw here refl
+cut_found (b ∷ bytes) (suc i) lt here below =
+    let other = is_false (b == 10) (below 0 (omega arith)) in
+    rw (other, cut_found bytes i (omega arith) here (λ k h. below (suc k) (omega arith)), add-one, add-one) refl
+
+pub cut_none : (bytes : List ℕ) → 0 < length bytes → ((k : ℕ) → k < length bytes → (get_or bytes k 0 == 10) ≡ true → ⊥) → lines_of bytes ≡ bytes ∷ []
+cut_none [] lt below = absurd (omega arith)
+cut_none (b ∷ []) lt below = rw (is_false (b == 10) (below 0 (omega arith))) refl
+cut_none (b ∷ c ∷ bytes) lt below =
+    rw (is_false (b == 10) (below 0 (omega arith)), cut_none (c ∷ bytes) (omega arith) (λ k h. below (suc k) (omega arith))) refl
+
+onto_first-append : (b : ℕ) (x y : List (List ℕ)) → 0 < length x → onto_first b (x ++ y) ≡ onto_first b x ++ y
+onto_first-append b [] y some = absurd (omega arith)
+onto_first-append b (line ∷ x) y some = refl
+
+some_onto : (b : ℕ) (x : List (List ℕ)) → 0 < length (onto_first b x)
+some_onto b [] = omega arith
+some_onto b (line ∷ x) = omega arith
+
+some_line : (b : Bool) (c : ℕ) (x : List (List ℕ)) → 0 < length (if b then [] ∷ x else onto_first c x)
+some_line true c x = omega arith
+some_line false c x = some_onto c x
+
+some_lines : (front : List ℕ) → 0 < length (lines_of (front ++ 10 ∷ []))
+some_lines [] = omega arith
+some_lines (b ∷ front) = some_line (b == 10) b (lines_of (front ++ 10 ∷ []))
+
+cut_at : (t : Bool) (b : ℕ) (x y : List (List ℕ)) → 0 < length x → (if t then [] ∷ (x ++ y) else onto_first b (x ++ y)) ≡ (if t then [] ∷ x else onto_first b x) ++ y
+cut_at true b x y some = refl
+cut_at false b x y some = onto_first-append b x y some
+
+-- after a line feed new lines begin
+lines_joined : (front q : List ℕ) → lines_of (front ++ 10 ∷ q) ≡ lines_of (front ++ 10 ∷ []) ++ lines_of q
+lines_joined [] q = refl
+lines_joined (b ∷ front) q = rw (lines_joined front q) (cut_at (b == 10) b (lines_of (front ++ 10 ∷ [])) (lines_of q) (some_lines front))
+
+-- so the lines of pieces are the pieces' lines
+pub lines_append : (p q : List ℕ) → (0 < length q → EndsLine p) → lines_of (p ++ q) ≡ lines_of p ++ lines_of q
+lines_append p [] ends = simp append-nil
+lines_append p (b ∷ q) ends =
+    let e = ends (omega arith) in
+    rw e.1 (rw append_assoc (lines_joined e.0 (b ∷ q)))

@@ -1,0 +1,6 @@
+mod Called
+mod Compact
+mod Cuts
+mod Headers
+mod Loop
+mod Pieces

@@ -1,0 +1,11 @@
+pub mod Lines
+pub mod Members
+pub mod Setups
+pub mod Messages
+pub mod Events
+pub mod Compact
+pub mod Transcripts
+pub mod Texts
+pub mod Statuses
+pub mod Commands
+pub mod Program

@@ -1,0 +1,12 @@
+-- Bytes cut into lines.
+use Rattle.std.specs.Prelude.{ℕ, ◌==◌, ◌∷◌, [], List, if◌then◌else◌}
+
+-- a byte before the first line
+abbrev pub onto_first : ℕ → List (List ℕ) → List (List ℕ)
+onto_first b [] = (b ∷ []) ∷ []
+onto_first b (line ∷ lines) = (b ∷ line) ∷ lines
+
+-- the pieces between line feeds, with none after a line feed at the end
+abbrev pub lines_of : List ℕ → List (List ℕ)
+lines_of [] = []
+lines_of (b ∷ bytes) = if b == 10 then [] ∷ lines_of bytes else onto_first b (lines_of bytes)

@@ -1,0 +1,101 @@
+-- What the program answers to an input, and what it writes.
+use Rattle.std.specs.Prelude.{◌≡◌, ◌⊎◌, ◌≤◌, ℕ, List, length, nat_lt, if◌then◌else◌, Option, Some, None, Result, Ok, Err, ⊤}
+use Rattle.std.specs.Io.KnownBytes.{Appends}
+use Rattle.js_ends.specs.Causes.{Rose, AppendsPrefix}
+use Rattle.js_ordered.specs.declared.consumer.Given.{Given}
+use Rattle.js_ordered.specs.declared.run.Run.{Run}
+use Rattle.js_ordered.specs.declared.run.ReplayError.{ReplayError}
+use Rattle.js_ordered.specs.Refusal.{refuse}
+use Rattle.js_ordered.specs.Valid.{IsReplay, IsValid}
+use Rattle.js_tool.specs.declared.status.Status.{Status}
+use Rattle.js_tool.specs.declared.status.Status.TheVariants as status
+use Rattle.js_tool.specs.declared.program.Reply.{Reply}
+use Rattle.js_tool.specs.declared.program.Reply.TheVariants as reply
+use Rattle.js_tool.specs.declared.transcript.setup.Setup.{Setup}
+use Rattle.js_tool.specs.declared.transcript.Transcript.{Transcript}
+use Rattle.js_tool.specs.Transcripts.{transcript}
+use Rattle.js_tool.specs.Texts.{run_text, refusal_text}
+
+-- what a setup makes a consumer with
+abbrev pub given : Setup → Given
+given s = record { settings = s.settings; setup = s.setup; first = s.first }
+
+-- ---- what the bytes are
+
+-- a transcript, whose replay is this run
+pub record Replays (bytes : List ℕ) (run : Run) : Type 0 where
+  pub within : length bytes ≤ 67_108_864
+  pub by : (t : Transcript) × (transcript bytes ≡ Ok t) × IsReplay (given t.setup) t.setup.start t.events run
+
+-- a transcript, whose replay is refused so
+pub record IsRefused (bytes : List ℕ) (refusal : ReplayError) : Type 0 where
+  pub within : length bytes ≤ 67_108_864
+  pub by : (t : Transcript) × (transcript bytes ≡ Ok t) × (refuse (given t.setup) t.setup.start t.events ≡ Some refusal)
+
+-- lines of which this is the first that does not read
+pub record FirstUnread (bytes : List ℕ) (line : ℕ) : Type 0 where
+  pub within : length bytes ≤ 67_108_864
+  pub by : transcript bytes ≡ Err line
+
+-- a transcript with good settings, moments that do not fall, and no last sequence
+pub record IsValidTranscript (bytes : List ℕ) : Type 0 where
+  pub within : length bytes ≤ 67_108_864
+  pub by : (t : Transcript) × (transcript bytes ≡ Ok t) × IsValid (given t.setup) t.setup.start t.events
+
+-- a reply is what the bytes call for
+abbrev pub IsReply : List ℕ → Reply → Type 0
+IsReply bytes (reply.Done written) = (run : Run) × Replays bytes run × (written.items ≡ run_text run)
+IsReply bytes (reply.Refused written) = (refusal : ReplayError) × IsRefused bytes refusal × (written.items ≡ refusal_text refusal)
+IsReply bytes (reply.BadLine line) = FirstUnread bytes line
+
+-- ---- the status that they call for, where nothing fails
+
+abbrev pub replay_status : Option ReplayError → Status
+replay_status None = status.Done
+replay_status (Some refusal) = status.Refused
+
+abbrev pub transcript_status : Result Transcript ℕ → Status
+transcript_status (Ok t) = replay_status (refuse (given t.setup) t.setup.start t.events)
+transcript_status (Err line) = status.BadLine line
+
+unfoldable pub called_for : List ℕ → Status
+called_for bytes = if nat_lt 67_108_864 (length bytes) then status.TooLong else transcript_status (transcript bytes)
+
+-- a status for want of memory or after a fault, or else this one
+abbrev pub IsUnlessFailed : Status → Status → Type 0
+IsUnlessFailed status.OutOfMemory called = ⊤
+IsUnlessFailed status.ReadFault called = ⊤
+IsUnlessFailed status.WriteFault called = ⊤
+IsUnlessFailed status.Done called = called ≡ status.Done
+IsUnlessFailed status.Usage called = called ≡ status.Usage
+IsUnlessFailed (status.BadLine line) called = called ≡ status.BadLine line
+IsUnlessFailed status.Refused called = called ≡ status.Refused
+IsUnlessFailed status.TooLong called = called ≡ status.TooLong
+
+-- ---- what is written
+
+-- the text was written, or a front of it where the sink failed
+abbrev pub WritesUnlessFault : Option (List ℕ) → Option (List ℕ) → ℕ → ℕ → List ℕ → Type 0
+WritesUnlessFault old new before now text = Appends old new text ⊎ (AppendsPrefix old new text × Rose before now)
+
+-- with these statuses nothing is written
+abbrev pub SaysNothing : Status → Type 0
+SaysNothing status.Done = ⊥
+SaysNothing status.Refused = ⊥
+SaysNothing status.WriteFault = ⊥
+SaysNothing status.ReadFault = ⊤
+SaysNothing status.Usage = ⊤
+SaysNothing (status.BadLine line) = ⊤
+SaysNothing status.OutOfMemory = ⊤
+SaysNothing status.TooLong = ⊤
+
+-- with these the source was read to its end
+abbrev pub HasReadAll : Status → Type 0
+HasReadAll status.Done = ⊤
+HasReadAll status.Refused = ⊤
+HasReadAll status.WriteFault = ⊤
+HasReadAll (status.BadLine line) = ⊤
+HasReadAll status.ReadFault = ⊥
+HasReadAll status.Usage = ⊥
+HasReadAll status.OutOfMemory = ⊥
+HasReadAll status.TooLong = ⊥

@@ -1,0 +1,232 @@
+//! The text of a run: a line for each output, in order, and a last one.
+
+ghost use Rattle.std.specs.Prelude.{◌≡◌, ◌++◌, [], ◌∷◌, length, OnOk, IfOk};
+ghost use Rattle.js_tool.specs.Texts.{cell_data, start_data, kind_name, field_name, text_or_null, unless_empty, output_text, step_text, steps_text, end_text, run_text as run_text_in, refusal_text};
+
+mod line;
+mod quoted;
+
+use js_base::Subject;
+use js_ordered::{Field, ItemKind, Output, ReplayError, Run, Start, Step};
+use line::{Cell, push_line};
+pub(crate) use quoted::plain_front;
+use std::alloc::{AllocError, Global};
+
+/// The text of a run.
+#[tactic(auto, unfolding(crate::specs::Texts::run_text))]
+pub fn run_text(alloc: Global, run: &Run) -> Result<Vec<u8>, AllocError>
+    ensures { IfOk result (λ text. text.items ≡ run_text_in run.now) }
+{
+    let mut out = Vec::new(alloc);
+    push_step(&mut out, 0, &run.opening)?;
+    push_steps(&mut out, run.steps.as_slice())?;
+    push_end(&mut out, run)?;
+    Ok(out)
+}
+
+fn push_steps(out: &mut Vec<u8>, steps: &[Step]) -> Result<(), AllocError>
+    ensures { OnOk result (out.new.items ≡ out.old.items ++ steps_text 1 steps.now) }
+{
+    let mut number = 1;
+    for step in steps {
+        push_step(out, number, step)?;
+        number += 1;
+    }
+    Ok(())
+}
+
+fn push_step(out: &mut Vec<u8>, number: u64, step: &Step) -> Result<(), AllocError>
+    ensures { OnOk result (out.new.items ≡ out.old.items ++ step_text number step.now) }
+{
+    for output in step.outputs.as_slice() {
+        push_output(out, number, output)?;
+    }
+    Ok(())
+}
+
+fn push_output(out: &mut Vec<u8>, step: u64, output: &Output) -> Result<(), AllocError>
+    ensures { OnOk result (out.new.items ≡ out.old.items ++ output_text step output.now) }
+{
+    match output {
+        Output::Yield {
+            stream_sequence,
+            consumer_sequence,
+            subject,
+            payload,
+        } => {
+            let cells = [
+                Cell::Number(step),
+                Cell::Text(b"yield"),
+                Cell::Number(*stream_sequence),
+                Cell::Number(*consumer_sequence),
+                Cell::Text(payload.as_slice()),
+                Cell::Text(subject.as_str().as_bytes()),
+            ];
+            if subject.as_str().is_empty() {
+                return push_line(out, &cells[..5]);
+            }
+            push_line(out, &cells)
+        }
+        Output::Item { kind } => push_line(
+            out,
+            &[
+                Cell::Number(step),
+                Cell::Text(b"item"),
+                Cell::Text(item_name(*kind)),
+            ],
+        ),
+        Output::Recreate { serial, start } => push_line(
+            out,
+            &[
+                Cell::Number(step),
+                Cell::Text(b"recreate"),
+                Cell::Number(*serial),
+                start_cell(*start),
+            ],
+        ),
+        Output::Request {
+            number,
+            subject,
+            payload,
+        } => push_line(
+            out,
+            &[
+                Cell::Number(step),
+                Cell::Text(b"request"),
+                Cell::Number(*number),
+                Cell::Text(subject.as_str().as_bytes()),
+                Cell::Text(payload.as_slice()),
+            ],
+        ),
+        Output::Publish {
+            subject,
+            reply,
+            payload,
+        } => push_line(
+            out,
+            &[
+                Cell::Number(step),
+                Cell::Text(b"publish"),
+                Cell::Text(subject.as_str().as_bytes()),
+                reply_cell(reply),
+                Cell::Text(payload.as_slice()),
+            ],
+        ),
+        Output::Subscribe { inbox, subject } => push_line(
+            out,
+            &[
+                Cell::Number(step),
+                Cell::Text(b"subscribe"),
+                Cell::Number(*inbox),
+                Cell::Text(subject.as_str().as_bytes()),
+            ],
+        ),
+    }
+}
+
+fn item_name(kind: ItemKind) -> &'static [u8]
+    ensures { result.now ≡ kind_name kind }
+{
+    match kind {
+        ItemKind::MissingHeartbeat => b"MissingHeartbeat",
+        ItemKind::RequestLimitExceeded => b"RequestLimitExceeded",
+        ItemKind::PushBasedConsumer => b"PushBasedConsumer",
+        ItemKind::Pull => b"Pull",
+        ItemKind::Recreate => b"Recreate",
+        ItemKind::Other => b"Other",
+    }
+}
+
+fn start_cell(start: Start) -> Cell<'static>
+    ensures { cell_data result ≡ start_data start }
+{
+    match start {
+        Start::All => Cell::Text(b"all"),
+        Start::From(sequence) => Cell::Number(sequence),
+    }
+}
+
+fn reply_cell<'a>(reply: &'a Option<Subject>) -> Cell<'a>
+    ensures { cell_data result ≡ text_or_null reply.now }
+{
+    match reply {
+        Some(subject) => Cell::Text(subject.as_str().as_bytes()),
+        None => Cell::Null,
+    }
+}
+
+fn push_end(out: &mut Vec<u8>, run: &Run) -> Result<(), AllocError>
+    ensures { OnOk result (out.new.items ≡ out.old.items ++ end_text run.now) }
+{
+    push_line(
+        out,
+        &[
+            Cell::Text(b"end"),
+            Cell::Truth(run.ended),
+            Cell::Number(run.steps.as_slice().len() as u64),
+        ],
+    )
+}
+
+/// The line of a refusal.
+pub fn refusal_line(alloc: Global, refusal: ReplayError) -> Result<Vec<u8>, AllocError>
+    ensures { IfOk result (λ line. line.items ≡ refusal_text refusal) }
+{
+    let mut out = Vec::new(alloc);
+    push_refusal(&mut out, refusal)?;
+    Ok(out)
+}
+
+fn push_refusal(out: &mut Vec<u8>, refusal: ReplayError) -> Result<(), AllocError>
+    ensures { OnOk result (out.new.items ≡ out.old.items ++ refusal_text refusal) }
+{
+    match refusal {
+        ReplayError::NoDeliverSubject => push_line(
+            out,
+            &[Cell::Text(b"refused"), Cell::Text(b"NoDeliverSubject")],
+        ),
+        ReplayError::BadSettings { field } => push_line(
+            out,
+            &[
+                Cell::Text(b"refused"),
+                Cell::Text(b"BadSettings"),
+                Cell::Text(field_text(field)),
+            ],
+        ),
+        ReplayError::BadEvent { place } => {
+            push_line(
+                out,
+                &[
+                    Cell::Text(b"refused"),
+                    Cell::Text(b"BadEvent"),
+                    Cell::Number(place),
+                ],
+            )
+        }
+        ReplayError::SequenceEnd { place } => push_line(
+            out,
+            &[
+                Cell::Text(b"refused"),
+                Cell::Text(b"SequenceEnd"),
+                Cell::Number(place),
+            ],
+        ),
+        ReplayError::OutOfMemory => push_line(
+            out,
+            &[Cell::Text(b"refused"), Cell::Text(b"OutOfMemory")],
+        ),
+    }
+}
+
+fn field_text(field: Field) -> &'static [u8]
+    ensures { result.now ≡ field_name field }
+{
+    match field {
+        Field::StreamName => b"stream_name",
+        Field::Name => b"name",
+        Field::ApiPrefix => b"api_prefix",
+        Field::InboxPrefix => b"inbox_prefix",
+        Field::FilterSubject => b"filter_subject",
+        Field::DeliverSubject => b"deliver_subject",
+    }
+}

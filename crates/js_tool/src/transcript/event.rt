@@ -1,0 +1,317 @@
+//! Each further line of a transcript: a moment, and at most one thing that happens then.
+
+ghost use Rattle.std.specs.Prelude.{◌≡◌, Option, Some, None, Ok};
+ghost use Rattle.serde_json.specs.View.{view};
+ghost use Rattle.js_fields.specs.Reading.{Gives, named, given as given_in};
+ghost use Rattle.js_fields.specs.declared.key.Key.TheVariants as key;
+ghost use Rattle.js_ordered.specs.declared.event.What.{What};
+ghost use Rattle.js_ordered.specs.declared.event.What.TheVariants.{Arrival};
+ghost use Rattle.js_tool.specs.Compact.{plain_message};
+ghost use Rattle.js_tool.specs.Events.{arrival_fields as arrival_fields_in, arrival as arrival_in, reply_fields as reply_fields_in, gone_fields as gone_fields_in, answer as answer_in, link_named, connection_named, watcher_named, alone as alone_in, with_key, what_fields as what_in, event_fields as event_in, event_line as line_in};
+
+use super::compact::{PlainArrival, plain_arrival, tick};
+use super::members::text_of;
+use super::message::message_fields;
+use super::payloads::Payloads;
+use js_base::{Boxed, Message, State, Subject};
+use js_fields::{Key, ReadError, has_only, required, value_of};
+use js_ordered::{Event, What};
+use serde_json::Value;
+use std::alloc::Global;
+
+#[tactic(auto, unfolding(crate::specs::Events::arrival_fields))]
+fn arrival_fields(alloc: Global, payloads: &mut Payloads, object: &Value) -> Result<What, ReadError>
+    ensures { Gives result (arrival_fields_in (view object.now)) }
+{
+    let inbox = required(alloc, object, Key::Inbox)?;
+    let message = message_fields(alloc, payloads, object)?;
+    Ok(What::Arrival {
+        inbox,
+        message: Boxed::new(alloc, message)?,
+    })
+}
+
+#[tactic(auto, unfolding(crate::specs::Members::only))]
+fn arrival(
+    alloc: Global,
+    payloads: &mut Payloads,
+    key: Key,
+    value: &Value,
+) -> Result<What, ReadError>
+    ensures { Gives result (arrival_in key (view value.now)) }
+{
+    if has_only(
+        value,
+        &[
+            Key::Inbox,
+            Key::Subject,
+            Key::Reply,
+            Key::Payload,
+            Key::Status,
+            Key::Description,
+            Key::Headers,
+        ],
+    ) {
+        arrival_fields(alloc, payloads, value)
+    } else {
+        Err(ReadError::WrongKind { key })
+    }
+}
+
+#[tactic(auto, unfolding(crate::specs::Events::reply_fields))]
+fn reply_fields(alloc: Global, payloads: &mut Payloads, object: &Value) -> Result<What, ReadError>
+    ensures { Gives result (reply_fields_in (view object.now)) }
+{
+    let request = required(alloc, object, Key::Request)?;
+    let message = message_fields(alloc, payloads, object)?;
+    Ok(What::Answer {
+        request,
+        reply: Some(Boxed::new(alloc, message)?),
+    })
+}
+
+#[tactic(auto, unfolding(crate::specs::Events::gone_fields))]
+fn gone_fields(alloc: Global, object: &Value) -> Result<What, ReadError>
+    ensures { Gives result (gone_fields_in (view object.now)) }
+{
+    let request = required(alloc, object, Key::Request)?;
+    let gone: bool = required(alloc, object, Key::Gone)?;
+    if gone {
+        Ok(What::Answer {
+            request,
+            reply: None,
+        })
+    } else {
+        Err(ReadError::OutOfRange { key: Key::Gone })
+    }
+}
+
+#[tactic(auto, unfolding(crate::specs::Events::answer, crate::specs::Members::only))]
+fn answer(
+    alloc: Global,
+    payloads: &mut Payloads,
+    key: Key,
+    value: &Value,
+) -> Result<What, ReadError>
+    ensures { Gives result (answer_in key (view value.now)) }
+{
+    if value.get(Key::Gone.name()).is_some() {
+        if has_only(value, &[Key::Request, Key::Gone]) {
+            return gone_fields(alloc, value);
+        }
+        return Err(ReadError::WrongKind { key });
+    }
+    if has_only(
+        value,
+        &[
+            Key::Request,
+            Key::Subject,
+            Key::Reply,
+            Key::Payload,
+            Key::Status,
+            Key::Description,
+            Key::Headers,
+        ],
+    ) {
+        return reply_fields(alloc, payloads, value);
+    }
+    Err(ReadError::WrongKind { key })
+}
+
+#[tactic(auto, unfolding(js_fields::specs::Reading::named, crate::specs::Events::link_named))]
+fn link(key: Key, value: &Value) -> Result<What, ReadError>
+    ensures { Gives result (named link_named key (view value.now)) }
+{
+    match text_of(key, value)? {
+        "open" => Ok(What::Link { up: true }),
+        "closed" => Ok(What::Link { up: false }),
+        _ => Err(ReadError::OutOfRange { key }),
+    }
+}
+
+#[tactic(auto, unfolding(js_fields::specs::Reading::named, crate::specs::Events::connection_named))]
+fn connection(key: Key, value: &Value) -> Result<What, ReadError>
+    ensures { Gives result (named connection_named key (view value.now)) }
+{
+    match text_of(key, value)? {
+        "connected" => Ok(What::Connection {
+            state: State::Connected,
+        }),
+        "disconnected" => Ok(What::Connection {
+            state: State::Disconnected,
+        }),
+        "pending" => Ok(What::Connection {
+            state: State::Pending,
+        }),
+        _ => Err(ReadError::OutOfRange { key }),
+    }
+}
+
+#[tactic(auto, unfolding(js_fields::specs::Reading::named, crate::specs::Events::watcher_named))]
+fn watcher(key: Key, value: &Value) -> Result<What, ReadError>
+    ensures { Gives result (named watcher_named key (view value.now)) }
+{
+    match text_of(key, value)? {
+        "ended" => Ok(What::WatcherEnded),
+        _ => Err(ReadError::OutOfRange { key }),
+    }
+}
+
+// At most one thing happens.
+fn alone(key: Key, found: Option<What>, next: Option<What>) -> Result<Option<What>, ReadError>
+    ensures { Gives result (alone_in key found next) }
+{
+    match (found, next) {
+        (None, next) => Ok(next),
+        (found, None) => Ok(found),
+        _ => Err(ReadError::WrongKind { key }),
+    }
+}
+
+#[tactic(auto, unfolding(crate::specs::Events::with_key, js_fields::specs::Reading::given))]
+fn with_arrival(
+    alloc: Global,
+    payloads: &mut Payloads,
+    object: &Value,
+) -> Result<Option<What>, ReadError>
+    ensures { Gives result (with_key arrival_in key.Arrival None (view object.now)) }
+{
+    let key = Key::Arrival;
+    match object.get(key.name()) {
+        None => Ok(None),
+        Some(value) => Ok(Some(arrival(alloc, payloads, key, value)?)),
+    }
+}
+
+#[tactic(auto, unfolding(crate::specs::Events::with_key, js_fields::specs::Reading::given))]
+fn with_answer(
+    alloc: Global,
+    payloads: &mut Payloads,
+    object: &Value,
+    found: Option<What>,
+) -> Result<Option<What>, ReadError>
+    ensures { Gives result (with_key answer_in key.Answer found (view object.now)) }
+{
+    let key = Key::Answer;
+    match object.get(key.name()) {
+        None => alone(key, found, None),
+        Some(value) => alone(key, found, Some(answer(alloc, payloads, key, value)?)),
+    }
+}
+
+#[tactic(auto, unfolding(crate::specs::Events::with_key, js_fields::specs::Reading::given))]
+fn with_link(object: &Value, found: Option<What>) -> Result<Option<What>, ReadError>
+    ensures { Gives result (with_key (named link_named) key.Link found (view object.now)) }
+{
+    let key = Key::Link;
+    match object.get(key.name()) {
+        None => alone(key, found, None),
+        Some(value) => alone(key, found, Some(link(key, value)?)),
+    }
+}
+
+#[tactic(auto, unfolding(crate::specs::Events::with_key, js_fields::specs::Reading::given))]
+fn with_connection(object: &Value, found: Option<What>) -> Result<Option<What>, ReadError>
+    ensures { Gives result (with_key (named connection_named) key.Connection found (view object.now)) }
+{
+    let key = Key::Connection;
+    match object.get(key.name()) {
+        None => alone(key, found, None),
+        Some(value) => alone(key, found, Some(connection(key, value)?)),
+    }
+}
+
+#[tactic(auto, unfolding(crate::specs::Events::with_key, js_fields::specs::Reading::given))]
+fn with_watcher(object: &Value, found: Option<What>) -> Result<Option<What>, ReadError>
+    ensures { Gives result (with_key (named watcher_named) key.Watcher found (view object.now)) }
+{
+    let key = Key::Watcher;
+    match object.get(key.name()) {
+        None => alone(key, found, None),
+        Some(value) => alone(key, found, Some(watcher(key, value)?)),
+    }
+}
+
+#[tactic(auto, unfolding(crate::specs::Events::what_fields))]
+fn what_fields(alloc: Global, payloads: &mut Payloads, object: &Value) -> Result<What, ReadError>
+    ensures { Gives result (what_in (view object.now)) }
+{
+    let found = with_arrival(alloc, payloads, object)?;
+    let found = with_answer(alloc, payloads, object, found)?;
+    let found = with_link(object, found)?;
+    let found = with_connection(object, found)?;
+    let found = with_watcher(object, found)?;
+    Ok(found.unwrap_or(What::Tick))
+}
+
+#[tactic(auto, unfolding(crate::specs::Events::event_fields))]
+fn event_fields(alloc: Global, payloads: &mut Payloads, object: &Value) -> Result<Event, ReadError>
+    ensures { Gives result (event_in (view object.now)) }
+{
+    let at = required(alloc, object, Key::At)?;
+    let what = what_fields(alloc, payloads, object)?;
+    Ok(Event { at, what })
+}
+
+/// The event that a line says.
+pub(crate) fn event_line(
+    alloc: Global,
+    payloads: &mut Payloads,
+    line: &[u8],
+) -> Result<Event, ReadError>
+    ensures { Gives result (line_in line.now) }
+{
+    if let Some(at) = tick(line) {
+        return Ok(Event {
+            at,
+            what: What::Tick,
+        });
+    }
+    if let Some(found) = plain_arrival(line) {
+        return arrived(alloc, payloads, found);
+    }
+    any_line(alloc, payloads, line)
+}
+
+fn arrived(alloc: Global, payloads: &mut Payloads, found: PlainArrival) -> Result<Event, ReadError>
+    ensures { Gives result (Ok (record { at = found.entry.at; what = Arrival found.entry.inbox (plain_message found.entry.reply.now found.entry.payload.now) })) }
+{
+    let message = Message {
+        subject: Subject::from(String::new(alloc)),
+        reply: Some(Subject::new(alloc, found.reply)?),
+        payload: payloads.keep(alloc, found.payload)?,
+        headers: None,
+        status: None,
+        description: None,
+        length: found.payload.len() as u64,
+    };
+    Ok(Event {
+        at: found.at,
+        what: What::Arrival {
+            inbox: found.inbox,
+            message: Boxed::new(alloc, message)?,
+        },
+    })
+}
+
+#[tactic(auto, unfolding(crate::specs::Members::line_as))]
+fn any_line(alloc: Global, payloads: &mut Payloads, line: &[u8]) -> Result<Event, ReadError>
+    ensures { Gives result (line_in line.now) }
+{
+    let object = value_of(alloc, line)?;
+    if has_only(
+        &object,
+        &[
+            Key::At,
+            Key::Arrival,
+            Key::Answer,
+            Key::Link,
+            Key::Connection,
+            Key::Watcher,
+        ],
+    ) {
+        event_fields(alloc, payloads, &object)
+    } else {
+        Err(ReadError::NotJson)
+    }
+}

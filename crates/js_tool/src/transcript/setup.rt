@@ -1,0 +1,221 @@
+//! The first line of a transcript: the settings, the consumer's configuration, and what the server told of it.
+
+ghost use Rattle.std.specs.Prelude.{◌≡◌, Option, Some, codes, IfOk, unwrap_or, List, ℕ};
+ghost use Rattle.serde_json.specs.View.{view};
+ghost use Rattle.js_fields.specs.Reading.{Gives, required as required_in, named, nested as nested_in};
+ghost use Rattle.js_fields.specs.declared.key.Key.TheVariants as key;
+ghost use Rattle.js_json.specs.ConsumerInfo.{info_fields};
+ghost use Rattle.js_tool.specs.Setups.{mode_named, settings_fields as settings_in, settings as settings_member, pull_config as pull_in, push_config as push_in, ordered_setup as ordered_in, setup_with as with_in, setup_fields as setup_in, setup_line as line_in};
+
+use js_base::{Moment, OutOfMemory, Text};
+use js_fields::{
+    Key, Member, Named, ReadError, by_text, defaulted, given, has_only, nested, required, value_of,
+};
+use js_json::{consumer, pull, push};
+use js_ordered::{OrderedSetup, Settings};
+use serde_json::Value;
+use std::alloc::Global;
+
+/// Who asks for messages: a pull consumer's client does, a push consumer's server sends them unasked.
+#[derive(Clone, Copy, Debug, PartialEq, Eq)]
+pub enum Mode {
+    Pull,
+    Push,
+}
+
+impl Named for Mode {
+    ghost value_of = { mode_named };
+
+    #[tactic(auto, unfolding(crate::specs::Setups::mode_named))]
+    fn from_name(name: &str) -> Option<Mode> {
+        match name {
+            "pull" => Some(Mode::Pull),
+            "push" => Some(Mode::Push),
+            _ => None,
+        }
+    }
+}
+
+impl Member for Mode {
+    ghost reads = { named mode_named };
+
+    fn read(_alloc: Global, key: Key, value: &Value) -> Result<Mode, ReadError> {
+        by_text(key, value)
+    }
+}
+
+/// What a replay begins with.
+#[derive(Debug, PartialEq, Eq, Drop)]
+pub struct Setup {
+    pub settings: Settings,
+    pub setup: OrderedSetup,
+    /// What the server told of the first consumer.
+    pub first: consumer::Info,
+    pub start: Moment,
+}
+
+fn text_or(alloc: Global, found: Option<Text>, default: &'static str) -> Result<Text, OutOfMemory>
+    ensures { IfOk result (λ t. t ≡ unwrap_or found default.now) }
+{
+    match found {
+        Some(text) => Ok(text),
+        None => Text::from_str(alloc, default),
+    }
+}
+
+#[tactic(auto, unfolding(crate::specs::Setups::settings_fields))]
+fn settings_fields(alloc: Global, object: &Value) -> Result<Settings, ReadError>
+    ensures { Gives result (settings_in (view object.now)) }
+{
+    let api_prefix = given(alloc, object, Key::ApiPrefix)?;
+    let inbox_prefix = given(alloc, object, Key::InboxPrefix)?;
+    let context_timeout = defaulted(alloc, object, Key::ContextTimeout)?;
+    let request_timeout: Option<Option<u64>> = given(alloc, object, Key::RequestTimeout)?;
+    let retries: Option<u32> = given(alloc, object, Key::Retries)?;
+    Ok(Settings {
+        api_prefix: text_or(alloc, api_prefix, "$JS.API")?,
+        inbox_prefix: text_or(alloc, inbox_prefix, "_INBOX.t")?,
+        context_timeout,
+        request_timeout: request_timeout.unwrap_or(Some(10_000_000_000)),
+        retries: retries.unwrap_or(4_294_967_295),
+    })
+}
+
+#[tactic(auto, unfolding(js_fields::specs::Reading::required, crate::specs::Members::only))]
+fn settings_of(alloc: Global, object: &Value) -> Result<Settings, ReadError>
+    ensures { Gives result (required_in settings_member key.Settings (view object.now)) }
+{
+    let key = Key::Settings;
+    match object.get(key.name()) {
+        None => Err(ReadError::Missing { key }),
+        Some(value) => {
+            if has_only(
+                value,
+                &[
+                    Key::ApiPrefix,
+                    Key::InboxPrefix,
+                    Key::ContextTimeout,
+                    Key::RequestTimeout,
+                    Key::Retries,
+                ],
+            ) {
+                settings_fields(alloc, value)
+            } else {
+                Err(ReadError::WrongKind { key })
+            }
+        }
+    }
+}
+
+fn pull_config(config: consumer::Config) -> pull::OrderedConfig
+    ensures { result ≡ pull_in config }
+{
+    pull::OrderedConfig {
+        name: config.name,
+        description: config.description,
+        filter_subject: config.filter_subject,
+        filter_subjects: config.filter_subjects,
+        replay_policy: config.replay_policy,
+        rate_limit: config.rate_limit,
+        sample_frequency: config.sample_frequency,
+        headers_only: config.headers_only,
+        deliver_policy: config.deliver_policy,
+        max_waiting: config.max_waiting,
+        metadata: config.metadata,
+        max_batch: config.max_batch,
+        max_bytes: config.max_bytes,
+        max_expires: config.max_expires,
+    }
+}
+
+fn push_config(deliver_subject: Text, config: consumer::Config) -> push::OrderedConfig
+    ensures { result ≡ push_in deliver_subject config }
+{
+    push::OrderedConfig {
+        deliver_subject,
+        name: config.name,
+        description: config.description,
+        filter_subject: config.filter_subject,
+        filter_subjects: config.filter_subjects,
+        replay_policy: config.replay_policy,
+        rate_limit: config.rate_limit,
+        sample_frequency: config.sample_frequency,
+        headers_only: config.headers_only,
+        deliver_policy: config.deliver_policy,
+        max_waiting: config.max_waiting,
+        metadata: config.metadata,
+    }
+}
+
+#[tactic(auto, unfolding(crate::specs::Setups::ordered_setup))]
+fn ordered_setup(mode: Mode, mut config: consumer::Config) -> Result<OrderedSetup, ReadError>
+    ensures { Gives result (ordered_in mode config) }
+{
+    match mode {
+        Mode::Pull => Ok(OrderedSetup::Pull(pull_config(config))),
+        Mode::Push => match config.deliver_subject.take() {
+            None => Err(ReadError::Missing {
+                key: Key::DeliverSubject,
+            }),
+            Some(subject) => Ok(OrderedSetup::Push(push_config(subject, config))),
+        },
+    }
+}
+
+#[tactic(auto, unfolding(js_fields::specs::Reading::required))]
+fn first_info(alloc: Global, object: &Value) -> Result<consumer::Info, ReadError>
+    ensures { Gives result (required_in (nested_in info_fields) key.Info (view object.now)) }
+{
+    let key = Key::Info;
+    match object.get(key.name()) {
+        None => Err(ReadError::Missing { key }),
+        Some(value) => nested(alloc, key, value),
+    }
+}
+
+#[tactic(auto, unfolding(crate::specs::Setups::setup_with))]
+fn setup_with(
+    mode: Mode,
+    start: Moment,
+    settings: Settings,
+    config: consumer::Config,
+    first: consumer::Info,
+) -> Result<Setup, ReadError>
+    ensures { Gives result (with_in mode start settings config first) }
+{
+    let setup = ordered_setup(mode, config)?;
+    Ok(Setup {
+        settings,
+        setup,
+        first,
+        start,
+    })
+}
+
+#[tactic(auto, unfolding(crate::specs::Setups::setup_fields))]
+fn setup_fields(alloc: Global, object: &Value) -> Result<Setup, ReadError>
+    ensures { Gives result (setup_in (view object.now)) }
+{
+    let mode = required(alloc, object, Key::Mode)?;
+    let start = required(alloc, object, Key::Start)?;
+    let settings = settings_of(alloc, object)?;
+    let config = required(alloc, object, Key::Config)?;
+    let first = first_info(alloc, object)?;
+    setup_with(mode, start, settings, config, first)
+}
+
+/// The setup that a line says.
+#[tactic(auto, unfolding(crate::specs::Members::line_as))]
+pub(crate) fn setup_line(alloc: Global, line: &[u8]) -> Result<Setup, ReadError>
+    ensures { Gives result (line_in line.now) }
+{
+    let object = value_of(alloc, line)?;
+    if has_only(
+        &object,
+        &[Key::Mode, Key::Start, Key::Settings, Key::Config, Key::Info],
+    ) {
+        setup_fields(alloc, &object)
+    } else {
+        Err(ReadError::NotJson)
+    }
+}

@@ -1,0 +1,66 @@
+//! `wilfjodi`: JetStream consumers replayed from transcripts, on a command line.
+#![tactic(auto)]
+
+use js_tool::{ReadSource, Status, WriteSink, run};
+use std::process::ExitCode;
+use std::{env, io};
+
+const VERSION: &str = "wilfjodi 0.1.0\n";
+
+const HELP: &str = "\
+wilfjodi: JetStream consumers, replayed
+
+  wilfjodi replay      reads a transcript from standard input, and writes the text of its run to standard output
+  wilfjodi --help      writes this page
+  wilfjodi --version   writes the version
+
+Exit status, whose name stands on standard error where it is not 0:
+
+  0 Done         all was read and written
+  1 ReadFault    standard input failed
+  2 Usage        the words are no command
+  3 BadLine n    line n of the input is the first that does not read
+  4 WriteFault   standard output failed
+  5 OutOfMemory
+  6 Refused      the replay is refused, and the one line that was written says why
+  7 TooLong      the input has more than 67108864 bytes
+";
+
+fn main(rt: HostRuntime) -> ExitCode {
+    let status = answer(&rt);
+    if status != Status::Done {
+        let _ = eprintln!(rt; "{status}");
+    }
+    ExitCode::from(status.exit_code())
+}
+
+fn answer(rt: &HostRuntime) -> Status {
+    let Ok(words) = words(rt) else {
+        return Status::Usage;
+    };
+    match words.as_slice() {
+        [word] if word.as_str() == "--help" => tell(rt, HELP),
+        [word] if word.as_str() == "--version" => tell(rt, VERSION),
+        words => {
+            let mut input = ReadSource::new(rt.reader());
+            let mut output = WriteSink::new(io::writer(rt));
+            run(rt.alloc(), words, &mut input, &mut output)
+        }
+    }
+}
+
+// The words after the program's name.
+fn words(rt: &HostRuntime) -> io::Result<Vec<String>> {
+    let mut words = Vec::new(rt.alloc());
+    for word in env::args(rt)?.skip(1) {
+        words.push(word)?;
+    }
+    Ok(words)
+}
+
+fn tell(rt: &HostRuntime, text: &str) -> Status {
+    match print!(rt; "{text}") {
+        Ok(()) => Status::Done,
+        Err(_) => Status::WriteFault,
+    }
+}
