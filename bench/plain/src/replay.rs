@@ -15,10 +15,10 @@ const PUSH_HEARTBEAT: u64 = 10 * SECOND;
 /// How many failed tries a reader's info request has.
 const INFO_TRIES: u64 = 6;
 
-/// What the replay does at the opening and at each event.
+/// What the replay puts out.
 pub struct Run {
-    pub opening: Vec<Output>,
-    pub steps: Vec<Vec<Output>>,
+    /// Each output with the number of its step: 0 for the opening, and from 1 on for the events.
+    pub outputs: Vec<(usize, Output)>,
     pub ended: bool,
 }
 
@@ -79,13 +79,11 @@ pub fn replay_ordered(setup: &Setup, events: &[Event]) -> Result<Run, Refusal> {
     refuse(setup, events)?;
     let mut consumer = Consumer::new(setup);
     consumer.open();
-    let opening = std::mem::take(&mut consumer.outputs);
-    let mut steps = Vec::with_capacity(events.len());
     for (place, event) in events.iter().enumerate() {
-        consumer.step(event).map_err(|SequenceEnd| Refusal::SequenceEnd(place))?;
-        steps.push(std::mem::take(&mut consumer.outputs));
+        consumer.step += 1;
+        consumer.handle(event).map_err(|SequenceEnd| Refusal::SequenceEnd(place))?;
     }
-    Ok(Run { opening, steps, ended: consumer.ended })
+    Ok(Run { outputs: consumer.outputs, ended: consumer.ended })
 }
 
 /// The refusals that need no run.
@@ -176,12 +174,14 @@ impl PullReader {
     }
 }
 
-/// The consumer's state, and the outputs of the event that is being handled.
+/// The consumer's state, and what it has put out so far.
 pub struct Consumer<'s> {
     pub setup: &'s Setup,
     pub subjects: Subjects<'s>,
     pub phase: Phase<'s>,
-    pub outputs: Vec<Output>,
+    outputs: Vec<(usize, Output)>,
+    /// The number of the step that is being taken.
+    step: usize,
     /// Inboxes and requests so far.
     inboxes: u64,
     requests: u64,
@@ -203,6 +203,7 @@ impl<'s> Consumer<'s> {
             subjects: Subjects { setup },
             phase: Phase::Idle,
             outputs: Vec::new(),
+            step: 0,
             inboxes: 1,
             requests: 0,
             number: 0,
@@ -221,7 +222,7 @@ impl<'s> Consumer<'s> {
     }
 
     pub fn put(&mut self, output: Output) {
-        self.outputs.push(output);
+        self.outputs.push((self.step, output));
     }
 
     pub fn item(&mut self, kind: ItemKind) {
@@ -248,7 +249,7 @@ impl<'s> Consumer<'s> {
         inbox
     }
 
-    fn step(&mut self, event: &'s Event) -> Result<(), SequenceEnd> {
+    fn handle(&mut self, event: &'s Event) -> Result<(), SequenceEnd> {
         if self.ended {
             return Ok(());
         }

@@ -9,10 +9,8 @@ use crate::replay::{Output, Refusal, Run, Start};
 /// Writes one line for each output, and the line of the end.
 pub fn write_run(output: &mut impl Write, run: &Run, events: usize) -> io::Result<()> {
     let mut writer = BufWriter::new(output);
-    for (step, outputs) in std::iter::once(&run.opening).chain(&run.steps).enumerate() {
-        for output in outputs {
-            write_output(&mut writer, step, output)?;
-        }
+    for (step, output) in &run.outputs {
+        write_output(&mut writer, *step, output)?;
     }
     writeln!(writer, "[\"end\",{},{events}]", run.ended)?;
     writer.flush()
