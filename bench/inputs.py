@@ -123,7 +123,9 @@ class Mix:
         self.sequence = self.rng.choice([0, 0, 0, 7])
         self.asked = 0
         self.stage = None  # what the open request is for, as far as the picture tells
-        self.up = True
+        self.state = "connected"
+        self.calm = self.chance(60)
+        self.limited = False
 
     def chance(self, percent):
         return self.rng.randrange(100) < percent
@@ -221,7 +223,7 @@ class Mix:
             "retries": [0, 0, 1, 2, 5, 4_294_967_295],
         }
         for key, values in choices.items():
-            if self.chance(25):
+            if self.chance(8 if self.calm else 25):
                 settings[key] = rng.choice(values)
         if self.chance(3):
             key = rng.choice(["api_prefix", "inbox_prefix"])
@@ -230,6 +232,9 @@ class Mix:
         first = self.info()
         if self.mode == "push" and not self.chance(3):
             config["deliver_subject"] = "d.in"
+            first["config"]["deliver_subject"] = "d.in"
+            if self.chance(3):
+                del first["config"]["deliver_subject"]
         if self.chance(20):
             first["config"]["max_batch"] = rng.choice([1, 2, 3, 4])
         if self.chance(3):
@@ -250,8 +255,9 @@ class Mix:
         return text + b" \r" if self.chance(2) else text
 
     def moment(self):
-        steps = [0, 1, 1, 1, 1000, SECOND // 2, SECOND, SECOND, 2 * SECOND, 5 * SECOND, 10 * SECOND, 30 * SECOND, 35 * SECOND, 600 * SECOND]
-        self.at += self.rng.choice(steps)
+        near = [0, 1, 1, 1000, SECOND // 2]
+        far = [SECOND, SECOND, 2 * SECOND, 5 * SECOND, 10 * SECOND, 30 * SECOND, 35 * SECOND, 600 * SECOND]
+        self.at += self.rng.choice(near if self.calm and not self.chance(5) else near + far)
         if self.chance(1) and self.chance(30):
             self.at -= 1
         self.at = max(0, min(self.at, 2**64 - 1))
@@ -259,10 +265,15 @@ class Mix:
 
     def event(self):
         event = {"at": self.moment()}
-        kinds = ["message"] * 12 + ["gap"] * 2 + ["status"] * 3 + ["answer"] * 8 + ["tick"] * 3 + ["link", "connection", "stray"] + ["watcher"] * self.chance(10)
+        kinds = ["message"] * 12 + ["gap"] * 2 + ["status"] * 3 + ["answer"] * 8 + ["tick"] * 3 + ["link", "stray"]
+        kinds += ["connection"] * (3 if self.mode == "pull" else 1) + ["watcher"] * self.chance(10)
         kind = self.rng.choice(kinds)
         if kind == "answer" and self.asked == 0:
             kind = "message"
+        if self.stage and self.chance(40):
+            kind = "answer"
+        if self.limited and not self.stage and self.chance(50):
+            kind = "status"
         event.update(getattr(self, kind)())
         if self.chance(5):
             event = dict(reversed(list(event.items())))
@@ -272,11 +283,18 @@ class Mix:
         return {}
 
     def link(self):
-        self.up = self.chance(70)
-        return {"link": "open" if self.up else "closed"}
+        return {"link": "open" if self.chance(70) else "closed"}
 
     def connection(self):
-        return {"connection": self.rng.choice(["connected", "connected", "disconnected", "pending"])}
+        """A change; after one to connected, a pull reader asks for its info."""
+        old = self.state
+        self.state = self.rng.choice(["connected", "connected", "disconnected", "pending"] if old != "connected" else ["disconnected", "pending", "connected"])
+        if self.mode == "pull" and self.state == "connected" != old and self.stage is None:
+            self.asked += 1
+            self.stage = "info"
+        elif self.mode == "push" and self.state != old:
+            self.picture_recreation()
+        return {"connection": self.state}
 
     def watcher(self):
         return {"watcher": "ended"}
@@ -321,6 +339,7 @@ class Mix:
         message = {"inbox": self.guess(self.inbox), "reply": self.reply_text(self.sequence, number), "payload": self.payload()}
         if fits and message["inbox"] == self.inbox:
             self.number = number
+            self.limited = False
         else:
             self.picture_recreation()
         if self.chance(5):
@@ -346,17 +365,20 @@ class Mix:
 
     def status(self):
         rng = self.rng
-        status = rng.choice([100, 100, 100, 408, 409, 409, 423, 503, 404, 0, 65535])
+        status = 409 if self.limited and self.chance(80) else rng.choice([100, 100, 100, 408, 409, 409, 423, 503, 404, 0, 65535])
         message = {"inbox": self.guess(self.inbox), "status": status}
         if self.chance(60):
-            message["description"] = rng.choice(["Consumer Deleted", "Consumer is push based", "Exceeded MaxRequestBatch of 100", "Exceeded MaxRequest", "Request Timeout", "consumer deleted", "Leadership Change"])
+            texts = ["Consumer Deleted", "Consumer is push based", "Exceeded MaxRequest", "Request Timeout", "consumer deleted", "Leadership Change"]
+            message["description"] = rng.choice(texts + ["Exceeded MaxRequestBatch of 100"] * (20 if self.limited else 5))
         if self.chance(50):
             message["reply"] = rng.choice(["$JS.FC.x", "r", None])
         if self.chance(60):
             names = ["Nats-Pending-Messages", "Nats-Pending-Bytes", "Nats-Last-Consumer", "nats-last-consumer", "x"]
             values = ["0", "1", "2", "250", "499", "+1", "", "x", str(self.number), str(self.number), "18446744073709551615", "18446744073709551616"]
             message["headers"] = [[rng.choice(names), rng.choice(values)] for _ in range(rng.randrange(4))]
-        if status == 503 or message.get("description") == "Consumer Deleted":
+        text = message.get("description", "")
+        if status == 503 or (status in (408, 409, 423) and (text == "Consumer Deleted" or text.startswith("Exceeded"))):
+            self.limited = text.startswith("Exceeded")
             self.picture_recreation()
         return {"arrival": message}
 
@@ -375,6 +397,8 @@ class Mix:
             self.asked += 1
             self.stage = "create"
             self.made += self.mode == "push"
+        elif self.stage == "info" and "gone" not in answer:
+            self.stage = None
         elif self.stage == "create" and "gone" not in answer:
             self.stage = None
             self.made += self.mode == "pull"
@@ -390,10 +414,9 @@ class Mix:
         if self.chance(8):
             key = self.rng.choice(list(value))
             value[key] = self.rng.choice([None, 1, -1, "x", [], {}, True, 2**64 - 1])
-        if self.chance(5):
-            key = self.rng.choice(list(value["config"]) if isinstance(value["config"], dict) else ["x"])
-            if isinstance(value["config"], dict):
-                value["config"][key] = self.rng.choice([None, 1, -1, "x", [], {}, True, 2**64 - 1])
+        if self.chance(5) and isinstance(value["config"], dict):
+            key = self.rng.choice(list(value["config"]) + ["max_batch"])
+            value["config"][key] = self.rng.choice([None, 1, -1, "x", [], {}, True, 2**64 - 1])
         if self.chance(30):
             text = json.dumps(value)
             if self.chance(10):
