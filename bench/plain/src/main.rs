@@ -85,15 +85,15 @@ fn run(input: &mut impl Read, output: &mut impl Write) -> Status {
         Err(line) => return Status::BadLine(line),
     };
     drop(bytes);
-    let (written, done) = match replay::replay_ordered(&transcript.setup, &transcript.events) {
-        Ok(run) => {
-            let events = transcript.events.len();
-            (text::write_run(output, &run, events), Status::Done)
+    match replay::replay_ordered(&transcript.setup, &transcript.events) {
+        Ok(run) => match text::write_run(output, &run, transcript.events.len()) {
+            Ok(()) => Status::Done,
+            Err(_) => Status::WriteFault,
+        },
+        Err(refusal) => {
+            // The input was refused, whether or not its line could be written.
+            let _ = text::write_refusal(output, &refusal);
+            Status::Refused
         }
-        Err(refusal) => (text::write_refusal(output, &refusal), Status::Refused),
-    };
-    match written {
-        Ok(()) => done,
-        Err(_) => Status::WriteFault,
     }
 }
