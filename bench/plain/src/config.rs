@@ -229,7 +229,7 @@ pub fn answered_info(body: &str) -> Option<Info> {
         return None;
     }
     let error = value.as_object_mut()?.remove("error");
-    if error.is_some_and(|error| ApiError::read(error).is_ok()) {
+    if error.map_or(false, |error| ApiError::read(error).is_ok()) {
         return None;
     }
     Info::read(value).ok()

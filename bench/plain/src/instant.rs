@@ -18,7 +18,7 @@ pub fn is_instant(text: &str) -> bool {
         reader.annotations()?;
         Some(day * 86_400 + second - offset)
     })();
-    whole.is_some_and(|seconds| reader.rest.is_empty() && (FIRST..=LAST).contains(&seconds))
+    whole.map_or(false, |seconds| reader.rest.is_empty() && (FIRST..=LAST).contains(&seconds))
 }
 
 struct Reader<'a> {

@@ -8,6 +8,8 @@ mod config;
 mod fields;
 mod instant;
 mod names;
+mod pull;
+mod push;
 mod recreation;
 mod replay;
 mod requests;
@@ -60,11 +62,8 @@ impl Status {
 
 fn main() -> ExitCode {
     let words: Vec<String> = std::env::args().skip(1).collect();
-    let status = if words == ["replay"] {
-        run(&mut io::stdin().lock(), &mut io::stdout().lock())
-    } else {
-        Status::Usage
-    };
+    let status =
+        if words == ["replay"] { run(&mut io::stdin().lock(), &mut io::stdout().lock()) } else { Status::Usage };
     if let Some(line) = status.line() {
         eprintln!("{line}");
     }

@@ -1,7 +1,9 @@
 //! The recreation of a consumer: its tries, each of a delete request and a create request.
 
-use crate::replay::{answer_to, due, good_info, wait_after, Consumer, ItemKind, Phase, SequenceEnd, Start, DEFAULT_TIMEOUT};
-use crate::transcript::{Event, Message, Mode, What};
+use crate::replay::{
+    answer_to, arrival_on, due, good_info, wait_after, Consumer, ItemKind, Phase, SequenceEnd, Start, DEFAULT_TIMEOUT,
+};
+use crate::transcript::{Event, Message, Mode};
 use crate::{config::Info, requests};
 
 pub struct Recreation<'s> {
@@ -60,15 +62,14 @@ impl<'s> Consumer<'s> {
     pub fn step_recreation(&mut self, mut recreation: Recreation<'s>, event: &'s Event) -> Result<(), SequenceEnd> {
         let now = event.at;
         match std::mem::replace(&mut recreation.stage, Stage::Retry { since: now }) {
-            Stage::Retry { since } if due(now, since, wait_after(recreation.failures)) => self.begin_try(recreation, now),
+            Stage::Retry { since } if due(now, since, wait_after(recreation.failures)) => {
+                self.begin_try(recreation, now)
+            }
             Stage::Deleting { request, at } if answer_to(request, event).is_some() || self.timed_out(at, now) => {
                 self.create(recreation, now);
             }
             Stage::Creating { request, at, inbox, mut held } => {
-                match &event.what {
-                    What::Arrival { inbox: to, message } if Some(*to) == inbox => held.push(message),
-                    _ => {}
-                }
+                held.extend(inbox.and_then(|inbox| arrival_on(inbox, event)));
                 match answer_to(request, event) {
                     Some(reply) => match good_info(reply).filter(|info| self.is_fit(info)) {
                         Some(info) => return self.succeed(recreation, &info, inbox, held, now),
@@ -105,7 +106,7 @@ impl<'s> Consumer<'s> {
         match inbox {
             Some(inbox) => {
                 for message in held {
-                    if self.push_arrival(message) {
+                    if self.hear_push(message) {
                         return self.start_recreation(now);
                     }
                 }

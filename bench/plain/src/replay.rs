@@ -3,17 +3,15 @@
 use crate::ack::read_delivery;
 use crate::config::{answered_info, Info};
 use crate::names::{is_valid_name, is_valid_subject};
+use crate::pull::PullReader;
+use crate::push::PushReader;
 use crate::recreation::{Recreation, Stage};
 use crate::requests::Subjects;
 use crate::transcript::{Event, Message, Mode, Setup, State, What};
 
-const SECOND: u64 = 1_000_000_000;
+pub const SECOND: u64 = 1_000_000_000;
 /// How long a request of a recreation waits where no timeout is set.
 pub const DEFAULT_TIMEOUT: u64 = 10 * SECOND;
-/// How long a push reader waits for a heartbeat.
-const PUSH_HEARTBEAT: u64 = 10 * SECOND;
-/// How many failed tries a reader's info request has.
-const INFO_TRIES: u64 = 6;
 
 /// What the replay puts out.
 pub struct Run {
@@ -62,7 +60,7 @@ pub struct SequenceEnd;
 
 /// Whether a wait that was set is over; one whose end is past the last moment never is.
 pub fn due(now: u64, set: u64, wait: u64) -> bool {
-    set.checked_add(wait).is_some_and(|end| end <= now)
+    set.checked_add(wait).map_or(false, |end| end <= now)
 }
 
 /// The wait after the nth failed try.
@@ -99,7 +97,7 @@ fn refuse(setup: &Setup, events: &[Event]) -> Result<(), Refusal> {
         ("api_prefix", is_valid_subject(&setup.settings.api_prefix)),
         ("inbox_prefix", is_valid_subject(&setup.settings.inbox_prefix)),
         ("filter_subject", filter.is_empty() || is_valid_subject(filter)),
-        ("deliver_subject", setup.mode == Mode::Pull || deliver_subject.is_some_and(is_valid_subject)),
+        ("deliver_subject", setup.mode == Mode::Pull || deliver_subject.map_or(false, is_valid_subject)),
     ];
     if let Some((field, _)) = tests.into_iter().find(|(_, passes)| !passes) {
         return Err(Refusal::BadSettings(field));
@@ -116,62 +114,10 @@ fn refuse(setup: &Setup, events: &[Event]) -> Result<(), Refusal> {
 
 /// What the consumer is at between two events.
 pub enum Phase<'s> {
-    Reading(Reader),
+    Pulling(PullReader),
+    Pushing(PushReader),
     Recreating(Recreation<'s>),
     Idle,
-}
-
-/// The current inbox with its reader.
-pub struct Reader {
-    pub inbox: u64,
-    /// When the heartbeat timer was armed.
-    pub heartbeat: u64,
-    /// What a pull reader keeps; nothing in push mode.
-    pull: Option<PullReader>,
-}
-
-/// The ledger and the timers of a pull reader.
-struct PullReader {
-    stream: String,
-    name: String,
-    batch: u64,
-    expires: u64,
-    heartbeat: u64,
-    pending: u64,
-    waiting: bool,
-    /// When the expiry timer was armed.
-    armed: u64,
-    info: Option<InfoCall>,
-}
-
-/// A pull reader's open info request.
-struct InfoCall {
-    failures: u64,
-    stage: InfoStage,
-}
-
-enum InfoStage {
-    Asked { request: u64, at: u64 },
-    Waiting { since: u64 },
-}
-
-impl PullReader {
-    fn new(info: &Info, now: u64) -> PullReader {
-        let config = &info.config;
-        let batch = if config.max_batch > 0 { 500.min(config.max_batch as u64) } else { 500 };
-        let expires = if config.max_expires > 0 { config.max_expires.min(30 * SECOND) } else { 30 * SECOND };
-        PullReader {
-            stream: info.stream_name.clone(),
-            name: info.name.clone(),
-            batch,
-            expires,
-            heartbeat: (expires / 2).min(15 * SECOND),
-            pending: 0,
-            waiting: false,
-            armed: now,
-            info: None,
-        }
-    }
 }
 
 /// The consumer's state, and what it has put out so far.
@@ -186,14 +132,15 @@ pub struct Consumer<'s> {
     inboxes: u64,
     requests: u64,
     /// The last accepted consumer number and the last yielded stream sequence.
-    number: u64,
+    pub number: u64,
     last: u64,
     serial: u64,
-    missed: bool,
-    limited: bool,
+    /// Whether a pull heartbeat was missed, and whether a pull request went past a limit.
+    pub missed: bool,
+    pub limited: bool,
     pub up: bool,
     connection: State,
-    ended: bool,
+    pub ended: bool,
 }
 
 impl<'s> Consumer<'s> {
@@ -229,7 +176,7 @@ impl<'s> Consumer<'s> {
         self.put(Output::Item(kind));
     }
 
-    fn end(&mut self, kind: ItemKind) {
+    pub fn end(&mut self, kind: ItemKind) {
         self.item(kind);
         self.ended = true;
     }
@@ -253,10 +200,14 @@ impl<'s> Consumer<'s> {
         if self.ended {
             return Ok(());
         }
-        let info_was_open = matches!(&self.phase, Phase::Reading(Reader { pull: Some(pull), .. }) if pull.info.is_some());
+        let change = match event.what {
+            What::Connection { state } if state != self.connection => Some(state),
+            _ => None,
+        };
+        let old = self.connection;
         match event.what {
             What::Link { up } => self.up = up,
-            What::Connection { state } if state != self.connection => self.change_connection(state, event.at),
+            What::Connection { state } => self.connection = state,
             What::WatcherEnded if self.setup.mode == Mode::Push => {
                 self.end(ItemKind::Other);
                 return Ok(());
@@ -266,44 +217,23 @@ impl<'s> Consumer<'s> {
         match std::mem::replace(&mut self.phase, Phase::Idle) {
             Phase::Idle => self.start_recreation(event.at),
             Phase::Recreating(recreation) => self.step_recreation(recreation, event),
-            Phase::Reading(reader) if reader.pull.is_some() => self.step_pull(reader, event, info_was_open),
-            Phase::Reading(reader) => self.step_push(reader, event),
-        }
-    }
-
-    fn change_connection(&mut self, state: State, now: u64) {
-        let old = std::mem::replace(&mut self.connection, state);
-        let touches_connected = old == State::Connected || state == State::Connected;
-        match std::mem::replace(&mut self.phase, Phase::Idle) {
-            Phase::Reading(Reader { pull: None, .. }) if touches_connected => {}
-            Phase::Reading(Reader { inbox, heartbeat, pull: Some(mut pull) }) => {
-                if pull.info.is_none() {
-                    if state == State::Connected {
-                        self.try_info(&mut pull, inbox, 0, now);
-                    } else {
-                        pull.armed = now;
-                    }
-                }
-                self.phase = Phase::Reading(Reader { inbox, heartbeat, pull: Some(pull) });
+            Phase::Pulling(reader) => self.step_pull(reader, event, change),
+            Phase::Pushing(_) if change.is_some() && (old == State::Connected || change == Some(State::Connected)) => {
+                self.start_recreation(event.at)
             }
-            other => self.phase = other,
+            Phase::Pushing(reader) => self.step_push(reader, event),
         }
     }
 
     /// Makes the inbox current, with a reader that starts now.
     pub fn read_inbox(&mut self, inbox: u64, info: &Info, now: u64) {
-        let pull = match self.setup.mode {
-            Mode::Push => None,
-            Mode::Pull => {
-                let mut pull = PullReader::new(info, now);
-                self.apply_threshold(&mut pull, inbox, now);
-                Some(pull)
-            }
+        self.phase = match self.setup.mode {
+            Mode::Pull => Phase::Pulling(self.start_pull(inbox, info, now)),
+            Mode::Push => Phase::Pushing(PushReader { inbox, heard: now }),
         };
-        self.phase = Phase::Reading(Reader { inbox, heartbeat: now, pull });
     }
 
-    /// Drops the reader, names the consumer anew and makes the first try.
+    /// Names the consumer anew and makes the first try. The inbox that was current was dropped before.
     pub fn start_recreation(&mut self, now: u64) -> Result<(), SequenceEnd> {
         if self.last == u64::MAX {
             return Err(SequenceEnd);
@@ -320,159 +250,14 @@ impl<'s> Consumer<'s> {
         Ok(())
     }
 
-    // The pull reader.
-
-    fn step_pull(&mut self, mut reader: Reader, event: &Event, info_was_open: bool) -> Result<(), SequenceEnd> {
-        let now = event.at;
-        let inbox = reader.inbox;
-        let Some(pull) = reader.pull.as_mut() else { return Ok(()) };
-        if info_was_open {
-            self.step_info(pull, inbox, event);
-        }
-        if pull.info.is_none() && due(now, pull.armed, pull.expires + 5 * SECOND) {
-            self.pull_request(pull, inbox, true, now);
-        }
-        match &event.what {
-            What::Arrival { inbox: at, message } if *at == inbox => {
-                if self.pull_arrival(pull, message) {
-                    return self.start_recreation(now);
-                }
-                if !self.ended {
-                    self.apply_threshold(pull, inbox, now);
-                }
-                reader.heartbeat = now;
-            }
-            _ => {
-                if pull.heartbeat > 0 && due(now, reader.heartbeat, 2 * pull.heartbeat) {
-                    if self.missed {
-                        return self.start_recreation(now);
-                    }
-                    self.missed = true;
-                    reader.heartbeat = now;
-                }
-            }
-        }
-        self.phase = Phase::Reading(reader);
-        Ok(())
-    }
-
-    fn apply_threshold(&mut self, pull: &mut PullReader, inbox: u64, now: u64) {
-        if pull.pending <= pull.batch / 2 && !pull.waiting {
-            pull.waiting = true;
-            if pull.info.is_none() {
-                self.pull_request(pull, inbox, false, now);
-            }
-        }
-    }
-
-    fn pull_request(&mut self, pull: &mut PullReader, inbox: u64, reset: bool, now: u64) {
-        pull.armed = now;
-        if !self.up {
-            self.item(ItemKind::Pull);
-            return;
-        }
-        self.put(Output::Publish {
-            subject: self.subjects.next(&pull.stream, &pull.name),
-            reply: Some(self.subjects.inbox(inbox)),
-            payload: crate::requests::pull_body(pull.batch, pull.expires, pull.heartbeat),
-        });
-        pull.pending = if reset { pull.batch } else { pull.pending.saturating_add(pull.batch) };
-        pull.waiting = false;
-    }
-
-    fn try_info(&mut self, pull: &mut PullReader, inbox: u64, failures: u64, now: u64) {
-        if self.up {
-            let request = self.request(self.subjects.info(&pull.stream, &pull.name), "{}".into());
-            pull.info = Some(InfoCall { failures, stage: InfoStage::Asked { request, at: now } });
-        } else {
-            self.fail_info(pull, inbox, failures + 1, now);
-        }
-    }
-
-    fn fail_info(&mut self, pull: &mut PullReader, inbox: u64, failures: u64, now: u64) {
-        if failures < INFO_TRIES {
-            pull.info = Some(InfoCall { failures, stage: InfoStage::Waiting { since: now } });
-        } else {
-            pull.info = None;
-            self.item(ItemKind::Pull);
-            self.pull_request(pull, inbox, false, now);
-        }
-    }
-
-    fn step_info(&mut self, pull: &mut PullReader, inbox: u64, event: &Event) {
-        let Some(InfoCall { failures, stage }) = pull.info.take() else { return };
-        let now = event.at;
-        match stage {
-            InfoStage::Waiting { since } if due(now, since, wait_after(failures)) => {
-                self.try_info(pull, inbox, failures, now);
-            }
-            InfoStage::Asked { request, at } => {
-                if let Some(reply) = answer_to(request, event) {
-                    match good_info(reply) {
-                        Some(info) => self.pull_request(pull, inbox, info.num_waiting == 0, now),
-                        None => self.fail_info(pull, inbox, failures + 1, now),
-                    }
-                } else if self.info_timeout(inbox).is_some_and(|timeout| due(now, at, timeout)) {
-                    self.fail_info(pull, inbox, failures + 1, now);
-                } else {
-                    pull.info = Some(InfoCall { failures, stage });
-                }
-            }
-            InfoStage::Waiting { .. } => pull.info = Some(InfoCall { failures, stage }),
-        }
-    }
-
-    fn info_timeout(&self, inbox: u64) -> Option<u64> {
-        let settings = &self.setup.settings;
-        let later = (inbox > 0).then_some(DEFAULT_TIMEOUT);
-        settings.context_timeout.or(settings.request_timeout).or(later)
-    }
-
-    /// Handles an arrival; whether it asks for a recreation.
-    fn pull_arrival(&mut self, pull: &mut PullReader, message: &Message) -> bool {
-        match message.status {
-            None | Some(200) => {
-                pull.pending = pull.pending.saturating_sub(1);
-                self.missed = false;
-                self.deliver(message)
-            }
-            Some(100) => false,
-            Some(408 | 409 | 423) => self.pull_status(pull, message),
-            Some(503) => true,
-            Some(_) => {
-                self.item(ItemKind::Other);
-                false
-            }
-        }
-    }
-
-    fn pull_status(&mut self, pull: &mut PullReader, message: &Message) -> bool {
-        match message.description.as_deref() {
-            Some("Consumer Deleted") => return true,
-            Some("Consumer is push based") => self.end(ItemKind::PushBasedConsumer),
-            Some(text) if text.starts_with("Exceeded MaxRequest") => {
-                if !self.limited {
-                    self.limited = true;
-                    return true;
-                }
-                self.end(ItemKind::RequestLimitExceeded);
-            }
-            _ => {
-                let count = |name, absent| message.first_header(name).map_or(Some(absent), |text| text.parse::<u64>().ok());
-                match (count("Nats-Pending-Messages", pull.batch), count("Nats-Pending-Bytes", 0)) {
-                    (Some(messages), Some(_)) => pull.pending = pull.pending.saturating_sub(messages),
-                    _ => self.item(ItemKind::Other),
-                }
-            }
-        }
-        false
-    }
-
     /// Yields a message, or says that it can't be read; whether it asks for a recreation.
-    fn deliver(&mut self, message: &Message) -> bool {
-        let Some(delivery) = message.reply.as_deref().and_then(read_delivery) else {
-            self.item(ItemKind::Other);
-            return false;
+    pub fn deliver(&mut self, message: &Message) -> bool {
+        let delivery = match message.reply.as_deref().and_then(read_delivery) {
+            Some(delivery) => delivery,
+            None => {
+                self.item(ItemKind::Other);
+                return false;
+            }
         };
         if self.number.checked_add(1) != Some(delivery.consumer_sequence) {
             return true;
@@ -488,57 +273,20 @@ impl<'s> Consumer<'s> {
         });
         false
     }
-
-    // The push reader.
-
-    fn step_push(&mut self, mut reader: Reader, event: &Event) -> Result<(), SequenceEnd> {
-        let now = event.at;
-        match &event.what {
-            What::Arrival { inbox, message } if *inbox == reader.inbox => {
-                if self.push_arrival(message) {
-                    return self.start_recreation(now);
-                }
-                reader.heartbeat = now;
-            }
-            _ if due(now, reader.heartbeat, PUSH_HEARTBEAT) => {
-                self.item(ItemKind::MissingHeartbeat);
-                return self.start_recreation(now);
-            }
-            _ => {}
-        }
-        self.phase = Phase::Reading(reader);
-        Ok(())
-    }
-
-    /// Handles an arrival; whether it asks for a recreation.
-    pub fn push_arrival(&mut self, message: &Message) -> bool {
-        match message.status {
-            None => self.deliver(message),
-            Some(100) => self.push_beat(message),
-            Some(_) => false,
-        }
-    }
-
-    fn push_beat(&mut self, message: &Message) -> bool {
-        let told = match message.last_header("Nats-Last-Consumer").map(str::parse::<u64>) {
-            None => None,
-            Some(Ok(number)) => Some(number),
-            Some(Err(_)) => {
-                self.item(ItemKind::Other);
-                return false;
-            }
-        };
-        if let (true, Some(subject)) = (self.up, &message.reply) {
-            self.put(Output::Publish { subject: subject.clone(), reply: None, payload: String::new() });
-        }
-        told.is_some_and(|number| number != self.number)
-    }
 }
 
 /// The answer that the event brings to the request: a message, or nothing where the replier is gone.
 pub fn answer_to(number: u64, event: &Event) -> Option<Option<&Message>> {
     match &event.what {
         What::Answer { request, reply } if *request == number => Some(reply.as_deref()),
+        _ => None,
+    }
+}
+
+/// The message that the event brings to the inbox.
+pub fn arrival_on(number: u64, event: &Event) -> Option<&Message> {
+    match &event.what {
+        What::Arrival { inbox, message } if *inbox == number => Some(message),
         _ => None,
     }
 }

@@ -40,11 +40,21 @@ pub struct Event {
 
 pub enum What {
     Tick,
-    Arrival { inbox: u64, message: Box<Message> },
+    Arrival {
+        inbox: u64,
+        message: Box<Message>,
+    },
     /// Without a reply, the replier is gone.
-    Answer { request: u64, reply: Option<Box<Message>> },
-    Link { up: bool },
-    Connection { state: State },
+    Answer {
+        request: u64,
+        reply: Option<Box<Message>>,
+    },
+    Link {
+        up: bool,
+    },
+    Connection {
+        state: State,
+    },
     WatcherEnded,
 }
 
