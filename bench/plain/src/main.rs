@@ -1,0 +1,98 @@
+//! `replay` in plain Rust: reads a transcript from standard input and writes the text of its run.
+//!
+//! It is written from the repository's documents alone, with one `serde_json::Value` a line, and shares no line with the
+//! proved program. The bench measures the proved program against it, and compares what the two write.
+
+mod ack;
+mod config;
+mod fields;
+mod instant;
+mod names;
+mod pull;
+mod push;
+mod recreation;
+mod replay;
+mod requests;
+mod text;
+mod transcript;
+
+use std::io::{self, Read, Write};
+use std::process::ExitCode;
+
+/// The most bytes that a transcript may have.
+const LIMIT: usize = 67_108_864;
+
+/// How a call ended, with the number of its exit status.
+enum Status {
+    Done,
+    ReadFault,
+    Usage,
+    BadLine(usize),
+    WriteFault,
+    Refused,
+    TooLong,
+}
+
+impl Status {
+    fn exit(&self) -> u8 {
+        match self {
+            Status::Done => 0,
+            Status::ReadFault => 1,
+            Status::Usage => 2,
+            Status::BadLine(_) => 3,
+            Status::WriteFault => 4,
+            Status::Refused => 6,
+            Status::TooLong => 7,
+        }
+    }
+
+    /// What goes to standard error; nothing where all went well.
+    fn line(&self) -> Option<String> {
+        match self {
+            Status::Done => None,
+            Status::ReadFault => Some("ReadFault".into()),
+            Status::Usage => Some("Usage".into()),
+            Status::BadLine(line) => Some(format!("BadLine {line}")),
+            Status::WriteFault => Some("WriteFault".into()),
+            Status::Refused => Some("Refused".into()),
+            Status::TooLong => Some("TooLong".into()),
+        }
+    }
+}
+
+fn main() -> ExitCode {
+    let words: Vec<String> = std::env::args().skip(1).collect();
+    let status =
+        if words == ["replay"] { run(&mut io::stdin().lock(), &mut io::stdout().lock()) } else { Status::Usage };
+    if let Some(line) = status.line() {
+        eprintln!("{line}");
+    }
+    ExitCode::from(status.exit())
+}
+
+/// Reads the input to its end, replays it, and writes the text of the run or the line of the refusal.
+fn run(input: &mut impl Read, output: &mut impl Write) -> Status {
+    let mut bytes = Vec::new();
+    if input.read_to_end(&mut bytes).is_err() {
+        return Status::ReadFault;
+    }
+    if bytes.len() > LIMIT {
+        return Status::TooLong;
+    }
+    let transcript = match transcript::read(&bytes) {
+        Ok(transcript) => transcript,
+        Err(line) => return Status::BadLine(line),
+    };
+    drop(bytes);
+    match replay::replay_ordered(&transcript.setup, &transcript.events) {
+        Ok(run) => match text::write_run(output, &run, transcript.events.len()) {
+            Ok(()) => Status::Done,
+            Err(_) => Status::WriteFault,
+        },
+        Err(refusal) => {
+            // The input was refused, whether or not its line could be written.
+            let _ = text::write_refusal(output, &refusal);
+            Status::Refused
+        }
+    }
+}
