@@ -187,3 +187,7 @@ copy_is_unnumbered v copy copied c = subst (λ (z : View). IsUnnumbered (capacit
 pub opened_is_unnumbered : (capacity : ℕ) (v w : View) → v ≡ newcomer → Opened v [] (capacity ∷ capacity ∷ []) w → IsUnnumbered (capacity_of w) w
 opened_is_unnumbered capacity v w first told =
     subst (λ (z : View). IsUnnumbered (capacity_of z) z) (sym (told ∙ ap (λ (z : View). record z { capacity = Some capacity }) first)) record { live = refl; bears_none = refl; knows = refl }
+
+-- the first pass of a cell that was opened is one of its window
+pub of_new_window : (q : Caller) (t u : TableId) (capacity : ℕ) (v w : View) → u ≡ t → Opened v [] (capacity ∷ capacity ∷ []) w → Splits (caller_of u w) q → q.window ≡ record { table = t; capacity = capacity }
+of_new_window q t u capacity v w same told new = new.window ∙ (λ i. record { table = same i; capacity = capacity_of (told i) })

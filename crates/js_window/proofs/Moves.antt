@@ -13,7 +13,7 @@ use Rattle.js_window.specs.declared.rule.Standing.TheVariants.{Live, Ended, Spen
 use Rattle.js_window.specs.declared.rule.View.{View}
 use Rattle.js_window.specs.History.{entry, out_after, got_in, given_in, calls_by, MayFollow, IsLegal}
 use Rattle.js_window.specs.Rule.{BearsPlace, KnowsCapacity, IsLive, Stands, IsOneHistory, free_in, capacity_in}
-use Rattle.js_window.specs.Steps.{IsPass, IsCaller, SeesMore, Adds}
+use Rattle.js_window.specs.Steps.{IsPass, IsCaller, SeesMore, Adds, IsFree}
 use Rattle.js_window.proofs.Histories.{calls_by-push-own, calls_by-push-other, legal-push, legal-prefix}
 use Rattle.js_window.proofs.Prefixes.{prefix-refl, prefix-push, prefix-trans, below_length}
 
@@ -84,7 +84,7 @@ module _ (x : List ℕ) (views : List View) (r : IsOneHistory x views) (place : 
 
   -- the pass has seen the whole history, and made no call
   pub sees : (number capacity : ℕ) → IsPass number capacity v
-      → (w : View) × IsOneHistory x (set views place w) × ((n c : ℕ) → IsPass n c v → SeesMore n c v w × (free_in x ≤ c))
+      → (w : View) × IsOneHistory x (set views place w) × ((n c : ℕ) → IsPass n c v → SeesMore n c v w × IsFree c x w)
   sees number capacity p =
       let mine = living p.live in
       let open_now = known_capacity capacity p.live p.knows in
@@ -113,14 +113,14 @@ module _ (x : List ℕ) (views : List View) (r : IsOneHistory x views) (place : 
                 seen = mine.seen;
                 mine = refl;
               },
-              (let free = r.free in omega arith),
+              r.free ∙ sym cap.0,
             ),
       )
 
   -- the pass has seen the whole history, and made the call that may follow
   pub adds : (y : List ℕ) (number capacity : ℕ) (call : Call) → IsPass number capacity v → MayFollow (capacity_in x) r.log place call → capacity_in y ≡ capacity_in x
       → free_in y + out_after (r.log ++ entry place call ∷ []) ≡ capacity_in x
-      → (w : View) × IsOneHistory y (set views place w) × ((n c : ℕ) → IsPass n c v → Adds n c call v w)
+      → (w : View) × IsOneHistory y (set views place w) × ((n c : ℕ) → IsPass n c v → Adds n c call v w × IsFree c y w)
   adds y number capacity call p may same free =
       let mine = living p.live in
       let open_now = known_capacity capacity p.live p.knows in
@@ -144,17 +144,19 @@ module _ (x : List ℕ) (views : List View) (r : IsOneHistory x views) (place : 
             (here_longest w log refl),
         λ n c q.
             let cap = known_capacity c q.live q.knows in
-            let at_place = known_number n q.live q.bears in
-            record {
-              caller = record {
-                pass = record { live = q.live; bears = q.bears; knows = q.knows };
-                legal = subst (λ (z : ℕ). IsLegal z log) (sym cap.0) legal;
-                own = ap (λ (z : ℕ). calls_by z log) at_place ∙ own;
-              };
-              between = mine.seen.0;
-              seen = ap (λ (l : List Entry). l ++ e ∷ []) (sym mine.seen.1) ∙ ap (λ (z : ℕ). (v.seen ++ mine.seen.0) ++ entry z call ∷ []) (sym at_place);
-              mine = ap (λ (z : ℕ). v.mine ++ entry z call ∷ []) (sym at_place);
-            },
+            let at_place = known_number n q.live q.bears in (
+              record {
+                caller = record {
+                  pass = record { live = q.live; bears = q.bears; knows = q.knows };
+                  legal = subst (λ (z : ℕ). IsLegal z log) (sym cap.0) legal;
+                  own = ap (λ (z : ℕ). calls_by z log) at_place ∙ own;
+                };
+                between = mine.seen.0;
+                seen = ap (λ (l : List Entry). l ++ e ∷ []) (sym mine.seen.1) ∙ ap (λ (z : ℕ). (v.seen ++ mine.seen.0) ++ entry z call ∷ []) (sym at_place);
+                mine = ap (λ (z : ℕ). v.mine ++ entry z call ∷ []) (sym at_place);
+              },
+              free ∙ sym cap.0,
+            ),
       )
     where
       elim_bears : (o : Option ℕ) (l : List Entry) (n : ℕ) → o ≡ Some n → n ≡ place → BearsPlace o place l

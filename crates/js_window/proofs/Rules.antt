@@ -113,8 +113,8 @@ refuses place v number capacity p x views r at =
     let free = r.free in
     dite (ℕ_discrete (free_in x) 0)
     (λ none. let t = adds x views r place v at x number capacity Full p (omega arith) refl (omega (arith, out_after-push-full r.log place)) in
-    (t.0, t.1, λ n c q. ((λ _. t.2 n c q), λ some_free. absurd (omega arith))))
-    (λ some_free. let t = sees x views r place v at number capacity p in (t.0, t.1, λ n c q. ((λ none. absurd (some_free none)), λ _. (t.2 n c q).0)))
+    (t.0, t.1, λ n c q. ((λ _. (t.2 n c q).0), (λ some_free. absurd (omega arith)), (t.2 n c q).1)))
+    (λ some_free. let t = sees x views r place v at number capacity p in (t.0, t.1, λ n c q. ((λ none. absurd (some_free none)), (λ _. (t.2 n c q).0), (t.2 n c q).1)))
 
 -- an exchange is the step that was wanted, or a look
 exchanges : (place : ℕ) (v : View) (current new : List ℕ) (tells : View → List ℕ → List ℕ → View → Type 0)
@@ -135,7 +135,7 @@ takes place v number capacity current new p falls same =
     let free = r.free in
     let rises : out_after (r.log ++ entry place Got ∷ []) ≡ out_after r.log + 1 = out_after-push-got (capacity_in current) r.log place r.legal in
     let t = adds current views r place v at new number capacity Got p (omega arith) same (omega arith) in
-    (t.0, t.1, λ n c q. ((λ _. t.2 n c q), λ stays. absurd (omega arith))))
+    (t.0, t.1, λ n c q. ((λ _. (t.2 n c q).0), λ stays. absurd (omega arith))))
     (λ x views r at. let t = sees x views r place v at number capacity p in (t.0, t.1, λ n c q. ((λ went. absurd (omega arith)), λ _. (t.2 n c q).0)))
 
 pub gives : (place : ℕ) (v : View) (number capacity : ℕ) (current new : List ℕ) → IsPass number capacity v → 0 < out_after v.mine
@@ -148,7 +148,7 @@ gives place v number capacity current new p has_one rises same =
     let may : 0 < out_after (calls_by place r.log) = subst (λ (l : List Entry). 0 < out_after l) (sym (living current views r place v at p.live).own) has_one in
     let falls : out_after (r.log ++ entry place Give ∷ []) + 1 ≡ out_after r.log = out_after-push-give (capacity_in current) r.log place r.legal may in
     let t = adds current views r place v at new number capacity Give p may same (omega arith) in
-    (t.0, t.1, λ n c q. ((λ _. t.2 n c q), λ stays. absurd (omega arith))))
+    (t.0, t.1, λ n c q. ((λ _. (t.2 n c q).0), λ stays. absurd (omega arith))))
     (λ x views r at. let t = sees x views r place v at number capacity p in (t.0, t.1, λ n c q. ((λ went. absurd (omega arith)), λ _. (t.2 n c q).0)))
 
 pub asks_all_free : (place : ℕ) (v : View) (number capacity : ℕ) → IsPass number capacity v → Turns IsOneHistory place v (λ x. x) AllFreeAsked
@@ -156,4 +156,5 @@ asks_all_free place v number capacity p x views r at =
     let free = r.free in
     let answer : Bool = free_in x == capacity_in x in
     let may : IsTrue answer ↔ (out_after r.log ≡ 0) = ((λ yes. let e : free_in x ≡ capacity_in x = eqb-true _ _ yes in omega arith), (λ none. eq-eqb _ _ (omega arith))) in
-    adds x views r place v at x number capacity (AllFree answer) p may refl (omega (arith, out_after-push-all_free r.log place answer))
+    let t = adds x views r place v at x number capacity (AllFree answer) p may refl (omega (arith, out_after-push-all_free r.log place answer)) in
+    (t.0, t.1, λ n c q. (t.2 n c q).0)

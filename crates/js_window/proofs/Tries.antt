@@ -52,6 +52,6 @@ try_tells true call p t u v w is same c s = makes p t u v w is same call c s
 try_tells false call p t u v w is same c s = watches p t u v w is same s
 
 -- so is a pass that looked for a free permit, whatever it found
-pub caller_after_look : (free number capacity : ℕ) (v w : View) → (free ≡ 0 → Adds number capacity Full v w) × (0 < free → SeesMore number capacity v w) → IsCaller (number_of w) (capacity_of w) w
-caller_after_look zero number capacity v w t = own_terms number capacity w (t.0 refl).caller
-caller_after_look (suc free) number capacity v w t = own_terms number capacity w (t.1 (omega arith)).caller
+pub caller_after_look : (free number capacity : ℕ) (v w : View) → (free ≡ 0 → Adds number capacity Full v w) → (0 < free → SeesMore number capacity v w) → IsCaller (number_of w) (capacity_of w) w
+caller_after_look zero number capacity v w none some = own_terms number capacity w (none refl).caller
+caller_after_look (suc free) number capacity v w none some = own_terms number capacity w (some (omega arith)).caller

@@ -1,12 +1,12 @@
 -- What each step on the cell tells the pass that makes it: of its view before, the words before, the words after, and its view after.
-use Rattle.std.specs.Prelude.{◌≡◌, ℕ, ◌+◌, ◌<◌, ◌≤◌, ◌==◌, List, [], ◌∷◌, ◌++◌, Some, None}
+use Rattle.std.specs.Prelude.{◌≡◌, ℕ, ◌+◌, ◌<◌, ◌==◌, List, [], ◌∷◌, ◌++◌, Some, None}
 use mathlib.Core.List.{IsPrefix}
 use Rattle.js_window.specs.declared.history.Call.{Call}
 use Rattle.js_window.specs.declared.history.Call.TheVariants.{Got, Full, Give, AllFree}
 use Rattle.js_window.specs.declared.history.Entry.{Entry}
 use Rattle.js_window.specs.declared.rule.Standing.TheVariants.{Live}
 use Rattle.js_window.specs.declared.rule.View.{View}
-use Rattle.js_window.specs.History.{entry, calls_by, IsLegal}
+use Rattle.js_window.specs.History.{entry, out_after, calls_by, IsLegal}
 use Rattle.js_window.specs.Rule.{free_in, capacity_in}
 
 -- a live view that bears this number and knows this capacity
@@ -40,6 +40,10 @@ pub record Adds (number capacity : ℕ) (call : Call) (v w : View) : Type 0 wher
   pub seen : w.seen ≡ (v.seen ++ between) ++ entry number call ∷ []
   pub mine : w.mine ≡ v.mine ++ entry number call ∷ []
 
+-- so many permits were free, after what the pass has now seen
+abbrev pub IsFree : ℕ → List ℕ → View → Type 0
+IsFree capacity words w = free_in words + out_after w.seen ≡ capacity
+
 -- open: the first pass learns the capacity
 abbrev pub Opened : View → List ℕ → List ℕ → View → Type 0
 Opened v before after w = w ≡ record v { capacity = Some (capacity_in after) }
@@ -56,10 +60,10 @@ Recalled v before after w =
     (number capacity : ℕ) → IsPass number capacity v
     → (w ≡ v) × IsCaller number capacity w × IsPrefix v.joined_own v.seen × IsPrefix v.joined_other v.seen
 
--- a look: no more than the capacity is free
+-- a look: how many permits are free
 abbrev pub Looked : View → List ℕ → List ℕ → View → Type 0
 Looked v before after w =
-    (number capacity : ℕ) → IsPass number capacity v → SeesMore number capacity v w × (free_in before ≤ capacity)
+    (number capacity : ℕ) → IsPass number capacity v → SeesMore number capacity v w × IsFree capacity before w
 
 -- refuse where no permit is free, a look elsewhere
 abbrev pub Refused : View → List ℕ → List ℕ → View → Type 0
@@ -67,6 +71,7 @@ Refused v before after w =
     (number capacity : ℕ) → IsPass number capacity v
     → (free_in before ≡ 0 → Adds number capacity Full v w)
     × (0 < free_in before → SeesMore number capacity v w)
+    × IsFree capacity before w
 
 -- take where the free count falls, a look where it stays
 abbrev pub Taken : View → List ℕ → List ℕ → View → Type 0

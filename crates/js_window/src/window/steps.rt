@@ -1,6 +1,7 @@
 // The single steps on the cell from which the window's calls are made.
-ghost use Rattle.std.specs.Prelude.{◌≡◌, ◌<◌, ◌≤◌, MatchBool};
+ghost use Rattle.std.specs.Prelude.{◌≡◌, ◌+◌, ◌<◌, ◌≤◌, MatchBool};
 ghost use Rattle.js_window.specs.Caller.{held, Makes, Watches};
+ghost use Rattle.js_window.specs.History.{out_after};
 ghost use Rattle.js_window.specs.declared.history.Call.TheVariants.{Got, Full, Give};
 
 use super::{Pass, Window};
@@ -8,11 +9,12 @@ use crate::rule::{Gives, Looks, Refuses, Takes};
 use std::sync::Wait;
 
 impl Window {
-    // How many permits are free. Where none is, this step is the take that found none.
+    // How many permits are free, after what the pass has then seen. Where none is, this step is the take that found none.
     pub fn look_to_take<R: Wait>(&self, rt: &R, pass: &mut Pass) -> u64
         requires { pass.old.window ≡ self.now }
         ensures none { result ≡ 0 → Makes Full pass.old pass.new }
         ensures some { 0 < result → Watches pass.old pass.new }
+        ensures free { result + out_after pass.new.seen ≡ self.now.capacity }
     {
         self.cell.load_as::<Refuses, R>(rt, &mut pass.seat)[0]
     }
@@ -30,11 +32,11 @@ impl Window {
             .is_ok()
     }
 
-    // How many permits are free.
+    // How many permits are free, after what the pass has then seen.
     pub fn look_to_give<R: Wait>(&self, rt: &R, pass: &mut Pass) -> u64
         requires { pass.old.window ≡ self.now }
         ensures look { Watches pass.old pass.new }
-        ensures most { result ≤ self.now.capacity }
+        ensures free { result + out_after pass.new.seen ≡ self.now.capacity }
     {
         self.cell.load_as::<Looks, R>(rt, &mut pass.seat)[0]
     }

@@ -1,4 +1,4 @@
-use Rattle.std.proofs.Common.{rules, arith}
+use Rattle.std.proofs.Common.{◌∙◌, rules}
 use Rattle.crossbeam_utils.specs.Seq.{cell_view}
 use Rattle.js_window.specs.Steps.{Looked}
 use Rattle.js_window.proofs.Callers.{own_terms, same_table, same_capacity_known, watches}
@@ -15,8 +15,5 @@ invariant_of-pass g c = own_terms _ _ _ (c.load_as.ensures.rule _ _ c.pass.invar
 pub returns-clause-look : goal.returns-clause-look
 returns-clause-look g c = watches _ _ _ _ _ c.pass.view_is c.load_as.ensures.cell.0 (c.load_as.ensures.rule _ _ c.pass.invariant.pass).0
 
-pub returns-clause-most : goal.returns-clause-most
-returns-clause-most g c =
-    let most = (c.load_as.ensures.rule _ _ c.pass.invariant.pass).1 in
-    let same = same_capacity_known _ _ _ (cell_view c.pass.inside.seat) c.pass.view_is c.requires in
-    omega arith
+pub returns-clause-free : goal.returns-clause-free
+returns-clause-free g c = (c.load_as.ensures.rule _ _ c.pass.invariant.pass).1 ∙ same_capacity_known _ _ _ (cell_view c.pass.inside.seat) c.pass.view_is c.requires

@@ -1,9 +1,10 @@
 use Rattle.std.proofs.Common.{◌∷◌, [], rules, sym, ap, ◌∙◌, subst}
 use Rattle.crossbeam_utils.specs.Register.{Turns}
+use Rattle.crossbeam_utils.specs.Seq.{cell_view}
 use Rattle.js_window.specs.declared.rule.View.{View}
-use Rattle.js_window.specs.Rule.{IsKept, capacity_of}
+use Rattle.js_window.specs.Rule.{IsKept}
 use Rattle.js_window.specs.Steps.{Opened}
-use Rattle.js_window.proofs.Callers.{opened_is_unnumbered}
+use Rattle.js_window.proofs.Callers.{opened_is_unnumbered, of_new_window}
 use Rattle.js_window.proofs.Rules.{begins, opens}
 use Rattle.js_window.proofs.Totals.{kept, turns_kept}
 use Rattle.js_window.proofs.window.Window.new.Goals as goal
@@ -27,9 +28,7 @@ numbered-pass-requires g c =
 
 pub returns-clause-own : goal.returns-clause-own
 returns-clause-own g c =
-    let made = c.in_ok-cell.ensures in
-    let told = c.swap_as.ensures in
-    c.numbered-pass.ensures.window ∙ (λ i. record { table = (told.cell.0 ∙ made.0) i; capacity = capacity_of (told.rule i) })
+    of_new_window c.numbered-pass.result c.in_ok-cell.cell.table.shared.table_id c.swap_as.new.pass.table_id c.args.capacity (cell_view c.in_ok-cell.seat) (cell_view c.swap_as.new.pass) (c.swap_as.ensures.cell.0 ∙ c.in_ok-cell.ensures.0) c.swap_as.ensures.rule c.numbered-pass.ensures
 
 pub returns-clause-seen : goal.returns-clause-seen
 returns-clause-seen g c = c.numbered-pass.ensures.seen ∙ ap (λ (v : View). v.seen) c.swap_as.ensures.rule ∙ ap (λ (v : View). v.seen) c.in_ok-cell.ensures.1
