@@ -1,9 +1,9 @@
 -- One take more of a worker, and the permit given back.
-use Rattle.std.proofs.Common.{◌≡◌, ℕ, ◌+◌, List, [], ◌∷◌, ◌++◌, refl, sym, ap, ◌∙◌, arith}
+use Rattle.std.proofs.Common.{◌≡◌, ℕ, ◌+◌, List, [], ◌∷◌, ◌++◌, refl, ap, ◌∙◌, arith}
 use Rattle.js_window.specs.declared.history.Entry.{Entry}
 use Rattle.js_window.specs.declared.history.Call.TheVariants.{Got, Full, Give}
 use Rattle.js_window.specs.History.{entry, got_in}
-use Rattle.js_window.specs.Caller.{Caller, held, Makes}
+use Rattle.js_window.specs.Caller.{Caller, Makes}
 use Rattle.js_window.proofs.Histories.{count_by-append, got_in-append}
 use Rattle.js_window.proofs.Prefixes.{prefix-refl, prefix-trans}
 use Rattle.js_workers.specs.Worker.{is_full, full_in, TookCalls}

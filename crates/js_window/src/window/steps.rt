@@ -10,7 +10,7 @@ use std::sync::Wait;
 
 impl Window {
     // How many permits are free, after what the pass has then seen. Where none is, this step is the take that found none.
-    pub fn look_to_take<R: Wait>(&self, rt: &R, pass: &mut Pass) -> u64
+    pub(crate) fn look_to_take<R: Wait>(&self, rt: &R, pass: &mut Pass) -> u64
         requires { pass.old.window ≡ self.now }
         ensures none { result ≡ 0 → Makes Full pass.old pass.new }
         ensures some { 0 < result → Watches pass.old pass.new }
@@ -20,7 +20,7 @@ impl Window {
     }
 
     // Takes a permit if just so many are free.
-    pub fn try_take<R: Wait>(&self, rt: &R, pass: &mut Pass, free: u64) -> bool
+    pub(crate) fn try_take<R: Wait>(&self, rt: &R, pass: &mut Pass, free: u64) -> bool
         requires window { pass.old.window ≡ self.now }
         requires some { 0 < free }
         ensures { MatchBool result (Makes Got pass.old pass.new) (Watches pass.old pass.new) }
@@ -33,7 +33,7 @@ impl Window {
     }
 
     // How many permits are free, after what the pass has then seen.
-    pub fn look_to_give<R: Wait>(&self, rt: &R, pass: &mut Pass) -> u64
+    pub(crate) fn look_to_give<R: Wait>(&self, rt: &R, pass: &mut Pass) -> u64
         requires { pass.old.window ≡ self.now }
         ensures look { Watches pass.old pass.new }
         ensures free { result + out_after pass.new.seen ≡ self.now.capacity }
@@ -42,7 +42,7 @@ impl Window {
     }
 
     // Gives a permit back if just so many are free.
-    pub fn try_give<R: Wait>(&self, rt: &R, pass: &mut Pass, free: u64) -> bool
+    pub(crate) fn try_give<R: Wait>(&self, rt: &R, pass: &mut Pass, free: u64) -> bool
         requires window { pass.old.window ≡ self.now }
         requires holds { 0 < held pass.old }
         requires most { free ≤ self.now.capacity }

@@ -1,4 +1,4 @@
-use Rattle.std.proofs.Common.{◌≡◌, ℕ, ◌+◌, arith, sym, subst}
+use Rattle.std.proofs.Common.{ℕ, arith, sym, subst}
 use Rattle.js_window.specs.Caller.{Caller}
 use Rattle.js_workers.specs.Worker.{TookCalls}
 use Rattle.js_workers.proofs.Takes.{took_got, took_full}
