@@ -22,9 +22,9 @@ pub struct WindowCounts {
     pub all_free: bool,
 }
 
-/// Runs 1 to 8 workers, numbered from 0, on a window of 1 to `u32::MAX` permits of their own. Each makes so many
-/// calls, at most 100,000, as [`take_calls`](crate::take_calls) does. When all have ended, joins their passes and asks once whether
-/// all permits are free.
+/// Runs 1 to 8 workers, numbered from 0, on a window of their own with 1 to `u32::MAX` permits. Each makes so many
+/// calls, at most 100,000, as [`take_calls`](crate::take_calls) does. When all have ended, joins their passes and
+/// asks once whether all permits are free.
 ///
 /// A worker for which no thread can be made runs on the caller. The one refusal is want of memory.
 pub fn run_window<R: Threads + Wait + Sync, G: Gate + Sync>(
