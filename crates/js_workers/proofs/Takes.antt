@@ -1,0 +1,35 @@
+-- One take more of a worker, and the permit given back.
+use Rattle.std.proofs.Common.{◌≡◌, ℕ, ◌+◌, List, [], ◌∷◌, ◌++◌, refl, ap, ◌∙◌, arith}
+use Rattle.js_window.specs.declared.history.Entry.{Entry}
+use Rattle.js_window.specs.declared.history.Call.TheVariants.{Got, Full, Give}
+use Rattle.js_window.specs.History.{entry, got_in}
+use Rattle.js_window.specs.Caller.{Caller, Makes}
+use Rattle.js_window.proofs.Histories.{count_by-append, got_in-append}
+use Rattle.js_window.proofs.Prefixes.{prefix-refl, prefix-trans}
+use Rattle.js_workers.specs.Worker.{is_full, full_in, TookCalls}
+
+full_in-append : (xs ys : List Entry) → full_in (xs ++ ys) ≡ full_in xs + full_in ys
+full_in-append xs ys = count_by-append (λ e. is_full e.call) xs ys
+
+pub took_none : (p : Caller) → TookCalls 0 0 p p
+took_none p = record { window = refl; number = refl; grows = prefix-refl p.seen; got_more = omega arith; full_more = omega arith; held = refl }
+
+pub took_got : (got full : ℕ) (p q r s : Caller) → TookCalls got full p q → Makes Got q r → Makes Give r s → TookCalls (got + 1) full p s
+took_got got full p q r s t a b = record {
+  window = b.goes_on.window ∙ a.goes_on.window ∙ t.window;
+  number = b.goes_on.number ∙ a.goes_on.number ∙ t.number;
+  grows = prefix-trans p.seen q.seen s.seen t.grows (prefix-trans q.seen r.seen s.seen a.goes_on.grows b.goes_on.grows);
+  got_more = omega (arith, t.got_more, ap got_in a.mine, ap got_in b.mine, got_in-append q.mine (entry q.number Got ∷ []), got_in-append r.mine (entry r.number Give ∷ []));
+  full_more = omega (arith, t.full_more, ap full_in a.mine, ap full_in b.mine, full_in-append q.mine (entry q.number Got ∷ []), full_in-append r.mine (entry r.number Give ∷ []));
+  held = omega (arith, t.held, a.holds, b.holds);
+}
+
+pub took_full : (got full : ℕ) (p q r : Caller) → TookCalls got full p q → Makes Full q r → TookCalls got (full + 1) p r
+took_full got full p q r t a = record {
+  window = a.goes_on.window ∙ t.window;
+  number = a.goes_on.number ∙ t.number;
+  grows = prefix-trans p.seen q.seen r.seen t.grows a.goes_on.grows;
+  got_more = omega (arith, t.got_more, ap got_in a.mine, got_in-append q.mine (entry q.number Full ∷ []));
+  full_more = omega (arith, t.full_more, ap full_in a.mine, full_in-append q.mine (entry q.number Full ∷ []));
+  held = omega (arith, t.held, a.holds);
+}

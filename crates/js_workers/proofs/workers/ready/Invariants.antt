@@ -1,0 +1,10 @@
+use Rattle.std.proofs.Common.{◌≡◌, All, vec_len}
+use Rattle.js_workers.specs.Worker.{IsReady}
+use Rattle.js_workers.proofs.workers.ready.Given as goal
+
+abbrev pub invariant-loop-worker : goal.invariant-loop-worker
+invariant-loop-worker g l = record {
+  first : l.first ≡ l.fn.first;
+  len : vec_len l.jobs ≡ l.worker;
+  ready : All (IsReady l.window) l.jobs.items;
+}

@@ -1,0 +1,2 @@
+pub mod WindowCounts
+pub mod Worker

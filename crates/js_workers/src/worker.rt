@@ -1,0 +1,67 @@
+//! One worker: it takes permits of a window and gives each back.
+ghost use Rattle.std.specs.Prelude.{◌≡◌, ◌+◌};
+ghost use Rattle.js_workers.specs.Worker.{TookCalls, IsReady, HasEnded};
+
+use crate::gate::Gate;
+use js_window::{Pass, Take, Window};
+use std::sync::Wait;
+
+/// A worker that has not begun: its pass and its number.
+#[derive(Drop)]
+pub struct Job {
+    pub pass: Pass,
+    pub worker: u64,
+}
+
+/// A worker that has ended: its pass, how many of its takes got a permit, and how many found none free.
+#[derive(Drop)]
+pub struct Ended {
+    pub pass: Pass,
+    pub got: u64,
+    pub full: u64,
+}
+
+/// Takes a permit so many times, and gives each back before the next take. Answers how many takes got a permit, and
+/// how many found none free. The pass is one of this window's.
+///
+/// After the first take, and before any permit is given back, it calls the gate once with the worker's number. With
+/// 0 calls it never calls the gate.
+pub fn take_calls<R: Wait, G: Gate>(
+    rt: &R,
+    window: &Window,
+    pass: &mut Pass,
+    calls: u64,
+    worker: u64,
+    gate: &G,
+) -> (u64, u64)
+    requires { pass.old.window ≡ window.now }
+    ensures sum { result.0 + result.1 ≡ calls }
+    ensures calls { TookCalls result.0 result.1 pass.old pass.new }
+{
+    let mut got = 0;
+    let mut full = 0;
+    for call in 0..calls {
+        let taken = window.take(rt, pass);
+        if call == 0 {
+            gate.pass(worker);
+        }
+        match taken {
+            Take::Got(permit) => {
+                window.give(rt, pass, permit);
+                got += 1;
+            }
+            Take::Full => full += 1,
+        }
+    }
+    (got, full)
+}
+
+/// The whole of one worker's calls.
+pub fn work<R: Wait, G: Gate>(rt: &R, window: &Window, job: Job, calls: u64, gate: &G) -> Ended
+    requires { IsReady window.now job }
+    ensures { HasEnded window.now calls result }
+{
+    let Job { mut pass, worker } = job;
+    let (got, full) = take_calls(rt, window, &mut pass, calls, worker, gate);
+    Ended { pass, got, full }
+}
