@@ -25,7 +25,7 @@ impl What {
         match self {
             What::Answer { request, reply } if *request == number => match reply {
                 None => Reply::Gone,
-                Some(message) => Reply::Got(message),
+                Some(message) => Reply::Got(message.get()),
             },
             _ => Reply::Waiting,
         }
@@ -36,7 +36,7 @@ impl What {
         ensures { option_copied result ≡ message_on number (matter_of self.now).arrival }
     {
         match self {
-            What::Arrival { inbox, message } if *inbox == number => Some(message),
+            What::Arrival { inbox, message } if *inbox == number => Some(message.get()),
             _ => None,
         }
     }

@@ -5,7 +5,6 @@ mod answer;
 mod consumer;
 mod event;
 mod kind;
-mod names;
 mod passing;
 mod place;
 mod reading;

@@ -4,11 +4,11 @@ ghost use Rattle.js_ordered.specs.Passes.{given_of};
 ghost use Rattle.js_ordered.specs.Refusal as refusals;
 
 use crate::event::Event;
-use crate::names::{is_valid_name, is_valid_subject};
 use crate::run::{Field, ReplayError};
 use crate::setup::OrderedSetup;
 use crate::turn::Turn;
-use js_base::{Moment, Text};
+use js_base::{Moment, Text, is_valid_subject};
+use js_codes::is_valid_name;
 
 /// Push, and no subject is delivered to.
 fn lacks_subject(setup: &OrderedSetup, subject: &Option<Text>) -> bool
