@@ -1,16 +1,15 @@
 -- What lines in their shortest form say.
-use Rattle.std.proofs.Common.{◌≡◌, ℕ, ◌^◌, ◌<◌, ◌≤◌, ◌++◌, List, [], ◌∷◌, Some, None, Ok, true, false, codes, decimal, option_map, option_and_then, refl, sym, ap, ◌∙◌, arith, append-nil, append_assoc}
-use Rattle.std.specs.Str.{IsUtf8, is_utf8}
+use Rattle.std.proofs.Common.{◌≡◌, ℕ, ◌^◌, ◌<◌, ◌≤◌, ◌++◌, List, [], ◌∷◌, Some, codes, decimal, option_and_then, refl, sym, ap, ◌∙◌, arith, append-nil, append_assoc}
+use Rattle.std.specs.Str.{IsUtf8}
 use Rattle.std.proofs.lemmas.Str.{is_utf8-from_IsUtf8}
 use Rattle.json.specs.Json as json
-use Rattle.json.specs.Lex.{tokens}
 use Rattle.json.specs.Print.{print, print_from, escape_byte, escape}
 use Rattle.json.specs.Tree.{json_tokens, depth, HasNumbers}
 use Rattle.json.proofs.Printed.Tokens.{tokens-print}
 use Rattle.json.proofs.Printed.Trees.{value-json_tokens, ArePrintable-json_tokens}
 use Rattle.json.proofs.Printed.Decimals.{IsNumber-decimal}
 use Rattle.serde_json.specs.Data.{Data, unsigned, number, string, object, no_members, member}
-use Rattle.serde_json.specs.Read.{read, of_json, number_of}
+use Rattle.serde_json.specs.Read.{read, of_json}
 use Rattle.serde_json.proofs.Numbers.{number_of-decimal}
 use Rattle.js_fields.specs.Values.{value_of}
 use Rattle.js_fields.specs.Reading.{float_free, required, optional, defaulted, given, text, natural, natural_of}

@@ -2,7 +2,6 @@
 use Rattle.std.specs.Prelude.{◌≡◌, ℕ, List, [], ◌∷◌, ◌++◌, codes, decimal, length, Some, None, Ok}
 use Rattle.js_base.specs.declared.message.Message.{Message}
 use Rattle.js_ordered.specs.declared.event.What.{What}
-use Rattle.js_ordered.specs.declared.event.What.TheVariants as what
 use Rattle.js_tool.specs.Events.{event_line}
 
 -- a bare tick

@@ -1,5 +1,5 @@
 -- Objects that have no other keys than those which are named.
-use Rattle.std.specs.Prelude.{List, ℕ, Result, Ok, Err, if◌then◌else◌}
+use Rattle.std.specs.Prelude.{List, ℕ, Result, Err, if◌then◌else◌}
 use Rattle.serde_json.specs.Data.{Data}
 use Rattle.js_fields.specs.declared.key.Key.{Key}
 use Rattle.js_fields.specs.declared.error.ReadError.{ReadError}
