@@ -14,8 +14,8 @@ use Rattle.js_link.specs.Passing.{Passing}
 use Rattle.js_link.specs.declared.sent.Sent.{Sent}
 use Rattle.js_link.specs.declared.sent.Sent.TheVariants as goes
 use Rattle.js_pull.specs.Kind.{pull_kind}
-use Rattle.js_pull.specs.declared.Kind.{Kind}
-use Rattle.js_pull.specs.declared.Kind.TheVariants as kind
+use Rattle.js_pull.specs.declared.kind.Kind.{Kind}
+use Rattle.js_pull.specs.declared.kind.Kind.TheVariants as kind
 use Rattle.js_pull.specs.Reader as pull
 use Rattle.js_pull.specs.declared.reader.Row.TheVariants as read
 use Rattle.js_pull.specs.declared.reader.Inquiry.TheVariants as inquiries

@@ -10,8 +10,8 @@ use Rattle.js_json.specs.declared.consumer.info.Info.{Info}
 use Rattle.js_message.specs.Ack.{Place, readable_as}
 use Rattle.js_link.specs.Passing.{Passing}
 use Rattle.js_pull.specs.Kind.{pull_kind}
-use Rattle.js_pull.specs.declared.Kind.{Kind}
-use Rattle.js_pull.specs.declared.Kind.TheVariants as kind
+use Rattle.js_pull.specs.declared.kind.Kind.{Kind}
+use Rattle.js_pull.specs.declared.kind.Kind.TheVariants as kind
 use Rattle.js_pull.specs.Reader as pull
 use Rattle.js_pull.specs.declared.reader.Row.{Row as PullRow}
 use Rattle.js_pull.specs.declared.reader.Row.TheVariants as read

@@ -6,7 +6,7 @@ use Rattle.js_base.specs.declared.message.Message.{Message}
 use Rattle.js_base.specs.declared.message.State.{State}
 use Rattle.js_json.specs.declared.consumer.config.Config.{Config}
 use Rattle.js_json.specs.declared.consumer.info.Info.{Info}
-use Rattle.js_json.specs.declared.consumer.sequence_info.SequenceInfo.{SequenceInfo}
+use Rattle.js_json.specs.declared.consumer.info.SequenceInfo.{SequenceInfo}
 use Rattle.js_json.specs.declared.consumer.policies.ReplayPolicy.TheVariants as replay
 use Rattle.js_json.specs.declared.consumer.deliver_policy.DeliverPolicy.{DeliverPolicy}
 use Rattle.js_json.specs.declared.pull.OrderedConfig as pulls

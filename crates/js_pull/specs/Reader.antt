@@ -10,7 +10,7 @@ use Rattle.js_base.specs.declared.message.State.TheVariants.{Pending, Connected,
 use Rattle.js_json.specs.declared.consumer.info.Info.{Info}
 use Rattle.js_json.specs.declared.response.Response.{Response}
 use Rattle.js_json.specs.declared.response.Response.TheVariants as response
-use Rattle.js_json.specs.Responses.{response_of}
+use Rattle.js_json.specs.Response.{response_of}
 use Rattle.js_json.specs.ConsumerInfo.{info_fields}
 use Rattle.js_fields.specs.declared.error.ReadError.{ReadError}
 use Rattle.js_fields.specs.Reading.{float_free}

@@ -35,8 +35,10 @@ fn main(rt: HostRuntime) -> ExitCode {
 }
 
 fn answer(rt: &HostRuntime) -> Status {
-    let Ok(words) = words(rt) else {
-        return Status::Usage;
+    let words = match words(rt) {
+        Ok(words) => words,
+        Err(error) if error.kind() == io::ErrorKind::OutOfMemory => return Status::OutOfMemory,
+        Err(_) => return Status::Usage,
     };
     match words.as_slice() {
         [word] if word.as_str() == "--help" => tell(rt, HELP),
