@@ -3,6 +3,7 @@ use Rattle.std.specs.Prelude.{◌≡◌, ℕ, zero, suc, ◌+◌, List, [], ◌�
 use Rattle.js_codes.specs.declared.code.ErrorCode.{ErrorCode}
 use Rattle.js_codes.specs.declared.code.TheConstants.ErrorCode as code
 
+-- the table
 abbrev pub in_order : List ErrorCode
 in_order =
     code.ACCOUNT_RESOURCES_EXCEEDED ∷

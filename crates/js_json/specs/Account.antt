@@ -52,6 +52,7 @@ used d = do
     consumers = consumers;
   })
 
+-- an account from its members
 unfoldable pub account_fields : Data → Result Account ReadError
 account_fields d = do
   used ← used d

@@ -6,6 +6,7 @@ use Rattle.js_fields.specs.Rows.{Writes}
 use Rattle.js_json.specs.declared.consumer.policies.AckPolicy.{AckPolicy}
 use Rattle.js_json.specs.declared.consumer.policies.AckPolicy.TheVariants as ack_policy
 
+-- the policy of a name
 unfoldable pub ack_policy_named : List ℕ → Option AckPolicy
 ack_policy_named =
     value_of (
@@ -15,6 +16,7 @@ ack_policy_named =
     (codes "flow_control", ack_policy.FlowControl) ∷
     [])
 
+-- its name
 abbrev pub ack_policy_data : Writes AckPolicy
 ack_policy_data k ack_policy.None = Ok (string (codes "none"))
 ack_policy_data k ack_policy.All = Ok (string (codes "all"))

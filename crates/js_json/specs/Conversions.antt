@@ -122,14 +122,17 @@ ordered_push_config o = record new_config {
 
 -- ---- and back
 
+-- a pull consumer has no deliver subject
 abbrev pub unless_delivered : {A : Type 0} → Option (List ℕ) → A → Result A ConfigError
 unless_delivered None x = Ok x
 unless_delivered (Some subject) x = Err HasDeliverSubject
 
+-- a push consumer has one
 abbrev pub where_delivered : {A : Type 0} → Option (List ℕ) → (List ℕ → A) → Result A ConfigError
 where_delivered None of_subject = Err NoDeliverSubject
 where_delivered (Some subject) of_subject = Ok (of_subject subject)
 
+-- the pull consumer of a general configuration
 abbrev pub as_pull_config : Config → Result pull.Config ConfigError
 as_pull_config c = unless_delivered c.deliver_subject (record {
   durable_name = c.durable_name;
@@ -161,6 +164,7 @@ as_pull_config c = unless_delivered c.deliver_subject (record {
   pause_until = c.pause_until;
 })
 
+-- the push consumer of one
 abbrev pub as_push_config : Config → Result push.Config ConfigError
 as_push_config c = where_delivered c.deliver_subject (λ subject. record {
   deliver_subject = subject;
@@ -209,6 +213,7 @@ as_ordered_pull_config c = Ok (record {
   max_expires = c.max_expires;
 })
 
+-- the ordered push consumer of one, which passes over what that does not have
 abbrev pub as_ordered_push_config : Config → Result ordered_push.OrderedConfig ConfigError
 as_ordered_push_config c = where_delivered c.deliver_subject (λ subject. record {
   deliver_subject = subject;

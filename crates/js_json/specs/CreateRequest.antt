@@ -9,11 +9,13 @@ use Rattle.js_json.specs.declared.consumer.create_request.Action.TheVariants as 
 use Rattle.js_json.specs.declared.consumer.create_request.CreateRequest.{CreateRequest}
 use Rattle.js_json.specs.ConsumerConfig.{config_data}
 
+-- the name of an action
 abbrev pub action_data : Writes Action
 action_data k action.CreateOrUpdate = Ok (string [])
 action_data k action.Create = Ok (string (codes "create"))
 action_data k action.Update = Ok (string (codes "update"))
 
+-- the members that are written
 abbrev pub create_request_rows : CreateRequest → List Row
 create_request_rows c =
     row key.Action (λ k. always action_data k c.action) ∷

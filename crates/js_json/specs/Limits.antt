@@ -10,6 +10,7 @@ use Rattle.js_json.specs.declared.account.Limits.{Limits}
 unfoldable pub limit_at : Reads (Option ℤ)
 limit_at key d = required integer key d >>= λ z. Ok (if int_lt z (pos 0) then None else Some z)
 
+-- the limits from their members
 unfoldable pub limits_fields : Data → Result Limits ReadError
 limits_fields d = do
   max_memory ← limit_at key.MaxMemory d

@@ -18,6 +18,7 @@ unless_year_one (Some t) = if int_eq t.nanosecond (neg_ℤ (pos 62_135_596_800_0
 unfoldable pub pinned_at : Reads (Option Timestamp)
 pinned_at key d = optional instant key d >>= λ t. Ok (unless_year_one t)
 
+-- a group from its members
 unfoldable pub priority_group_state_fields : Data → Result PriorityGroupState ReadError
 priority_group_state_fields d = do
   group ← required text key.Group d

@@ -6,6 +6,7 @@ use Rattle.js_fields.specs.Rows.{Writes}
 use Rattle.js_json.specs.declared.consumer.policies.PriorityPolicy.{PriorityPolicy}
 use Rattle.js_json.specs.declared.consumer.policies.PriorityPolicy.TheVariants as priority_policy
 
+-- the policy of a name
 unfoldable pub priority_policy_named : List ℕ → Option PriorityPolicy
 priority_policy_named =
     value_of (
@@ -15,12 +16,14 @@ priority_policy_named =
     (codes "prioritized", priority_policy.Prioritized) ∷
     [])
 
+-- its name
 abbrev pub priority_policy_data : Writes PriorityPolicy
 priority_policy_data k priority_policy.Overflow = Ok (string (codes "overflow"))
 priority_policy_data k priority_policy.None = Ok (string (codes "none"))
 priority_policy_data k priority_policy.PinnedClient = Ok (string (codes "pinned_client"))
 priority_policy_data k priority_policy.Prioritized = Ok (string (codes "prioritized"))
 
+-- the default, which is left out
 abbrev pub is_blank_priority_policy : PriorityPolicy → Bool
 is_blank_priority_policy priority_policy.Overflow = false
 is_blank_priority_policy priority_policy.None = true

@@ -39,6 +39,7 @@ new_pull_config = record {
   pause_until = None;
 }
 
+-- the same, of an ordered pull consumer
 abbrev pub new_ordered_pull_config : OrderedConfig
 new_ordered_pull_config = record {
   name = None;

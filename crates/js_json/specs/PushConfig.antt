@@ -36,6 +36,7 @@ new_push_config = record {
   pause_until = None;
 }
 
+-- the same, of an ordered push consumer
 abbrev pub new_ordered_push_config : OrderedConfig
 new_ordered_push_config = record {
   deliver_subject = [];

@@ -6,6 +6,7 @@ use Rattle.js_fields.specs.Rows.{Writes}
 use Rattle.js_json.specs.declared.consumer.policies.ReplayPolicy.{ReplayPolicy}
 use Rattle.js_json.specs.declared.consumer.policies.ReplayPolicy.TheVariants as replay_policy
 
+-- the policy of a name
 unfoldable pub replay_policy_named : List ℕ → Option ReplayPolicy
 replay_policy_named =
     value_of (
@@ -13,6 +14,7 @@ replay_policy_named =
     (codes "original", replay_policy.Original) ∷
     [])
 
+-- its name
 abbrev pub replay_policy_data : Writes ReplayPolicy
 replay_policy_data k replay_policy.Instant = Ok (string (codes "instant"))
 replay_policy_data k replay_policy.Original = Ok (string (codes "original"))

@@ -7,6 +7,7 @@ use Rattle.js_fields.specs.Reading.{◌>>=◌, required, defaulted, natural}
 use Rattle.js_fields.specs.Rows.{Row, row, with_rows, object_of, always, natural_data}
 use Rattle.js_json.specs.declared.account.Requests.{Requests}
 
+-- the counts from their members
 unfoldable pub requests_fields : Data → Result Requests ReadError
 requests_fields d = do
   total ← required natural key.Total d
@@ -15,6 +16,7 @@ requests_fields d = do
   inflight ← defaulted natural key.Inflight 0 d
   Ok (record { total = total; errors = errors; level = level; inflight = inflight })
 
+-- the members that are written
 abbrev pub requests_rows : Requests → List Row
 requests_rows c =
     row key.Total (λ k. always natural_data k c.total) ∷
@@ -22,5 +24,6 @@ requests_rows c =
     row key.Level (λ k. always natural_data k c.level) ∷
     row key.Inflight (λ k. always natural_data k c.inflight) ∷ []
 
+-- the object that is written
 unfoldable pub requests_value : Requests → Result Data ReadError
 requests_value c = object_of (with_rows (Ok no_members) (requests_rows c))

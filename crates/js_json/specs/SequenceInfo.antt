@@ -7,6 +7,7 @@ use Rattle.js_fields.specs.Reading.{◌>>=◌, required, optional, natural}
 use Rattle.js_fields.specs.Instants.{instant}
 use Rattle.js_json.specs.declared.consumer.info.SequenceInfo.{SequenceInfo}
 
+-- the numbers from their members
 unfoldable pub sequence_info_fields : Data → Result SequenceInfo ReadError
 sequence_info_fields d = do
   consumer_sequence ← required natural key.ConsumerSeq d

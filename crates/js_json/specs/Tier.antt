@@ -7,6 +7,7 @@ use Rattle.js_fields.specs.Reading.{◌>>=◌, required, natural, nested}
 use Rattle.js_json.specs.declared.account.Tier.{Tier}
 use Rattle.js_json.specs.Limits.{limits_fields}
 
+-- a tier from its members
 unfoldable pub tier_fields : Data → Result Tier ReadError
 tier_fields d = do
   memory ← required natural key.Memory d
