@@ -16,7 +16,7 @@ use Rattle.js_link.specs.declared.sent.Sent.TheVariants as sents
 use Rattle.js_link.specs.declared.link.Taken.TheVariants as taken
 use Rattle.js_link.specs.LinkView.{LinkView, Numbers, Status, put}
 use Rattle.js_link.specs.Calls.{Takes, TakesOf, Closes, Opens, Asks, Answers}
-use Rattle.js_link.specs.Memory.{Queue, is_open_at, messages_at, request_at, status_of, reply_of, request_after, answered_by, inbox_subject, memory_view, Delivers, DeliversAs, Responds, RespondsAs}
+use Rattle.js_link.specs.Memory.{Queue, is_open_at, messages_at, request_at, status_of, reply_of, request_after, answered_by, memory_numbers, memory_view, Delivers, DeliversAs, Responds, RespondsAs}
 use Rattle.js_link.proofs.Places.{reads_set, reads_push, put_same, get_set, get_past, get_push, set_back}
 
 -- a link that is up is not down
@@ -24,8 +24,8 @@ pub not_down : (up : Bool) → up ≡ true → Some up ≢ Some false
 not_down up e down = cc
 
 -- the same numbers where the lists are as long
-same_numbers : (prefix : List ℕ) (i j r s : ℕ) → i ≡ j → r ≡ s → Some (let n : Numbers = record { inbox = i; request = r; subject = inbox_subject prefix } in n) ≡ Some (record { inbox = j; request = s; subject = inbox_subject prefix })
-same_numbers prefix i j r s e f = λ k. Some (record { inbox = e k; request = f k; subject = inbox_subject prefix })
+same_numbers : (n : Numbers) (i j r s : ℕ) → i ≡ j → r ≡ s → Some (record n { inbox = i; request = r }) ≡ Some (record n { inbox = j; request = s })
+same_numbers n i j r s e f = λ k. Some (record n { inbox = e k; request = f k })
 
 -- two links that differ in their inboxes alone
 same_inboxes : (v : LinkView) (k k' : Option Numbers) (o o' : ℕ → Bool) (c c' : ℕ → ℕ) (b b' : ℕ → Option (List Message)) (s : Option (List Sent)) → k ≡ k' → o ≡ o' → c ≡ c' → b ≡ b' → record v { numbers = k; is_open = o; count = c; buffer = b; sent = s } ≡ record v { numbers = k'; is_open = o'; count = c'; buffer = b'; sent = s }
@@ -33,7 +33,7 @@ same_inboxes v k k' o o' c c' b b' s n p q r = λ j. record v { numbers = n j; i
 
 -- one inbox in place of another leaves the numbers
 numbers_set : (m : MemoryLink) (i : ℕ) (v : Option Queue) → (memory_view (record m { inboxes = with_item m.inboxes i v })).numbers ≡ (memory_view m).numbers
-numbers_set m i v = same_numbers m.prefix _ _ _ _ (length-set m.inboxes.items i v) refl
+numbers_set m i v = same_numbers (memory_numbers m) _ _ _ _ (length-set m.inboxes.items i v) refl
 
 -- a message was taken from the front of a queue
 pub takes_front : (m : MemoryLink) (i : ℕ) (q q' : Queue) (message : Message) → i < length m.inboxes.items → slice_get m.inboxes.items i ≡ Some (Some q) → q.items ≡ message ∷ q'.items → Takes i message (memory_view m) (memory_view (record m { inboxes = with_item m.inboxes i (Some q') }))
@@ -106,7 +106,7 @@ opens_push m inboxes sent q n subject group up items empty told at =
       unused = ap is_open_at (get_past xs n (omega (arith, at)));
       next = at;
       same = rw (items, told, at) (same_inboxes (memory_view m) _ _ _ _ _ _ _ _ _
-          (same_numbers m.prefix _ _ _ _ (length-append xs (Some q ∷ [])) refl)
+          (same_numbers (memory_numbers m) _ _ _ _ (length-append xs (Some q ∷ [])) refl)
           (reads_push is_open_at xs (Some q))
           (reads_push (λ o. length (messages_at o)) xs (Some q) ∙ ap (put (λ k. length (messages_at (slice_get xs k))) (length xs)) (ap length empty))
           (reads_push (λ o. Some (messages_at o)) xs (Some q) ∙ ap (λ o. put (λ k. Some (messages_at (slice_get xs k))) (length xs) (Some (messages_at o))) (sym (get_push xs (Some q)))));
@@ -154,7 +154,7 @@ same_requests v k k' t t' r r' s n p q = λ j. record v { numbers = n j; status 
 
 -- one request in place of another leaves the numbers
 numbers_request_set : (m : MemoryLink) (k : ℕ) (v : Request) → (memory_view (record m { requests = with_item m.requests k v })).numbers ≡ (memory_view m).numbers
-numbers_request_set m k v = same_numbers m.prefix _ _ _ _ refl (ap (λ n. n + 1) (length-set m.requests.items k v))
+numbers_request_set m k v = same_numbers (memory_numbers m) _ _ _ _ refl (ap (λ n. n + 1) (length-set m.requests.items k v))
 
 -- a request was pushed behind the others
 pub asks_push : (m : MemoryLink) (made : Vec Request) (sent : Vec Sent) (v : Request) (n : ℕ) (subject : List ℕ) (headers : Option (List Header)) (payload : List ℕ) → m.up ≡ true → made.items ≡ m.requests.items ++ v ∷ [] → sent.items ≡ m.sent.items ++ sents.Request n subject headers payload ∷ [] → n ≡ suc (length m.requests.items) → Asks n subject headers payload (memory_view m) (memory_view (record m { requests = made; sent = sent }))
@@ -166,7 +166,7 @@ asks_push m made sent v n subject headers payload up items told at =
       unused = rw at (ap status_of (get_past xs (length xs) (omega arith)));
       next = omega (arith, at);
       same = rw (items, told, at) (same_requests (memory_view m) _ _ _ _ _ _ _
-          (same_numbers m.prefix _ _ _ _ refl (ap (λ k. k + 1) (length-append xs (v ∷ []))))
+          (same_numbers (memory_numbers m) _ _ _ _ refl (ap (λ k. k + 1) (length-append xs (v ∷ []))))
           (fun_ext (request_push status_of xs v) ∙ ap (λ o. put (λ k. status_of (request_at xs k)) (suc (length xs)) (status_of o)) (sym now))
           (fun_ext (request_push reply_of xs v) ∙ ap (λ o. put (λ k. reply_of (request_at xs k)) (suc (length xs)) (reply_of o)) (sym now)));
     }

@@ -1,5 +1,5 @@
 -- What each call of a link does to what the link means.
-use Rattle.std.specs.Prelude.{ℕ, ◌≡◌, ◌≢◌, ◌+◌, ◌≤◌, true, false, Option, Some, None, IfSome, List, [], ◌∷◌, Result, Ok, Err}
+use Rattle.std.specs.Prelude.{ℕ, ◌≡◌, ◌≢◌, ◌+◌, ◌≤◌, ◌<◌, true, false, Option, Some, None, IfSome, List, [], ◌∷◌, Result, Ok, Err}
 use Rattle.js_base.specs.declared.headers.Header.{Header}
 use Rattle.js_base.specs.declared.message.Message.{Message}
 use Rattle.js_base.specs.declared.subject.Subject.{Subject}
@@ -12,7 +12,7 @@ use Rattle.js_link.specs.declared.link.Taken.{Taken}
 use Rattle.js_link.specs.declared.link.Taken.TheVariants as taken
 use Rattle.js_link.specs.declared.link.Answer.{Answer}
 use Rattle.js_link.specs.declared.link.Answer.TheVariants as answer
-use Rattle.js_link.specs.LinkView.{LinkView, Waits, Answered, Ended, put, after, front, past_inbox, past_request, HasRisen}
+use Rattle.js_link.specs.LinkView.{LinkView, Waits, Answered, Ended, put, after, front, past_inbox, past_request, past_fresh, HasRisen}
 
 -- a call failed: a fault was counted, and nothing else has changed
 pub record Fails (old new : LinkView) : Type 0 where
@@ -25,12 +25,12 @@ pub record FailsToSend (old new : LinkView) : Type 0 where
   pub not_up : old.up ≢ Some true
   pub fails : Fails old new
 
--- a refused call has changed nothing, and a failure is counted
-abbrev pub Refused : LinkError → LinkView → LinkView → Type 0
-Refused Failed old new = Fails old new
-Refused OutOfMemory old new = new ≡ old
+-- no subject was named: told numbers are at their end
+pub record FailsToName (old new : LinkView) : Type 0 where
+  pub at_end : IfSome old.numbers (λ n. n.fresh ≡ 18446744073709551615)
+  pub fails : Fails old new
 
--- the same of a call that sends
+-- a call that sends was refused: it has changed nothing, and a failure is counted
 abbrev pub RefusedSend : LinkError → LinkView → LinkView → Type 0
 RefusedSend Failed old new = FailsToSend old new
 RefusedSend OutOfMemory old new = new ≡ old
@@ -56,7 +56,13 @@ pub record Opens (inbox : ℕ) (subject : List ℕ) (group : Option (List ℕ)) 
 -- an inbox was opened under the subject that the link has for it
 pub record OpensOwn (inbox : ℕ) (subject : List ℕ) (old new : LinkView) : Type 0 where
   pub opens : Opens inbox subject None old new
-  pub named : IfSome old.numbers (λ n. subject ≡ n.subject inbox)
+  pub named : IfSome old.numbers (λ n. subject ≡ n.inbox_subject inbox)
+
+-- a fresh subject was named
+pub record Names (subject : List ℕ) (old new : LinkView) : Type 0 where
+  pub named : IfSome old.numbers (λ n. subject ≡ n.fresh_subject n.fresh)
+  pub below : IfSome old.numbers (λ n. n.fresh < 18446744073709551615)
+  pub same : new ≡ record old { numbers = past_fresh old.numbers }
 
 -- a request was made
 pub record Asks (number : ℕ) (subject : List ℕ) (headers : Option (List Header)) (payload : List ℕ) (old new : LinkView) : Type 0 where
@@ -121,8 +127,9 @@ OpensOf (Err e) old new = RefusedSend e old new
 
 -- what `fresh_subject` does
 abbrev pub NamesOf : Result Subject LinkError → LinkView → LinkView → Type 0
-NamesOf (Ok subject) old new = new ≡ old
-NamesOf (Err e) old new = Refused e old new
+NamesOf (Ok subject) old new = Names subject old new
+NamesOf (Err Failed) old new = FailsToName old new
+NamesOf (Err OutOfMemory) old new = new ≡ old
 
 -- what `publish` does
 abbrev pub PublishesOf : Result (Unit {0}) LinkError → List ℕ → Option (List ℕ) → Option (List Header) → List ℕ → LinkView → LinkView → Type 0

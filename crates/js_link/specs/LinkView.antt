@@ -8,11 +8,13 @@ use Rattle.js_link.specs.declared.link.Watch.{Watch}
 pub data Status : Type 0 where
   Waits Answered Ended : Status
 
--- the numbers that are given next, and the subject under which an inbox of a number is opened where the link chooses it
+-- the numbers that are given next, and the subjects that the link chooses by them: those of its inboxes, and fresh ones
 pub record Numbers : Type 0 where
   pub inbox : ℕ
   pub request : ℕ
-  pub subject : ℕ → List ℕ
+  pub fresh : ℕ
+  pub inbox_subject : ℕ → List ℕ
+  pub fresh_subject : ℕ → List ℕ
 
 -- What a link means. Whether it is up, its next numbers, its buffers, the answers that have come and what it sent may be untold.
 pub record LinkView : Type 0 where
@@ -52,6 +54,11 @@ past_inbox (Some n) = Some (record n { inbox = n.inbox + 1 })
 abbrev pub past_request : Option Numbers → Option Numbers
 past_request None = None
 past_request (Some n) = Some (record n { request = n.request + 1 })
+
+-- the numbers once a fresh subject was named
+abbrev pub past_fresh : Option Numbers → Option Numbers
+past_fresh None = None
+past_fresh (Some n) = Some (record n { fresh = n.fresh + 1 })
 
 -- A fault came between the two counts. The last count of all counts as risen.
 abbrev pub HasRisen : ℕ → ℕ → Type 0

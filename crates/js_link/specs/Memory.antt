@@ -59,7 +59,9 @@ abbrev pub memory_numbers : MemoryLink → Numbers
 memory_numbers m = record {
   inbox = length m.inboxes.items;
   request = length m.requests.items + 1;
-  subject = inbox_subject m.prefix;
+  fresh = m.fresh;
+  inbox_subject = inbox_subject m.prefix;
+  fresh_subject = fresh_subject m.prefix;
 }
 
 -- what a link in memory means: it tells all
@@ -79,20 +81,12 @@ memory_view m = record {
   sent = Some m.sent.items;
 }
 
--- how many fresh subjects it has given
-abbrev pub fresh_count : MemoryLink → ℕ
-fresh_count m = m.fresh
-
--- what its subjects begin with
-abbrev pub prefix_of : MemoryLink → List ℕ
-prefix_of m = m.prefix
-
 -- a new link: up and connected, with no inbox and no request, any body and ten seconds
 abbrev pub new_view : List ℕ → LinkView
 new_view prefix = record {
   faults = 0;
   up = Some true;
-  numbers = Some (record { inbox = 0; request = 1; subject = inbox_subject prefix });
+  numbers = Some (record { inbox = 0; request = 1; fresh = 0; inbox_subject = inbox_subject prefix; fresh_subject = fresh_subject prefix });
   is_open = λ _. false;
   count = λ _. 0;
   status = λ _. Ended;

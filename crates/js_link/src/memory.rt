@@ -1,8 +1,8 @@
-ghost use Rattle.std.specs.Prelude.{◌≡◌, ◌≢◌, ◌+◌, IfOk, OnOk, OnErr, MatchOption, Err, ◌↔◌, Some, string_bytes};
+ghost use Rattle.std.specs.Prelude.{◌≡◌, ◌≢◌, IfOk, OnOk, OnErr, MatchOption, Some, string_bytes};
 ghost use Rattle.std.specs.Option.{option_copied};
-ghost use Rattle.js_link.specs.Calls.{Refused, NamesOf};
+ghost use Rattle.js_link.specs.Calls.{Fails};
 ghost use Rattle.js_link.specs.LinkView.{Waits};
-ghost use Rattle.js_link.specs.Memory.{memory_view, new_view, inbox_subject, fresh_subject, fresh_count, prefix_of, request_after, closed_is_empty, counted, Delivers, Responds, WaitsAt};
+ghost use Rattle.js_link.specs.Memory.{memory_view, new_view, inbox_subject, fresh_subject, request_after, closed_is_empty, counted, Delivers, Responds, WaitsAt};
 
 use crate::link::{Answer, Link, LinkError, Taken, Watch};
 use crate::sent::{InboxId, RequestId, Sent};
@@ -91,8 +91,7 @@ impl MemoryLink {
     /// A link that is up and connected, with no limit to a body and a request timeout of ten seconds. Its own subjects begin
     /// with the prefix and a dot.
     pub fn new(alloc: Global, inbox_prefix: &str) -> Result<MemoryLink, OutOfMemory>
-        ensures view { IfOk result (λ link. memory_view link ≡ new_view inbox_prefix.now) }
-        ensures fresh { IfOk result (λ link. fresh_count link ≡ 0) }
+        ensures { IfOk result (λ link. memory_view link ≡ new_view inbox_prefix.now) }
     {
         Ok(MemoryLink {
             prefix: Text::from_str(alloc, inbox_prefix)?,
@@ -110,9 +109,8 @@ impl MemoryLink {
 
     /// Counts a fault.
     fn fail(&mut self) -> LinkError
-        ensures failed { Refused result (memory_view self.old) (memory_view self.new) }
+        ensures failed { Fails (memory_view self.old) (memory_view self.new) }
         ensures kind { result ≡ LinkError.Failed }
-        ensures fresh { fresh_count self.new ≡ fresh_count self.old }
     {
         self.faults = self.faults.saturating_add(1);
         LinkError::Failed
@@ -232,13 +230,7 @@ impl Link for MemoryLink {
         Ok((inbox, subject))
     }
 
-    fn fresh_subject(&mut self, alloc: Global) -> Result<Subject, LinkError>
-        ensures names { NamesOf result (memory_view self.old) (memory_view self.new) }
-        ensures named { IfOk result (λ subject. subject ≡ fresh_subject (prefix_of self.old) (fresh_count self.old)) }
-        ensures next { OnOk result (fresh_count self.new ≡ fresh_count self.old + 1) }
-        ensures refused { OnErr result (fresh_count self.new ≡ fresh_count self.old) }
-        ensures end { result ≡ Err LinkError.Failed ↔ (fresh_count self.old ≡ 18446744073709551615) }
-    {
+    fn fresh_subject(&mut self, alloc: Global) -> Result<Subject, LinkError> {
         if self.fresh == u64::MAX {
             return Err(self.fail());
         }
