@@ -9,7 +9,7 @@ use std::collections::VecDeque;
 use std::marker::Model;
 use std::mem;
 
-/// How long a piece grows before it is cut, in bytes.
+/// How long a piece grows before it is cut, in bytes. With one more read it stays within a mebibyte.
 const PIECE: usize = 983_040;
 
 /// Bytes in pieces, each of which but the last ends with a line feed. Contracts see all the bytes that are left.

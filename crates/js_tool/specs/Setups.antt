@@ -10,8 +10,8 @@ use Rattle.js_json.specs.ConsumerConfig.{config_fields}
 use Rattle.js_json.specs.ConsumerInfo.{info_fields}
 use Rattle.js_json.specs.declared.consumer.config.Config.{Config}
 use Rattle.js_json.specs.declared.consumer.info.Info.{Info}
-use Rattle.js_json.specs.declared.pull.OrderedConfig as pull
-use Rattle.js_json.specs.declared.push.OrderedConfig as push
+use Rattle.js_json.specs.declared.consumer.conversion.ConfigError.{ConfigError}
+use Rattle.js_json.specs.Conversions.{as_ordered_pull_config, as_ordered_push_config}
 use Rattle.js_ordered.specs.declared.setup.Settings.{Settings}
 use Rattle.js_ordered.specs.declared.setup.OrderedSetup.{OrderedSetup}
 use Rattle.js_ordered.specs.declared.setup.OrderedSetup.TheVariants as setup
@@ -50,50 +50,15 @@ settings = only settings_keys settings_fields
 
 -- ---- the consumer's configuration
 
--- what an ordered pull consumer takes of a configuration
-abbrev pub pull_config : Config → pull.OrderedConfig
-pull_config c = record {
-  name = c.name;
-  description = c.description;
-  filter_subject = c.filter_subject;
-  filter_subjects = c.filter_subjects;
-  replay_policy = c.replay_policy;
-  rate_limit = c.rate_limit;
-  sample_frequency = c.sample_frequency;
-  headers_only = c.headers_only;
-  deliver_policy = c.deliver_policy;
-  max_waiting = c.max_waiting;
-  metadata = c.metadata;
-  max_batch = c.max_batch;
-  max_bytes = c.max_bytes;
-  max_expires = c.max_expires;
-}
-
--- what an ordered push consumer takes of a configuration, beside its deliver subject
-abbrev pub push_config : List ℕ → Config → push.OrderedConfig
-push_config deliver_subject c = record {
-  deliver_subject = deliver_subject;
-  name = c.name;
-  description = c.description;
-  filter_subject = c.filter_subject;
-  filter_subjects = c.filter_subjects;
-  replay_policy = c.replay_policy;
-  rate_limit = c.rate_limit;
-  sample_frequency = c.sample_frequency;
-  headers_only = c.headers_only;
-  deliver_policy = c.deliver_policy;
-  max_waiting = c.max_waiting;
-  metadata = c.metadata;
-}
-
-abbrev pub push_setup : Option (List ℕ) → Config → Result OrderedSetup ReadError
-push_setup None c = Err (Missing key.DeliverSubject)
-push_setup (Some subject) c = Ok (setup.Push (push_config subject c))
+-- a configuration that is one of the mode. What else the one that was read says is passed over
+abbrev pub of_mode : {A : Type 0} → (A → OrderedSetup) → Result A ConfigError → Result OrderedSetup ReadError
+of_mode setup (Ok config) = Ok (setup config)
+of_mode setup (Err e) = Err (Missing key.DeliverSubject)
 
 -- the ordered configuration of the mode. Push needs a deliver subject
 unfoldable pub ordered_setup : Mode → Config → Result OrderedSetup ReadError
-ordered_setup mode.Pull c = Ok (setup.Pull (pull_config c))
-ordered_setup mode.Push c = push_setup c.deliver_subject c
+ordered_setup mode.Pull c = of_mode setup.Pull (as_ordered_pull_config c)
+ordered_setup mode.Push c = of_mode setup.Push (as_ordered_push_config c)
 
 -- ---- the line
 

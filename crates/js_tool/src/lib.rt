@@ -10,12 +10,13 @@ mod transcript;
 
 pub use command::{Command, command_of};
 pub use js_ends::{
-    Failed, MemorySink, MemorySource, PlainSink, PlainSource, ReadSource, Sink, Source, WriteSink,
+    Failed, MemorySink, MemorySource, Pieces, PlainSink, PlainSource, ReadSource, Sink, Source,
+    WriteSink,
 };
 pub use program::run;
 pub use status::Status;
 pub use text::{refusal_line, run_text};
-pub use transcript::{Mode, Setup, Transcript, Unread, read};
+pub use transcript::{Setup, Transcript, Unread, read};
 
 #[cfg(test)]
 mod tests;

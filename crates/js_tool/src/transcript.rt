@@ -22,7 +22,7 @@ use js_fields::ReadError;
 use js_ordered::Event;
 use payloads::Payloads;
 use setup::setup_line;
-pub use setup::{Mode, Setup};
+pub use setup::Setup;
 use std::alloc::{AllocFailed, Global};
 
 /// A setup, and what happened.

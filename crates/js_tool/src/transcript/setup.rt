@@ -5,12 +5,13 @@ ghost use Rattle.serde_json.specs.View.{view};
 ghost use Rattle.js_fields.specs.Reading.{Gives, required as required_in, named, nested as nested_in};
 ghost use Rattle.js_fields.specs.declared.key.Key.TheVariants as key;
 ghost use Rattle.js_json.specs.ConsumerInfo.{info_fields};
-ghost use Rattle.js_tool.specs.Setups.{mode_named, settings_fields as settings_in, settings as settings_member, pull_config as pull_in, push_config as push_in, ordered_setup as ordered_in, setup_with as with_in, setup_fields as setup_in, setup_line as line_in};
+ghost use Rattle.js_tool.specs.Setups.{mode_named, settings_fields as settings_in, settings as settings_member, ordered_setup as ordered_in, setup_with as with_in, setup_fields as setup_in, setup_line as line_in};
 
 use js_base::{Moment, OutOfMemory, Text};
 use js_fields::{
     Key, Member, Named, ReadError, by_text, defaulted, given, has_only, nested, required, value_of,
 };
+use js_json::consumer::FromConsumer;
 use js_json::{consumer, pull, push};
 use js_ordered::{OrderedSetup, Settings};
 use serde_json::Value;
@@ -18,7 +19,7 @@ use std::alloc::Global;
 
 /// Who asks for messages: a pull consumer's client does, a push consumer's server sends them unasked.
 #[derive(Clone, Copy, Debug, PartialEq, Eq)]
-pub enum Mode {
+pub(crate) enum Mode {
     Pull,
     Push,
 }
@@ -107,57 +108,19 @@ fn settings_of(alloc: Global, object: &Value) -> Result<Settings, ReadError>
     }
 }
 
-fn pull_config(config: consumer::Config) -> pull::OrderedConfig
-    ensures { result ≡ pull_in config }
-{
-    pull::OrderedConfig {
-        name: config.name,
-        description: config.description,
-        filter_subject: config.filter_subject,
-        filter_subjects: config.filter_subjects,
-        replay_policy: config.replay_policy,
-        rate_limit: config.rate_limit,
-        sample_frequency: config.sample_frequency,
-        headers_only: config.headers_only,
-        deliver_policy: config.deliver_policy,
-        max_waiting: config.max_waiting,
-        metadata: config.metadata,
-        max_batch: config.max_batch,
-        max_bytes: config.max_bytes,
-        max_expires: config.max_expires,
-    }
-}
-
-fn push_config(deliver_subject: Text, config: consumer::Config) -> push::OrderedConfig
-    ensures { result ≡ push_in deliver_subject config }
-{
-    push::OrderedConfig {
-        deliver_subject,
-        name: config.name,
-        description: config.description,
-        filter_subject: config.filter_subject,
-        filter_subjects: config.filter_subjects,
-        replay_policy: config.replay_policy,
-        rate_limit: config.rate_limit,
-        sample_frequency: config.sample_frequency,
-        headers_only: config.headers_only,
-        deliver_policy: config.deliver_policy,
-        max_waiting: config.max_waiting,
-        metadata: config.metadata,
-    }
-}
-
 #[tactic(auto, unfolding(crate::specs::Setups::ordered_setup))]
-fn ordered_setup(mode: Mode, mut config: consumer::Config) -> Result<OrderedSetup, ReadError>
+fn ordered_setup(mode: Mode, config: consumer::Config) -> Result<OrderedSetup, ReadError>
     ensures { Gives result (ordered_in mode config) }
 {
+    let key = Key::DeliverSubject;
     match mode {
-        Mode::Pull => Ok(OrderedSetup::Pull(pull_config(config))),
-        Mode::Push => match config.deliver_subject.take() {
-            None => Err(ReadError::Missing {
-                key: Key::DeliverSubject,
-            }),
-            Some(subject) => Ok(OrderedSetup::Push(push_config(subject, config))),
+        Mode::Pull => match pull::OrderedConfig::try_from_consumer_config(config) {
+            Ok(config) => Ok(OrderedSetup::Pull(config)),
+            Err(_) => Err(ReadError::Missing { key }),
+        },
+        Mode::Push => match push::OrderedConfig::try_from_consumer_config(config) {
+            Ok(config) => Ok(OrderedSetup::Push(config)),
+            Err(_) => Err(ReadError::Missing { key }),
         },
     }
 }
