@@ -1,10 +1,7 @@
 -- Names of streams and consumers.
 use Rattle.std.specs.Prelude.{ℕ, List, [], ◌∷◌, Bool, true, false, not, ◌||◌, ◌&&◌, ◌==◌}
 use Rattle.std.specs.List.{list_all}
-
--- a space, a tab, a line feed, a form feed or a carriage return
-abbrev pub is_space : ℕ → Bool
-is_space b = b == 32 || b == 9 || b == 10 || b == 12 || b == 13
+use Rattle.js_base.specs.Match.{is_space}
 
 -- no white space, and neither a dot nor a star nor a greater-than sign
 abbrev pub is_name_byte : ℕ → Bool
