@@ -3,4 +3,4 @@ mod Compact
 mod Cuts
 mod Headers
 mod Loop
-mod Pieces
+mod PieceLines

@@ -1,7 +1,7 @@
 use Rattle.std.proofs.Common.{◌≡◌, ◌≤◌, ◌+◌, ◌++◌, ap, length, arith}
 use Rattle.js_tool.specs.Lines.{lines_of}
 use Rattle.js_tool.specs.Transcripts.{events_from}
-use Rattle.js_tool.proofs.Pieces.{goes_on, stops}
+use Rattle.js_tool.proofs.PieceLines.{goes_on, stops}
 use Rattle.js_tool.proofs.transcript.events_of.Goals as goal
 
 pub returns-in-Err : goal.returns-in-Err
