@@ -14,7 +14,7 @@ use Rattle.js_link.specs.declared.memory.Request.TheVariants as requests
 use Rattle.js_link.specs.declared.sent.Sent.{Sent}
 use Rattle.js_link.specs.declared.sent.Sent.TheVariants as sents
 use Rattle.js_link.specs.declared.link.Taken.TheVariants as taken
-use Rattle.js_link.specs.LinkView.{LinkView, Numbers, Status, put}
+use Rattle.js_link.specs.LinkView.{LinkView, Numbers, Status, Waits, put}
 use Rattle.js_link.specs.Calls.{Takes, TakesOf, Closes, Opens, Asks, Answers}
 use Rattle.js_link.specs.Memory.{Queue, is_open_at, messages_at, request_at, status_of, reply_of, request_after, answered_by, memory_numbers, memory_view, Delivers, DeliversAs, Responds, RespondsAs}
 use Rattle.js_link.proofs.Places.{reads_set, reads_push, put_same, get_set, get_past, get_push, set_back}
@@ -170,6 +170,12 @@ asks_push m made sent v n subject headers payload up items told at =
           (fun_ext (request_push status_of xs v) ∙ ap (λ o. put (λ k. status_of (request_at xs k)) (suc (length xs)) (status_of o)) (sym now))
           (fun_ext (request_push reply_of xs v) ∙ ap (λ o. put (λ k. reply_of (request_at xs k)) (suc (length xs)) (reply_of o)) (sym now)));
     }
+
+-- the request that was pushed waits
+pub waits_push : (xs ys : List Request) (n : ℕ) → ys ≡ xs ++ requests.Waits ∷ [] → n ≡ suc (length xs) → (status_of (request_at ys n) ≡ Waits) × (reply_of (request_at ys n) ≡ None)
+waits_push xs ys n e at =
+    let now : slice_get (xs ++ requests.Waits ∷ []) (length xs) ≡ Some requests.Waits = get_push xs requests.Waits in
+    rw (e, at) (ap status_of now, ap reply_of now)
 
 -- an answer was taken
 answers_set : (m : MemoryLink) (k : ℕ) (message : Message) → k < length m.requests.items → slice_get m.requests.items k ≡ Some (requests.Answered message) → Answers (suc k) message (memory_view m) (memory_view (record m { requests = with_item m.requests k requests.Ended }))

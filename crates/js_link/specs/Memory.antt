@@ -98,6 +98,11 @@ new_view prefix = record {
   sent = Some [];
 }
 
+-- the request has this reply, or waits where there is none
+abbrev pub HasReply : ℕ → Option Message → LinkView → Type 0
+HasReply number None view = (view.status number ≡ Waits) × (view.reply number ≡ None)
+HasReply number (Some reply) view = (view.status number ≡ Answered) × (view.reply number ≡ Some reply)
+
 -- a told list with one more at its end
 abbrev pub back : Message → Option (List Message) → Option (List Message)
 back message None = None

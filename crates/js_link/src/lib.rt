@@ -5,10 +5,12 @@ mod error;
 mod link;
 mod memory;
 mod sent;
+mod server;
 
 pub use link::{Answer, Link, LinkError, Taken, Watch};
 pub use memory::MemoryLink;
 pub use sent::{InboxId, RequestId, Sent};
+pub use server::ScriptedServer;
 
 #[cfg(test)]
 mod tests;

@@ -56,10 +56,17 @@ pub enum Watch {
 ///   a message into an inbox or brings an answer.
 /// - It counts its faults, and the count never falls. A call answers `Failed` only where it counted a fault in that call;
 ///   it has then sent nothing, and the number that it would have given is given to the next. No other call counts one.
-/// - It gives each inbox and each request a number that none has had before.
-/// - It gives the messages of an inbox in the order in which they came, each once.
+/// - It gives each inbox and each request a number that none has had before. A number that it never gave is that of a closed
+///   inbox and of a request that is gone.
+/// - It gives the messages of an inbox in the order in which they came, each once, and the answer to a request once. What the
+///   server sends with a status is a message too: an answer of status 503 is an answer, and `Gone` is for a request that none
+///   can reach any more.
+/// - A call that finds no memory has sent nothing and changed nothing.
+/// - What it may tell besides (the numbers and the subjects that come next, what lies in its inboxes, which answers have come,
+///   what it sent) it tells truly or not at all.
 /// - Where it tells whether it is up, it tells the truth: it fails no send while it is up, and none goes out while it is
-///   down. An adapter that cannot know this beforehand tells nothing of it, and may then fail at any time.
+///   down. An adapter that cannot know this beforehand tells nothing of it, and may then fail at any time. Whether it is up
+///   changes in a call of its own alone, and so does what `state` answers.
 ///
 /// # While a connection is being made anew
 ///

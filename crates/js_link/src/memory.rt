@@ -1,8 +1,8 @@
-ghost use Rattle.std.specs.Prelude.{◌≡◌, ◌≢◌, IfOk, OnOk, OnErr, MatchOption, Some, string_bytes};
+ghost use Rattle.std.specs.Prelude.{◌≡◌, ◌≢◌, IfOk, OnOk, OnErr, MatchOption, Some, None, string_bytes};
 ghost use Rattle.std.specs.Option.{option_copied};
-ghost use Rattle.js_link.specs.Calls.{Fails};
+ghost use Rattle.js_link.specs.Calls.{Fails, AsksOf};
 ghost use Rattle.js_link.specs.LinkView.{Waits};
-ghost use Rattle.js_link.specs.Memory.{memory_view, new_view, inbox_subject, fresh_subject, request_after, closed_is_empty, counted, Delivers, Responds, WaitsAt};
+ghost use Rattle.js_link.specs.Memory.{memory_view, new_view, inbox_subject, fresh_subject, request_after, closed_is_empty, counted, HasReply, Delivers, Responds, WaitsAt};
 
 use crate::link::{Answer, Link, LinkError, Taken, Watch};
 use crate::sent::{InboxId, RequestId, Sent};
@@ -147,11 +147,17 @@ impl MemoryLink {
         ensures ok { OnOk result (Responds request.0 reply (memory_view self.old) (memory_view self.new)) }
         ensures err { OnErr result (memory_view self.new ≡ memory_view self.old) }
     {
-        let Some(i) = self.waiting(request) else {
-            return Ok(());
-        };
-        self.requests[i] = answered(reply);
+        self.settle(request, reply);
         Ok(())
+    }
+
+    /// The same, which takes no memory.
+    pub(crate) fn settle(&mut self, request: RequestId, reply: Option<Message>)
+        ensures { Responds request.0 reply (memory_view self.old) (memory_view self.new) }
+    {
+        if let Some(i) = self.waiting(request) {
+            self.requests[i] = answered(reply);
+        }
     }
 
     /// The place of a request that waits.
@@ -272,7 +278,10 @@ impl Link for MemoryLink {
         subject: &str,
         headers: Option<&HeaderMap>,
         payload: &[u8],
-    ) -> Result<RequestId, LinkError> {
+    ) -> Result<RequestId, LinkError>
+        ensures call { AsksOf result subject.now (option_copied headers.entry) payload.now (memory_view self.old) (memory_view self.new) }
+        ensures waits { IfOk result (λ request. HasReply request.0 None (memory_view self.new)) }
+    {
         if !self.up {
             return Err(self.fail());
         }

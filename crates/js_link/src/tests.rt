@@ -1,4 +1,6 @@
-use crate::{Answer, InboxId, Link, LinkError, MemoryLink, RequestId, Sent, Taken, Watch};
+use crate::{
+    Answer, InboxId, Link, LinkError, MemoryLink, RequestId, ScriptedServer, Sent, Taken, Watch,
+};
 use bytes::Bytes;
 use js_base::{HeaderMap, Message, OutOfMemory, State, Subject};
 use std::alloc::Global;
@@ -43,7 +45,7 @@ fn takes(link: &mut MemoryLink, inbox: InboxId, text: &str) -> bool {
 }
 
 /// Whether a request has an answer with this body.
-fn answers(link: &mut MemoryLink, request: RequestId, text: &str) -> bool {
+fn answers<L: Link>(link: &mut L, request: RequestId, text: &str) -> bool {
     match link.answer(request) {
         Answer::Got(message) => message.payload.as_slice() == text.as_bytes(),
         Answer::Waiting | Answer::Gone => false,
@@ -162,5 +164,33 @@ fn a_link_tells_what_it_was_set_to(rt: HostRuntime) -> Result<(), Fail> {
     assert_eq!(rt; link.state(), Watch::Ended);
     assert_eq!(rt; link.max_payload(), 5);
     assert_eq!(rt; link.request_timeout(), None);
+    Ok(())
+}
+
+/// Whether a request to a subject has an answer with this body at once.
+fn asks<L: Link>(alloc: Global, link: &mut L, subject: &str, text: &str) -> bool {
+    match link.request(alloc, subject, None, b"{}") {
+        Ok(request) => answers(link, request, text),
+        Err(_) => false,
+    }
+}
+
+#[test]
+fn a_server_answers_from_its_script(rt: HostRuntime) -> Result<(), OutOfMemory> {
+    let alloc = rt.alloc();
+    let link = MemoryLink::new(alloc, "_INBOX.t")?;
+    let mut server = ScriptedServer::new(alloc, link);
+    server.script(alloc, "a", message(alloc, "1")?)?;
+    server.script(alloc, "b", message(alloc, "2")?)?;
+    server.script(alloc, "a", message(alloc, "3")?)?;
+    assert!(rt; asks(alloc, &mut server, "a", "1"));
+    assert!(rt; asks(alloc, &mut server, "a", "3"));
+    server.link().set_up(false);
+    assert!(rt; !asks(alloc, &mut server, "b", "2"));
+    server.link().set_up(true);
+    assert!(rt; asks(alloc, &mut server, "b", "2"));
+    assert_eq!(rt; server.request(alloc, "a", None, b"{}"), Ok(RequestId(4)));
+    assert!(rt; matches!(&server.answer(RequestId(4)), Answer::Waiting));
+    assert_eq!(rt; server.link().sent().len(), 4);
     Ok(())
 }
