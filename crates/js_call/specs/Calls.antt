@@ -1,0 +1,61 @@
+-- A call of the API: what a poll answers, by the call's row of the table.
+use Rattle.std.specs.Prelude.{ℕ, ◌≡◌, Option, Some, None, Result, Ok, Err}
+use Rattle.js_base.specs.Errors.{kind_of}
+use Rattle.js_base.specs.declared.error.Error.{Error}
+use Rattle.js_base.specs.declared.message.Message.{Message}
+use Rattle.js_base.specs.declared.turn.Turn.{Turn}
+use Rattle.js_base.specs.declared.turn.Turn.TheVariants.{Pending, Ready}
+use Rattle.js_base.specs.declared.turn.Turn.TheVariants as turns
+use Rattle.js_link.specs.LinkView.{LinkView}
+use Rattle.js_fields.specs.declared.error.ReadError.{ReadError}
+use Rattle.js_fields.specs.declared.error.ReadError.TheVariants.{OutOfMemory}
+use Rattle.js_call.specs.declared.error.RequestErrorKind.{RequestErrorKind}
+use Rattle.js_call.specs.declared.error.RequestErrorKind.TheVariants as kind
+use Rattle.js_call.specs.declared.call.Call.{Call}
+use Rattle.js_call.specs.declared.call.Stage.{Stage}
+use Rattle.js_call.specs.declared.call.Stage.TheVariants.{Asking, Answered}
+use Rattle.js_call.specs.declared.raw_call.RawCall.{RawCall}
+use Rattle.js_call.specs.Raw.{RawPolled}
+use Rattle.js_call.specs.Table.{Table}
+
+-- a call that asks this, which is not answered
+abbrev pub calling : {M : Type 0} → M → RawCall → Call M
+calling meaning asked = record { meaning = meaning; stage = Asking asked }
+
+-- a call whose reply has come, and is not read yet
+abbrev pub answered : {M : Type 0} → M → Message → Call M
+answered meaning message = record { meaning = meaning; stage = Answered message }
+
+-- what is answered to a reply that was read, or does not read
+abbrev pub IsAnswerTo : {M R A : Type 0} → Table M R A → M → Result R ReadError → A → Type 0
+IsAnswerTo t meaning (Ok reply) answer = answer ≡ t.means meaning reply
+IsAnswerTo t meaning (Err OutOfMemory) answer = ⊥
+IsAnswerTo t meaning (Err fault) answer = answer ≡ t.fails meaning kind.Other
+
+-- a reply that came is answered by what it reads as, and kept where memory runs out
+abbrev pub Reads : {M R A : Type 0} → Table M R A → M → Message → Turn (Call M) A → Type 0
+Reads {R = R} t meaning message (Ready answer) = (read : Result R ReadError) × t.reads message.payload read × IsAnswerTo t meaning read answer
+Reads t meaning message (turns.OutOfMemory next) = next ≡ answered meaning message
+Reads t meaning message (Pending next) = ⊥
+
+-- what a call answers to what its request does
+abbrev pub Turns : {M R A : Type 0} → Table M R A → M → Turn RawCall (Result Message (Error RequestErrorKind)) → Turn (Call M) A → Type 0
+Turns t meaning (Pending asked) turn = turn ≡ Pending (calling meaning asked)
+Turns t meaning (turns.OutOfMemory asked) turn = turn ≡ turns.OutOfMemory (calling meaning asked)
+Turns t meaning (Ready (Ok message)) turn = Reads t meaning message turn
+Turns t meaning (Ready (Err error)) turn = turn ≡ Ready (t.fails meaning (kind_of error))
+
+-- a reply that was kept is read, and else the request goes on
+abbrev pub GoesOn : {M R A : Type 0} → Table M R A → M → Stage → ℕ → Turn (Call M) A → LinkView → LinkView → Type 0
+GoesOn t meaning (Answered message) now turn old new = (new ≡ old) × Reads t meaning message turn
+GoesOn t meaning (Asking call) now turn old new =
+    (asked : Turn RawCall (Result Message (Error RequestErrorKind))) × RawPolled call now asked old new × Turns t meaning asked turn
+
+-- refused arguments are answered, and nothing is sent
+abbrev pub PolledUnless : {M R A : Type 0} → Option A → Table M R A → Call M → ℕ → Turn (Call M) A → LinkView → LinkView → Type 0
+PolledUnless (Some refusal) t call now turn old new = (turn ≡ Ready refusal) × (new ≡ old)
+PolledUnless None t call now turn old new = GoesOn t call.meaning call.stage now turn old new
+
+-- what a poll of a call does
+abbrev pub Polled : {M R A : Type 0} → Table M R A → Call M → ℕ → Turn (Call M) A → LinkView → LinkView → Type 0
+Polled t call now turn old new = PolledUnless (t.refused call.meaning) t call now turn old new

@@ -1,0 +1,62 @@
+//! A request of the API whose reply is any JSON value.
+ghost use Rattle.std.specs.Prelude.{IfOk};
+ghost use Rattle.serde_json.specs.View.{view};
+ghost use Rattle.js_call.specs.ApiRequests.{value_row, AskingFor};
+
+use crate::call::Call;
+use crate::error::{RequestError, RequestErrorKind};
+use crate::meaning::Meaning;
+use crate::raw_call::RawCall;
+use crate::scope::ApiScope;
+use bytes::Bytes;
+use js_base::{Error, OutOfMemory};
+use js_fields::{ReadError, value_of};
+use serde_json::Value;
+use std::alloc::Global;
+
+/// The row of a request whose reply is any JSON value.
+#[derive(Drop)]
+pub struct AskingValue;
+
+/// A request of the API under way. Its answer is the JSON value that the reply's body is, in which no float may stand.
+pub type ApiRequest = Call<AskingValue>;
+
+impl Meaning for AskingValue {
+    type Reply = Value;
+
+    type Answer = Result<Value, RequestError>;
+
+    ghost table = { value_row };
+
+    fn refusal(&self) -> Option<Result<Value, RequestError>> {
+        None
+    }
+
+    fn read(alloc: Global, payload: &[u8]) -> Result<Value, ReadError> {
+        value_of(alloc, payload)
+    }
+
+    fn answer(self, reply: Value) -> Result<Value, RequestError> {
+        Ok(reply)
+    }
+
+    fn failure(self, kind: RequestErrorKind) -> Result<Value, RequestError> {
+        Err(Error::new(kind))
+    }
+}
+
+impl ApiScope {
+    /// A request under the prefix with that body. The one refusal is want of memory.
+    pub fn request(
+        &self,
+        alloc: Global,
+        subject: &str,
+        payload: &Value,
+    ) -> Result<ApiRequest, OutOfMemory>
+        ensures { IfOk result (λ call. AskingFor self.now subject.now (view payload.now) call) }
+    {
+        let body = Bytes::copy_from_slice(alloc, payload.to_string(alloc)?.as_bytes())?;
+        let asked: RawCall = self.ask(alloc, subject, body)?;
+        Ok(Call::new(AskingValue, asked))
+    }
+}

@@ -1,0 +1,96 @@
+//! A call of the API: one request, and what its reply means.
+ghost use Rattle.std.specs.Prelude.{◌≡◌, Result};
+ghost use Rattle.js_base.specs.declared.error.Error.{Error};
+ghost use Rattle.js_base.specs.declared.turn.Turn.{Turn};
+ghost use Rattle.js_call.specs.Calls.{calling, Polled, Reads, Turns};
+
+use crate::error::{RequestError, RequestErrorKind};
+use crate::meaning::Meaning;
+use crate::raw_call::RawCall;
+use crate::state::State;
+use js_base::{Message, Moment, Turn};
+use js_fields::ReadError;
+use js_link::Link;
+use std::alloc::Global;
+
+/// A call of the API under way: its request is sent at its first poll.
+///
+/// Refused arguments are answered before anything is sent. A reply for which no memory is left is kept, and read at the next poll.
+#[derive(Drop)]
+pub struct Call<M> {
+    pub(crate) meaning: M,
+    pub(crate) stage: Stage,
+}
+
+/// How far a call is.
+#[derive(Drop)]
+pub(crate) enum Stage {
+    Asking(RawCall),
+    /// The reply has come, and is not read yet.
+    Answered(Message),
+}
+
+impl<M: Meaning> Call<M> {
+    /// A call that asks this.
+    pub fn new(meaning: M, asked: RawCall) -> Call<M>
+        ensures { result ≡ calling meaning asked }
+    {
+        Call {
+            meaning,
+            stage: Stage::Asking(asked),
+        }
+    }
+}
+
+/// Reads a reply, which is kept where memory runs out.
+fn read<M: Meaning>(alloc: Global, meaning: M, message: Message) -> Turn<Call<M>, M::Answer>
+    ensures { Reads M.table meaning message result }
+{
+    match M::read(alloc, message.payload.as_slice()) {
+        Ok(reply) => Turn::Ready(meaning.answer(reply)),
+        Err(ReadError::OutOfMemory) => Turn::OutOfMemory(Call {
+            meaning,
+            stage: Stage::Answered(message),
+        }),
+        Err(_) => Turn::Ready(meaning.failure(RequestErrorKind::Other)),
+    }
+}
+
+/// What the call answers to what its request does.
+fn turn<M: Meaning>(
+    alloc: Global,
+    meaning: M,
+    asked: Turn<RawCall, Result<Message, RequestError>>,
+) -> Turn<Call<M>, M::Answer>
+    ensures { Turns M.table meaning asked result }
+{
+    match asked {
+        Turn::Pending(asked) => Turn::Pending(Call::new(meaning, asked)),
+        Turn::OutOfMemory(asked) => Turn::OutOfMemory(Call::new(meaning, asked)),
+        Turn::Ready(Ok(message)) => read(alloc, meaning, message),
+        Turn::Ready(Err(error)) => {
+            let kind = *error.kind();
+            Turn::Ready(meaning.failure(kind))
+        }
+    }
+}
+
+impl<M: Meaning> State for Call<M> {
+    type Answer = M::Answer;
+
+    ghost polled = { Polled M.table };
+
+    fn poll<L: Link>(self, alloc: Global, link: &mut L, now: Moment) -> Turn<Self, Self::Answer> {
+        if let Some(answer) = self.meaning.refusal() {
+            return Turn::Ready(answer);
+        }
+        let Call { meaning, stage } = self;
+        match stage {
+            Stage::Answered(message) => read(alloc, meaning, message),
+            Stage::Asking(asked) => {
+                let asked = asked.poll(alloc, link, now);
+                turn(alloc, meaning, asked)
+            }
+        }
+    }
+}

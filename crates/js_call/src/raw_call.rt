@@ -1,0 +1,161 @@
+//! One request, from its sending to its reply.
+ghost use Rattle.std.specs.Prelude.{◌≡◌, Result};
+ghost use Rattle.js_link.specs.LinkView.{LinkView};
+ghost use Rattle.js_link.specs.Calls.{RefusedSend};
+ghost use Rattle.js_call.specs.Raw.{Meets, RawPolled, SendsOf, bar_of, reply_of, met_turn};
+
+use crate::error::{RequestError, RequestErrorKind};
+use crate::open_request::{OpenRequest, Shown};
+use crate::state::State;
+use bytes::Bytes;
+use js_base::{
+    Error, HeaderMap, Message, Moment, Nanos, StatusCode, Subject, Turn, is_valid_subject,
+};
+use js_link::{Link, LinkError};
+use std::alloc::Global;
+
+/// One request, which is sent at its first poll.
+///
+/// A call made by `raw_request` tests its subject and then the length of its body before it sends, and looks at the answer in
+/// the poll that sends. One made by `ApiScope::call` tests neither, and looks from its second poll on.
+#[derive(Drop)]
+pub struct RawCall {
+    pub(crate) subject: Subject,
+    pub(crate) headers: Option<HeaderMap>,
+    pub(crate) payload: Bytes,
+    // None leaves it to the connection, and Some(None) waits without end.
+    pub(crate) timeout: Option<Option<Nanos>>,
+    pub(crate) is_tested: bool,
+    pub(crate) sent: Option<OpenRequest>,
+}
+
+/// What one poll of a request met.
+#[derive(Drop)]
+pub(crate) enum Met {
+    /// It may not be sent.
+    Barred(RequestErrorKind),
+    /// The link failed to send it.
+    Failed,
+    OutOfMemory,
+    /// It was sent, and not looked at.
+    Sent(OpenRequest),
+    /// It has been sent, now or earlier, and shows this.
+    Shown(OpenRequest, Shown),
+}
+
+/// The reply, unless it says that nobody answers.
+fn reply_of(message: Message) -> Result<Message, RequestError>
+    ensures { result ≡ reply_of message }
+{
+    match message.status {
+        Some(StatusCode(503)) => Err(Error::new(RequestErrorKind::NoResponders)),
+        _ => Ok(message),
+    }
+}
+
+impl RawCall {
+    fn send<L: Link>(
+        &self,
+        alloc: Global,
+        link: &mut L,
+        now: Moment,
+    ) -> Result<OpenRequest, LinkError>
+        ensures { SendsOf result self.now now (L.view link.old) (L.view link.new) }
+    {
+        let timeout = match self.timeout {
+            Some(own) => own,
+            None => link.request_timeout(),
+        };
+        let request = link.request(
+            alloc,
+            self.subject.as_str(),
+            self.headers.as_ref(),
+            self.payload.as_slice(),
+        )?;
+        Ok(OpenRequest {
+            request,
+            since: now,
+            timeout,
+        })
+    }
+
+    /// What keeps it from being sent.
+    fn bar<L: Link>(&self, link: &L) -> Option<RequestErrorKind>
+        ensures { result ≡ bar_of self.now (L.view link.now) }
+    {
+        if !is_valid_subject(self.subject.as_str()) {
+            Some(RequestErrorKind::InvalidSubject)
+        } else if self.payload.len() as u64 > link.max_payload() {
+            Some(RequestErrorKind::Other)
+        } else {
+            None
+        }
+    }
+
+    /// Sends it where it was not sent, and looks at it, as far as one poll goes.
+    fn pass<L: Link>(&self, alloc: Global, link: &mut L, now: Moment) -> Met
+        ensures { Meets self.now.sent self.now now result (L.view link.old) (L.view link.new) }
+    {
+        if let Some(sent) = self.sent {
+            let shown = sent.look(link, now);
+            return Met::Shown(sent, shown);
+        }
+        if !self.is_tested {
+            return match self.send(alloc, link, now) {
+                Ok(sent) => Met::Sent(sent),
+                Err(LinkError::Failed) => Met::Failed,
+                Err(LinkError::OutOfMemory) => Met::OutOfMemory,
+            };
+        }
+        if let Some(kind) = self.bar(link) {
+            return Met::Barred(kind);
+        }
+        match self.send(alloc, link, now) {
+            Ok(sent) => {
+                let shown = sent.look(link, now);
+                Met::Shown(sent, shown)
+            }
+            Err(LinkError::Failed) => Met::Failed,
+            Err(LinkError::OutOfMemory) => Met::OutOfMemory,
+        }
+    }
+
+    /// The same, sent.
+    fn sent_as(self, sent: OpenRequest) -> RawCall
+        ensures { result ≡ record self { sent = Some sent } }
+    {
+        RawCall {
+            sent: Some(sent),
+            ..self
+        }
+    }
+
+    /// What it answers to what it met.
+    fn turn(self, met: Met) -> Turn<RawCall, Result<Message, RequestError>>
+        ensures { result ≡ met_turn self met }
+    {
+        match met {
+            Met::Barred(kind) => Turn::Ready(Err(Error::new(kind))),
+            Met::Failed => Turn::Ready(Err(Error::new(RequestErrorKind::Other))),
+            Met::OutOfMemory => Turn::OutOfMemory(self),
+            Met::Sent(sent) => Turn::Pending(self.sent_as(sent)),
+            Met::Shown(sent, shown) => match shown {
+                Shown::Came(message) => Turn::Ready(reply_of(message)),
+                Shown::Gone => Turn::Ready(Err(Error::new(RequestErrorKind::Other))),
+                Shown::Due => Turn::Ready(Err(Error::new(RequestErrorKind::TimedOut))),
+                Shown::Still => Turn::Pending(self.sent_as(sent)),
+            },
+        }
+    }
+}
+
+impl State for RawCall {
+    type Answer = Result<Message, RequestError>;
+
+    ghost polled = { RawPolled };
+
+    fn poll<L: Link>(self, alloc: Global, link: &mut L, now: Moment) -> Turn<Self, Self::Answer> {
+        let met = self.pass(alloc, link, now);
+        self.turn(met)
+    }
+}

@@ -1,0 +1,146 @@
+//! Where requests of the API go, and how long they are waited for.
+ghost use Rattle.std.specs.Prelude.{◌≡◌, false, IfOk, string_bytes};
+ghost use Rattle.serde_json.specs.View.{view};
+ghost use Rattle.js_call.specs.Scopes.{under, own_timeout, applied, recovery_timeout, asking, raw_asking, Calling};
+
+use crate::raw_call::RawCall;
+use crate::raw_request::{RawRequest, body_of};
+use bytes::Bytes;
+use js_base::{Nanos, OutOfMemory, Subject, Text, TryClone};
+use serde_json::Value;
+use std::alloc::{AllocError, Global};
+
+/// Where requests of the API go, and how long they are waited for: what handles keep of a context.
+#[derive(Debug, PartialEq, Eq, Drop)]
+pub struct ApiScope {
+    /// What subjects begin with, before a dot.
+    pub prefix: Text,
+    /// How long the context waits for an answer, or none where it leaves that to the connection.
+    pub timeout: Option<Nanos>,
+}
+
+impl TryClone for ApiScope {
+    fn try_clone(&self) -> Result<ApiScope, OutOfMemory> {
+        Ok(ApiScope {
+            prefix: self.prefix.try_clone()?,
+            timeout: self.timeout,
+        })
+    }
+}
+
+fn text_under(alloc: Global, prefix: &str, subject: &str) -> Result<String, AllocError>
+    ensures { IfOk result (λ text. string_bytes text ≡ under prefix.now subject.now) }
+{
+    format!(in alloc; "{prefix}.{subject}")
+}
+
+impl ApiScope {
+    /// The request with the context's timeout, where it has none of its own.
+    pub fn apply_timeout(&self, request: RawRequest) -> RawRequest
+        ensures { result ≡ applied self.now request }
+    {
+        let timeout = match request.timeout {
+            Some(own) => Some(own),
+            None => self.own_timeout(),
+        };
+        RawRequest { timeout, ..request }
+    }
+
+    /// The scope by which a lost consumer is made anew. Its timeout is the context's; it has none where only the connection has
+    /// one, and else ten seconds. The one refusal is want of memory.
+    pub fn recovery_context(&self, connection: Option<Nanos>) -> Result<ApiScope, OutOfMemory>
+        ensures { IfOk result (λ scope. scope ≡ record self.now { timeout = recovery_timeout self.now.timeout connection }) }
+    {
+        let timeout = match (self.timeout, connection) {
+            (Some(own), _) => Some(own),
+            (None, Some(_)) => None,
+            (None, None) => Some(10_000_000_000),
+        };
+        Ok(ApiScope {
+            prefix: self.prefix.try_clone()?,
+            timeout,
+        })
+    }
+
+    /// A request under the prefix with that body, which tests its subject neither nor its size: they are known to be good.
+    ///
+    /// The poll that sends it is pending, and the answer and the clock are looked at from the next poll on. The one refusal is want of memory.
+    pub fn call(&self, alloc: Global, subject: &str, body: &Value) -> Result<RawCall, OutOfMemory>
+        ensures { IfOk result (λ call. Calling self.now subject.now (view body.now) false call) }
+    {
+        let payload = Bytes::copy_from_slice(alloc, body.to_string(alloc)?.as_bytes())?;
+        let tested = self.ask(alloc, subject, payload)?;
+        Ok(RawCall {
+            is_tested: false,
+            ..tested
+        })
+    }
+
+    /// A request under the prefix with that body. The one refusal is want of memory.
+    pub fn ask(&self, alloc: Global, subject: &str, body: Bytes) -> Result<RawCall, OutOfMemory>
+        ensures { IfOk result (λ call. call ≡ asking self.now subject.now body) }
+    {
+        Ok(RawCall {
+            subject: self.subject(alloc, subject)?,
+            headers: None,
+            payload: body,
+            timeout: self.own_timeout(),
+            is_tested: true,
+            sent: None,
+        })
+    }
+
+    /// A request under the prefix on the words of a call and a name, as `STREAM.INFO` and `events`, with that body. The one
+    /// refusal is want of memory.
+    pub fn ask_named(
+        &self,
+        alloc: Global,
+        words: &str,
+        name: &str,
+        body: Bytes,
+    ) -> Result<RawCall, OutOfMemory>
+        ensures { IfOk result (λ call. call ≡ asking self.now (under words.now name.now) body) }
+    {
+        let subject = text_under(alloc, words, name)?;
+        self.ask(alloc, subject.as_str(), body)
+    }
+
+    /// A request on that subject, which stands for itself, without the prefix. The one refusal is want of memory.
+    pub fn raw_request(
+        &self,
+        alloc: Global,
+        subject: &str,
+        request: RawRequest,
+    ) -> Result<RawCall, OutOfMemory>
+        ensures { IfOk result (λ call. call ≡ raw_asking self.now subject.now request) }
+    {
+        let subject = Subject::new(alloc, subject)?;
+        let request = self.apply_timeout(request);
+        Ok(RawCall {
+            subject,
+            headers: request.headers,
+            payload: body_of(request.payload),
+            timeout: request.timeout,
+            is_tested: true,
+            sent: None,
+        })
+    }
+
+    /// A subject under the prefix.
+    pub(crate) fn subject(&self, alloc: Global, subject: &str) -> Result<Subject, OutOfMemory>
+        ensures { IfOk result (λ whole. whole ≡ under self.now.prefix subject.now) }
+    {
+        let text = text_under(alloc, self.prefix.as_str(), subject)?;
+        Ok(Subject::from(text))
+    }
+
+    /// The context's timeout as one of a request's own.
+    fn own_timeout(&self) -> Option<Option<Nanos>>
+        ensures { result ≡ own_timeout self.now }
+    {
+        match self.timeout {
+            None => None,
+            Some(wait) => Some(Some(wait)),
+        }
+    }
+}

@@ -1,0 +1,89 @@
+//! Two calls, one after the other.
+ghost use Rattle.std.specs.Prelude.{◌≡◌, Option};
+ghost use Rattle.js_link.specs.LinkView.{LinkView};
+ghost use Rattle.js_base.specs.declared.turn.Turn.{Turn};
+ghost use Rattle.js_call.specs.Thens.{ThenPolled, SecondPolled, unless_absent};
+
+use crate::state::State;
+use js_base::{Moment, Turn};
+use js_link::Link;
+use std::alloc::Global;
+
+/// Whether a first answer is the last.
+pub trait Decision<A, B>: Drop {
+    /// The last answer, or none where the second call follows.
+    ghost decides: { Self → A → Option B };
+
+    fn decide(self, first: A) -> Option<B>
+        ensures { result ≡ decides self first };
+}
+
+/// The second call follows where the first found nothing.
+#[derive(Clone, Copy, Debug, PartialEq, Eq, Drop)]
+pub struct IfAbsent;
+
+impl<T: Drop, E: Drop> Decision<Result<Option<T>, E>, Result<T, E>> for IfAbsent {
+    ghost decides = { λ _ first. unless_absent first };
+
+    fn decide(self, first: Result<Option<T>, E>) -> Option<Result<T, E>> {
+        match first {
+            Ok(Some(found)) => Some(Ok(found)),
+            Ok(None) => None,
+            Err(error) => Some(Err(error)),
+        }
+    }
+}
+
+/// A call, and another one that follows in the same poll where the first answer asks for it.
+#[derive(Drop)]
+pub enum Then<A, B, D> {
+    First { first: A, second: B, decision: D },
+    Second(B),
+}
+
+impl<A: State, B: State, D: Decision<A::Answer, B::Answer>> State for Then<A, B, D> {
+    type Answer = B::Answer;
+
+    ghost polled = { ThenPolled A.polled B.polled D.decides };
+
+    fn poll<L: Link>(self, alloc: Global, link: &mut L, now: Moment) -> Turn<Self, Self::Answer> {
+        match self {
+            Then::First {
+                first,
+                second,
+                decision,
+            } => match first.poll(alloc, link, now) {
+                Turn::Pending(first) => Turn::Pending(Then::First {
+                    first,
+                    second,
+                    decision,
+                }),
+                Turn::OutOfMemory(first) => Turn::OutOfMemory(Then::First {
+                    first,
+                    second,
+                    decision,
+                }),
+                Turn::Ready(answer) => match decision.decide(answer) {
+                    Some(answer) => Turn::Ready(answer),
+                    None => poll_second(second, alloc, link, now),
+                },
+            },
+            Then::Second(second) => poll_second(second, alloc, link, now),
+        }
+    }
+}
+
+fn poll_second<A, B: State, D, L: Link>(
+    second: B,
+    alloc: Global,
+    link: &mut L,
+    now: Moment,
+) -> Turn<Then<A, B, D>, B::Answer>
+    ensures { SecondPolled B.polled second now result (L.view link.old) (L.view link.new) }
+{
+    match second.poll(alloc, link, now) {
+        Turn::Pending(second) => Turn::Pending(Then::Second(second)),
+        Turn::OutOfMemory(second) => Turn::OutOfMemory(Then::Second(second)),
+        Turn::Ready(answer) => Turn::Ready(answer),
+    }
+}
