@@ -53,12 +53,17 @@ pub record IsStreamMessage (headers : List Header) (payload : List ℕ) (s : Str
   pub headers_stay : s.headers ≡ headers
   pub payload_stays : s.payload ≡ payload
 
+-- the error, which has no source, is the refusal of the headers, or want of memory
+pub record Refuses (headers : List Header) (error : Error StreamMessageErrorKind) : Type 0 where
+  pub kind : (told_in headers ≡ Err error.kind) ⊎ (error.kind ≡ OutOfMemory)
+  pub no_source : error.source ≡ None
+
 -- reading a message with these headers and this body: want of memory apart, each refusal is that of the headers
 abbrev pub Reads : Option (List Header) → List ℕ → Result StreamMessage (Error StreamMessageErrorKind) → Type 0
 Reads None payload (Ok s) = ⊥
 Reads None payload (Err error) = error ≡ record { kind = MissingHeader; source = None }
 Reads (Some headers) payload (Ok s) = IsStreamMessage headers payload s
-Reads (Some headers) payload (Err error) = (told_in headers ≡ Err error.kind) ⊎ (error.kind ≡ OutOfMemory)
+Reads (Some headers) payload (Err error) = Refuses headers error
 
 -- reading the message
 abbrev pub ReadsMessage : Message → Result StreamMessage (Error StreamMessageErrorKind) → Type 0

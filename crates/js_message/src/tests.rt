@@ -55,11 +55,11 @@ fn other_subjects_are_refused(rt: HostRuntime) {
         ("$JS.ACK", InfoError::Prefix),
         ("$JS.ACK.", InfoError::TokenCount { n: 1 }),
         (
-            "$JS.ACK.hub.szMpdrwD.events.durable.2.50.9.1",
+            "$JS.ACK.hub.szMpdrwD.events.durable.2.50.9.1790230470084404000",
             InfoError::TokenCount { n: 8 },
         ),
         (
-            "$JS.ACK.events.durable.3.abc.7.1.42",
+            "$JS.ACK.events.durable.3.abc.7.1790230470084404000.42",
             InfoError::Number { place: 3 },
         ),
         (
@@ -274,6 +274,26 @@ fn a_double_ack_gives_up(rt: HostRuntime) -> Result<(), OutOfMemory> {
         ends(alloc, &mut link, Some(lost), 0),
         Some(Err(AckError::NoReply))
     );
+    Ok(())
+}
+
+#[test]
+fn a_message_is_acknowledged_as_by_its_acker(rt: HostRuntime) -> Result<(), OutOfMemory> {
+    let alloc = rt.alloc();
+    let message = delivered(alloc, REPLY)?;
+    let mut link = MemoryLink::new(alloc, "_INBOX.t")?;
+    assert_eq!(rt; message.ack(alloc, &mut link), Ok(()));
+    assert!(rt; sent_last(&link, b""));
+    let nak = AckKind::Nak(None);
+    assert_eq!(rt; message.ack_with(alloc, &mut link, nak), Ok(()));
+    assert!(rt; sent_last(&link, b"-NAK"));
+    assert_eq!(rt;
+        message.double_ack(alloc)?,
+        acker(alloc)?.double_ack(alloc)?
+    );
+    let call = message.double_ack_with(alloc, AckKind::Next)?;
+    assert_eq!(rt; ends(alloc, &mut link, Some(call), 0), None);
+    assert!(rt; sent_last(&link, b"+NXT"));
     Ok(())
 }
 
