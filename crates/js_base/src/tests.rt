@@ -1,6 +1,6 @@
 use crate::{
-    ByName, Error, Header, HeaderMap, Items, Message, Source, StatusCode, Subject, Text, TryClone,
-    is_valid_subject, subject_matches,
+    Boxed, ByName, Error, Header, HeaderMap, Items, Message, Source, StatusCode, Subject, Text,
+    TryClone, is_valid_subject, subject_matches,
 };
 use bytes::Bytes;
 use std::test::Fail;
@@ -78,9 +78,20 @@ fn headers_are_set_and_added(rt: HostRuntime) -> Result<(), Fail> {
 #[test]
 fn values_print(rt: HostRuntime) -> Result<(), Fail> {
     let alloc = rt.alloc();
-    for (number, text) in [(7, "007"), (99, "099"), (404, "404"), (1000, "1000")] {
-        let printed = StatusCode(number).to_string(alloc)?;
-        assert_eq!(rt; printed.as_str(), text);
+    let statuses = [
+        (StatusCode(7), "007"),
+        (StatusCode(99), "099"),
+        (StatusCode(1000), "1000"),
+        (StatusCode::IDLE_HEARTBEAT, "100"),
+        (StatusCode::OK, "200"),
+        (StatusCode::NOT_FOUND, "404"),
+        (StatusCode::TIMEOUT, "408"),
+        (StatusCode::REQUEST_TERMINATED, "409"),
+        (StatusCode::PIN_ID_MISMATCH, "423"),
+        (StatusCode::NO_RESPONDERS, "503"),
+    ];
+    for (status, text) in statuses {
+        assert_eq!(rt; status.to_string(alloc)?.as_str(), text);
     }
     let plain = Error::new(StatusCode::TIMEOUT).to_string(alloc)?;
     assert_eq!(rt; plain.as_str(), "408");
@@ -122,6 +133,8 @@ fn values_are_copied(rt: HostRuntime) -> Result<(), Fail> {
         length: 9,
     };
     assert!(rt; message.try_clone()? == message);
+    let boxed = Boxed::new(alloc, message)?;
+    assert!(rt; boxed.try_clone()? == boxed);
     let mut names = ByName::new(alloc);
     names.insert(Text::from_str(alloc, "n")?, Text::from_str(alloc, "v")?)?;
     assert!(rt; names.try_clone()? == names);
