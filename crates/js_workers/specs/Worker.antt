@@ -1,11 +1,11 @@
 -- What a worker of a window does.
-use Rattle.std.specs.Prelude.{◌≡◌, ℕ, ◌+◌, Bool, true, false, List, [], count_by}
+use Rattle.std.specs.Prelude.{◌≡◌, ◌⊎◌, ◌<◌, ℕ, ◌+◌, Bool, true, false, List, [], count_by, Option, Some, None}
 use mathlib.Core.List.{IsPrefix}
 use Rattle.js_window.specs.declared.history.Call.{Call}
 use Rattle.js_window.specs.declared.history.Call.TheVariants.{Got, Full, Give, AllFree}
 use Rattle.js_window.specs.declared.history.Entry.{Entry}
 use Rattle.js_window.specs.History.{got_in}
-use Rattle.js_window.specs.Caller.{WindowId, Caller, held}
+use Rattle.js_window.specs.Caller.{WindowId, Caller, held, Makes}
 use Rattle.js_workers.specs.declared.worker.Job.{Job}
 use Rattle.js_workers.specs.declared.worker.Ended.{Ended}
 
@@ -28,6 +28,11 @@ pub record TookCalls (got full : ℕ) (p q : Caller) : Type 0 where
   pub got_more : got_in q.mine ≡ got_in p.mine + got
   pub full_more : full_in q.mine ≡ full_in p.mine + full
   pub held : held q ≡ held p
+
+-- where the gate stands in a worker's calls: it was passed by the caller as it was after its first take, with nothing given back. Without calls it was not passed
+abbrev pub PassedGate : ℕ → Caller → Option Caller → Type 0
+PassedGate calls first None = calls ≡ 0
+PassedGate calls first (Some caller) = (0 < calls) × (Makes Got first caller ⊎ Makes Full first caller)
 
 -- a worker of this window that has made no call
 pub record IsReady (window : WindowId) (job : Job) : Type 0 where

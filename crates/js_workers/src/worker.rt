@@ -1,8 +1,8 @@
 //! One worker: it takes permits of a window and gives each back.
-ghost use Rattle.std.specs.Prelude.{◌≡◌, ◌+◌};
-ghost use Rattle.js_workers.specs.Worker.{TookCalls, IsReady, HasEnded};
+ghost use Rattle.std.specs.Prelude.{◌≡◌, ◌+◌, None, option_map};
+ghost use Rattle.js_workers.specs.Worker.{TookCalls, PassedGate, IsReady, HasEnded};
 
-use crate::gate::Gate;
+use crate::gate::{Gate, Way};
 use js_window::{Pass, Take, Window};
 use std::sync::Wait;
 
@@ -38,12 +38,30 @@ pub fn take_calls<R: Wait, G: Gate>(
     ensures sum { result.0 + result.1 ≡ calls }
     ensures calls { TookCalls result.0 result.1 pass.old pass.new }
 {
+    take_by(rt, window, pass, calls, worker, &mut Way::new(gate))
+}
+
+// The same by a way to the gate, which tells when it was gone.
+fn take_by<R: Wait, G: Gate>(
+    rt: &R,
+    window: &Window,
+    pass: &mut Pass,
+    calls: u64,
+    worker: u64,
+    way: &mut Way<G>,
+) -> (u64, u64)
+    requires own { pass.old.window ≡ window.now }
+    requires new { way.old.passed ≡ None }
+    ensures sum { result.0 + result.1 ≡ calls }
+    ensures calls { TookCalls result.0 result.1 pass.old pass.new }
+    ensures gate { PassedGate calls pass.old (option_map (λ s. s.value) way.new.passed) }
+{
     let mut got = 0;
     let mut full = 0;
     for call in 0..calls {
         let taken = window.take(rt, pass);
         if call == 0 {
-            gate.pass(worker);
+            way.go(worker, pass);
         }
         match taken {
             Take::Got(permit) => {

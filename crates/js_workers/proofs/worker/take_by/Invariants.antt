@@ -1,0 +1,11 @@
+use Rattle.std.proofs.Common.{◌≡◌, ◌+◌, option_map}
+use Rattle.js_workers.specs.Worker.{TookCalls, PassedGate}
+use Rattle.js_workers.proofs.worker.take_by.Given as goal
+
+abbrev pub invariant-loop-call : goal.invariant-loop-call
+invariant-loop-call g l = record {
+  sum : l.got + l.full ≡ l.call;
+  took : TookCalls l.got l.full l.fn.pass l.pass;
+  start : l.call ≡ 0 → l.pass ≡ l.fn.pass;
+  gate : PassedGate l.call l.fn.pass (option_map (λ s. s.value) l.way.passed);
+}
