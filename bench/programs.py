@@ -1,4 +1,4 @@
-"""The two programs: the proved one, and the plain Rust one that is built here."""
+"""The programs: the proved one, and the plain Rust ones that are built here."""
 import glob
 import os
 import shutil
@@ -9,6 +9,7 @@ HERE = os.path.dirname(os.path.abspath(__file__))
 TOP = os.path.dirname(HERE)
 PROVED = os.path.join(TOP, "crates", "wilfjodi", "out", "wilfjodi")
 PLAIN = os.path.join(HERE, "plain", "target", "release", "plain")
+PERMITS = os.path.join(HERE, "permits", "target", "release", "permits")
 # Where Debian's packages of Rust crates lie (librust-serde-json-dev).
 REGISTRY = "/usr/share/cargo/registry"
 
@@ -40,3 +41,13 @@ def plain():
         command += ["--config", setting]
     subprocess.run(command, check=True, cwd=os.path.join(HERE, "plain"))
     return PLAIN
+
+
+def permits():
+    """The path of the plain permits, or None where cargo is missing."""
+    if not shutil.which("cargo"):
+        say("the plain permits are skipped: they need cargo")
+        return None
+    say("building the plain permits")
+    subprocess.run(["cargo", "build", "--release", "--offline", "--quiet"], check=True, cwd=os.path.join(HERE, "permits"))
+    return PERMITS
