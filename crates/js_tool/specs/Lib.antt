@@ -6,6 +6,7 @@ pub mod Events
 pub mod Compact
 pub mod Transcripts
 pub mod Texts
+pub mod Answers
 pub mod Statuses
 pub mod Commands
 pub mod Program

@@ -1,5 +1,5 @@
 -- What the program answers to an input, and what it writes.
-use Rattle.std.specs.Prelude.{◌≡◌, ◌⊎◌, ◌≤◌, ℕ, List, length, nat_lt, if◌then◌else◌, Option, Some, None, Result, Ok, Err, ⊤}
+use Rattle.std.specs.Prelude.{◌≡◌, ◌⊎◌, ◌≤◌, ◌+◌, ◌*◌, ℕ, List, length, nat_lt, if◌then◌else◌, Option, Some, None, Result, Ok, Err, ⊤}
 use Rattle.std.specs.Io.KnownBytes.{Appends}
 use Rattle.js_ends.specs.Causes.{Rose, AppendsPrefix}
 use Rattle.js_ordered.specs.declared.consumer.Given.{Given}
@@ -7,12 +7,15 @@ use Rattle.js_ordered.specs.declared.run.Run.{Run}
 use Rattle.js_ordered.specs.declared.run.ReplayError.{ReplayError}
 use Rattle.js_ordered.specs.Refusal.{refuse}
 use Rattle.js_ordered.specs.Valid.{IsReplay, IsValid}
+use Rattle.js_workers.specs.declared.workers.WindowCounts.{WindowCounts}
+use Rattle.js_workers.specs.WindowCounts.{CountsOfRun}
 use Rattle.js_tool.specs.declared.status.Status.{Status}
 use Rattle.js_tool.specs.declared.status.Status.TheVariants as status
 use Rattle.js_tool.specs.declared.program.Reply.{Reply}
 use Rattle.js_tool.specs.declared.program.Reply.TheVariants as reply
 use Rattle.js_tool.specs.declared.transcript.setup.Setup.{Setup}
 use Rattle.js_tool.specs.declared.transcript.Transcript.{Transcript}
+use Rattle.js_tool.specs.Commands.{Asked, Replay, Info, Window}
 use Rattle.js_tool.specs.Transcripts.{transcript}
 use Rattle.js_tool.specs.Texts.{run_text, refusal_text}
 
@@ -71,6 +74,31 @@ IsUnlessFailed status.Usage called = called ≡ status.Usage
 IsUnlessFailed (status.BadLine line) called = called ≡ status.BadLine line
 IsUnlessFailed status.Refused called = called ≡ status.Refused
 IsUnlessFailed status.TooLong called = called ≡ status.TooLong
+
+-- a status for want of memory or after a write that failed, or else this one
+abbrev pub IsUnlessUnwritten : Status → Status → Type 0
+IsUnlessUnwritten status.OutOfMemory called = ⊤
+IsUnlessUnwritten status.WriteFault called = ⊤
+IsUnlessUnwritten status.Done called = called ≡ status.Done
+IsUnlessUnwritten status.Usage called = called ≡ status.Usage
+IsUnlessUnwritten status.ReadFault called = called ≡ status.ReadFault
+IsUnlessUnwritten (status.BadLine line) called = called ≡ status.BadLine line
+IsUnlessUnwritten status.Refused called = called ≡ status.Refused
+IsUnlessUnwritten status.TooLong called = called ≡ status.TooLong
+
+-- ---- threads on a window
+
+-- what is asked for that needs no threads
+abbrev pub without_threads : Option Asked → Option Asked
+without_threads None = None
+without_threads (Some Replay) = Some Replay
+without_threads (Some (Info subject)) = Some (Info subject)
+without_threads (Some (Window capacity threads calls)) = None
+
+-- what so many threads came to on a window with so many permits, where each took one so many times
+pub record IsWindowRun (capacity threads calls : ℕ) (counts : WindowCounts) : Type 0 where
+  pub sum : counts.got + counts.full ≡ threads * calls
+  pub run : CountsOfRun capacity threads calls counts
 
 -- ---- what is written
 

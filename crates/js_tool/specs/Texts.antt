@@ -1,6 +1,7 @@
 -- The text of a run, and of a refusal.
-use Rattle.std.specs.Prelude.{ℕ, ◌+◌, ◌∷◌, ◌++◌, [], List, codes, length, ◌==◌, if◌then◌else◌, flat_map, Option, Some, None}
-use Rattle.serde_json.specs.Data.{Data, null, boolean, number, string, array, unsigned}
+use Rattle.std.specs.Prelude.{ℕ, ℤ, pos, negsuc, ◌+◌, ◌∷◌, ◌++◌, [], List, codes, length, ◌==◌, if◌then◌else◌, flat_map, Option, Some, None}
+use Rattle.std.specs.Fmt.{signed_decimal}
+use Rattle.serde_json.specs.Data.{Data, null, boolean, number, string, array, unsigned, negative}
 use Rattle.serde_json.specs.View.{items_of}
 use Rattle.serde_json.specs.Written.{compact_text}
 use Rattle.js_ordered.specs.declared.run.Start.{Start}
@@ -27,6 +28,10 @@ line_text cells = compact_text (array (items_of cells)) ++ 10 ∷ []
 abbrev pub count : ℕ → Data
 count n = number (unsigned n)
 
+abbrev pub integer : ℤ → Data
+integer (pos n) = count n
+integer (negsuc n) = number (negative (negsuc n))
+
 -- a text, or null where there is none
 abbrev pub text_or_null : Option (List ℕ) → Data
 text_or_null None = null
@@ -37,6 +42,8 @@ abbrev pub cell_data : Cell → Data
 cell_data cell.Null = null
 cell_data (cell.Truth b) = boolean b
 cell_data (cell.Number n) = count n
+cell_data (cell.Integer z) = integer z
+cell_data (cell.Digits z) = string (signed_decimal z)
 cell_data (cell.Text text) = string text.now
 
 -- ---- outputs

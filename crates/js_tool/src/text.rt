@@ -8,7 +8,7 @@ mod quoted;
 
 use js_base::Subject;
 use js_ordered::{Field, ItemKind, Output, ReplayError, Run, Start, Step};
-use line::{Cell, push_line};
+pub(crate) use line::{Cell, push_line};
 pub(crate) use quoted::plain_front;
 use std::alloc::{AllocError, Global};
 

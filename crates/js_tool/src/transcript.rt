@@ -21,8 +21,8 @@ use js_ends::Pieces;
 use js_fields::ReadError;
 use js_ordered::Event;
 use payloads::Payloads;
-use setup::setup_line;
 pub use setup::Setup;
+use setup::setup_line;
 use std::alloc::{AllocFailed, Global};
 
 /// A setup, and what happened.

@@ -1,5 +1,5 @@
 -- One take more of a worker, and the permit given back.
-use Rattle.std.proofs.Common.{◌≡◌, ◌⊎◌, inl, inr, ℕ, ◌+◌, ◌<◌, List, [], ◌∷◌, ◌++◌, Option, Some, None, refl, sym, subst, ap, ◌∙◌, arith}
+use Rattle.std.proofs.Common.{◌≡◌, ◌⊎◌, inl, inr, ℕ, ◌+◌, List, [], ◌∷◌, ◌++◌, Option, Some, None, refl, sym, subst, ap, ◌∙◌, arith}
 use Rattle.js_window.specs.declared.history.Entry.{Entry}
 use Rattle.js_window.specs.declared.history.Call.TheVariants.{Got, Full, Give}
 use Rattle.js_window.specs.declared.window.Take.{Take}

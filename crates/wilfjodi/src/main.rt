@@ -1,4 +1,4 @@
-//! `wilfjodi`: JetStream consumers replayed from transcripts, on a command line.
+//! `wilfjodi`: JetStream consumers replayed from transcripts, acknowledgement subjects and publish windows, on a command line.
 #![tactic(auto)]
 
 use js_tool::{ReadSource, Status, WriteSink, run};
@@ -10,45 +10,44 @@ const VERSION: &str = "wilfjodi 0.1.0\n";
 const HELP: &str = "\
 wilfjodi: JetStream consumers, replayed
 
-  wilfjodi replay      reads a transcript from standard input, and writes the text of its run to standard output
-  wilfjodi --help      writes this page
-  wilfjodi --version   writes the version
+  wilfjodi replay         reads a transcript from standard input, and writes the text of its run to standard output
+  wilfjodi info SUBJECT   writes what an acknowledgement subject says
+  wilfjodi window CAPACITY THREADS CALLS
+                          runs THREADS threads (1 to 8) on a window of CAPACITY permits (1 to 4294967295): each takes
+                          a permit CALLS times (at most 100000) and gives it back; writes how often one was free
+  wilfjodi --help         writes this page
+  wilfjodi --version      writes the version
 
 Exit status, whose name stands on standard error where it is not 0:
 
   0 Done         all was read and written
   1 ReadFault    standard input failed
-  2 Usage        the words are no command
+  2 Usage        the words are no command, or a number is out of its limits
   3 BadLine n    line n of the input is the first that does not read
   4 WriteFault   standard output failed
   5 OutOfMemory
-  6 Refused      the replay is refused, and the one line that was written says why
+  6 Refused      the replay is refused, or the subject is none, and the one line that was written says why
   7 TooLong      the input has more than 67108864 bytes
 ";
 
 fn main(rt: HostRuntime) -> ExitCode {
-    let status = answer(&rt);
+    let status = match words(&rt) {
+        Ok(words) => match words.as_slice() {
+            [word] if word.as_str() == "--help" => tell(&rt, HELP),
+            [word] if word.as_str() == "--version" => tell(&rt, VERSION),
+            words => {
+                let mut input = ReadSource::new(rt.reader());
+                let mut output = WriteSink::new(io::writer(&rt));
+                run(&rt, rt.alloc(), words, &mut input, &mut output)
+            }
+        },
+        Err(error) if error.kind() == io::ErrorKind::OutOfMemory => Status::OutOfMemory,
+        Err(_) => Status::Usage,
+    };
     if status != Status::Done {
         let _ = eprintln!(rt; "{status}");
     }
     ExitCode::from(status.exit_code())
-}
-
-fn answer(rt: &HostRuntime) -> Status {
-    let words = match words(rt) {
-        Ok(words) => words,
-        Err(error) if error.kind() == io::ErrorKind::OutOfMemory => return Status::OutOfMemory,
-        Err(_) => return Status::Usage,
-    };
-    match words.as_slice() {
-        [word] if word.as_str() == "--help" => tell(rt, HELP),
-        [word] if word.as_str() == "--version" => tell(rt, VERSION),
-        words => {
-            let mut input = ReadSource::new(rt.reader());
-            let mut output = WriteSink::new(io::writer(rt));
-            run(rt.alloc(), words, &mut input, &mut output)
-        }
-    }
 }
 
 // The words after the program's name.

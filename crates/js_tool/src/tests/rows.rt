@@ -1,4 +1,6 @@
-//! Transcripts, and what `replay` writes for them.
+//! Transcripts, and what `replay` writes for them; subjects, and what `info` writes.
+
+use crate::Status;
 
 /// Two arrivals in order.
 pub(super) const ARRIVALS: (&str, &str) = (
@@ -303,3 +305,43 @@ pub(super) const SUBJECT: (&str, &str) = (
 ["end",false,2]
 "#,
 );
+
+/// Subjects, and the status and the line of each.
+pub(super) const SUBJECTS: [(&str, Status, &str); 8] = [
+    (
+        "$JS.ACK.hub.szMpdrwD.events.durable.2.50.9.1790230470084404000.0.rand.future.more",
+        Status::Done,
+        "[\"info\",\"hub\",\"szMpdrwD\",\"events\",\"durable\",2,50,9,\"1790230470084404000\",0,\"rand\"]\n",
+    ),
+    (
+        "$JS.ACK.hub.szMpdrwD.events.durable.2.50.9.1790230470084404000",
+        Status::Refused,
+        "[\"refused\",\"TokenCount\",8]\n",
+    ),
+    (
+        "$JS.ACK._.szMpdrwD.events.4z6UI6IG.1.1.+7.1790230470084404000.1",
+        Status::Done,
+        "[\"info\",null,\"szMpdrwD\",\"events\",\"4z6UI6IG\",1,1,7,\"1790230470084404000\",1,null]\n",
+    ),
+    (
+        "$JS.ACK.events.durable.3.abc.7.1790230470084404000.42",
+        Status::Refused,
+        "[\"refused\",\"Number\",3]\n",
+    ),
+    (
+        "$JS.FC.events.durable.3.1.7.1790230470084404000.42",
+        Status::Refused,
+        "[\"refused\",\"Prefix\"]\n",
+    ),
+    (
+        "$JS.ACK.a\"b.c.-9223372036854775808.1.2.-1.3",
+        Status::Done,
+        "[\"info\",null,null,\"a\\\"b\",\"c\",-9223372036854775808,1,2,\"-1\",3,null]\n",
+    ),
+    (
+        "$JS.ACK.events.durable.3.1.7.253402207201000000000.42",
+        Status::Refused,
+        "[\"refused\",\"Instant\"]\n",
+    ),
+    ("", Status::Refused, "[\"refused\",\"Prefix\"]\n"),
+];

@@ -16,6 +16,9 @@ pub enum Cell<'a> {
     Null,
     Truth(bool),
     Number(u64),
+    Integer(i64),
+    /// An integer as a text.
+    Digits(i128),
     Text(&'a [u8]),
 }
 
@@ -63,6 +66,14 @@ fn push_cell(out: &mut Vec<u8>, cell: &Cell) -> Result<(), AllocError>
         Cell::Number(n) => {
             let mut buffer = Buffer::new();
             out.extend_from_slice(buffer.format(*n).as_bytes())
+        }
+        Cell::Integer(n) => {
+            let mut buffer = Buffer::new();
+            out.extend_from_slice(buffer.format(*n).as_bytes())
+        }
+        Cell::Digits(n) => {
+            let mut buffer = Buffer::new();
+            push_quoted(out, buffer.format(*n).as_bytes())
         }
         Cell::Text(text) => push_quoted(out, *text),
     }

@@ -1,0 +1,113 @@
+//! What an acknowledgement subject says, as a line.
+
+ghost use Rattle.std.specs.Prelude.{◌≡◌, IfOk, Ok, Err};
+ghost use Rattle.std.specs.Option.{option_copied};
+ghost use Rattle.std.specs.Io.KnownBytes.{Keeps, Appends};
+ghost use Rattle.js_ends.specs.Causes.{Rose, AppendsPrefix};
+ghost use Rattle.js_message.specs.Ack.{Info as PlainInfo, ack};
+ghost use Rattle.js_message.specs.Shown.{shown};
+ghost use Rattle.js_message.specs.declared.info_error.InfoError.{InfoError as Error};
+ghost use Rattle.js_tool.specs.Answers.{info_text, error_text, info_status};
+ghost use Rattle.js_tool.specs.Program.{WritesUnlessFault, IsUnlessUnwritten, SaysNothing};
+ghost use Rattle.js_tool.specs.Texts.{cell_data, text_or_null};
+
+use crate::status::Status;
+use crate::text::{Cell, push_line};
+use js_ends::{Sink, write_all};
+use js_message::{Info, InfoError, parse_info};
+use std::alloc::{AllocError, Global};
+
+/// Reads an acknowledgement subject, and writes the line of what it says, or of why it is none.
+pub(crate) fn tell_info<K: Sink>(alloc: Global, subject: &str, output: &mut K) -> Status
+    ensures done { result ≡ Status.Done → (info : PlainInfo)
+        × (ack subject.now ≡ Ok info) × Appends (K.taken output.old) (K.taken output.new) (info_text info) }
+    ensures refused { result ≡ Status.Refused → (error : Error)
+        × (ack subject.now ≡ Err error) × WritesUnlessFault (K.taken output.old) (K.taken output.new)
+        (K.faults output.old) (K.faults output.new) (error_text error) }
+    ensures write_fault { result ≡ Status.WriteFault → Rose (K.faults output.old) (K.faults output.new) }
+    ensures written_before_fault { result ≡ Status.WriteFault → (info : PlainInfo)
+        × (ack subject.now ≡ Ok info) × AppendsPrefix (K.taken output.old) (K.taken output.new) (info_text info) }
+    ensures silent { SaysNothing result → Keeps (K.taken output.old) (K.taken output.new) }
+    ensures otherwise { IsUnlessUnwritten result (info_status (ack subject.now)) }
+{
+    match parse_info(subject) {
+        Ok(info) => match info_line(alloc, &info) {
+            Ok(line) => match write_all(output, &line) {
+                Ok(()) => Status::Done,
+                Err(_) => Status::WriteFault,
+            },
+            Err(AllocError) => Status::OutOfMemory,
+        },
+        Err(error) => match error_line(alloc, error) {
+            Ok(line) => {
+                let _ = write_all(output, &line);
+                Status::Refused
+            }
+            Err(AllocError) => Status::OutOfMemory,
+        },
+    }
+}
+
+/// The line of what a subject says.
+pub fn info_line(alloc: Global, info: &Info) -> Result<Vec<u8>, AllocError>
+    ensures { IfOk result (λ line. line.items ≡ info_text (shown info.now)) }
+{
+    let mut out = Vec::new(alloc);
+    push_line(
+        &mut out,
+        &[
+            Cell::Text(b"info"),
+            text_or_none(info.domain),
+            text_or_none(info.acc_hash),
+            Cell::Text(info.stream.as_bytes()),
+            Cell::Text(info.consumer.as_bytes()),
+            Cell::Integer(info.delivered),
+            Cell::Number(info.stream_sequence),
+            Cell::Number(info.consumer_sequence),
+            Cell::Digits(info.published.as_nanosecond()),
+            Cell::Number(info.pending),
+            text_or_none(info.token),
+        ],
+    )?;
+    Ok(out)
+}
+
+fn text_or_none(text: Option<&str>) -> Cell<'_>
+    ensures { cell_data result ≡ text_or_null (option_copied text.entry) }
+{
+    match text {
+        Some(text) => Cell::Text(text.as_bytes()),
+        None => Cell::Null,
+    }
+}
+
+/// The line of a subject that is no acknowledgement subject.
+pub fn error_line(alloc: Global, error: InfoError) -> Result<Vec<u8>, AllocError>
+    ensures { IfOk result (λ line. line.items ≡ error_text error) }
+{
+    let mut out = Vec::new(alloc);
+    match error {
+        InfoError::Prefix => push_line(&mut out, &[Cell::Text(b"refused"), Cell::Text(b"Prefix")])?,
+        InfoError::TokenCount { n } => push_line(
+            &mut out,
+            &[
+                Cell::Text(b"refused"),
+                Cell::Text(b"TokenCount"),
+                Cell::Number(n),
+            ],
+        )?,
+        InfoError::Number { place } => push_line(
+            &mut out,
+            &[
+                Cell::Text(b"refused"),
+                Cell::Text(b"Number"),
+                Cell::Number(place),
+            ],
+        )?,
+        InfoError::Instant => push_line(
+            &mut out,
+            &[Cell::Text(b"refused"), Cell::Text(b"Instant")],
+        )?,
+    }
+    Ok(out)
+}

@@ -1,0 +1,76 @@
+//! Threads that take permits of one window, and the line of their counts.
+
+ghost use Rattle.std.specs.Prelude.{◌≡◌, ◌+◌, ◌*◌, ◌<◌, ◌≤◌, ◌^◌, IfOk};
+ghost use Rattle.std.specs.Io.KnownBytes.{Keeps, Appends};
+ghost use Rattle.js_ends.specs.Causes.{Rose, AppendsPrefix};
+ghost use Rattle.js_workers.specs.declared.workers.WindowCounts.{WindowCounts as Counts};
+ghost use Rattle.js_tool.specs.Answers.{window_text};
+ghost use Rattle.js_tool.specs.Program.{IsWindowRun, IsUnlessUnwritten, SaysNothing};
+
+use crate::status::Status;
+use crate::text::{Cell, push_line};
+use js_base::OutOfMemory;
+use js_ends::{Sink, write_all};
+use js_workers::{Open, WindowCounts, run_window};
+use std::alloc::{AllocError, Global};
+use std::sync::Wait;
+use std::thread::Threads;
+
+/// Runs so many threads on a window with so many permits, each for so many takes, and writes the line of their counts.
+pub(crate) fn tell_window<R: Threads + Wait + Sync, K: Sink>(
+    rt: &R,
+    alloc: Global,
+    capacity: u64,
+    threads: u64,
+    calls: u64,
+    output: &mut K,
+) -> Status
+    requires capacity { (0 < capacity) × (capacity < 2 ^ 32) }
+    requires threads { (0 < threads) × (threads ≤ 8) }
+    requires calls { calls ≤ 100000 }
+    ensures done { result ≡ Status.Done → (counts : Counts) × IsWindowRun capacity threads calls counts
+        × Appends (K.taken output.old) (K.taken output.new) (window_text capacity threads calls counts) }
+    ensures write_fault { result ≡ Status.WriteFault → Rose (K.faults output.old) (K.faults output.new) }
+    ensures written_before_fault { result ≡ Status.WriteFault → (counts : Counts) × IsWindowRun capacity threads calls counts
+        × AppendsPrefix (K.taken output.old) (K.taken output.new) (window_text capacity threads calls counts) }
+    ensures silent { SaysNothing result → Keeps (K.taken output.old) (K.taken output.new) }
+    ensures otherwise { IsUnlessUnwritten result Status.Done }
+{
+    let counts = match run_window(rt, alloc, capacity, threads, calls, &Open) {
+        Ok(counts) => counts,
+        Err(OutOfMemory) => return Status::OutOfMemory,
+    };
+    match window_line(alloc, capacity, threads, calls, counts) {
+        Ok(line) => match write_all(output, &line) {
+            Ok(()) => Status::Done,
+            Err(_) => Status::WriteFault,
+        },
+        Err(AllocError) => Status::OutOfMemory,
+    }
+}
+
+/// The line of the counts of threads on a window.
+pub fn window_line(
+    alloc: Global,
+    capacity: u64,
+    threads: u64,
+    calls: u64,
+    counts: WindowCounts,
+) -> Result<Vec<u8>, AllocError>
+    ensures { IfOk result (λ line. line.items ≡ window_text capacity threads calls counts) }
+{
+    let mut out = Vec::new(alloc);
+    push_line(
+        &mut out,
+        &[
+            Cell::Text(b"window"),
+            Cell::Number(capacity),
+            Cell::Number(threads),
+            Cell::Number(calls),
+            Cell::Number(counts.got),
+            Cell::Number(counts.full),
+            Cell::Truth(counts.all_free),
+        ],
+    )?;
+    Ok(out)
+}
