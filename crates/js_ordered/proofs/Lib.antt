@@ -26,3 +26,4 @@ pub mod PushReading
 pub mod Comings
 pub mod Replaying
 pub mod Turning
+pub mod Coursing

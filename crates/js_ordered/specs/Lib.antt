@@ -8,6 +8,7 @@ pub mod Refusal
 pub mod Gapless
 pub mod Kept
 pub mod Valid
+pub mod Course
 pub mod Wishes
 pub mod Turns
 pub mod Passes

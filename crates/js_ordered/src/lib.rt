@@ -3,6 +3,7 @@
 
 mod answer;
 mod consumer;
+mod course;
 mod event;
 mod kind;
 mod passing;
@@ -19,6 +20,7 @@ mod turn;
 mod world;
 
 pub use consumer::{Consumer, Given, Opened, Phase, Recreation, Stage};
+pub use course::Course;
 pub use event::{Event, What};
 pub use kind::{PushKind, push_kind};
 pub use replay::replay_ordered;
@@ -27,3 +29,6 @@ pub use run::{Field, ItemKind, Output, ReplayError, Run, Start, Step};
 pub use setup::{OrderedSetup, Settings};
 pub use turn::Turn;
 pub use world::World;
+
+#[cfg(test)]
+mod tests;

@@ -55,7 +55,7 @@ fn first_world(turn: &Turn<'_>) -> Result<World, OutOfMemory>
 
 /// The opening, from the first world on: pull asks at once, and either arms its heartbeat.
 #[tactic(auto, using(std::proofs::lemmas::Grind::common_steps, crate::proofs::Replaying::opening_asks, crate::proofs::Replaying::opening_listens))]
-fn open(alloc: Global, turn: &Turn<'_>, outputs: &mut Items<Output>) -> Result<World, OutOfMemory>
+pub(crate) fn open(alloc: Global, turn: &Turn<'_>, outputs: &mut Items<Output>) -> Result<World, OutOfMemory>
     requires tick { turn.now.what.now ≡ Tick }
     requires empty { outputs.old ≡ [] }
     ensures world { IfOk result (λ world. world ≡ (fold.opening (given_of turn.now) turn.now.moment).world) }
@@ -89,7 +89,7 @@ fn link_after(what: &What, was: bool) -> bool
 
 /// One event is passed at its moment, with the link as it then stands.
 #[tactic(auto, using(crate::proofs::Replaying::event_passes))]
-fn pass(
+pub(crate) fn pass(
     alloc: Global,
     turn: &Turn<'_>,
     event: &Event,
@@ -143,7 +143,7 @@ fn step(
 // ---- all events
 
 /// The consumer has no sequence to go on from.
-fn is_exhausted(phase: &Phase) -> bool
+pub(crate) fn is_exhausted(phase: &Phase) -> bool
     ensures { result ≡ is_exhausted phase.now }
 {
     matches!(phase, Phase::Exhausted)

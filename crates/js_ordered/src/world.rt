@@ -17,8 +17,8 @@ pub struct World {
 
 /// The number after this one.
 ///
-/// What is numbered stands among the outputs, so memory ends long before the numbers do.
-fn next(number: u64) -> Result<u64, OutOfMemory>
+/// What is numbered mostly stands among the outputs, so memory ends long before the numbers do.
+pub(crate) fn next(number: u64) -> Result<u64, OutOfMemory>
     ensures { IfOk result (λ next. next ≡ number + 1) }
 {
     match number.checked_add(1) {

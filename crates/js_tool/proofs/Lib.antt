@@ -4,3 +4,4 @@ mod Cuts
 mod Headers
 mod Loop
 mod PieceLines
+mod Passing

@@ -10,3 +10,4 @@ pub mod Answers
 pub mod Statuses
 pub mod Commands
 pub mod Program
+pub mod Progress

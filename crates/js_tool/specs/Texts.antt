@@ -1,5 +1,5 @@
 -- The text of a run, and of a refusal.
-use Rattle.std.specs.Prelude.{ℕ, ℤ, pos, negsuc, ◌+◌, ◌∷◌, ◌++◌, [], List, codes, length, ◌==◌, if◌then◌else◌, flat_map, Option, Some, None}
+use Rattle.std.specs.Prelude.{ℕ, ℤ, Bool, pos, negsuc, ◌+◌, ◌∷◌, ◌++◌, [], List, codes, length, ◌==◌, if◌then◌else◌, flat_map, Option, Some, None}
 use Rattle.std.specs.Fmt.{signed_decimal}
 use Rattle.serde_json.specs.Data.{Data, null, boolean, number, string, array, unsigned, negative}
 use Rattle.serde_json.specs.View.{items_of}
@@ -88,8 +88,11 @@ steps_text n [] = []
 steps_text n (step ∷ steps) = step_text n step ++ steps_text (n + 1) steps
 
 -- the last line: whether the consumer has ended, and how many events there were
+abbrev pub last_line : Bool → ℕ → List ℕ
+last_line ended events = line_text (string (codes "end") ∷ boolean ended ∷ count events ∷ [])
+
 abbrev pub end_text : Run → List ℕ
-end_text run = line_text (string (codes "end") ∷ boolean run.ended ∷ count (length run.steps) ∷ [])
+end_text run = last_line run.ended (length run.steps)
 
 -- the opening's outputs, those of each event in order, and the end
 unfoldable pub run_text : Run → List ℕ

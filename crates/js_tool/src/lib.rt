@@ -5,6 +5,7 @@ mod command;
 mod info;
 mod lines;
 mod program;
+mod progress;
 mod status;
 mod text;
 mod transcript;

@@ -5,30 +5,27 @@ ghost use Rattle.std.specs.Io.KnownBytes.{Keeps, Appends, IsAtEnd};
 ghost use Rattle.js_ends.specs.Causes.{Rose, AppendsPrefix};
 ghost use Rattle.js_ordered.specs.declared.run.Run.{Run};
 ghost use Rattle.js_ordered.specs.declared.run.ReplayError.{ReplayError};
-ghost use Rattle.js_ordered.specs.Valid.{IsAnswer};
 ghost use Rattle.js_message.specs.Ack.{Info as PlainInfo, ack};
 ghost use Rattle.js_message.specs.declared.info_error.InfoError.{InfoError};
 ghost use Rattle.js_workers.specs.declared.workers.WindowCounts.{WindowCounts};
 ghost use Rattle.js_tool.specs.Answers.{info_text, error_text, info_status, window_text};
 ghost use Rattle.js_tool.specs.Commands.{Replay, Info, Window, command_of as command_in};
-ghost use Rattle.js_tool.specs.Program.{given, IsReply, Replays, IsRefused, FirstUnread, IsValidTranscript, IsWindowRun, WritesUnlessFault, called_for, IsUnlessFailed, IsUnlessUnwritten, SaysNothing, HasReadAll, without_threads};
+ghost use Rattle.js_tool.specs.Program.{Replays, IsRefused, FirstUnread, IsValidTranscript, IsWindowRun, WritesUnlessFault, called_for, IsUnlessFailed, IsUnlessUnwritten, SaysNothing, HasReadAll, without_threads};
 ghost use Rattle.js_tool.specs.Texts.{run_text as text_of_run, refusal_text};
 
 use crate::command::{Command, command_of};
 use crate::info::tell_info;
+use crate::progress::replay;
 use crate::status::Status;
-use crate::text::{refusal_line, run_text};
-use crate::transcript::{Transcript, Unread, read};
 use crate::window::tell_window;
-use js_ends::{Pieces, Sink, Source, Stop, read_all, write_all};
-use js_ordered::{ReplayError, Run, replay_ordered};
+use js_ends::{Sink, Source, Stop, read_all, write_all};
 use std::alloc::{AllocError, Global};
 use std::sync::Wait;
 use std::thread::Threads;
 
 // What an input calls for: a text to write, or none.
 #[derive(Drop)]
-enum Reply {
+pub(crate) enum Reply {
     Done(Vec<u8>),
     Refused(Vec<u8>),
     BadLine(u64),
@@ -219,50 +216,4 @@ fn tell_replay<S: Source, K: Sink>(alloc: Global, input: &mut S, output: &mut K)
         Ok(Reply::BadLine(line)) => Status::BadLine { line },
         Err(AllocError) => Status::OutOfMemory,
     }
-}
-
-// The bytes are given up as they are read, and the events before the text is made.
-fn replay(alloc: Global, bytes: Pieces) -> Result<Reply, AllocError>
-    requires { length bytes ≤ 67_108_864 }
-    ensures { IfOk result (λ reply. IsReply bytes reply) }
-{
-    let transcript = match read(alloc, bytes) {
-        Ok(transcript) => transcript,
-        Err(Unread::OutOfMemory) => return Err(AllocError),
-        Err(Unread::BadLine(line)) => return Ok(Reply::BadLine(line)),
-    };
-    match run_of(alloc, transcript) {
-        Ok(run) => Ok(Reply::Done(run_text(alloc, &run)?)),
-        Err(ReplayError::OutOfMemory) => Err(AllocError),
-        Err(ReplayError::NoDeliverSubject) => {
-            let line = refusal_line(alloc, ReplayError::NoDeliverSubject)?;
-            Ok(Reply::Refused(line))
-        }
-        Err(ReplayError::BadSettings { field }) => {
-            let line = refusal_line(alloc, ReplayError::BadSettings { field })?;
-            Ok(Reply::Refused(line))
-        }
-        Err(ReplayError::BadEvent { place }) => {
-            let line = refusal_line(alloc, ReplayError::BadEvent { place })?;
-            Ok(Reply::Refused(line))
-        }
-        Err(ReplayError::SequenceEnd { place }) => {
-            let line = refusal_line(alloc, ReplayError::SequenceEnd { place })?;
-            Ok(Reply::Refused(line))
-        }
-    }
-}
-
-fn run_of(alloc: Global, transcript: Transcript) -> Result<Run, ReplayError>
-    ensures { IsAnswer (given transcript.setup) transcript.setup.start transcript.events result }
-{
-    let setup = &transcript.setup;
-    replay_ordered(
-        alloc,
-        &setup.settings,
-        &setup.setup,
-        &setup.first,
-        setup.start,
-        transcript.events.as_slice(),
-    )
 }

@@ -1,7 +1,7 @@
 //! The text of a run: a line for each output, in order, and a last one.
 
-ghost use Rattle.std.specs.Prelude.{◌≡◌, ◌++◌, [], ◌∷◌, length, OnOk, IfOk};
-ghost use Rattle.js_tool.specs.Texts.{cell_data, start_data, kind_name, field_name, text_or_null, unless_empty, output_text, step_text, steps_text, end_text, run_text as run_text_in, refusal_text};
+ghost use Rattle.std.specs.Prelude.{◌≡◌, ◌++◌, [], ◌∷◌, length, flat_map, OnOk, IfOk};
+ghost use Rattle.js_tool.specs.Texts.{cell_data, start_data, kind_name, field_name, text_or_null, unless_empty, output_text, steps_text, last_line, run_text as run_text_in, refusal_text};
 
 mod line;
 mod quoted;
@@ -18,9 +18,9 @@ pub fn run_text(alloc: Global, run: &Run) -> Result<Vec<u8>, AllocError>
     ensures { IfOk result (λ text. text.items ≡ run_text_in run.now) }
 {
     let mut out = Vec::new(alloc);
-    push_step(&mut out, 0, &run.opening)?;
+    push_outputs(&mut out, 0, run.opening.outputs.as_slice())?;
     push_steps(&mut out, run.steps.as_slice())?;
-    push_end(&mut out, run)?;
+    push_end(&mut out, run.ended, run.steps.as_slice().len() as u64)?;
     Ok(out)
 }
 
@@ -29,16 +29,21 @@ fn push_steps(out: &mut Vec<u8>, steps: &[Step]) -> Result<(), AllocError>
 {
     let mut number = 1;
     for step in steps {
-        push_step(out, number, step)?;
+        push_outputs(out, number, step.outputs.as_slice())?;
         number += 1;
     }
     Ok(())
 }
 
-fn push_step(out: &mut Vec<u8>, number: u64, step: &Step) -> Result<(), AllocError>
-    ensures { OnOk result (out.new.items ≡ out.old.items ++ step_text number step.now) }
+/// Adds the lines of what a step has put out.
+pub(crate) fn push_outputs(
+    out: &mut Vec<u8>,
+    number: u64,
+    outputs: &[Output],
+) -> Result<(), AllocError>
+    ensures { OnOk result (out.new.items ≡ out.old.items ++ flat_map (output_text number) outputs.now) }
 {
-    for output in step.outputs.as_slice() {
+    for output in outputs {
         push_output(out, number, output)?;
     }
     Ok(())
@@ -155,15 +160,16 @@ fn reply_cell<'a>(reply: &'a Option<Subject>) -> Cell<'a>
     }
 }
 
-fn push_end(out: &mut Vec<u8>, run: &Run) -> Result<(), AllocError>
-    ensures { OnOk result (out.new.items ≡ out.old.items ++ end_text run.now) }
+/// Adds the last line: whether the consumer has ended, and how many events there were.
+pub(crate) fn push_end(out: &mut Vec<u8>, ended: bool, events: u64) -> Result<(), AllocError>
+    ensures { OnOk result (out.new.items ≡ out.old.items ++ last_line ended events) }
 {
     push_line(
         out,
         &[
             Cell::Text(b"end"),
-            Cell::Truth(run.ended),
-            Cell::Number(run.steps.as_slice().len() as u64),
+            Cell::Truth(ended),
+            Cell::Number(events),
         ],
     )
 }

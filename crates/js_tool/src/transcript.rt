@@ -20,7 +20,7 @@ use js_base::Items;
 use js_ends::Pieces;
 use js_fields::ReadError;
 use js_ordered::Event;
-use payloads::Payloads;
+pub(crate) use payloads::Payloads;
 pub use setup::Setup;
 use setup::setup_line;
 use std::alloc::{AllocFailed, Global};
@@ -78,7 +78,7 @@ fn with_events(
     })
 }
 
-fn first_line(alloc: Global, line: &[u8]) -> Result<Setup, Unread>
+pub(crate) fn first_line(alloc: Global, line: &[u8]) -> Result<Setup, Unread>
     ensures { GivesLines (λ s. s) result (numbered 1 (setup_in line.now)) }
 {
     match setup_line(alloc, line) {
@@ -88,7 +88,7 @@ fn first_line(alloc: Global, line: &[u8]) -> Result<Setup, Unread>
     }
 }
 
-fn next_line(
+pub(crate) fn next_line(
     alloc: Global,
     payloads: &mut Payloads,
     number: u64,
@@ -121,7 +121,7 @@ fn events_of(alloc: Global, piece: &[u8], mut bytes: Pieces) -> Result<Vec<Event
 
 // Some lines of those that are left.
 #[tactic(auto, using(crate::proofs::Cuts::lines_append))]
-fn next_piece(alloc: Global, bytes: &mut Pieces) -> Option<Vec<u8>>
+pub(crate) fn next_piece(alloc: Global, bytes: &mut Pieces) -> Option<Vec<u8>>
     ensures lines { MatchOption result (bytes.old ≡ []) (λ piece. lines_of bytes.old ≡ lines_of piece.items ++ lines_of bytes.new) }
     ensures filled { IfSome result (λ piece. 0 < length piece.items) }
     ensures length { IfSome result (λ piece. length bytes.old ≡ length piece.items + length bytes.new) }

@@ -1,0 +1,194 @@
+-- One event more: what a course has come to, and its end.
+use Rattle.std.proofs.Common.{◌≡◌, ℕ, suc, ◌+◌, ◌∙◌, Bool, true, false, List, [], ◌∷◌, ◌++◌, Option, Some, None, refl, sym, ap, map, length, length-append, arith, nat_lt}
+use Rattle.std.specs.Prelude.{Ok, Err, option_map, if◌then◌else◌, not}
+use Rattle.js_ordered.specs.declared.consumer.Given.{Given}
+use Rattle.js_ordered.specs.declared.event.Event as events
+use Rattle.js_ordered.specs.declared.world.World.{World}
+use Rattle.js_ordered.specs.declared.run.Run.{Run}
+use Rattle.js_ordered.specs.declared.run.Step.{Step}
+use Rattle.js_ordered.specs.declared.run.ReplayError.{ReplayError}
+use Rattle.js_ordered.specs.declared.run.ReplayError.TheVariants as error
+use Rattle.js_ordered.specs.declared.course.Course.{Course}
+use Rattle.js_ordered.specs.Fold.{Ran, event, run_events, opening, is_over, last_world, step_of, fold}
+use Rattle.js_ordered.specs.Refusal.{first_of, unless, bad_field, lacks_subject, is_exhausted, first_early, first_exhausted, refuse_input, refuse_end, refuse}
+use Rattle.js_ordered.specs.Course.{course_given, last_moment, last_ran, last, HasCome}
+use Rattle.js_ordered.proofs.Replaying.{run_events_none, run_events_cons}
+
+-- ---- lists of events
+
+-- one event more is passed last
+pub run_on : (g : Given) (es : List events.Event) (e : events.Event) (w : World) → run_events g (es ++ e ∷ []) w ≡ run_events g es w ++ event g e (last_world w (run_events g es w)) ∷ []
+unfolding run_events
+run_on g [] e w = refl
+run_on g (x ∷ es) e w = ap (λ (rans : List Ran). event g x w ∷ rans) (run_on g es e (event g x w).world)
+
+count_run : (g : Given) (es : List events.Event) (w : World) → length (run_events g es w) ≡ length es
+unfolding run_events
+count_run g [] w = refl
+count_run g (x ∷ es) w = ap (λ (n : ℕ). suc n) (count_run g es (event g x w).world)
+
+last_of_more : (first : Ran) (rans : List Ran) (ran : Ran) → last_ran first (rans ++ ran ∷ []) ≡ ran
+last_of_more first [] ran = refl
+last_of_more first (x ∷ rans) ran = last_of_more x rans ran
+
+last_world_is : (first : Ran) (rans : List Ran) → (last_ran first rans).world ≡ last_world first.world rans
+last_world_is first [] = refl
+last_world_is first (x ∷ rans) = last_world_is x rans
+
+pub moment_on : (start : ℕ) (es : List events.Event) (e : events.Event) → last_moment start (es ++ e ∷ []) ≡ e.at
+moment_on start [] e = refl
+moment_on start (x ∷ es) e = moment_on x.at es e
+
+-- ---- the first place at which a test holds
+
+here : Bool → ℕ → Option ℕ
+here test place = if test then Some place else None
+
+here_at : (test : Bool) (place other : ℕ) → place ≡ other → here test place ≡ here test other
+here_at test place other same = ap (λ (n : ℕ). here test n) same
+
+onward : (test : Bool) (place : ℕ) (before after more : Option ℕ) → after ≡ first_of before more
+    → (if test then Some place else after) ≡ first_of (if test then Some place else before) more
+onward true place before after more same = refl
+onward false place before after more same = same
+
+-- the first early event is as it was, or the one that is added
+early_on : (place before : ℕ) (es : List events.Event) (e : events.Event)
+    → first_early place before (es ++ e ∷ []) ≡ first_of (first_early place before es) (here (nat_lt e.at (last_moment before es)) (place + length es))
+early_on place before [] e = here_at (nat_lt e.at before) place (place + 0) (omega arith)
+early_on place before (x ∷ es) e =
+    onward (nat_lt x.at before) place (first_early (place + 1) x.at es) (first_early (place + 1) x.at (es ++ e ∷ [])) (here (nat_lt e.at (last_moment x.at es)) (place + suc (length es)))
+    (early_on (place + 1) x.at es e
+        ∙ ap (λ (more : Option ℕ). first_of (first_early (place + 1) x.at es) more)
+          (here_at (nat_lt e.at (last_moment x.at es)) (place + 1 + length es) (place + suc (length es)) (omega arith)))
+
+-- and so is the first event at the end of the sequences
+exhausted_on : (place : ℕ) (rans : List Ran) (ran : Ran)
+    → first_exhausted place (rans ++ ran ∷ []) ≡ first_of (first_exhausted place rans) (here (is_exhausted ran.world.consumer.phase) (place + length rans))
+exhausted_on place [] ran = here_at (is_exhausted ran.world.consumer.phase) place (place + 0) (omega arith)
+exhausted_on place (x ∷ rans) ran =
+    onward (is_exhausted x.world.consumer.phase) place (first_exhausted (place + 1) rans) (first_exhausted (place + 1) (rans ++ ran ∷ [])) (here (is_exhausted ran.world.consumer.phase) (place + suc (length rans)))
+    (exhausted_on (place + 1) rans ran
+        ∙ ap (λ (more : Option ℕ). first_of (first_exhausted (place + 1) rans) more)
+          (here_at (is_exhausted ran.world.consumer.phase) (place + 1 + length rans) (place + suc (length rans)) (omega arith)))
+
+-- ---- what a course has come to
+
+last_is : (g : Given) (start : ℕ) (es : List events.Event) → (last g start es).world ≡ last_world (opening g start).world (run_events g es (opening g start).world)
+unfolding last
+last_is g start es = last_world_is (opening g start) (run_events g es (opening g start).world)
+
+last_on : (g : Given) (start : ℕ) (es : List events.Event) (e : events.Event) → last g start (es ++ e ∷ []) ≡ event g e (last g start es).world
+unfolding last
+last_on g start es e =
+    let first : Ran = opening g start in
+    ap (λ (rans : List Ran). last_ran first rans) (run_on g es e first.world)
+    ∙ last_of_more first (run_events g es first.world) (event g e (last_world first.world (run_events g es first.world)))
+    ∙ ap (λ (w : World). event g e w) (sym (last_world_is first (run_events g es first.world)))
+
+noted : (found found' : Option ℕ) (test test' : Bool) (place place' : ℕ) → found ≡ found' → test ≡ test' → place ≡ place' → first_of found (here test place) ≡ first_of found' (here test' place')
+noted found found' test test' place place' same_found same_test same_place =
+    ap (λ (first : Option ℕ). first_of first (here test place)) same_found
+    ∙ ap (λ (b : Bool). first_of found' (here b place)) same_test
+    ∙ ap (λ (n : ℕ). first_of found' (here test' n)) same_place
+
+zero_more : (n : ℕ) → n ≡ 0 + n
+zero_more n = omega arith
+
+length_on : (es : List events.Event) (e : events.Event) → length (es ++ e ∷ []) ≡ length es + 1
+length_on es e = simp length-append (omega arith)
+
+-- with no events
+pub comes_first : (g : Given) (start : ℕ) (c : Course) → course_given c ≡ g → c.count ≡ 0 → c.moment ≡ start → c.early ≡ None → c.exhausted ≡ None
+    → c.world ≡ (opening g start).world → c.outputs ≡ (opening g start).outputs → HasCome g start [] c
+unfolding last run_events
+comes_first g start c given count moment early exhausted world outputs =
+    record { given = given; count = count; moment = moment; early = early; exhausted = exhausted; world = world; outputs = outputs }
+
+-- with one event more
+pub comes_on : (g : Given) (start : ℕ) (es : List events.Event) (e : events.Event) (c next : Course) → HasCome g start es c
+    → course_given next ≡ course_given c → next.count ≡ c.count + 1 → next.moment ≡ e.at
+    → next.early ≡ first_of c.early (if nat_lt e.at c.moment then Some c.count else None)
+    → next.exhausted ≡ first_of c.exhausted (if is_exhausted next.world.consumer.phase then Some c.count else None)
+    → next.world ≡ (event (course_given c) e c.world).world → next.outputs ≡ (event (course_given c) e c.world).outputs
+    → HasCome g start (es ++ e ∷ []) next
+comes_on g start es e c next come given count moment early exhausted world outputs =
+    let first : Ran = opening g start in
+    let rans : List Ran = run_events g es first.world in
+    let ran : Ran = event (course_given c) e c.world in
+    let last_one : Ran = event g e (last_world first.world rans) in
+    let before : c.world ≡ last_world first.world rans = come.world ∙ last_is g start es in
+    let passed : ran ≡ last_one = ap (λ (by : Given). event by e c.world) come.given ∙ ap (λ (w : World). event g e w) before in
+    let same : ran ≡ last g start (es ++ e ∷ []) =
+      ap (λ (by : Given). event by e c.world) come.given ∙ ap (λ (w : World). event g e w) come.world ∙ sym (last_on g start es e) in
+    record {
+      given = given ∙ come.given;
+      count = count ∙ ap (λ (n : ℕ). n + 1) come.count ∙ sym (length_on es e);
+      moment = moment ∙ sym (moment_on start es e);
+      early =
+          early ∙ noted c.early (first_early 0 start es) (nat_lt e.at c.moment) (nat_lt e.at (last_moment start es)) c.count (0 + length es)
+            come.early (ap (λ (n : ℕ). nat_lt e.at n) come.moment) (come.count ∙ zero_more (length es))
+          ∙ sym (early_on 0 start es e);
+      exhausted =
+          exhausted ∙ noted c.exhausted (first_exhausted 0 rans) (is_exhausted next.world.consumer.phase) (is_exhausted last_one.world.consumer.phase) c.count (0 + length rans)
+            come.exhausted (ap (λ (w : World). is_exhausted w.consumer.phase) (world ∙ ap (λ (r : Ran). r.world) passed)) (come.count ∙ sym (count_run g es first.world) ∙ zero_more (length rans))
+          ∙ sym (exhausted_on 0 rans last_one) ∙ ap (λ (all : List Ran). first_exhausted 0 all) (sym (run_on g es e first.world));
+      world = world ∙ ap (λ (r : Ran). r.world) same;
+      outputs = outputs ∙ ap (λ (r : Ran). r.outputs) same;
+    }
+
+-- ---- its end
+
+-- the refusal of the input alone, then that of its events, and then that of the run
+parts : {A : Type 0} (one two three four : Option A) → first_of (first_of one (first_of two three)) four ≡ first_of (first_of one (first_of two None)) (first_of three four)
+parts (Some a) two three four = refl
+parts None (Some b) three four = refl
+parts None None three four = refl
+
+-- what is refused is so by the input with no events, or at the first early event, or at the end of the sequences
+pub refusals : (g : Given) (start at : ℕ) (es : List events.Event)
+    → refuse g start es ≡ first_of (refuse_input g at []) (first_of (option_map error.BadEvent (first_early 0 start es)) (option_map error.SequenceEnd (first_exhausted 0 (run_events g es (opening g start).world))))
+unfolding refuse refuse_input
+refusals g start at es =
+    parts (unless (not (lacks_subject g.setup g.first.config.deliver_subject)) error.NoDeliverSubject) (option_map error.BadSettings (bad_field g))
+    (option_map error.BadEvent (first_early 0 start es)) (option_map error.SequenceEnd (first_exhausted 0 (run_events g es (opening g start).world)))
+
+-- the fold ends as its last world does
+pub ends_as : (g : Given) (start : ℕ) (es : List events.Event) → (fold g start es).ended ≡ is_over (last g start es).world.consumer.phase
+unfolding fold
+ends_as g start es = ap (λ (w : World). is_over w.consumer.phase) (sym (last_is g start es))
+
+-- ---- the run
+
+-- with no events there are no steps
+pub no_steps : (g : Given) (start : ℕ) → (fold g start []).steps ≡ []
+unfolding fold run_events
+no_steps g start = refl
+
+-- each event adds the step that it puts out
+pub steps_on : (g : Given) (start : ℕ) (es : List events.Event) (e : events.Event) → (fold g start (es ++ e ∷ [])).steps ≡ (fold g start es).steps ++ step_of (last g start (es ++ e ∷ [])) ∷ []
+unfolding fold
+steps_on g start es e =
+    let first : World = (opening g start).world in
+    ap (λ (rans : List Ran). map step_of rans) (run_on g es e first)
+    ∙ map_on (run_events g es first) (event g e (last_world first (run_events g es first)))
+    ∙ ap (λ (ran : Ran). map step_of (run_events g es first) ++ step_of ran ∷ [])
+      (ap (λ (w : World). event g e w) (sym (last_is g start es)) ∙ sym (last_on g start es e))
+  where
+    map_on : (rans : List Ran) (ran : Ran) → map step_of (rans ++ ran ∷ []) ≡ map step_of rans ++ step_of ran ∷ []
+    map_on [] ran = refl
+    map_on (x ∷ rans) ran = ap (λ (steps : List Step). step_of x ∷ steps) (map_on rans ran)
+
+-- and the opening stays
+pub opening_is : (g : Given) (start : ℕ) (es : List events.Event) → (fold g start es).opening ≡ step_of (last g start [])
+unfolding fold last run_events
+opening_is g start es = refl
+
+-- there is a step for each event
+pub steps_count : (g : Given) (start : ℕ) (es : List events.Event) → length (fold g start es).steps ≡ length es
+unfolding fold
+steps_count g start es = counted (run_events g es (opening g start).world) ∙ count_run g es (opening g start).world
+  where
+    counted : (rans : List Ran) → length (map step_of rans) ≡ length rans
+    counted [] = refl
+    counted (ran ∷ rans) = ap suc (counted rans)

@@ -1,0 +1,175 @@
+//! A replay that is told its events one by one.
+ghost use Rattle.std.specs.Prelude.{◌≡◌, ◌+◌, ◌∷◌, ◌++◌, [], ℕ, List, Some, None, IfOk, OnOk, if◌then◌else◌};
+ghost use Rattle.js_ordered.specs.Course.{HasCome, IsEnd, course_given};
+ghost use Rattle.js_ordered.specs.Fold.{event as ran_by};
+ghost use Rattle.js_ordered.specs.Refusal.{first_of};
+ghost use Rattle.js_ordered.specs.declared.consumer.Given.{Given};
+ghost use Rattle.js_ordered.specs.declared.event.Event as events;
+
+use crate::event::{Event, What};
+use crate::passing::is_over;
+use crate::refusal::refuse_input;
+use crate::replay::{is_exhausted, open, pass};
+use crate::run::{Output, ReplayError};
+use crate::setup::{OrderedSetup, Settings};
+use crate::turn::Turn;
+use crate::world::{World, next};
+use js_base::{Items, Moment, OutOfMemory};
+use js_json::consumer::Info;
+use std::alloc::Global;
+use std::mem;
+
+/// What the events of a replay have led to so far.
+///
+/// It goes as [`replay_ordered`](crate::replay_ordered) does, but is told one event after another and keeps none of them, so that what an event
+/// puts out can be written, and both let go, before the next one. Where the replay is refused, its end says so.
+#[derive(Drop)]
+pub struct Course<'a> {
+    settings: &'a Settings,
+    setup: &'a OrderedSetup,
+    first: &'a Info,
+    moment: Moment,
+    count: u64,
+    early: Option<u64>,
+    exhausted: Option<u64>,
+    world: World,
+    outputs: Items<Output>,
+}
+
+/// A place that was found before, or this one.
+fn first_place(found: Option<u64>, is_here: bool, place: u64) -> Option<u64>
+    ensures { result ≡ first_of found (if is_here then Some place else None) }
+{
+    match found {
+        Some(earlier) => Some(earlier),
+        None => {
+            if is_here {
+                Some(place)
+            } else {
+                None
+            }
+        }
+    }
+}
+
+/// No outputs, in the room of those that there were.
+fn empty(alloc: Global, outputs: &mut Items<Output>)
+    ensures { outputs.new ≡ [] }
+{
+    let mut room = mem::replace(outputs, Items::new(alloc)).into_vec();
+    room.clear();
+    *outputs = Items::from(room);
+}
+
+impl<'a> Course<'a> {
+    /// The opening, with no events yet. The arguments are those of `replay_ordered`.
+    pub fn open(
+        alloc: Global,
+        settings: &'a Settings,
+        setup: &'a OrderedSetup,
+        first: &'a Info,
+        start: Moment,
+    ) -> Result<Course<'a>, OutOfMemory>
+        ensures { IfOk result (λ course. HasCome (record { settings = settings.now; setup = setup.now; first = first.now }) start [] course) }
+    {
+        let tick = What::Tick;
+        let turn = Turn {
+            settings,
+            setup,
+            first,
+            moment: start,
+            what: &tick,
+        };
+        let mut outputs = Items::new(alloc);
+        let world = open(alloc, &turn, &mut outputs)?;
+        Ok(Course {
+            settings,
+            setup,
+            first,
+            moment: start,
+            count: 0,
+            early: None,
+            exhausted: None,
+            world,
+            outputs,
+        })
+    }
+
+    // The event is passed, whether or not the replay is refused.
+    fn pass(&mut self, alloc: Global, event: &Event) -> Result<(), OutOfMemory>
+        ensures { let passed = ran_by (course_given self.old) event.now self.old.world in
+            OnOk result (self.new ≡ record self.old { world = passed.world; outputs = passed.outputs }) }
+    {
+        let turn = Turn {
+            settings: self.settings,
+            setup: self.setup,
+            first: self.first,
+            moment: event.at,
+            what: &event.what,
+        };
+        empty(alloc, &mut self.outputs);
+        pass(alloc, &turn, event, &mut self.world, &mut self.outputs)
+    }
+
+    /// Passes the next event. After an error the course is of no further use.
+    ///
+    /// Events are counted. Where their number would go past a `u64`, that is answered as want of memory.
+    pub fn advance(&mut self, alloc: Global, event: &Event) -> Result<(), OutOfMemory>
+        ensures passed { (g : Given) → (start : ℕ) → (es : List events.Event) → HasCome g start es self.old
+            → OnOk result (HasCome g start (es ++ event.now ∷ []) self.new) }
+        ensures counted { OnOk result (self.new.count ≡ self.old.count + 1) }
+    {
+        let place = self.count;
+        let count = next(place)?;
+        let is_early = event.at < self.moment;
+        self.pass(alloc, event)?;
+        self.early = first_place(self.early, is_early, place);
+        let is_last = is_exhausted(&self.world.consumer.phase);
+        self.exhausted = first_place(self.exhausted, is_last, place);
+        self.moment = event.at;
+        self.count = count;
+        Ok(())
+    }
+
+    /// What the last event has put out, or the opening before the first.
+    pub fn outputs(&self) -> &[Output]
+        ensures { result.now ≡ self.now.outputs }
+    {
+        self.outputs.as_slice()
+    }
+
+    /// The number of events so far.
+    pub fn count(&self) -> u64
+        ensures { result ≡ self.now.count }
+    {
+        self.count
+    }
+
+    /// Whether the consumer has ended, where no more events come.
+    ///
+    /// # Errors
+    ///
+    /// The refusal that applies, by the order of `replay_ordered`.
+    pub fn end(&self) -> Result<bool, ReplayError>
+        ensures { (g : Given) → (start : ℕ) → (es : List events.Event) → HasCome g start es self.now → IsEnd g start es result }
+    {
+        let tick = What::Tick;
+        let turn = Turn {
+            settings: self.settings,
+            setup: self.setup,
+            first: self.first,
+            moment: self.moment,
+            what: &tick,
+        };
+        if let Some(refusal) = refuse_input(&turn, &[]) {
+            return Err(refusal);
+        }
+        if let Some(place) = self.early {
+            return Err(ReplayError::BadEvent { place });
+        }
+        if let Some(place) = self.exhausted {
+            return Err(ReplayError::SequenceEnd { place });
+        }
+        Ok(is_over(&self.world.consumer.phase))
+    }
+}

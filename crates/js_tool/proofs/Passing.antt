@@ -1,0 +1,167 @@
+-- Line after line: what was passed, its text, and what the lines that are left say.
+use Rattle.std.proofs.Common.{◌≡◌, ℕ, suc, ◌+◌, ◌≤◌, List, [], ◌∷◌, ◌++◌, length, flat_map, Some, None, refl, sym, ap, subst, ◌∙◌, append_assoc, append-nil, length-append, arith}
+use Rattle.std.specs.Prelude.{Result, Ok, Err, ⊤}
+use Rattle.js_ordered.specs.declared.consumer.Given.{Given}
+use Rattle.js_ordered.specs.declared.course.Course.{Course}
+use Rattle.js_ordered.specs.declared.event.Event.{Event}
+use Rattle.js_ordered.specs.declared.run.Output.{Output}
+use Rattle.js_ordered.specs.declared.run.Run.{Run}
+use Rattle.js_ordered.specs.declared.run.Step.{Step}
+use Rattle.js_ordered.specs.Course.{HasCome, last}
+use Rattle.js_ordered.specs.Fold.{fold, step_of}
+use Rattle.js_ordered.specs.Refusal.{refuse}
+use Rattle.js_ordered.proofs.Coursing.{no_steps, steps_on, opening_is, steps_count}
+use Rattle.js_ordered.proofs.Promises.{fold_replays}
+use Rattle.js_fields.specs.declared.error.ReadError.{ReadError}
+use Rattle.js_tool.specs.declared.program.Reply.{Reply}
+use Rattle.js_tool.specs.declared.program.Reply.TheVariants as reply
+use Rattle.js_tool.specs.declared.progress.Progress.{Progress}
+use Rattle.js_tool.specs.declared.transcript.Transcript.{Transcript}
+use Rattle.js_tool.specs.declared.transcript.setup.Setup.{Setup}
+use Rattle.js_tool.specs.Events.{event_line}
+use Rattle.js_tool.specs.Program.{given, IsReply}
+use Rattle.js_tool.specs.Progress.{text_so_far, HasPassed, read_after, PassesTo, StopsAtLine, IsReplyOn, IsReplyTo}
+use Rattle.js_tool.specs.Texts.{output_text, step_text, steps_text, last_line, run_text}
+use Rattle.js_tool.specs.Transcripts.{◌>>=◌, numbered, events_from, with_lines, after_lines, transcript}
+use Rattle.js_tool.proofs.Called.{done_reply, refused_reply}
+
+-- ---- the text
+
+-- the opening's alone
+pub text_first : (g : Given) (start : ℕ) → text_so_far (fold g start []) ≡ flat_map (output_text 0) (last g start []).outputs
+text_first g start =
+    ap (λ (steps : List Step). step_text 0 (fold g start []).opening ++ steps_text 1 steps) (no_steps g start)
+    ∙ append-nil (step_text 0 (fold g start []).opening)
+    ∙ ap (step_text 0) (opening_is g start [])
+
+steps_text_on : (n : ℕ) (steps : List Step) (step : Step) → steps_text n (steps ++ step ∷ []) ≡ steps_text n steps ++ step_text (n + length steps) step
+steps_text_on n [] step =
+    let at : n ≡ n + 0 = omega arith in
+    append-nil (step_text n step) ∙ ap (λ (k : ℕ). step_text k step) at
+steps_text_on n (x ∷ steps) step =
+    let at : n + 1 + length steps ≡ n + suc (length steps) = omega arith in
+    ap (λ (rest : List ℕ). step_text n x ++ rest) (steps_text_on (n + 1) steps step ∙ ap (λ (k : ℕ). steps_text (n + 1) steps ++ step_text k step) at)
+    ∙ sym (append_assoc (step_text n x) (steps_text (n + 1) steps) (step_text (n + suc (length steps)) step))
+
+-- one event adds the text of its step
+pub text_on : (g : Given) (start : ℕ) (es : List Event) (e : Event)
+    → text_so_far (fold g start (es ++ e ∷ [])) ≡ text_so_far (fold g start es) ++ flat_map (output_text (length (es ++ e ∷ []))) (last g start (es ++ e ∷ [])).outputs
+text_on g start es e =
+    let all : List Event = es ++ e ∷ [] in
+    let step : Step = step_of (last g start all) in
+    let before : List Step = (fold g start es).steps in
+    let opening : (some : List Event) → step_text 0 (fold g start some).opening ≡ step_text 0 (step_of (last g start [])) = λ some. ap (step_text 0) (opening_is g start some) in
+    let at : 1 + length before ≡ length all = ap (λ (n : ℕ). 1 + n) (steps_count g start es) ∙ one_more es e in
+    ap (λ (text : List ℕ). text ++ steps_text 1 (fold g start all).steps) (opening all ∙ sym (opening es))
+    ∙ ap (λ (steps : List Step). step_text 0 (fold g start es).opening ++ steps_text 1 steps) (steps_on g start es e)
+    ∙ ap (λ (text : List ℕ). step_text 0 (fold g start es).opening ++ text) (steps_text_on 1 before step ∙ ap (λ (n : ℕ). steps_text 1 before ++ step_text n step) at)
+    ∙ sym (append_assoc (step_text 0 (fold g start es).opening) (steps_text 1 before) (step_text (length all) step))
+  where
+    one_more : (es : List Event) (e : Event) → 1 + length es ≡ length (es ++ e ∷ [])
+    one_more es e = sym (simp length-append (omega arith))
+
+-- and the last line makes the run's text of it
+pub text_ends : (g : Given) (start : ℕ) (es : List Event) → run_text (fold g start es) ≡ text_so_far (fold g start es) ++ last_line (fold g start es).ended (length es)
+unfolding run_text
+text_ends g start es =
+    ap (λ (n : ℕ). text_so_far (fold g start es) ++ last_line (fold g start es).ended n) (steps_count g start es)
+
+-- ---- lines
+
+first_read : (es : List Event) (e : Event) (reading : Result (List Event) ℕ) → after_lines es (reading >>= λ events. Ok (e ∷ events)) ≡ after_lines (es ++ e ∷ []) reading
+first_read es e (Ok events) = ap Ok (sym (append_assoc es (e ∷ []) events))
+first_read es e (Err n) = refl
+
+line_reads : (n next : ℕ) (es : List Event) (e : Event) (line : Result Event ℕ) (lines : List (List ℕ)) → line ≡ Ok e → n + 1 ≡ next
+    → after_lines es (line >>= λ event. events_from (n + 1) lines >>= λ events. Ok (event ∷ events)) ≡ after_lines (es ++ e ∷ []) (events_from next lines)
+line_reads n next es e line lines reads at =
+    ap (λ (r : Result Event ℕ). after_lines es (r >>= λ event. events_from (n + 1) lines >>= λ events. Ok (event ∷ events))) reads
+    ∙ first_read es e (events_from (n + 1) lines)
+    ∙ ap (λ (k : ℕ). after_lines (es ++ e ∷ []) (events_from k lines)) at
+
+-- a line is read after others
+read_one : (es : List Event) (e : Event) (line : List ℕ) (lines : List (List ℕ)) → numbered (length es + 2) (event_line line) ≡ Ok e
+    → read_after es (line ∷ lines) ≡ read_after (es ++ e ∷ []) lines
+read_one es e line lines reads = line_reads (length es + 2) (length (es ++ e ∷ []) + 2) es e (numbered (length es + 2) (event_line line)) lines reads (sym (simp length-append (omega arith)))
+
+read_none : (n : ℕ) (es : List Event) (line : Result Event ℕ) (rest : Event → Result (List Event) ℕ) → line ≡ Err n → after_lines es (line >>= rest) ≡ Err n
+read_none n es line rest fails = ap (λ (r : Result Event ℕ). after_lines es (r >>= rest)) fails
+
+-- ---- passing
+
+-- a line that reads is passed with its event
+pub line_passes : (old new : Progress) (line : List ℕ) (number : ℕ) (e : Event) → number ≡ old.course.count + 2 → numbered number (event_line line) ≡ Ok e
+    → ((g : Given) (start : ℕ) (es : List Event) → HasPassed g start es old → HasPassed g start (es ++ e ∷ []) new)
+    → PassesTo old (line ∷ []) new []
+line_passes old new line number e is reads passes = λ g start es passed.
+    let at : number ≡ length es + 2 = is ∙ ap (λ (n : ℕ). n + 2) passed.course.count in
+    (es ++ e ∷ [], passes g start es passed, λ more. read_one es e line more (subst (λ (n : ℕ). numbered n (event_line line) ≡ Ok e) at reads))
+
+-- or is the first that does not read
+pub line_stops : (old : Progress) (line : List ℕ) (number n : ℕ) → number ≡ old.course.count + 2 → numbered number (event_line line) ≡ Err n → StopsAtLine old (line ∷ []) n
+line_stops old line number n is fails = λ g start es passed more.
+    let at : number ≡ length es + 2 = is ∙ ap (λ (n : ℕ). n + 2) passed.course.count in
+    let here : numbered (length es + 2) (event_line line) ≡ Err n = subst (λ (k : ℕ). numbered k (event_line line) ≡ Err n) at fails in
+    read_none n es (numbered (length es + 2) (event_line line)) (λ event. events_from (length es + 2 + 1) more >>= λ events. Ok (event ∷ events)) here
+
+-- at first all lines are left
+pub passes_none : (p : Progress) (lines : List (List ℕ)) → PassesTo p lines p lines
+passes_none p lines = λ g start es passed. (es, passed, λ more. refl)
+
+-- some more were passed
+pub passes_more : (first old new : Progress) (lines front left : List (List ℕ)) → PassesTo first lines old (front ++ left) → PassesTo old front new [] → PassesTo first lines new left
+passes_more first old new lines front left before passes = λ g start es passed.
+    let (some, was, so_far) = before g start es passed in
+    let (all, is, onward) = passes g start some was in
+    (all, is, λ more. so_far more ∙ ap (read_after some) (append_assoc front left more) ∙ onward (left ++ more))
+
+-- one of them does not read
+pub stops_more : (first old : Progress) (lines front left : List (List ℕ)) (n : ℕ) → PassesTo first lines old (front ++ left) → StopsAtLine old front n → StopsAtLine first lines n
+stops_more first old lines front left n before stops = λ g start es passed more.
+    let (some, was, so_far) = before g start es passed in
+    so_far more ∙ ap (read_after some) (append_assoc front left more) ∙ stops g start some was (left ++ more)
+
+-- ---- the reply
+
+read_whole : (reading : Result (List Event) ℕ) → after_lines [] reading ≡ reading
+read_whole (Ok events) = refl
+read_whole (Err n) = refl
+
+whole : (lines : List (List ℕ)) → events_from 2 lines ≡ read_after [] (lines ++ [])
+whole lines = sym (ap (λ (all : List (List ℕ)). events_from 2 all) (append-nil lines)) ∙ sym (read_whole (events_from 2 (lines ++ [])))
+
+answered : (setup : Setup) (es : List Event) (answer : Reply) (reading : Result (List Event) ℕ) → reading ≡ Ok es → IsReplyOn (given setup) setup.start es answer
+    → IsReplyTo (reading >>= λ events. Ok (record { setup = setup; events = events })) answer
+answered setup es answer reading reads replies = rw reads replies
+
+-- where all lines were passed the reply is that to their events
+pub all_passed : (setup : Setup) (first new : Progress) (lines : List (List ℕ)) (answer : Reply) → HasPassed (given setup) setup.start [] first → PassesTo first lines new []
+    → ((g : Given) (start : ℕ) (es : List Event) → HasPassed g start es new → IsReplyOn g start es answer) → IsReplyTo (with_lines setup lines) answer
+all_passed setup first new lines answer opened passes replies =
+    let (es, passed, reads) = passes (given setup) setup.start [] opened in
+    answered setup es answer (events_from 2 lines) (whole lines ∙ reads [] ∙ ap Ok (append-nil es)) (replies (given setup) setup.start es passed)
+
+unread : (setup : Setup) (n : ℕ) (reading : Result (List Event) ℕ) → reading ≡ Err n
+    → IsReplyTo (reading >>= λ events. Ok (record { setup = setup; events = events })) (reply.BadLine n)
+unread setup n reading fails = rw fails refl
+
+-- and where one does not read, the reply is its number
+pub one_stops : (setup : Setup) (first : Progress) (lines : List (List ℕ)) (n : ℕ) → HasPassed (given setup) setup.start [] first → StopsAtLine first lines n
+    → IsReplyTo (with_lines setup lines) (reply.BadLine n)
+one_stops setup first lines n opened stops = unread setup n (events_from 2 lines) (whole lines ∙ stops (given setup) setup.start [] opened [])
+
+reply_on : (bytes : List ℕ) (t : Transcript) (answer : Reply) → length bytes ≤ 67_108_864 → transcript bytes ≡ Ok t → IsReplyOn (given t.setup) t.setup.start t.events answer → IsReply bytes answer
+reply_on bytes t (reply.Done text) within reads (accepted, says) =
+    done_reply bytes t (fold (given t.setup) t.setup.start t.events) text.items within reads (fold_replays (given t.setup) t.setup.start t.events (fold (given t.setup) t.setup.start t.events) accepted refl) says
+reply_on bytes t (reply.Refused text) within reads (refusal, refuses, says) = refused_reply bytes t refusal text.items within reads refuses says
+reply_on bytes t (reply.BadLine line) within reads never = absurd never
+
+unread_as : (bytes : List ℕ) (n : ℕ) (answer : Reply) → length bytes ≤ 67_108_864 → transcript bytes ≡ Err n → IsReplyTo (Err n) answer → IsReply bytes answer
+unread_as bytes n (reply.BadLine line) within reads same = record { within = within; by = reads ∙ ap Err same }
+unread_as bytes n (reply.Done text) within reads never = absurd never
+unread_as bytes n (reply.Refused text) within reads never = absurd never
+
+-- the reply to what the bytes say is the reply to the bytes
+pub reply_to : (bytes : List ℕ) (answer : Reply) (read : Result Transcript ℕ) → length bytes ≤ 67_108_864 → transcript bytes ≡ read → IsReplyTo read answer → IsReply bytes answer
+reply_to bytes answer (Ok t) within reads replies = reply_on bytes t answer within reads replies
+reply_to bytes answer (Err n) within reads replies = unread_as bytes n answer within reads replies

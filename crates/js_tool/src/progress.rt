@@ -1,0 +1,166 @@
+//! A replay that goes on as its lines are read. Their text is made at once, so that neither events nor steps are kept.
+
+ghost use Rattle.std.specs.Prelude.{◌≡◌, ◌≤◌, ◌+◌, ◌++◌, ◌∷◌, [], ℕ, List, length, IfOk, OnOk};
+ghost use Rattle.js_ordered.specs.declared.consumer.Given.{Given};
+ghost use Rattle.js_ordered.specs.declared.event.Event as events;
+ghost use Rattle.js_tool.specs.Lines.{lines_of};
+ghost use Rattle.js_tool.specs.Program.{given, IsReply};
+ghost use Rattle.js_tool.specs.Progress.{HasPassed, PassesLines, IsReplyOn, IsReplyTo};
+ghost use Rattle.js_tool.specs.Transcripts.{with_lines};
+
+use crate::lines::cut_line;
+use crate::program::Reply;
+use crate::text::{push_end, push_outputs, refusal_line};
+use crate::transcript::{Payloads, Setup, Unread, first_line, next_line, next_piece};
+use js_base::OutOfMemory;
+use js_ends::Pieces;
+use js_ordered::{Course, Event};
+use std::alloc::{AllocError, Global};
+
+/// How far a replay has come, and the text of what it has put out.
+#[derive(Drop)]
+pub(crate) struct Progress<'s> {
+    course: Course<'s>,
+    text: Vec<u8>,
+}
+
+impl<'s> Progress<'s> {
+    fn open(alloc: Global, setup: &'s Setup) -> Result<Progress<'s>, OutOfMemory>
+        ensures { IfOk result (λ progress. HasPassed (given setup.now) setup.now.start [] progress) }
+    {
+        let course = Course::open(
+            alloc,
+            &setup.settings,
+            &setup.setup,
+            &setup.first,
+            setup.start,
+        )?;
+        let mut text = Vec::new(alloc);
+        push_outputs(&mut text, 0, course.outputs())?;
+        Ok(Progress { course, text })
+    }
+
+    fn pass(&mut self, alloc: Global, event: &Event) -> Result<(), OutOfMemory>
+        ensures passed { (g : Given) → (start : ℕ) → (es : List events.Event) → HasPassed g start es self.old
+            → OnOk result (HasPassed g start (es ++ event.now ∷ []) self.new) }
+        ensures counted { OnOk result (self.new.course.count ≡ self.old.course.count + 1) }
+    {
+        self.course.advance(alloc, event)?;
+        push_outputs(
+            &mut self.text,
+            self.course.count(),
+            self.course.outputs(),
+        )?;
+        Ok(())
+    }
+
+    // The text of the whole run, or the line of its refusal.
+    fn finish(self, alloc: Global) -> Result<Reply, AllocError>
+        ensures { (g : Given) → (start : ℕ) → (es : List events.Event) → HasPassed g start es self
+            → IfOk result (λ reply. IsReplyOn g start es reply) }
+    {
+        let Progress { course, mut text } = self;
+        match course.end() {
+            Ok(ended) => {
+                push_end(&mut text, ended, course.count())?;
+                Ok(Reply::Done(text))
+            }
+            Err(refusal) => Ok(Reply::Refused(refusal_line(alloc, refusal)?)),
+        }
+    }
+}
+
+fn pass_line(
+    alloc: Global,
+    payloads: &mut Payloads,
+    progress: &mut Progress<'_>,
+    line: &[u8],
+) -> Result<(), Unread>
+    requires { progress.old.course.count ≤ 67_108_864 }
+    ensures lines { PassesLines progress.old (line.now ∷ []) progress.new result }
+    ensures counted { OnOk result (progress.new.course.count ≡ progress.old.course.count + 1) }
+{
+    let number = progress.course.count() + 2;
+    let event = next_line(alloc, payloads, number, line)?;
+    match progress.pass(alloc, &event) {
+        Ok(()) => Ok(()),
+        Err(OutOfMemory) => Err(Unread::OutOfMemory),
+    }
+}
+
+// Passes the lines of a piece.
+fn pass_lines(
+    alloc: Global,
+    payloads: &mut Payloads,
+    progress: &mut Progress<'_>,
+    bytes: &[u8],
+) -> Result<(), Unread>
+    requires { progress.old.course.count + length bytes.now ≤ 67_108_864 }
+    ensures lines { PassesLines progress.old (lines_of bytes.now) progress.new result }
+    ensures counted { OnOk result (progress.new.course.count ≤ progress.old.course.count + length bytes.now) }
+{
+    let mut rest = bytes;
+    while !rest.is_empty() {
+        let (line, after) = cut_line(rest);
+        pass_line(alloc, payloads, progress, line)?;
+        rest = after;
+    }
+    Ok(())
+}
+
+fn pass_all(
+    alloc: Global,
+    progress: &mut Progress<'_>,
+    piece: &[u8],
+    mut bytes: Pieces,
+) -> Result<(), Unread>
+    requires { progress.old.course.count + length piece.now + length bytes ≤ 67_108_864 }
+    ensures { PassesLines progress.old (lines_of piece.now ++ lines_of bytes) progress.new result }
+{
+    let mut payloads = Payloads::new(alloc);
+    pass_lines(alloc, &mut payloads, progress, piece)?;
+    while let Some(piece) = next_piece(alloc, &mut bytes) {
+        match pass_lines(alloc, &mut payloads, progress, &piece) {
+            Ok(()) => {}
+            Err(unread) => return Err(unread),
+        }
+    }
+    Ok(())
+}
+
+fn replay_events(
+    alloc: Global,
+    setup: &Setup,
+    piece: &[u8],
+    bytes: Pieces,
+) -> Result<Reply, AllocError>
+    requires { length piece.now + length bytes ≤ 67_108_864 }
+    ensures { IfOk result (λ reply. IsReplyTo (with_lines setup.now (lines_of piece.now ++ lines_of bytes)) reply) }
+{
+    let mut progress = match Progress::open(alloc, setup) {
+        Ok(progress) => progress,
+        Err(OutOfMemory) => return Err(AllocError),
+    };
+    match pass_all(alloc, &mut progress, piece, bytes) {
+        Ok(()) => progress.finish(alloc),
+        Err(Unread::BadLine(line)) => Ok(Reply::BadLine(line)),
+        Err(Unread::OutOfMemory) => Err(AllocError),
+    }
+}
+
+/// What the bytes call for, which are given up as they are read.
+#[tactic(auto, unfolding(crate::specs::Transcripts::transcript))]
+pub(crate) fn replay(alloc: Global, mut bytes: Pieces) -> Result<Reply, AllocError>
+    requires { length bytes ≤ 67_108_864 }
+    ensures { IfOk result (λ reply. IsReply bytes reply) }
+{
+    let Some(piece) = next_piece(alloc, &mut bytes) else {
+        return Ok(Reply::BadLine(1));
+    };
+    let (line, rest) = cut_line(&piece);
+    match first_line(alloc, line) {
+        Ok(setup) => replay_events(alloc, &setup, rest, bytes),
+        Err(Unread::BadLine(line)) => Ok(Reply::BadLine(line)),
+        Err(Unread::OutOfMemory) => Err(AllocError),
+    }
+}
