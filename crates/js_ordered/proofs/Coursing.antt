@@ -1,18 +1,16 @@
 -- One event more: what a course has come to, and its end.
 use Rattle.std.proofs.Common.{◌≡◌, ℕ, suc, ◌+◌, ◌∙◌, Bool, true, false, List, [], ◌∷◌, ◌++◌, Option, Some, None, refl, sym, ap, map, length, length-append, arith, nat_lt}
-use Rattle.std.specs.Prelude.{Ok, Err, option_map, if◌then◌else◌, not}
+use Rattle.std.specs.Prelude.{Ok, option_map, if◌then◌else◌, not}
 use Rattle.js_ordered.specs.declared.consumer.Given.{Given}
 use Rattle.js_ordered.specs.declared.event.Event as events
 use Rattle.js_ordered.specs.declared.world.World.{World}
-use Rattle.js_ordered.specs.declared.run.Run.{Run}
 use Rattle.js_ordered.specs.declared.run.Step.{Step}
 use Rattle.js_ordered.specs.declared.run.ReplayError.{ReplayError}
 use Rattle.js_ordered.specs.declared.run.ReplayError.TheVariants as error
 use Rattle.js_ordered.specs.declared.course.Course.{Course}
 use Rattle.js_ordered.specs.Fold.{Ran, event, run_events, opening, is_over, last_world, step_of, fold}
-use Rattle.js_ordered.specs.Refusal.{first_of, unless, bad_field, lacks_subject, is_exhausted, first_early, first_exhausted, refuse_input, refuse_end, refuse}
-use Rattle.js_ordered.specs.Course.{course_given, last_moment, last_ran, last, HasCome}
-use Rattle.js_ordered.proofs.Replaying.{run_events_none, run_events_cons}
+use Rattle.js_ordered.specs.Refusal.{first_of, unless, bad_field, lacks_subject, is_exhausted, first_early, first_exhausted, refuse_input, refuse}
+use Rattle.js_ordered.specs.Course.{course_given, last_moment, last_ran, last, HasCome, IsEnd}
 
 -- ---- lists of events
 
@@ -41,7 +39,7 @@ moment_on start (x ∷ es) e = moment_on x.at es e
 
 -- ---- the first place at which a test holds
 
-here : Bool → ℕ → Option ℕ
+abbrev here : Bool → ℕ → Option ℕ
 here test place = if test then Some place else None
 
 here_at : (test : Bool) (place other : ℕ) → place ≡ other → here test place ≡ here test other
@@ -192,3 +190,45 @@ steps_count g start es = counted (run_events g es (opening g start).world) ∙ c
     counted : (rans : List Ran) → length (map step_of rans) ≡ length rans
     counted [] = refl
     counted (ran ∷ rans) = ap suc (counted rans)
+
+-- ---- what the end answers
+
+-- the input is refused with no events,
+pub ends_input : (g : Given) (start : ℕ) (es : List events.Event) (c : Course) (refusal : ReplayError) → HasCome g start es c → refuse_input (course_given c) c.moment [] ≡ Some refusal
+    → refuse g start es ≡ Some refusal
+ends_input g start es c refusal come refused =
+    let input : refuse_input g c.moment [] ≡ Some refusal = ap (λ (by : Given). refuse_input by c.moment []) (sym come.given) ∙ refused in
+    refusals g start c.moment es ∙ ap (λ (first : Option ReplayError). first_of first (first_of (option_map error.BadEvent (first_early 0 start es)) (option_map error.SequenceEnd (first_exhausted 0 (run_events g es (opening g start).world))))) input
+
+rest : (g : Given) (start : ℕ) (es : List events.Event) (c : Course) → HasCome g start es c → refuse_input (course_given c) c.moment [] ≡ None
+    → refuse g start es ≡ first_of (option_map error.BadEvent c.early) (option_map error.SequenceEnd c.exhausted)
+rest g start es c come accepted =
+    let input : refuse_input g c.moment [] ≡ None = ap (λ (by : Given). refuse_input by c.moment []) (sym come.given) ∙ accepted in
+    refusals g start c.moment es
+    ∙ ap (λ (first : Option ReplayError). first_of first (first_of (option_map error.BadEvent (first_early 0 start es)) (option_map error.SequenceEnd (first_exhausted 0 (run_events g es (opening g start).world))))) input
+    ∙ ap (λ (early : Option ℕ). first_of (option_map error.BadEvent early) (option_map error.SequenceEnd (first_exhausted 0 (run_events g es (opening g start).world)))) (sym come.early)
+    ∙ ap (λ (end : Option ℕ). first_of (option_map error.BadEvent c.early) (option_map error.SequenceEnd end)) (sym come.exhausted)
+
+-- or an event is early,
+pub ends_early : (g : Given) (start : ℕ) (es : List events.Event) (c : Course) (place : ℕ) → HasCome g start es c → refuse_input (course_given c) c.moment [] ≡ None → c.early ≡ Some place
+    → refuse g start es ≡ Some (error.BadEvent place)
+ends_early g start es c place come accepted early =
+    rest g start es c come accepted ∙ ap (λ (early : Option ℕ). first_of (option_map error.BadEvent early) (option_map error.SequenceEnd c.exhausted)) early
+
+-- or the sequences end,
+pub ends_exhausted : (g : Given) (start : ℕ) (es : List events.Event) (c : Course) (place : ℕ) → HasCome g start es c → refuse_input (course_given c) c.moment [] ≡ None → c.early ≡ None → c.exhausted ≡ Some place
+    → refuse g start es ≡ Some (error.SequenceEnd place)
+ends_exhausted g start es c place come accepted early exhausted =
+    rest g start es c come accepted
+    ∙ ap (λ (early : Option ℕ). first_of (option_map error.BadEvent early) (option_map error.SequenceEnd c.exhausted)) early
+    ∙ ap (λ (end : Option ℕ). option_map error.SequenceEnd end) exhausted
+
+-- or nothing is refused
+pub ends_run : (g : Given) (start : ℕ) (es : List events.Event) (c : Course) (ended : Bool) → HasCome g start es c → refuse_input (course_given c) c.moment [] ≡ None → c.early ≡ None → c.exhausted ≡ None
+    → ended ≡ is_over c.world.consumer.phase → IsEnd g start es (Ok ended)
+ends_run g start es c ended come accepted early exhausted over = (
+  rest g start es c come accepted
+      ∙ ap (λ (early : Option ℕ). first_of (option_map error.BadEvent early) (option_map error.SequenceEnd c.exhausted)) early
+      ∙ ap (λ (end : Option ℕ). option_map error.SequenceEnd end) exhausted,
+  over ∙ ap (λ (w : World). is_over w.consumer.phase) come.world ∙ sym (ends_as g start es),
+)

@@ -1,28 +1,29 @@
 -- Line after line: what was passed, its text, and what the lines that are left say.
-use Rattle.std.proofs.Common.{◌≡◌, ℕ, suc, ◌+◌, ◌≤◌, List, [], ◌∷◌, ◌++◌, length, flat_map, Some, None, refl, sym, ap, subst, ◌∙◌, append_assoc, append-nil, length-append, arith}
-use Rattle.std.specs.Prelude.{Result, Ok, Err, ⊤}
+use Rattle.std.proofs.Common.{◌≡◌, ℕ, suc, ◌+◌, ◌≤◌, Bool, List, [], ◌∷◌, ◌++◌, length, flat_map, refl, sym, ap, subst, ◌∙◌, append_assoc, append-nil, length-append, arith}
+use Rattle.std.specs.Prelude.{Result, Ok, Err, IfOk}
 use Rattle.js_ordered.specs.declared.consumer.Given.{Given}
 use Rattle.js_ordered.specs.declared.course.Course.{Course}
 use Rattle.js_ordered.specs.declared.event.Event.{Event}
 use Rattle.js_ordered.specs.declared.run.Output.{Output}
-use Rattle.js_ordered.specs.declared.run.Run.{Run}
 use Rattle.js_ordered.specs.declared.run.Step.{Step}
 use Rattle.js_ordered.specs.Course.{HasCome, last}
 use Rattle.js_ordered.specs.Fold.{fold, step_of}
-use Rattle.js_ordered.specs.Refusal.{refuse}
 use Rattle.js_ordered.proofs.Coursing.{no_steps, steps_on, opening_is, steps_count}
 use Rattle.js_ordered.proofs.Promises.{fold_replays}
-use Rattle.js_fields.specs.declared.error.ReadError.{ReadError}
 use Rattle.js_tool.specs.declared.program.Reply.{Reply}
 use Rattle.js_tool.specs.declared.program.Reply.TheVariants as reply
 use Rattle.js_tool.specs.declared.progress.Progress.{Progress}
 use Rattle.js_tool.specs.declared.transcript.Transcript.{Transcript}
 use Rattle.js_tool.specs.declared.transcript.setup.Setup.{Setup}
+use Rattle.js_tool.specs.declared.transcript.Unread.{Unread}
+use Rattle.js_tool.specs.declared.transcript.Unread.TheVariants as unread
 use Rattle.js_tool.specs.Events.{event_line}
+use Rattle.js_tool.specs.Lines.{lines_of}
+use Rattle.js_tool.specs.Setups.{setup_line}
 use Rattle.js_tool.specs.Program.{given, IsReply}
-use Rattle.js_tool.specs.Progress.{text_so_far, HasPassed, read_after, PassesTo, StopsAtLine, IsReplyOn, IsReplyTo}
+use Rattle.js_tool.specs.Progress.{text_so_far, HasPassed, read_after, PassesTo, StopsOn, IsReplyOn, IsReplyTo}
 use Rattle.js_tool.specs.Texts.{output_text, step_text, steps_text, last_line, run_text}
-use Rattle.js_tool.specs.Transcripts.{◌>>=◌, numbered, events_from, with_lines, after_lines, transcript}
+use Rattle.js_tool.specs.Transcripts.{◌>>=◌, numbered, events_from, with_lines, after_lines, StopsAt, transcript, transcript_of}
 use Rattle.js_tool.proofs.Called.{done_reply, refused_reply}
 
 -- ---- the text
@@ -43,6 +44,12 @@ steps_text_on n (x ∷ steps) step =
     ap (λ (rest : List ℕ). step_text n x ++ rest) (steps_text_on (n + 1) steps step ∙ ap (λ (k : ℕ). steps_text (n + 1) steps ++ step_text k step) at)
     ∙ sym (append_assoc (step_text n x) (steps_text (n + 1) steps) (step_text (n + suc (length steps)) step))
 
+-- so the opening's text is there at first
+pub text_opens : (g : Given) (start number : ℕ) (course : Course) (outputs : List Output) (text : List ℕ) → HasCome g start [] course → number ≡ 0 → outputs ≡ course.outputs → text ≡ flat_map (output_text number) outputs
+    → text ≡ text_so_far (fold g start [])
+text_opens g start number course outputs text come first put says =
+    says ∙ ap (λ (n : ℕ). flat_map (output_text n) outputs) first ∙ ap (flat_map (output_text 0)) (put ∙ come.outputs) ∙ sym (text_first g start)
+
 -- one event adds the text of its step
 pub text_on : (g : Given) (start : ℕ) (es : List Event) (e : Event)
     → text_so_far (fold g start (es ++ e ∷ [])) ≡ text_so_far (fold g start es) ++ flat_map (output_text (length (es ++ e ∷ []))) (last g start (es ++ e ∷ [])).outputs
@@ -60,11 +67,32 @@ text_on g start es e =
     one_more : (es : List Event) (e : Event) → 1 + length es ≡ length (es ++ e ∷ [])
     one_more es e = sym (simp length-append (omega arith))
 
+-- so it is there after one more
+pub text_passes : (g : Given) (start : ℕ) (es : List Event) (e : Event) (old : Progress) (number : ℕ) (course : Course) (outputs : List Output) (text : List ℕ)
+    → HasPassed g start es old → HasCome g start (es ++ e ∷ []) course → number ≡ course.count → outputs ≡ course.outputs → text ≡ old.text.items ++ flat_map (output_text number) outputs
+    → text ≡ text_so_far (fold g start (es ++ e ∷ []))
+text_passes g start es e old number course outputs text passed come counted put says =
+    says
+    ∙ ap (λ (before : List ℕ). before ++ flat_map (output_text number) outputs) passed.text
+    ∙ ap (λ (n : ℕ). text_so_far (fold g start es) ++ flat_map (output_text n) outputs) (counted ∙ come.count)
+    ∙ ap (λ (last : List Output). text_so_far (fold g start es) ++ flat_map (output_text (length (es ++ e ∷ []))) last) (put ∙ come.outputs)
+    ∙ sym (text_on g start es e)
+
 -- and the last line makes the run's text of it
 pub text_ends : (g : Given) (start : ℕ) (es : List Event) → run_text (fold g start es) ≡ text_so_far (fold g start es) ++ last_line (fold g start es).ended (length es)
 unfolding run_text
 text_ends g start es =
     ap (λ (n : ℕ). text_so_far (fold g start es) ++ last_line (fold g start es).ended n) (steps_count g start es)
+
+-- and so the whole text is there at the end
+pub text_done : (g : Given) (start : ℕ) (es : List Event) (p : Progress) (ended : Bool) (number : ℕ) (text : List ℕ) → HasPassed g start es p → ended ≡ (fold g start es).ended → number ≡ p.course.count
+    → text ≡ p.text.items ++ last_line ended number → text ≡ run_text (fold g start es)
+text_done g start es p ended number text passed ends counted says =
+    says
+    ∙ ap (λ (before : List ℕ). before ++ last_line ended number) passed.text
+    ∙ ap (λ (b : Bool). text_so_far (fold g start es) ++ last_line b number) ends
+    ∙ ap (λ (n : ℕ). text_so_far (fold g start es) ++ last_line (fold g start es).ended n) (counted ∙ passed.course.count)
+    ∙ sym (text_ends g start es)
 
 -- ---- lines
 
@@ -97,9 +125,10 @@ line_passes old new line number e is reads passes = λ g start es passed.
     let at : number ≡ length es + 2 = is ∙ ap (λ (n : ℕ). n + 2) passed.course.count in
     (es ++ e ∷ [], passes g start es passed, λ more. read_one es e line more (subst (λ (n : ℕ). numbered n (event_line line) ≡ Ok e) at reads))
 
--- or is the first that does not read
-pub line_stops : (old : Progress) (line : List ℕ) (number n : ℕ) → number ≡ old.course.count + 2 → numbered number (event_line line) ≡ Err n → StopsAtLine old (line ∷ []) n
-line_stops old line number n is fails = λ g start es passed more.
+-- or stops
+pub line_stops : (old : Progress) (line : List ℕ) (number : ℕ) (e : Unread) → number ≡ old.course.count + 2 → StopsAt e (numbered number (event_line line)) → StopsOn old (line ∷ []) e
+line_stops old line number unread.OutOfMemory is fails = tt
+line_stops old line number (unread.BadLine n) is fails = λ g start es passed more.
     let at : number ≡ length es + 2 = is ∙ ap (λ (n : ℕ). n + 2) passed.course.count in
     let here : numbered (length es + 2) (event_line line) ≡ Err n = subst (λ (k : ℕ). numbered k (event_line line) ≡ Err n) at fails in
     read_none n es (numbered (length es + 2) (event_line line)) (λ event. events_from (length es + 2 + 1) more >>= λ events. Ok (event ∷ events)) here
@@ -115,9 +144,10 @@ passes_more first old new lines front left before passes = λ g start es passed.
     let (all, is, onward) = passes g start some was in
     (all, is, λ more. so_far more ∙ ap (read_after some) (append_assoc front left more) ∙ onward (left ++ more))
 
--- one of them does not read
-pub stops_more : (first old : Progress) (lines front left : List (List ℕ)) (n : ℕ) → PassesTo first lines old (front ++ left) → StopsAtLine old front n → StopsAtLine first lines n
-stops_more first old lines front left n before stops = λ g start es passed more.
+-- or it stopped
+pub stops_more : (first old : Progress) (lines front left : List (List ℕ)) (e : Unread) → PassesTo first lines old (front ++ left) → StopsOn old front e → StopsOn first lines e
+stops_more first old lines front left unread.OutOfMemory before stops = tt
+stops_more first old lines front left (unread.BadLine n) before stops = λ g start es passed more.
     let (some, was, so_far) = before g start es passed in
     so_far more ∙ ap (read_after some) (append_assoc front left more) ∙ stops g start some was (left ++ more)
 
@@ -134,21 +164,26 @@ answered : (setup : Setup) (es : List Event) (answer : Reply) (reading : Result 
     → IsReplyTo (reading >>= λ events. Ok (record { setup = setup; events = events })) answer
 answered setup es answer reading reads replies = rw reads replies
 
--- where all lines were passed the reply is that to their events
-pub all_passed : (setup : Setup) (first new : Progress) (lines : List (List ℕ)) (answer : Reply) → HasPassed (given setup) setup.start [] first → PassesTo first lines new []
+all_passed : (setup : Setup) (first new : Progress) (lines : List (List ℕ)) (answer : Reply) → HasPassed (given setup) setup.start [] first → PassesTo first lines new []
     → ((g : Given) (start : ℕ) (es : List Event) → HasPassed g start es new → IsReplyOn g start es answer) → IsReplyTo (with_lines setup lines) answer
 all_passed setup first new lines answer opened passes replies =
     let (es, passed, reads) = passes (given setup) setup.start [] opened in
     answered setup es answer (events_from 2 lines) (whole lines ∙ reads [] ∙ ap Ok (append-nil es)) (replies (given setup) setup.start es passed)
 
-unread : (setup : Setup) (n : ℕ) (reading : Result (List Event) ℕ) → reading ≡ Err n
+-- where all lines were passed the reply is that to their events
+pub concludes : {E : Type 0} (setup : Setup) (first new : Progress) (lines : List (List ℕ)) (result : Result Reply E) → HasPassed (given setup) setup.start [] first → PassesTo first lines new []
+    → ((g : Given) (start : ℕ) (es : List Event) → HasPassed g start es new → IfOk result (λ answer. IsReplyOn g start es answer)) → IfOk result (λ answer. IsReplyTo (with_lines setup lines) answer)
+concludes setup first new lines (Ok answer) opened passes replies = all_passed setup first new lines answer opened passes replies
+concludes setup first new lines (Err e) opened passes replies = tt
+
+unread_line : (setup : Setup) (n : ℕ) (reading : Result (List Event) ℕ) → reading ≡ Err n
     → IsReplyTo (reading >>= λ events. Ok (record { setup = setup; events = events })) (reply.BadLine n)
-unread setup n reading fails = rw fails refl
+unread_line setup n reading fails = rw fails refl
 
 -- and where one does not read, the reply is its number
-pub one_stops : (setup : Setup) (first : Progress) (lines : List (List ℕ)) (n : ℕ) → HasPassed (given setup) setup.start [] first → StopsAtLine first lines n
+pub one_stops : (setup : Setup) (first : Progress) (lines : List (List ℕ)) (n : ℕ) → HasPassed (given setup) setup.start [] first → StopsOn first lines (unread.BadLine n)
     → IsReplyTo (with_lines setup lines) (reply.BadLine n)
-one_stops setup first lines n opened stops = unread setup n (events_from 2 lines) (whole lines ∙ stops (given setup) setup.start [] opened [])
+one_stops setup first lines n opened stops = unread_line setup n (events_from 2 lines) (whole lines ∙ stops (given setup) setup.start [] opened [])
 
 reply_on : (bytes : List ℕ) (t : Transcript) (answer : Reply) → length bytes ≤ 67_108_864 → transcript bytes ≡ Ok t → IsReplyOn (given t.setup) t.setup.start t.events answer → IsReply bytes answer
 reply_on bytes t (reply.Done text) within reads (accepted, says) =
@@ -161,7 +196,22 @@ unread_as bytes n (reply.BadLine line) within reads same = record { within = wit
 unread_as bytes n (reply.Done text) within reads never = absurd never
 unread_as bytes n (reply.Refused text) within reads never = absurd never
 
--- the reply to what the bytes say is the reply to the bytes
-pub reply_to : (bytes : List ℕ) (answer : Reply) (read : Result Transcript ℕ) → length bytes ≤ 67_108_864 → transcript bytes ≡ read → IsReplyTo read answer → IsReply bytes answer
+reply_to : (bytes : List ℕ) (answer : Reply) (read : Result Transcript ℕ) → length bytes ≤ 67_108_864 → transcript bytes ≡ read → IsReplyTo read answer → IsReply bytes answer
 reply_to bytes answer (Ok t) within reads replies = reply_on bytes t answer within reads replies
 reply_to bytes answer (Err n) within reads replies = unread_as bytes n answer within reads replies
+
+-- the reply to what the bytes say is the reply to the bytes
+pub result_to : {E : Type 0} (bytes : List ℕ) (result : Result Reply E) (read : Result Transcript ℕ) → length bytes ≤ 67_108_864 → transcript bytes ≡ read
+    → IfOk result (λ answer. IsReplyTo read answer) → IfOk result (λ answer. IsReply bytes answer)
+result_to bytes (Ok answer) read within reads replies = reply_to bytes answer read within reads replies
+result_to bytes (Err e) read within reads replies = tt
+
+-- ---- the bytes
+
+first_line : (line : List ℕ) (lines : List (List ℕ)) (reading : Result Setup ℕ) → numbered 1 (setup_line line) ≡ reading → transcript_of (line ∷ lines) ≡ reading >>= λ setup. with_lines setup lines
+first_line line lines reading reads = ap (λ (r : Result Setup ℕ). r >>= λ setup. with_lines setup lines) reads
+
+-- a setup, and the lines after it
+pub with_setup : (bytes line : List ℕ) (lines : List (List ℕ)) (setup : Setup) → lines_of bytes ≡ line ∷ lines → numbered 1 (setup_line line) ≡ Ok setup → transcript bytes ≡ with_lines setup lines
+unfolding transcript
+with_setup bytes line lines setup cut reads = ap transcript_of cut ∙ first_line line lines (Ok setup) reads

@@ -35,16 +35,16 @@ abbrev pub PassesTo : Progress → List (List ℕ) → Progress → List (List �
 PassesTo old lines new left = (g : Given) (start : ℕ) (es : List Event) → HasPassed g start es old
     → (passed : List Event) × HasPassed g start passed new × ((more : List (List ℕ)) → read_after es (lines ++ more) ≡ read_after passed (left ++ more))
 
--- one of these lines is the first that does not read
-abbrev pub StopsAtLine : Progress → List (List ℕ) → ℕ → Type 0
-StopsAtLine old lines n = (g : Given) (start : ℕ) (es : List Event) → HasPassed g start es old
+-- one of these lines is the first that does not read, or memory ran out
+abbrev pub StopsOn : Progress → List (List ℕ) → Unread → Type 0
+StopsOn old lines unread.OutOfMemory = ⊤
+StopsOn old lines (unread.BadLine n) = (g : Given) (start : ℕ) (es : List Event) → HasPassed g start es old
     → (more : List (List ℕ)) → read_after es (lines ++ more) ≡ Err n
 
--- all of these lines were passed, or one does not read
+-- all of these lines were passed, or it stopped
 abbrev pub PassesLines : {A : Type 0} → Progress → List (List ℕ) → Progress → Result A Unread → Type 0
 PassesLines old lines new (Ok done) = PassesTo old lines new []
-PassesLines old lines new (Err unread.OutOfMemory) = ⊤
-PassesLines old lines new (Err (unread.BadLine n)) = StopsAtLine old lines n
+PassesLines old lines new (Err e) = StopsOn old lines e
 
 -- the reply to a replay of these events
 abbrev pub IsReplyOn : Given → ℕ → List Event → Reply → Type 0

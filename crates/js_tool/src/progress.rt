@@ -56,7 +56,7 @@ impl<'s> Progress<'s> {
 
     // The text of the whole run, or the line of its refusal.
     fn finish(self, alloc: Global) -> Result<Reply, AllocError>
-        ensures { (g : Given) → (start : ℕ) → (es : List events.Event) → HasPassed g start es self
+        ensures { (g : Given) → (start : ℕ) → (es : List events.Event) → HasPassed g start es self.entry
             → IfOk result (λ reply. IsReplyOn g start es reply) }
     {
         let Progress { course, mut text } = self;
@@ -118,7 +118,10 @@ fn pass_all(
     ensures { PassesLines progress.old (lines_of piece.now ++ lines_of bytes) progress.new result }
 {
     let mut payloads = Payloads::new(alloc);
-    pass_lines(alloc, &mut payloads, progress, piece)?;
+    match pass_lines(alloc, &mut payloads, progress, piece) {
+        Ok(()) => {}
+        Err(unread) => return Err(unread),
+    }
     while let Some(piece) = next_piece(alloc, &mut bytes) {
         match pass_lines(alloc, &mut payloads, progress, &piece) {
             Ok(()) => {}

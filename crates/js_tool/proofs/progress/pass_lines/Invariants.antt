@@ -1,0 +1,13 @@
+use Rattle.std.proofs.Common.{◌≤◌, ◌+◌, length}
+use Rattle.js_tool.specs.Lines.{lines_of}
+use Rattle.js_tool.specs.Progress.{PassesTo}
+use Rattle.js_tool.proofs.progress.pass_lines.Given as goal
+
+abbrev pub invariant-loop-rest : goal.invariant-loop-rest
+invariant-loop-rest l = record {
+  passes : PassesTo l.initial.progress (lines_of l.bytes) l.progress (lines_of l.rest);
+  counted : l.progress.course.count + length l.rest ≤ l.initial.progress.course.count + length l.bytes;
+}
+
+abbrev pub decreases-loop-rest : goal.decreases-loop-rest
+decreases-loop-rest l = length l.rest
