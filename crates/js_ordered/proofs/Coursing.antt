@@ -57,8 +57,8 @@ early_on place before [] e = here_at (nat_lt e.at before) place (place + 0) (ome
 early_on place before (x ∷ es) e =
     onward (nat_lt x.at before) place (first_early (place + 1) x.at es) (first_early (place + 1) x.at (es ++ e ∷ [])) (here (nat_lt e.at (last_moment x.at es)) (place + suc (length es)))
     (early_on (place + 1) x.at es e
-        ∙ ap (λ (more : Option ℕ). first_of (first_early (place + 1) x.at es) more)
-          (here_at (nat_lt e.at (last_moment x.at es)) (place + 1 + length es) (place + suc (length es)) (omega arith)))
+    ∙ ap (λ (more : Option ℕ). first_of (first_early (place + 1) x.at es) more)
+    (here_at (nat_lt e.at (last_moment x.at es)) (place + 1 + length es) (place + suc (length es)) (omega arith)))
 
 -- and so is the first event at the end of the sequences
 exhausted_on : (place : ℕ) (rans : List Ran) (ran : Ran)
@@ -67,8 +67,8 @@ exhausted_on place [] ran = here_at (is_exhausted ran.world.consumer.phase) plac
 exhausted_on place (x ∷ rans) ran =
     onward (is_exhausted x.world.consumer.phase) place (first_exhausted (place + 1) rans) (first_exhausted (place + 1) (rans ++ ran ∷ [])) (here (is_exhausted ran.world.consumer.phase) (place + suc (length rans)))
     (exhausted_on (place + 1) rans ran
-        ∙ ap (λ (more : Option ℕ). first_of (first_exhausted (place + 1) rans) more)
-          (here_at (is_exhausted ran.world.consumer.phase) (place + 1 + length rans) (place + suc (length rans)) (omega arith)))
+    ∙ ap (λ (more : Option ℕ). first_of (first_exhausted (place + 1) rans) more)
+    (here_at (is_exhausted ran.world.consumer.phase) (place + 1 + length rans) (place + suc (length rans)) (omega arith)))
 
 -- ---- what a course has come to
 
@@ -118,18 +118,18 @@ comes_on g start es e c next come given count moment early exhausted world outpu
     let before : c.world ≡ last_world first.world rans = come.world ∙ last_is g start es in
     let passed : ran ≡ last_one = ap (λ (by : Given). event by e c.world) come.given ∙ ap (λ (w : World). event g e w) before in
     let same : ran ≡ last g start (es ++ e ∷ []) =
-      ap (λ (by : Given). event by e c.world) come.given ∙ ap (λ (w : World). event g e w) come.world ∙ sym (last_on g start es e) in
+    ap (λ (by : Given). event by e c.world) come.given ∙ ap (λ (w : World). event g e w) come.world ∙ sym (last_on g start es e) in
     record {
       given = given ∙ come.given;
       count = count ∙ ap (λ (n : ℕ). n + 1) come.count ∙ sym (length_on es e);
       moment = moment ∙ sym (moment_on start es e);
       early =
           early ∙ noted c.early (first_early 0 start es) (nat_lt e.at c.moment) (nat_lt e.at (last_moment start es)) c.count (0 + length es)
-            come.early (ap (λ (n : ℕ). nat_lt e.at n) come.moment) (come.count ∙ zero_more (length es))
+          come.early (ap (λ (n : ℕ). nat_lt e.at n) come.moment) (come.count ∙ zero_more (length es))
           ∙ sym (early_on 0 start es e);
       exhausted =
           exhausted ∙ noted c.exhausted (first_exhausted 0 rans) (is_exhausted next.world.consumer.phase) (is_exhausted last_one.world.consumer.phase) c.count (0 + length rans)
-            come.exhausted (ap (λ (w : World). is_exhausted w.consumer.phase) (world ∙ ap (λ (r : Ran). r.world) passed)) (come.count ∙ sym (count_run g es first.world) ∙ zero_more (length rans))
+          come.exhausted (ap (λ (w : World). is_exhausted w.consumer.phase) (world ∙ ap (λ (r : Ran). r.world) passed)) (come.count ∙ sym (count_run g es first.world) ∙ zero_more (length rans))
           ∙ sym (exhausted_on 0 rans last_one) ∙ ap (λ (all : List Ran). first_exhausted 0 all) (sym (run_on g es e first.world));
       world = world ∙ ap (λ (r : Ran). r.world) same;
       outputs = outputs ∙ ap (λ (r : Ran). r.outputs) same;
@@ -171,7 +171,7 @@ steps_on g start es e =
     ap (λ (rans : List Ran). map step_of rans) (run_on g es e first)
     ∙ map_on (run_events g es first) (event g e (last_world first (run_events g es first)))
     ∙ ap (λ (ran : Ran). map step_of (run_events g es first) ++ step_of ran ∷ [])
-      (ap (λ (w : World). event g e w) (sym (last_is g start es)) ∙ sym (last_on g start es e))
+    (ap (λ (w : World). event g e w) (sym (last_is g start es)) ∙ sym (last_on g start es e))
   where
     map_on : (rans : List Ran) (ran : Ran) → map step_of (rans ++ ran ∷ []) ≡ map step_of rans ++ step_of ran ∷ []
     map_on [] ran = refl

@@ -42,13 +42,7 @@ fn first_place(found: Option<u64>, is_here: bool, place: u64) -> Option<u64>
 {
     match found {
         Some(earlier) => Some(earlier),
-        None => {
-            if is_here {
-                Some(place)
-            } else {
-                None
-            }
-        }
+        None => { if is_here { Some(place) } else { None } }
     }
 }
 

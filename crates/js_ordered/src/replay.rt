@@ -55,7 +55,11 @@ fn first_world(turn: &Turn<'_>) -> Result<World, OutOfMemory>
 
 /// The opening, from the first world on: pull asks at once, and either arms its heartbeat.
 #[tactic(auto, using(std::proofs::lemmas::Grind::common_steps, crate::proofs::Replaying::opening_asks, crate::proofs::Replaying::opening_listens))]
-pub(crate) fn open(alloc: Global, turn: &Turn<'_>, outputs: &mut Items<Output>) -> Result<World, OutOfMemory>
+pub(crate) fn open(
+    alloc: Global,
+    turn: &Turn<'_>,
+    outputs: &mut Items<Output>,
+) -> Result<World, OutOfMemory>
     requires tick { turn.now.what.now ≡ Tick }
     requires empty { outputs.old ≡ [] }
     ensures world { IfOk result (λ world. world ≡ (fold.opening (given_of turn.now) turn.now.moment).world) }

@@ -1,8 +1,7 @@
 //! Each call that takes memory, with enough of it.
 
 use crate::{
-    Course, Event, ItemKind, OrderedSetup, Output, ReplayError, Run, Settings, What,
-    replay_ordered,
+    Course, Event, ItemKind, OrderedSetup, Output, ReplayError, Run, Settings, What, replay_ordered,
 };
 use bytes::Bytes;
 use js_base::{Boxed, Message, OutOfMemory, Subject, Text};

@@ -5,8 +5,7 @@ use bytes::Bytes;
 use js_base::{HeaderMap, Message, OutOfMemory, StatusCode, Subject, Text};
 use js_fields::ReadError;
 use js_json::consumer::Info;
-use js_json::response_as;
-use js_json::Response;
+use js_json::{Response, response_as};
 use std::alloc::Global;
 
 const INFO: &str =
@@ -84,7 +83,10 @@ fn waiting(
 #[test]
 fn an_answer_may_hold_an_info(rt: HostRuntime) {
     assert_eq!(rt; waiting(rt.alloc(), INFO, None), Ok(Some(3)));
-    assert_eq!(rt; waiting(rt.alloc(), INFO, Some(StatusCode::NO_RESPONDERS)), Ok(None));
+    assert_eq!(rt;
+        waiting(rt.alloc(), INFO, Some(StatusCode::NO_RESPONDERS)),
+        Ok(None)
+    );
     assert_eq!(rt; waiting(rt.alloc(), "{}", None), Ok(None));
 }
 

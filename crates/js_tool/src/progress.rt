@@ -46,11 +46,7 @@ impl<'s> Progress<'s> {
         ensures counted { OnOk result (self.new.course.count ≡ self.old.course.count + 1) }
     {
         self.course.advance(alloc, event)?;
-        push_outputs(
-            &mut self.text,
-            self.course.count(),
-            self.course.outputs(),
-        )?;
+        push_outputs(&mut self.text, self.course.count(), self.course.outputs())?;
         Ok(())
     }
 

@@ -166,11 +166,7 @@ pub(crate) fn push_end(out: &mut Vec<u8>, ended: bool, events: u64) -> Result<()
 {
     push_line(
         out,
-        &[
-            Cell::Text(b"end"),
-            Cell::Truth(ended),
-            Cell::Number(events),
-        ],
+        &[Cell::Text(b"end"), Cell::Truth(ended), Cell::Number(events)],
     )
 }
 

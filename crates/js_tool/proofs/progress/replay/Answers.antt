@@ -8,5 +8,5 @@ returns-in-Ok c =
     let left = lines_of c.next_piece.new.bytes in
     let rest = lines_of c.cut_line.result.1.now in
     let cut : lines_of c.args.bytes ≡ c.cut_line.result.0.now ∷ (rest ++ left) =
-      c.in-Some.ensures.lines ∙ ap (λ (piece : List ℕ). lines_of piece ++ left) (sym c.deref.ensures.value) ∙ ap (λ (lines : List (List ℕ)). lines ++ left) c.cut_line.ensures.line in
+    c.in-Some.ensures.lines ∙ ap (λ (piece : List ℕ). lines_of piece ++ left) (sym c.deref.ensures.value) ∙ ap (λ (lines : List (List ℕ)). lines ++ left) c.cut_line.ensures.line in
     result_to c.args.bytes c.replay_events.result _ c.requires (with_setup c.args.bytes c.cut_line.result.0.now (rest ++ left) c.in-Ok.setup cut c.in-Ok.ensures) c.replay_events.ensures
