@@ -1,0 +1,115 @@
+//! The call that makes a stream.
+ghost use Rattle.std.specs.Prelude.{◌≡◌, IfOk};
+ghost use Rattle.js_stream_calls.specs.Creates.{create_row, AsksToCreate, AsksWith, Creates, IsTextOf};
+
+use crate::error::{CreateStreamError, api_kind, create_kind};
+use crate::handle::StreamHandle;
+use crate::name::create_refusal;
+use crate::places::{place_all, two_places};
+use bytes::Bytes;
+use js_base::{Error, OutOfMemory, Text, TryClone};
+use js_call::{ApiScope, Call, Meaning, RawCall, RequestErrorKind};
+use js_fields::{ReadError, ToValue};
+use js_json::{Response, response_as};
+use js_stream::stream::{Config, Info};
+use std::alloc::Global;
+
+/// The row of `create_stream`.
+#[derive(Drop)]
+pub struct CreatingStream {
+    scope: ApiScope,
+    name: Text,
+    // Whether the mirror or a source has both a domain and an external.
+    two_places: bool,
+}
+
+/// The state of `create_stream`.
+pub type CreateStream = Call<CreatingStream>;
+
+impl Meaning for CreatingStream {
+    type Reply = Response<Info>;
+
+    type Answer = Result<StreamHandle<Info>, CreateStreamError>;
+
+    ghost table = { create_row };
+
+    fn refusal(&self) -> Option<Result<StreamHandle<Info>, CreateStreamError>> {
+        match create_refusal(self.name.as_str(), self.two_places) {
+            None => None,
+            Some(kind) => Some(Err(Error::new(kind))),
+        }
+    }
+
+    fn read(alloc: Global, payload: &[u8]) -> Result<Response<Info>, ReadError> {
+        response_as(alloc, payload)
+    }
+
+    fn answer(self, reply: Response<Info>) -> Result<StreamHandle<Info>, CreateStreamError> {
+        match reply {
+            Response::Ok(info) => Ok(StreamHandle {
+                scope: self.scope,
+                name: self.name,
+                info,
+            }),
+            Response::Err { error } => Err(Error::new(api_kind(error))),
+        }
+    }
+
+    fn failure(self, kind: RequestErrorKind) -> Result<StreamHandle<Info>, CreateStreamError> {
+        Err(Error::new(create_kind(kind)))
+    }
+}
+
+/// The text of a configuration. Each one has a text, so what is refused here is want of memory.
+fn body_of(alloc: Global, config: &Config) -> Result<Bytes, OutOfMemory>
+    ensures { IfOk result (λ body. IsTextOf config.now body) }
+{
+    match config.to_text(alloc) {
+        Ok(text) => Ok(Bytes::copy_from_slice(alloc, text.as_bytes())?),
+        Err(_) => Err(OutOfMemory),
+    }
+}
+
+/// A request on the words of a call and the configuration's name, whose body is the configuration.
+pub(crate) fn ask_with(
+    alloc: Global,
+    scope: &ApiScope,
+    words: &str,
+    config: &Config,
+) -> Result<RawCall, OutOfMemory>
+    ensures { IfOk result (λ asked. AsksWith scope.now words.now config.now asked) }
+{
+    let body = body_of(alloc, config)?;
+    scope.ask_named(alloc, words, config.name.as_str(), body)
+}
+
+/// A request for a stream that is to be made, in whose configuration domains are externals.
+pub(crate) fn ask_to_create(
+    alloc: Global,
+    scope: &ApiScope,
+    config: Config,
+) -> Result<RawCall, OutOfMemory>
+    ensures { IfOk result (λ asked. AsksToCreate scope.now config asked) }
+{
+    let there = place_all(alloc, config)?;
+    ask_with(alloc, scope, "STREAM.CREATE", &there)
+}
+
+/// Makes a stream. A mirror or source that has a domain alone gets the domain's API as its external.
+///
+/// The one refusal here is want of memory; others come from the first poll, before anything is sent.
+pub fn create_stream(
+    alloc: Global,
+    scope: &ApiScope,
+    config: Config,
+) -> Result<CreateStream, OutOfMemory>
+    ensures { IfOk result (λ call. Creates scope.now config call) }
+{
+    let meaning = CreatingStream {
+        scope: scope.try_clone()?,
+        name: config.name.try_clone()?,
+        two_places: two_places(&config),
+    };
+    let asked = ask_to_create(alloc, scope, config)?;
+    Ok(Call::new(meaning, asked))
+}

@@ -1,0 +1,111 @@
+//! The calls that change a stream, and make it where it is not there.
+ghost use Rattle.std.specs.Prelude.{◌≡◌, IfOk};
+ghost use Rattle.js_stream_calls.specs.Updates.{create_info_row, CreatesInfo, unless_missing, UpdatesOrCreates};
+
+use crate::create::ask_to_create;
+use crate::error::{CreateStreamError, CreateStreamErrorKind, create_kind};
+use crate::name::create_refusal;
+use crate::places::two_places;
+use crate::update::{UpdateStream, told, update_stream};
+use js_base::{Error, OutOfMemory, Text, TryClone};
+use js_call::{ApiScope, Call, Decision, Meaning, RequestErrorKind, Then};
+use js_fields::ReadError;
+use js_json::{Response, response_as};
+use js_stream::stream::{Config, Info};
+use std::alloc::Global;
+
+/// The row of the second call of `create_or_update_stream`.
+#[derive(Drop)]
+pub struct CreatingInfo {
+    name: Text,
+    // Whether the mirror or a source has both a domain and an external.
+    two_places: bool,
+}
+
+/// The state of `create_or_update_stream`.
+pub type CreateOrUpdateStream = Then<UpdateStream, Call<CreatingInfo>, IfNotFound>;
+
+impl Meaning for CreatingInfo {
+    type Reply = Response<Info>;
+
+    type Answer = Result<Info, CreateStreamError>;
+
+    ghost table = { create_info_row };
+
+    fn refusal(&self) -> Option<Result<Info, CreateStreamError>> {
+        match create_refusal(self.name.as_str(), self.two_places) {
+            None => None,
+            Some(kind) => Some(Err(Error::new(kind))),
+        }
+    }
+
+    fn read(alloc: Global, payload: &[u8]) -> Result<Response<Info>, ReadError> {
+        response_as(alloc, payload)
+    }
+
+    fn answer(self, reply: Response<Info>) -> Result<Info, CreateStreamError> {
+        told(reply)
+    }
+
+    fn failure(self, kind: RequestErrorKind) -> Result<Info, CreateStreamError> {
+        Err(Error::new(create_kind(kind)))
+    }
+}
+
+/// The second call follows where the stream is not there.
+#[derive(Clone, Copy, Debug, PartialEq, Eq, Drop)]
+pub struct IfNotFound;
+
+impl Decision<Result<Info, CreateStreamError>, Result<Info, CreateStreamError>> for IfNotFound {
+    ghost decides = { λ _ first. unless_missing first };
+
+    fn decide(
+        self,
+        first: Result<Info, CreateStreamError>,
+    ) -> Option<Result<Info, CreateStreamError>> {
+        match first {
+            Ok(info) => Some(Ok(info)),
+            Err(error) => {
+                if let CreateStreamErrorKind::NotFound = error.kind() {
+                    None
+                } else {
+                    Some(Err(error))
+                }
+            }
+        }
+    }
+}
+
+fn create_info(
+    alloc: Global,
+    scope: &ApiScope,
+    config: Config,
+) -> Result<Call<CreatingInfo>, OutOfMemory>
+    ensures { IfOk result (λ call. CreatesInfo scope.now config call) }
+{
+    let meaning = CreatingInfo {
+        name: config.name.try_clone()?,
+        two_places: two_places(&config),
+    };
+    let asked = ask_to_create(alloc, scope, config)?;
+    Ok(Call::new(meaning, asked))
+}
+
+/// Changes a stream, and makes it as `create_stream` does where the API answers that it is not there.
+///
+/// The one refusal here is want of memory; those of the name come from the first poll.
+pub fn create_or_update_stream(
+    alloc: Global,
+    scope: &ApiScope,
+    config: Config,
+) -> Result<CreateOrUpdateStream, OutOfMemory>
+    ensures { IfOk result (λ calls. UpdatesOrCreates scope.now config calls) }
+{
+    let first = update_stream(alloc, scope, &config)?;
+    let second = create_info(alloc, scope, config)?;
+    Ok(Then::First {
+        first,
+        second,
+        decision: IfNotFound,
+    })
+}

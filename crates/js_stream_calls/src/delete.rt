@@ -1,0 +1,67 @@
+//! The call that deletes a stream.
+ghost use Rattle.std.specs.Prelude.{◌≡◌, IfOk};
+ghost use Rattle.js_stream_calls.specs.Gets.{delete_row, deleting};
+
+use crate::error::{DeleteStreamError, DeleteStreamErrorKind};
+use crate::name::get_refusal;
+use bytes::Bytes;
+use js_base::{Error, OutOfMemory, Text};
+use js_call::{ApiScope, Call, Meaning, RequestErrorKind};
+use js_fields::ReadError;
+use js_json::{Response, response_as};
+use js_stream::DeleteStatus;
+use std::alloc::Global;
+
+/// The row of `delete_stream`.
+#[derive(Drop)]
+pub struct DeletingStream {
+    name: Text,
+}
+
+/// The state of `delete_stream`.
+pub type DeleteStream = Call<DeletingStream>;
+
+impl Meaning for DeletingStream {
+    type Reply = Response<DeleteStatus>;
+
+    type Answer = Result<DeleteStatus, DeleteStreamError>;
+
+    ghost table = { delete_row };
+
+    fn refusal(&self) -> Option<Result<DeleteStatus, DeleteStreamError>> {
+        match get_refusal(self.name.as_str()) {
+            None => None,
+            Some(kind) => Some(Err(Error::new(kind))),
+        }
+    }
+
+    fn read(alloc: Global, payload: &[u8]) -> Result<Response<DeleteStatus>, ReadError> {
+        response_as(alloc, payload)
+    }
+
+    fn answer(self, reply: Response<DeleteStatus>) -> Result<DeleteStatus, DeleteStreamError> {
+        match reply {
+            Response::Ok(status) => Ok(status),
+            Response::Err { error } => Err(Error::new(DeleteStreamErrorKind::JetStream(error))),
+        }
+    }
+
+    fn failure(self, _kind: RequestErrorKind) -> Result<DeleteStatus, DeleteStreamError> {
+        Err(Error::new(DeleteStreamErrorKind::Request))
+    }
+}
+
+/// Deletes a stream. The one refusal here is want of memory; others come from the first poll.
+pub fn delete_stream(
+    alloc: Global,
+    scope: &ApiScope,
+    name: &str,
+) -> Result<DeleteStream, OutOfMemory>
+    ensures { IfOk result (λ call. call ≡ deleting scope.now name.now) }
+{
+    let asked = scope.ask_named(alloc, "STREAM.DELETE", name, Bytes::from_static(b"{}"))?;
+    let meaning = DeletingStream {
+        name: Text::from_str(alloc, name)?,
+    };
+    Ok(Call::new(meaning, asked))
+}

@@ -1,0 +1,123 @@
+//! Why a call on a stream was refused.
+ghost use Rattle.std.specs.Prelude.{◌≡◌, Some};
+ghost use Rattle.js_stream_calls.specs.Errors.{get_text, create_text, create_kind, api_kind};
+
+use js_base::Error;
+use js_call::RequestErrorKind;
+use js_codes::{ErrorCode, errors};
+use std::fmt;
+
+/// Why a stream was not got, or not deleted.
+#[derive(Debug, PartialEq, Eq, Drop)]
+pub enum GetStreamErrorKind {
+    /// The name is empty. Nothing was sent.
+    EmptyName,
+    /// The request has no reply, or its reply does not read.
+    Request,
+    /// The name is none that a stream may have. Nothing was sent.
+    InvalidStreamName,
+    /// The API answered an error.
+    JetStream(errors::Error),
+    /// Memory ran out in a call that answers at once.
+    OutOfMemory,
+}
+
+/// Why a stream was not got, as an error.
+pub type GetStreamError = Error<GetStreamErrorKind>;
+
+/// Why a stream was not deleted.
+pub type DeleteStreamErrorKind = GetStreamErrorKind;
+
+/// Why a stream was not deleted, as an error.
+pub type DeleteStreamError = GetStreamError;
+
+impl fmt::Display for GetStreamErrorKind {
+    ghost output = { λ kind. Some (get_text kind) };
+
+    fn fmt<W: fmt::Write>(&self, f: &mut fmt::Formatter<W>) -> fmt::Result {
+        match self {
+            GetStreamErrorKind::EmptyName => write!(f, "empty name cannot be empty"),
+            GetStreamErrorKind::Request => write!(f, "request error"),
+            GetStreamErrorKind::InvalidStreamName => write!(f, "invalid stream name"),
+            GetStreamErrorKind::JetStream(error) => write!(f, "jetstream error: {error}"),
+            GetStreamErrorKind::OutOfMemory => write!(f, "out of memory"),
+        }
+    }
+}
+
+/// Why a stream was not made, or not changed.
+#[derive(Debug, PartialEq, Eq, Drop)]
+pub enum CreateStreamErrorKind {
+    /// The name is empty. Nothing was sent.
+    EmptyStreamName,
+    /// The name is none that a stream may have, and nothing was sent; or the whole subject is none.
+    InvalidStreamName,
+    /// A mirror or a source has both a domain and an external. Nothing was sent.
+    DomainAndExternalSet,
+    /// The API knows no such stream.
+    NotFound,
+    /// The API answered another error.
+    JetStream(errors::Error),
+    /// The timeout is due, and no answer had come.
+    TimedOut,
+    /// Nobody answers: JetStream is not there.
+    JetStreamUnavailable,
+    /// Never given.
+    ResponseParse,
+    /// The request has no reply for another reason, or its reply does not read.
+    Response,
+}
+
+/// Why a stream was not made, as an error.
+pub type CreateStreamError = Error<CreateStreamErrorKind>;
+
+/// Why a stream was not changed.
+pub type UpdateStreamErrorKind = CreateStreamErrorKind;
+
+/// Why a stream was not changed, as an error.
+pub type UpdateStreamError = CreateStreamError;
+
+impl fmt::Display for CreateStreamErrorKind {
+    ghost output = { λ kind. Some (create_text kind) };
+
+    fn fmt<W: fmt::Write>(&self, f: &mut fmt::Formatter<W>) -> fmt::Result {
+        match self {
+            CreateStreamErrorKind::EmptyStreamName => write!(f, "stream name cannot be empty"),
+            CreateStreamErrorKind::InvalidStreamName => {
+                write!(f, "stream name cannot contain `.`, `_`")
+            }
+            CreateStreamErrorKind::DomainAndExternalSet => {
+                write!(f, "domain and external are both set")
+            }
+            CreateStreamErrorKind::NotFound => write!(f, "stream not found"),
+            CreateStreamErrorKind::JetStream(error) => write!(f, "jetstream error: {error}"),
+            CreateStreamErrorKind::TimedOut => write!(f, "jetstream request timed out"),
+            CreateStreamErrorKind::JetStreamUnavailable => write!(f, "jetstream unavailable"),
+            CreateStreamErrorKind::ResponseParse => write!(f, "failed to parse server response"),
+            CreateStreamErrorKind::Response => write!(f, "response error"),
+        }
+    }
+}
+
+/// What a request without a reply means where a stream is made or changed.
+pub(crate) fn create_kind(kind: RequestErrorKind) -> CreateStreamErrorKind
+    ensures { result ≡ create_kind kind }
+{
+    match kind {
+        RequestErrorKind::NoResponders => CreateStreamErrorKind::JetStreamUnavailable,
+        RequestErrorKind::TimedOut => CreateStreamErrorKind::TimedOut,
+        RequestErrorKind::InvalidSubject => CreateStreamErrorKind::InvalidStreamName,
+        RequestErrorKind::Other => CreateStreamErrorKind::Response,
+    }
+}
+
+/// What an error of the API means where a stream is made or changed.
+pub(crate) fn api_kind(error: errors::Error) -> CreateStreamErrorKind
+    ensures { result ≡ api_kind error }
+{
+    if error.err_code == ErrorCode::STREAM_NOT_FOUND {
+        CreateStreamErrorKind::NotFound
+    } else {
+        CreateStreamErrorKind::JetStream(error)
+    }
+}

@@ -1,0 +1,98 @@
+//! The calls that get a stream.
+ghost use Rattle.std.specs.Prelude.{◌≡◌, IfOk};
+ghost use Rattle.js_stream_calls.specs.Gets.{get_row, getting, got, GivesHandle, handle};
+
+use crate::error::{GetStreamError, GetStreamErrorKind};
+use crate::handle::StreamHandle;
+use crate::name::get_refusal;
+use bytes::Bytes;
+use js_base::{Error, OutOfMemory, Text, TryClone};
+use js_call::{ApiScope, Call, Meaning, RequestErrorKind};
+use js_fields::ReadError;
+use js_json::{Response, response_as};
+use js_stream::stream::Info;
+use std::alloc::Global;
+
+/// The row of `get_stream`.
+#[derive(Drop)]
+pub struct GettingStream {
+    scope: ApiScope,
+    name: Text,
+}
+
+/// The state of `get_stream`.
+pub type GetStream = Call<GettingStream>;
+
+impl Meaning for GettingStream {
+    type Reply = Response<Info>;
+
+    type Answer = Result<StreamHandle<Info>, GetStreamError>;
+
+    ghost table = { get_row };
+
+    fn refusal(&self) -> Option<Result<StreamHandle<Info>, GetStreamError>> {
+        match get_refusal(self.name.as_str()) {
+            None => None,
+            Some(kind) => Some(Err(Error::new(kind))),
+        }
+    }
+
+    fn read(alloc: Global, payload: &[u8]) -> Result<Response<Info>, ReadError> {
+        response_as(alloc, payload)
+    }
+
+    fn answer(self, reply: Response<Info>) -> Result<StreamHandle<Info>, GetStreamError> {
+        match reply {
+            Response::Ok(info) => Ok(StreamHandle {
+                scope: self.scope,
+                name: self.name,
+                info,
+            }),
+            Response::Err { error } => Err(Error::new(GetStreamErrorKind::JetStream(error))),
+        }
+    }
+
+    fn failure(self, _kind: RequestErrorKind) -> Result<StreamHandle<Info>, GetStreamError> {
+        Err(Error::new(GetStreamErrorKind::Request))
+    }
+}
+
+/// Gets a stream with what the server knows of it. The one refusal here is want of memory; others come from the first poll.
+pub fn get_stream(alloc: Global, scope: &ApiScope, name: &str) -> Result<GetStream, OutOfMemory>
+    ensures { IfOk result (λ call. call ≡ getting scope.now name.now) }
+{
+    let asked = scope.ask_named(alloc, "STREAM.INFO", name, Bytes::from_static(b"null"))?;
+    let meaning = GettingStream {
+        scope: scope.try_clone()?,
+        name: Text::from_str(alloc, name)?,
+    };
+    Ok(Call::new(meaning, asked))
+}
+
+fn bare_handle(alloc: Global, scope: &ApiScope, name: &str) -> Result<StreamHandle<()>, OutOfMemory>
+    ensures { IfOk result (λ h. h ≡ handle scope.now name.now) }
+{
+    Ok(StreamHandle {
+        scope: scope.try_clone()?,
+        name: Text::from_str(alloc, name)?,
+        info: (),
+    })
+}
+
+/// A handle of a stream of that name, without asking the server whether it is there. An empty name is `EmptyName`, another
+/// that no stream may have `InvalidStreamName`, and want of memory `OutOfMemory`.
+pub fn get_stream_no_info(
+    alloc: Global,
+    scope: &ApiScope,
+    name: &str,
+) -> Result<StreamHandle<()>, GetStreamError>
+    ensures { GivesHandle result scope.now name.now }
+{
+    if let Some(kind) = get_refusal(name) {
+        return Err(Error::new(kind));
+    }
+    match bare_handle(alloc, scope, name) {
+        Ok(handle) => Ok(handle),
+        Err(OutOfMemory) => Err(Error::new(GetStreamErrorKind::OutOfMemory)),
+    }
+}

@@ -1,0 +1,130 @@
+//! The calls that get a stream, and make it where it is not there.
+ghost use Rattle.std.specs.Prelude.{◌≡◌, IfOk, codes};
+ghost use Rattle.js_call.specs.Scopes.{asking, under};
+ghost use Rattle.js_stream_calls.specs.Creates.{find_row, finding, FindsOrCreates};
+
+use crate::create::{CreateStream, create_stream};
+use crate::error::{CreateStreamError, api_kind, create_kind};
+use crate::handle::StreamHandle;
+use crate::name::name_refusal;
+use bytes::Bytes;
+use js_base::{Error, OutOfMemory, Text, TryClone};
+use js_call::{ApiScope, Call, IfAbsent, Meaning, RawCall, RequestErrorKind, Then};
+use js_fields::ReadError;
+use js_json::{Response, response_as};
+use js_stream::stream::{Config, Info};
+use std::alloc::Global;
+
+/// The row of the first call of `get_or_create_stream`.
+#[derive(Drop)]
+pub struct FindingStream {
+    scope: ApiScope,
+    name: Text,
+}
+
+/// The state of `get_or_create_stream`.
+pub type GetOrCreateStream = Then<Call<FindingStream>, CreateStream, IfAbsent>;
+
+impl Meaning for FindingStream {
+    type Reply = Response<Info>;
+
+    type Answer = Result<Option<StreamHandle<Info>>, CreateStreamError>;
+
+    ghost table = { find_row };
+
+    fn refusal(&self) -> Option<Result<Option<StreamHandle<Info>>, CreateStreamError>> {
+        match name_refusal(self.name.as_str()) {
+            None => None,
+            Some(kind) => Some(Err(Error::new(kind))),
+        }
+    }
+
+    fn read(alloc: Global, payload: &[u8]) -> Result<Response<Info>, ReadError> {
+        response_as(alloc, payload)
+    }
+
+    fn answer(
+        self,
+        reply: Response<Info>,
+    ) -> Result<Option<StreamHandle<Info>>, CreateStreamError> {
+        match reply {
+            Response::Ok(info) => Ok(Some(StreamHandle {
+                scope: self.scope,
+                name: self.name,
+                info,
+            })),
+            Response::Err { error } => {
+                if error.code == 404 {
+                    Ok(None)
+                } else {
+                    Err(Error::new(api_kind(error)))
+                }
+            }
+        }
+    }
+
+    fn failure(
+        self,
+        kind: RequestErrorKind,
+    ) -> Result<Option<StreamHandle<Info>>, CreateStreamError> {
+        Err(Error::new(create_kind(kind)))
+    }
+}
+
+fn ask_on(
+    alloc: Global,
+    scope: &ApiScope,
+    words: &str,
+    name: &Text,
+    body: Bytes,
+) -> Result<RawCall, OutOfMemory>
+    ensures { IfOk result (λ asked. asked ≡ asking scope.now (under words.now name.now) body) }
+{
+    scope.ask_named(alloc, words, name.as_str(), body)
+}
+
+fn ask_for_info(alloc: Global, scope: &ApiScope, name: &Text) -> Result<RawCall, OutOfMemory>
+    ensures { IfOk result (λ asked. asked ≡ asking scope.now (under (codes "STREAM.INFO") name.now) (codes "null")) }
+{
+    ask_on(
+        alloc,
+        scope,
+        "STREAM.INFO",
+        name,
+        Bytes::from_static(b"null"),
+    )
+}
+
+fn find_stream(
+    alloc: Global,
+    scope: &ApiScope,
+    name: &Text,
+) -> Result<Call<FindingStream>, OutOfMemory>
+    ensures { IfOk result (λ call. call ≡ finding scope.now name.now) }
+{
+    let asked = ask_for_info(alloc, scope, name)?;
+    let meaning = FindingStream {
+        scope: scope.try_clone()?,
+        name: name.try_clone()?,
+    };
+    Ok(Call::new(meaning, asked))
+}
+
+/// Gets a stream, and makes it as `create_stream` does where the API says 404.
+///
+/// The one refusal here is want of memory; those of the name come from the first poll.
+pub fn get_or_create_stream(
+    alloc: Global,
+    scope: &ApiScope,
+    config: Config,
+) -> Result<GetOrCreateStream, OutOfMemory>
+    ensures { IfOk result (λ calls. FindsOrCreates scope.now config calls) }
+{
+    let first = find_stream(alloc, scope, &config.name)?;
+    let second = create_stream(alloc, scope, config)?;
+    Ok(Then::First {
+        first,
+        second,
+        decision: IfAbsent,
+    })
+}
