@@ -11,3 +11,4 @@ pub mod State
 pub mod StreamInfo
 pub mod DeleteStatus
 pub mod Page
+pub mod WrittenBack

@@ -9,7 +9,7 @@ mod policies;
 mod republish;
 mod source;
 
-pub use config::Config;
+pub use config::{Config, there_and_back};
 pub use delete_status::DeleteStatus;
 pub use info::{Info, State};
 pub use page::{ListRequest, NamesRequest, Page};

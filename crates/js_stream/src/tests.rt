@@ -3,7 +3,7 @@
 use crate::DeleteStatus;
 use crate::stream::{
     Compression, Config, DiscardPolicy, Info, ListRequest, NamesRequest, Page, RetentionPolicy,
-    State, StorageType,
+    State, StorageType, there_and_back,
 };
 use js_base::{Text, TryClone};
 use js_fields::{FromValue, Key, ReadError, ToValue, value_of};
@@ -106,10 +106,12 @@ fn faults_are_told(rt: HostRuntime) {
     }
 }
 
-/// What is written for a configuration, and whether a copy of it is equal.
+/// What is written for a configuration, and whether a copy of it, and what is read of what was written, are equal to it.
 fn written(alloc: Global, text: &str) -> Result<(String, bool), ReadError> {
     let config: Config = read(alloc, text)?;
-    Ok((config.to_text(alloc)?, config.try_clone()? == config))
+    let copied = config.try_clone()? == config;
+    let came_back = there_and_back(alloc, &config)? == config;
+    Ok((config.to_text(alloc)?, copied && came_back))
 }
 
 #[test]

@@ -1,12 +1,14 @@
 //! The configuration of a stream.
 
-ghost use Rattle.std.specs.Prelude.{◌≡◌, Result, false};
+ghost use Rattle.std.specs.Prelude.{◌≡◌, FitsSigned, Ok, Result, false};
+ghost use Rattle.std.specs.Int.{w64};
 ghost use Rattle.serde_json.specs.Data.{Members};
 ghost use Rattle.serde_json.specs.View.{view};
 ghost use Rattle.js_fields.specs.Object.{Holds};
 ghost use Rattle.js_fields.specs.Reading.{Gives, nested as nested_in};
 ghost use Rattle.js_fields.specs.Rows.{with_rows};
 ghost use Rattle.js_fields.specs.declared.error.ReadError.{ReadError};
+ghost use Rattle.js_stream.specs.WrittenBack.{without_domains, HasNumbers};
 
 use crate::stream::placement::Placement;
 use crate::stream::policies::{Compression, DiscardPolicy, RetentionPolicy, StorageType};
@@ -397,3 +399,28 @@ impl Written for Config {
         false
     }
 }
+
+/// A configuration that was written and read again: what it was, without the domains of the streams that it copies.
+pub fn there_and_back(alloc: Global, config: &Config) -> Result<Config, ReadError>
+    ensures { Gives result (Ok (without_domains config.now)) }
+{
+    has_numbers(config);
+    let value = match config.to_value(alloc) {
+        Ok(value) => value,
+        Err(error) => return Err(error),
+    };
+    Config::from_value(alloc, &value)
+}
+
+fn has_numbers(config: &Config)
+    ensures { HasNumbers config.now }
+{
+    is_number(config.max_messages);
+    is_number(config.max_messages_per_subject);
+    is_number(config.max_bytes);
+    is_number(config.max_message_size);
+}
+
+fn is_number(number: i64)
+    ensures { FitsSigned w64 number }
+{}
