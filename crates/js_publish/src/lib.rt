@@ -16,3 +16,6 @@ pub use ack_future::PublishAckFuture;
 pub use error::{PublishError, PublishErrorKind};
 pub use publishing::{Publishing, Settings};
 pub use sending::Sending;
+
+#[cfg(test)]
+mod tests;
