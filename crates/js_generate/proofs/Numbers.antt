@@ -1,0 +1,29 @@
+-- The numbers of the episodes.
+use Rattle.std.proofs.Common.{◌≡◌, ℕ, zero, suc, ◌+◌, ◌*◌, ◌<◌, ◌≤◌, ◌⊎◌, inl, inr, refl, arith}
+use Rattle.js_generate.specs.Episodes.{draw, delivered, before}
+
+pub few : (seed episode : ℕ) → (1 ≤ delivered seed episode) × (delivered seed episode ≤ 8)
+few seed episode = (omega arith, omega arith)
+
+pub before_bound : (seed episode : ℕ) → before seed episode ≤ 8 * episode
+before_bound seed zero = omega arith
+before_bound seed (suc episode) = let h = before_bound seed episode in let d = few seed episode in omega (arith, h, d.1)
+
+pub before_rises : (seed first second : ℕ) → first ≤ second → before seed first ≤ before seed second
+before_rises seed first zero within = rises_here (let e : first ≡ zero = omega arith in e)
+  where
+    rises_here : first ≡ zero → before seed first ≤ before seed zero
+    rises_here e = rw e (omega arith)
+before_rises seed first (suc second) within = by_order (two first (suc second))
+  where
+    two : (a b : ℕ) → (a ≡ b) ⊎ ((a < b) ⊎ (b < a))
+    two a b = grind arith
+
+    by_order : (first ≡ suc second) ⊎ ((first < suc second) ⊎ (suc second < first)) → before seed first ≤ before seed (suc second)
+    by_order (inl e) = rw e (omega arith)
+    by_order (inr (inl less)) = let h = before_rises seed first second (omega arith) in omega (arith, h)
+    by_order (inr (inr more)) = absurd (omega arith)
+
+pub draw_bound : (seed episode : ℕ) → draw seed episode < 2_147_483_647
+draw_bound seed zero = omega arith
+draw_bound seed (suc episode) = omega arith
