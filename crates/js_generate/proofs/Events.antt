@@ -154,6 +154,9 @@ pub record IsOpened (request last made : ℕ) (w : World) : Type 0 where
 abbrev new : Ledger
 new = record { pending = 0; pending_bytes = 0; waiting = false; extra = 0; pin = None; expiry = None; silence = None }
 
+four_nils : (o : List Output) → (((o ++ []) ++ []) ++ []) ++ [] ≡ o
+four_nils o = append-nil (((o ++ []) ++ []) ++ []) ∙ append-nil ((o ++ []) ++ []) ∙ append-nil (o ++ []) ∙ append-nil o
+
 equal : (a b : ℕ) → a ≡ b → (a == b) ≡ true
 equal a b e = (Decides-eqb a b).1 e
 
@@ -179,10 +182,10 @@ pub leads_then : (starts : ℕ → ℕ) (last from last_then from_then last_now 
     → Leads starts last from next last_then from_then ran → ((w : World) → next w → Leads starts last_then from_then other last_now from_now (rest w))
     → Leads starts last from other last_now from_now (and_then ran.outputs (rest ran.world))
 leads_then starts last from last_then from_then last_now from_now next other ran rest h more =
-    let then : Leads starts last_then from_then other last_now from_now (rest ran.world) = more ran.world h.world in
+    let after_it : Leads starts last_then from_then other last_now from_now (rest ran.world) = more ran.world h.world in
     record {
-      world = then.world;
-      outputs = follows_append starts last from ran.outputs (rest ran.world).outputs last_then from_then last_now from_now h.outputs then.outputs;
+      world = after_it.world;
+      outputs = follows_append starts last from ran.outputs (rest ran.world).outputs last_then from_then last_now from_now h.outputs after_it.outputs;
     }
 
 -- ---- the rows of a reader
@@ -258,7 +261,7 @@ module _ (settings : Settings) (config : OrderedConfig) (first : Info) (starts :
   message reply payload = record { subject = []; reply = Some reply; payload = payload; headers = None; status = None; description = None; length = length payload }
 
   -- the course after a yield
-  abbrev accepted : Place → Course → Course
+  abbrev pub accepted : Place → Course → Course
   accepted place c = record c { num = place.number; last = place.sequence; missed = false; limited = false }
 
   module _ (now last from : ℕ) (source : Source) (c : Course) (asked made inbox : ℕ) (reply payload : List ℕ) (place : Place) where
@@ -289,14 +292,14 @@ module _ (settings : Settings) (config : OrderedConfig) (first : Info) (starts :
         (refills now arrives place.sequence from source (accepted place c) (asked + 0) (made + 0) depth (kept l)))
 
     -- the next message is yielded
-    yields : (depth : ℕ) (l : Ledger) → (source.inbox == inbox) ≡ true → readable_as (Some reply) ≡ Some place → (place.number == c.num + 1) ≡ true → place.sequence ≡ last + 1
+    pub yields : (depth : ℕ) (l : Ledger) → (source.inbox == inbox) ≡ true → readable_as (Some reply) ≡ Some place → (place.number == c.num + 1) ≡ true → place.sequence ≡ last + 1
         → Leads starts last from (IsOn source (accepted place c) asked made) place.sequence from
             (pass_to given now arrives (suc (suc (suc depth))) (Read read.CheckArrival) (world_at (Pulls (reader source l)) c asked made))
     yields depth l here reads next rises =
         rw (here, reads, next) (record { world = (goes_on depth l).world; outputs = (rises, (goes_on depth l).outputs) })
 
     -- another one begins a recreation
-    restarts : (depth : ℕ) (l : Ledger) → (source.inbox == inbox) ≡ true → readable_as (Some reply) ≡ Some place → (place.number == c.num + 1) ≡ false
+    pub restarts : (depth : ℕ) (l : Ledger) → (source.inbox == inbox) ≡ true → readable_as (Some reply) ≡ Some place → (place.number == c.num + 1) ≡ false
         → (c.last == pull.u64_max) ≡ false → (c.last == 0) ≡ false → c.last ≡ last
         → Leads starts last from (IsRecreating Deleting (asked + 1) last made) last (last + 1)
             (pass_to given now arrives (suc (suc (suc depth))) (Read read.CheckArrival) (world_at (Pulls (reader source l)) c asked made))
@@ -326,17 +329,19 @@ module _ (settings : Settings) (config : OrderedConfig) (first : Info) (starts :
         })
 
     -- one on another inbox does nothing
-    passes_over : (depth : ℕ) (l : Ledger) → (source.inbox == inbox) ≡ false → c.missed ≡ false
+    pub passes_over : (depth : ℕ) (l : Ledger) → (source.inbox == inbox) ≡ false → c.missed ≡ false
         → Leads starts last from (λ w. (missed : Bool) × IsOn source (record c { missed = missed }) asked made w) last from
             (pass_to given now arrives (suc (suc depth)) (Read read.CheckArrival) (world_at (Pulls (reader source l)) c asked made))
     passes_over depth l other found =
-        rw other (if_both (λ (passed : pull.Passed). Leads starts last from (λ w. (missed : Bool) × IsOn source (record c { missed = missed }) asked made w) last from
+        rw other (leads_alone starts last from last from (λ w. (missed : Bool) × IsOn source (record c { missed = missed }) asked made w)
+        (pass_to given now arrives (suc depth) (Read read.CheckSilence) (world_at (Pulls (reader source l)) c (asked + 0) (made + 0)))
+        (if_both (λ (passed : pull.Passed). Leads starts last from (λ w. (missed : Bool) × IsOn source (record c { missed = missed }) asked made w) last from
         (done now arrives depth (world_at (Pulls (reader source l)) c (asked + 0) (made + 0)) passed))
         (is_any_due l.silence now)
         (pull.tell error.MissingHeartbeat (record (reader source l) { silence = pull.armed_silence now source.config.idle_heartbeat }) [])
         (pull.quietly (reader source l) [])
         (rw found (record { world = (true, (record l { silence = pull.armed_silence now source.config.idle_heartbeat }, same_counts _ _ _ _ _ _ (omega arith) (omega arith))); outputs = (refl, refl) }))
-        (record { world = (c.missed, (l, same_counts _ _ _ _ _ _ (omega arith) (omega arith))); outputs = (refl, refl) }))
+        (record { world = (c.missed, (l, same_counts _ _ _ _ _ _ (omega arith) (omega arith))); outputs = (refl, refl) })))
 
   -- ---- the whole event of an arrival
 
@@ -442,7 +447,7 @@ module _ (settings : Settings) (config : OrderedConfig) (first : Info) (starts :
             asked_is = let a = at.asked_is in omega arith;
             made_is = let m = at.made_is in omega arith;
           };
-          outputs = (ap starts (let m = at.made_is in omega arith) ∙ begins, subst (λ (o : List Output). Follows starts last from o last from) (sym (append-nil _)) rest.outputs);
+          outputs = (ap starts (let m = at.made_is in omega arith) ∙ begins, subst (λ (o : List Output). Follows starts last from o last from) (sym (four_nils (pass_each (pass_to given now says 6) (Read read.Threshold ∷ Read read.Arm ∷ []) (world_at (Pulls (reader source new)) c asked (inbox + 1))).outputs)) rest.outputs);
         }))
 
   -- ---- the opening

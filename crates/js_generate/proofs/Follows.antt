@@ -1,5 +1,7 @@
 -- Outputs that go on: each yield is the next sequence, and each inbox starts where the last recreation asked.
 use Rattle.std.proofs.Common.{◌≡◌, ℕ, ◌+◌, List, [], ◌∷◌, ◌++◌, count_by, refl, sym, subst, arith}
+use Rattle.std.specs.Prelude.{cond}
+use Rattle.std.proofs.lemmas.List.Sums.{sum_by-cons}
 use Rattle.js_ordered.specs.declared.run.Output.{Output}
 use Rattle.js_ordered.specs.declared.run.Output.TheVariants as out
 use Rattle.js_ordered.specs.Gapless.{FollowsStarts, start_sequence}
@@ -60,7 +62,10 @@ follows_count starts last from [] ln fn h = omega arith
 follows_count starts last from (out.Yield sequence number subject payload ∷ outputs) ln fn h =
     let more : last_yielded sequence outputs ≡ sequence + count_by is_yield outputs = follows_count starts sequence from outputs ln fn h.1 in
     let next : sequence ≡ last + 1 = h.0 in
-    omega (arith, more, next)
+    let same : last_yielded last (out.Yield sequence number subject payload ∷ outputs) ≡ last_yielded sequence outputs = refl in
+    let one : count_by is_yield (out.Yield sequence number subject payload ∷ outputs) ≡ 1 + count_by is_yield outputs =
+    sum_by-cons (λ x. cond (is_yield x) 1 0) (out.Yield sequence number subject payload) outputs in
+    omega (arith, more, next, same, one)
 follows_count starts last from (out.Item kind ∷ outputs) ln fn h = let more = follows_count starts last from outputs ln fn h in omega (arith, more)
 follows_count starts last from (out.Recreate serial start ∷ outputs) ln fn h = let more = follows_count starts last (start_sequence start) outputs ln fn h in omega (arith, more)
 follows_count starts last from (out.Request number subject payload ∷ outputs) ln fn h = let more = follows_count starts last from outputs ln fn h in omega (arith, more)

@@ -1,5 +1,6 @@
 -- The server of a generated transcript is honest.
-use Rattle.std.proofs.Common.{◌≡◌, ℕ, zero, suc, ◌+◌, ◌-◌, ◌*◌, ◌^◌, ◌<◌, ◌≤◌, ◌⊎◌, List, [], ◌∷◌, ◌++◌, length, map, take, slice_index, Option, Some, None, decimal, refl, sym, ap, ◌∙◌, subst, inl, inr, arith, Contains, length-map}
+use Rattle.std.proofs.Common.{◌≡◌, ℕ, zero, suc, ◌+◌, ◌-◌, ◌*◌, ◌^◌, ◌<◌, ◌≤◌, ◌⊎◌, List, [], ◌∷◌, ◌++◌, length, map, take, slice_index, Option, Some, None, decimal, refl, sym, ap, ◌∙◌, subst, inl, inr, arith, Contains}
+use Rattle.std.proofs.lemmas.List.{length-map}
 use Rattle.std.specs.Prelude.{IsTrue, slice_get, IfSome}
 use Rattle.std.specs.List.{AllByRecursion}
 use Rattle.std.specs.List.Sorted.{IsStrictlyIncreasing}
@@ -17,13 +18,16 @@ use Rattle.js_generate.specs.Episodes.{delivered, before, reply, info_text, name
 use Rattle.js_generate.specs.Transcript.{given, at_places, generated}
 use Rattle.js_generate.specs.Honesty.{upwards, log, server}
 use Rattle.js_generate.proofs.Lists.{all_append, all_take, length_upwards, index_upwards, map_upwards}
-use Rattle.js_generate.proofs.Texts.{reply_reads}
+use Rattle.js_generate.proofs.Replies.{reply_reads}
 use Rattle.js_generate.proofs.Numbers.{few, before_bound, before_rises}
 
 -- ---- the log
 
+abbrev entry : ℕ → Logged
+entry sequence = record { subject = []; payload = decimal sequence }
+
 length_log : (last : ℕ) → length (log last) ≡ last
-length_log last = length-map (λ sequence. record { subject = []; payload = decimal sequence }) (upwards 1 last) ∙ length_upwards 1 last
+length_log last = length-map (upwards 1 last) (λ (sequence : ℕ). entry sequence) ∙ length_upwards 1 last
 
 logged : (last sequence : ℕ) → 0 < sequence → sequence ≤ last → entry_at (log last) sequence ≡ Some (record { subject = []; payload = decimal sequence })
 logged last zero above within = absurd (omega arith)
@@ -67,15 +71,16 @@ upwards_whole last start n above within = record {
       inl (q - start, here, get_or_default_zero (upwards start n) (q - start) q here ∙ is ∙ omega (arith, from));
 }
 
-rest_whole : (last before : ℕ) → IsWhole given.setup (log last) [] (before + 1) (upwards (before + 1) (last - before))
-rest_whole last before = by_order (two before last)
+rest_whole : (last after : ℕ) → IsWhole given.setup (log last) [] (after + 1) (upwards (after + 1) (last - after))
+rest_whole last after = by_order (two after last)
   where
     two : (a b : ℕ) → (a ≤ b) ⊎ (b < a)
     two a b = grind arith
 
-    by_order : (before ≤ last) ⊎ (last < before) → IsWhole given.setup (log last) [] (before + 1) (upwards (before + 1) (last - before))
-    by_order (inl within) = upwards_whole last (before + 1) (last - before) (omega arith) (omega arith)
-    by_order (inr past) = subst (λ (n : ℕ). IsWhole given.setup (log last) [] (before + 1) (upwards (before + 1) n)) (omega arith) (none_whole last (before + 1))
+    by_order : (after ≤ last) ⊎ (last < after) → IsWhole given.setup (log last) [] (after + 1) (upwards (after + 1) (last - after))
+    by_order (inl within) = upwards_whole last (after + 1) (last - after) (omega arith) (omega arith)
+    by_order (inr past) = let none : 0 ≡ last - after = omega arith in
+        subst (λ (n : ℕ). IsWhole given.setup (log last) [] (after + 1) (upwards (after + 1) n)) none (none_whole last (after + 1))
 
 pub lists_whole : (seed count inbox : ℕ) → IsWhole given.setup (server seed count).log [] ((server seed count).starts inbox) ((server seed count).lists inbox)
 lists_whole seed count inbox = rest_whole (before seed count + 2) (before seed inbox)

@@ -1,13 +1,14 @@
 -- What the answers of a generated transcript read as.
 use Rattle.std.proofs.Common.{◌≡◌, ℕ, ◌^◌, ◌<◌, ◌≤◌, List, [], ◌∷◌, ◌++◌, Option, Some, None, Ok, codes, decimal, refl, sym, ap, ◌∙◌, arith, option_and_then, append-nil, append_assoc}
 use Rattle.std.specs.Int.{IsInRange}
-use Rattle.std.specs.Str.{IsUtf8}
+use Rattle.std.specs.Prelude.{Bool, true, Result, Err, if◌then◌else◌}
+use Rattle.std.specs.Str.{IsUtf8, is_utf8}
 use Rattle.std.specs.Str.Parse.{AllDigits}
 use Rattle.std.proofs.lemmas.Fmt.{decimal_is_IsNumeral, IsAscii-decimal}
 use Rattle.std.proofs.lemmas.Str.{IsUtf8-append, IsUtf8-from_ascii, is_utf8-from_IsUtf8}
 use Rattle.std.proofs.lemmas.Str.Parse.{digit_from_value}
 use Rattle.json.specs.Json as json
-use Rattle.json.specs.Print.{print, print_from, escape_byte, escape}
+use Rattle.json.specs.Print.{print, print_from, escape_byte, escape, IsNumber}
 use Rattle.json.specs.Tree.{json_tokens, depth, HasNumbers}
 use Rattle.json.proofs.Printed.Strings.{escape_byte_plain}
 use Rattle.json.proofs.Printed.Tokens.{tokens-print}
@@ -16,11 +17,15 @@ use Rattle.json.proofs.Printed.Utf8.{IsUtf8-are_ascii}
 use Rattle.serde_json.specs.Data.{Data, unsigned, number, string, object, no_members, member}
 use Rattle.serde_json.specs.Read.{read, of_json}
 use Rattle.js_json.specs.ConsumerInfo.{info_fields}
-use Rattle.js_json.specs.Response.{response_of}
+use Rattle.js_json.specs.Response.{error_in, unless_error, response_of}
+use Rattle.js_json.specs.declared.response.Response.{Response}
 use Rattle.js_json.specs.declared.consumer.info.Info.{Info}
 use Rattle.js_json.specs.declared.response.Response.TheVariants as response
 use Rattle.js_json.proofs.OnLiterals.{infos_on_literals}
-use Rattle.js_fields.specs.Reading.{float_free}
+use Rattle.js_fields.specs.Reading.{◌>>=◌, float_free}
+use Rattle.js_fields.specs.Values.{value_of, without_float}
+use Rattle.js_fields.specs.declared.error.ReadError.{ReadError}
+use Rattle.js_fields.specs.declared.error.ReadError.TheVariants.{NotJson}
 use Rattle.js_generate.specs.Episodes.{info_text, name_of}
 use Rattle.js_generate.specs.Transcript.{info}
 
@@ -54,7 +59,10 @@ info_json name =
 
 printed : (name : List ℕ) → escape name ≡ name → print (json_tokens (info_json name)) ≡ info_text name
 unfolding print_from escape_byte
-printed name plain = rw plain (rw append_assoc refl)
+printed name plain =
+    let front : List ℕ = codes "{\"ack_floor\":{\"consumer_seq\":0,\"stream_seq\":0},\"config\":{\"deliver_policy\":\"all\"},\"created\":\"2026-01-01T00:00:00Z\",\"delivered\":{\"consumer_seq\":0,\"stream_seq\":0},\"name\":\"" in
+    let back : List ℕ = codes ",\"num_ack_pending\":0,\"num_pending\":0,\"num_redelivered\":0,\"num_waiting\":0,\"stream_name\":\"events\"}" in
+    rw plain (ap (λ (s : List ℕ). front ++ s) (append_assoc name (34 ∷ []) back) ∙ sym (append_assoc front name (34 ∷ back)))
 
 abbrev zero_data : Data
 zero_data = number (unsigned 0)
@@ -79,20 +87,43 @@ is_data : (name : List ℕ) → of_json (info_json name) ≡ Some (info_data nam
 unfolding infos_on_literals
 is_data name = refl
 
-has_numbers : (name : List ℕ) → HasNumbers (info_json name)
+zero_number : IsNumber (codes "0")
 unfolding infos_on_literals
-has_numbers name = ?
+zero_number = refl
+
+nowhere_numbers : HasNumbers nowhere_json
+nowhere_numbers = (zero_number, (zero_number, tt))
+
+has_numbers : (name : List ℕ) → HasNumbers (info_json name)
+has_numbers name =
+    (nowhere_numbers, ((tt, tt), (tt, (nowhere_numbers, (tt, (zero_number, (zero_number, (zero_number, (zero_number, (tt, tt))))))))))
 
 text_reads : (name : List ℕ) → escape name ≡ name → read (info_text name) ≡ Some (info_data name)
 text_reads name plain = ap read (sym (printed name plain)) ∙ read_printed (info_json name) (has_numbers name) (omega arith) ∙ is_data name
 
 text_utf8 : (name : List ℕ) → IsUtf8 name → IsUtf8 (info_text name)
-text_utf8 name utf8 = IsUtf8-append _ _ (IsUtf8-are_ascii _ refl) (IsUtf8-append _ _ utf8 (IsUtf8-are_ascii _ refl))
+text_utf8 name utf8 =
+    let front : List ℕ = codes "{\"ack_floor\":{\"consumer_seq\":0,\"stream_seq\":0},\"config\":{\"deliver_policy\":\"all\"},\"created\":\"2026-01-01T00:00:00Z\",\"delivered\":{\"consumer_seq\":0,\"stream_seq\":0},\"name\":\"" in
+    let back : List ℕ = codes "\",\"num_ack_pending\":0,\"num_pending\":0,\"num_redelivered\":0,\"num_waiting\":0,\"stream_name\":\"events\"}" in
+    IsUtf8-append (front ++ name) back (IsUtf8-append front name (IsUtf8-are_ascii front refl) utf8) (IsUtf8-are_ascii back refl)
+
+-- what an answer with this value is read as
+abbrev answered : Result Data ReadError → Result (Response Info) ReadError
+answered value = value >>= λ d. unless_error (error_in d) (float_free info_fields d)
+
+read_text : (text : List ℕ) (d : Data) → is_utf8 text ≡ true → read text ≡ Some d → response_of (float_free info_fields) text ≡ answered (without_float (Some d))
+unfolding response_of value_of
+read_text text d utf8 is =
+    ap (λ (b : Bool). answered (if b then without_float (read text) else Err NotJson)) utf8 ∙ ap (λ (o : Option Data). answered (without_float o)) is
+
+data_reads : (name : List ℕ) → answered (without_float (Some (info_data name))) ≡ Ok (response.Ok (info name))
+unfolding infos_on_literals
+data_reads name = refl
 
 -- the text of an info reads as the info
 pub info_reads : (name : List ℕ) → escape name ≡ name → IsUtf8 name → response_of (float_free info_fields) (info_text name) ≡ Ok (response.Ok (info name))
-unfolding infos_on_literals
-info_reads name plain utf8 = rw (is_utf8-from_IsUtf8 (info_text name) (text_utf8 name utf8), text_reads name plain) refl
+info_reads name plain utf8 =
+    read_text (info_text name) (info_data name) (is_utf8-from_IsUtf8 (info_text name) (text_utf8 name utf8)) (text_reads name plain) ∙ data_reads name
 
 -- ---- names
 
@@ -109,3 +140,11 @@ name_plain serial small = ap (λ (ds : List ℕ). codes "gen_" ++ ds) (escape_di
 
 pub name_utf8 : (serial : ℕ) → serial < 2 ^ 64 → IsUtf8 (name_of serial)
 name_utf8 serial small = IsUtf8-append (codes "gen_") (decimal serial) (IsUtf8-are_ascii (codes "gen_") refl) (IsUtf8-from_ascii (decimal serial) (IsAscii-decimal serial small))
+
+first_plain : escape (codes "gen") ≡ codes "gen"
+unfolding escape_byte
+first_plain = refl
+
+-- the text of the first info
+pub first_reads : response_of (float_free info_fields) (info_text (codes "gen")) ≡ Ok (response.Ok (info (codes "gen")))
+first_reads = info_reads (codes "gen") first_plain (IsUtf8-are_ascii (codes "gen") refl)

@@ -9,20 +9,18 @@ pub before_bound : (seed episode : ℕ) → before seed episode ≤ 8 * episode
 before_bound seed zero = omega arith
 before_bound seed (suc episode) = let h = before_bound seed episode in let d = few seed episode in omega (arith, h, d.1)
 
-pub before_rises : (seed first second : ℕ) → first ≤ second → before seed first ≤ before seed second
-before_rises seed first zero within = rises_here (let e : first ≡ zero = omega arith in e)
-  where
-    rises_here : first ≡ zero → before seed first ≤ before seed zero
-    rises_here e = rw e (omega arith)
-before_rises seed first (suc second) within = by_order (two first (suc second))
-  where
-    two : (a b : ℕ) → (a ≡ b) ⊎ ((a < b) ⊎ (b < a))
-    two a b = grind arith
+order : (a b : ℕ) → (a ≡ b) ⊎ ((a < b) ⊎ (b < a))
+order a b = grind arith
 
-    by_order : (first ≡ suc second) ⊎ ((first < suc second) ⊎ (suc second < first)) → before seed first ≤ before seed (suc second)
-    by_order (inl e) = rw e (omega arith)
-    by_order (inr (inl less)) = let h = before_rises seed first second (omega arith) in omega (arith, h)
-    by_order (inr (inr more)) = absurd (omega arith)
+step_rises : (seed first second : ℕ) → first ≤ suc second → (first ≤ second → before seed first ≤ before seed second)
+    → (first ≡ suc second) ⊎ ((first < suc second) ⊎ (suc second < first)) → before seed first ≤ before seed (suc second)
+step_rises seed first second within below (inl e) = rw e (omega arith)
+step_rises seed first second within below (inr (inl less)) = let h = below (omega arith) in omega (arith, h)
+step_rises seed first second within below (inr (inr more)) = absurd (omega arith)
+
+pub before_rises : (seed first second : ℕ) → first ≤ second → before seed first ≤ before seed second
+before_rises seed first zero within = let e : first ≡ zero = omega arith in rw e (omega arith)
+before_rises seed first (suc second) within = step_rises seed first second within (before_rises seed first second) (order first (suc second))
 
 pub draw_bound : (seed episode : ℕ) → draw seed episode < 2_147_483_647
 draw_bound seed zero = omega arith

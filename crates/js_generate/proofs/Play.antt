@@ -8,6 +8,7 @@ use Rattle.js_message.specs.Ack.{Place}
 use Rattle.js_pull.specs.Reader.{u64_max}
 use Rattle.js_pull.specs.declared.reader.Source.{Source}
 use Rattle.js_ordered.specs.declared.setup.Settings.{Settings}
+use Rattle.js_ordered.specs.declared.consumer.Given.{Given}
 use Rattle.js_ordered.specs.declared.event.What.{What}
 use Rattle.js_ordered.specs.declared.world.World.{World}
 use Rattle.js_ordered.specs.declared.consumer.Stage.TheVariants.{Deleting, Creating}
@@ -15,7 +16,7 @@ use Rattle.js_ordered.specs.Fold.{Ran, stays, and_then, event}
 use Rattle.js_generate.specs.Episodes.{draw, delivered, before, reply, info_text, name_of, delivery, deliveries, answer, recovery, happens, episodes}
 use Rattle.js_generate.specs.Transcript as transcript
 use Rattle.js_generate.proofs.Numbers.{few, before_bound}
-use Rattle.js_generate.proofs.Texts.{reply_reads}
+use Rattle.js_generate.proofs.Replies.{reply_reads}
 use Rattle.js_generate.proofs.Infos.{info_reads, name_plain, name_utf8}
 use Rattle.js_generate.proofs.Follows.{Follows, follows_append}
 use Rattle.js_generate.proofs.Events as at
@@ -43,7 +44,7 @@ pub record IsReading (inbox number before : ℕ) (w : World) : Type 0 where
   pub made_is : made ≡ inbox + 1
 
 module _ (settings : Settings) (config : OrderedConfig) (first : Info) (starts : ℕ → ℕ) where
-  abbrev given : _
+  abbrev given : Given
   given = at.given settings config first starts
 
   -- ---- messages in order
@@ -172,12 +173,15 @@ module _ (settings : Settings) (config : OrderedConfig) (first : Info) (starts :
         let m_few : (1 ≤ m) × (m ≤ 8) = few seed episode in
         let there : starts (episode + 1) ≡ s + m + 1 = starts_are (episode + 1) ∙ ap (λ (n : ℕ). before seed n + 1) (add-one episode) in
         let place_then : ℕ = place + length (deliveries episode s 1 m) in
+        let same_last : s + 0 ≡ s = omega arith in
+        let same_number : 0 + m ≡ m = omega arith in
         subst (λ (ran : Ran). Leads starts s from (IsReading (episode + 1) 0 (s + m)) (s + m) (s + m + 1) ran)
         (sym (plays_append given place place_then (deliveries episode s 1 m) (recovery episode s m) w refl))
         (leads_then starts s from (s + m) from (s + m) (s + m + 1) (IsReading episode m s) (IsReading (episode + 1) 0 (s + m))
         (plays given place (deliveries episode s 1 m) w) (λ (w : World). plays given place_then (recovery episode s m) w)
-        (subst (λ (l : ℕ). Leads starts l from (IsReading episode m s) (s + m) from (plays given place (deliveries episode s 1 m) w)) (omega arith)
-        (all_in_order m place episode 0 s from w (omega (arith, s_small, m_few.1)) (omega (arith, m_few.1)) r))
+        (subst (λ (l : ℕ). Leads starts l from (IsReading episode m s) (s + m) from (plays given place (deliveries episode s 1 m) w)) same_last
+        (subst (λ (k : ℕ). Leads starts (s + 0) from (IsReading episode k s) (s + k) from (plays given place (deliveries episode s 1 m) w)) same_number
+        (all_in_order m place episode 0 s from w (omega (arith, s_small, m_few.1)) (omega (arith, m_few.1)) r)))
         (recovers episode s m there m_few.0 (omega (arith, s_small, m_few.1)) (omega arith) place_then from))
 
     pub episodes_play : (left episode place from : ℕ) (w : World) → episode + left ≤ 1_000_000 → IsReading episode 0 (before seed episode) w

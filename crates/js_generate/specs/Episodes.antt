@@ -24,7 +24,7 @@ before seed (suc episode) = before seed episode + delivered seed episode
 
 -- the acknowledgement subject of a message
 abbrev pub reply : ℕ → ℕ → List ℕ
-reply sequence number = codes "$JS.ACK.events.gen.1." ++ decimal sequence ++ codes "." ++ decimal number ++ codes ".0.0"
+reply sequence number = codes "$JS.ACK.events.gen.1." ++ (decimal sequence ++ (codes "." ++ (decimal number ++ codes ".0.0")))
 
 -- what the server tells of the consumer with this name
 abbrev pub info_text : List ℕ → List ℕ

@@ -1,6 +1,10 @@
 -- The server of a generated transcript.
 use Rattle.std.specs.Prelude.{ℕ, zero, suc, ◌+◌, ◌-◌, List, [], ◌∷◌, decimal, map}
-use Rattle.js_ordered.specs.Gapless.{Logged, Server}
+use Rattle.js_ordered.specs.declared.event.Event.{Event}
+use Rattle.js_ordered.specs.declared.run.Run.{Run}
+use Rattle.js_ordered.specs.Gapless.{Logged, Server, IsHonest}
+use Rattle.js_ordered.specs.Valid.{IsReplay}
+use Rattle.js_generate.specs.Transcript.{given}
 use Rattle.js_generate.specs.Episodes.{before}
 
 -- so many numbers, from one on
@@ -22,3 +26,7 @@ server seed count =
       starts = λ inbox. before seed inbox + 1;
       lists = λ inbox. upwards (before seed inbox + 1) (last - before seed inbox);
     }
+
+-- the server is honest to each replay of the events, so that its yields leave no gap
+abbrev pub IsServed : ℕ → ℕ → List Event → Type 0
+IsServed seed count events = (run : Run) → IsReplay given 0 events run → IsHonest (server seed count) given.setup events run

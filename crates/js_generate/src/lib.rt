@@ -2,12 +2,12 @@
 #![tactic(auto)]
 
 mod episode;
-mod given;
+mod setup;
 mod summary;
 mod texts;
 mod transcript;
 
-pub use given::given;
+pub use setup::given;
 pub use summary::{Summary, generate};
 pub use transcript::generated;
 

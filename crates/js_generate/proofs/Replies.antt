@@ -40,9 +40,9 @@ pub decimal_without_dot : (n : ℕ) → n < 2 ^ 64 → All (λ c. (c == 46) ≡ 
 decimal_without_dot n small = All-from_recursion (λ c. (c == 46) ≡ false) (decimal n) (no_dot (decimal n) (decimal_is_IsNumeral n small).0.1)
 
 last_tokens : (sequence number : ℕ) → sequence < 2 ^ 64 → number < 2 ^ 64
-    → tokens (decimal sequence ++ 46 ∷ decimal number ++ 46 ∷ codes "0.0") ≡ decimal sequence ∷ decimal number ∷ codes "0" ∷ codes "0" ∷ []
+    → tokens (decimal sequence ++ (46 ∷ (decimal number ++ (46 ∷ codes "0.0")))) ≡ decimal sequence ∷ decimal number ∷ codes "0" ∷ codes "0" ∷ []
 last_tokens sequence number s n =
-    slice_split_at (λ c. c == 46) (decimal sequence) 46 (decimal number ++ 46 ∷ codes "0.0") (decimal_without_dot sequence s) refl
+    slice_split_at (λ c. c == 46) (decimal sequence) 46 (decimal number ++ (46 ∷ codes "0.0")) (decimal_without_dot sequence s) refl
     ∙ ap (λ (ts : List (List ℕ)). decimal sequence ∷ ts) (slice_split_at (λ c. c == 46) (decimal number) 46 (codes "0.0") (decimal_without_dot number n) refl)
 
 placed : (sequences numbers : List ℕ) (sequence number : ℕ) → u64_of sequences ≡ Some sequence → u64_of numbers ≡ Some number
