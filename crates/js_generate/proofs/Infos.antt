@@ -148,3 +148,8 @@ first_plain = refl
 -- the text of the first info
 pub first_reads : response_of (float_free info_fields) (info_text (codes "gen")) ≡ Ok (response.Ok (info (codes "gen")))
 first_reads = info_reads (codes "gen") first_plain (IsUtf8-are_ascii (codes "gen") refl)
+
+pub first_is : (bytes : List ℕ) (first : Info) → bytes ≡ info_text (codes "gen") → response_of (float_free info_fields) bytes ≡ Ok (response.Ok first) → first ≡ info (codes "gen")
+first_is bytes first is reads =
+    let both : Ok (response.Ok first) ≡ Ok (response.Ok (info (codes "gen"))) = sym reads ∙ ap (response_of (float_free info_fields)) is ∙ first_reads in
+    cc

@@ -1,12 +1,12 @@
 -- Events that are added one after another.
-use Rattle.std.proofs.Common.{◌≡◌, ℕ, zero, suc, ◌+◌, ◌-◌, ◌*◌, ◌%◌, ◌<◌, ◌≤◌, List, [], ◌∷◌, ◌++◌, length, take, refl, sym, ap, ap₂, ◌∙◌, subst, arith, append_assoc, append-nil, length-append, add-one}
+use Rattle.std.proofs.Common.{◌≡◌, ℕ, zero, suc, ◌+◌, ◌-◌, ◌*◌, ◌%◌, ◌<◌, ◌≤◌, List, [], ◌∷◌, ◌++◌, length, take, codes, Result, Ok, Err, OnOk, refl, sym, ap, ap₂, ◌∙◌, subst, arith, append_assoc, append-nil, length-append, add-one}
 use Rattle.std.proofs.lemmas.List.{take-append-le}
 use Rattle.js_ordered.specs.declared.event.Event.{Event}
 use Rattle.js_ordered.specs.declared.event.What.{What}
 use Rattle.js_generate.specs.declared.episode.Episode.{Episode}
-use Rattle.js_generate.specs.Episodes.{draw, delivered, before, delivery, deliveries, recovery, happens, episodes}
+use Rattle.js_generate.specs.Episodes.{draw, delivered, before, info_text, name_of, delivery, deliveries, answer, recovery, happens, episodes}
 use Rattle.js_generate.specs.Transcript.{at_places, generated}
-use Rattle.js_generate.proofs.Numbers.{few}
+use Rattle.js_generate.proofs.Numbers.{few, before_bound}
 
 -- ---- places
 
@@ -45,6 +45,38 @@ pub four_pushed : (a b c d e : List Event) (first second third fourth : What)
     → e ≡ a ++ at_places (length a + 1) (first ∷ second ∷ third ∷ fourth ∷ [])
 four_pushed a b c d e first second third fourth p q r s =
     sym (append-nil e) ∙ pushed d e fourth [] s ∙ pushed c d third (fourth ∷ []) r ∙ pushed b c second (third ∷ fourth ∷ []) q ∙ pushed a b first (second ∷ third ∷ fourth ∷ []) p
+
+-- the gap and what follows it
+pub recovery_pushed : (a b c d e : List Event) (number before delivered : ℕ) (deleted created : List ℕ)
+    → deleted ≡ codes "{\"success\":true}" → created ≡ info_text (name_of (number + 1))
+    → b ≡ a ++ record { at = (length a + 1) * 1_000_000; what = delivery number before (delivered + 2) } ∷ []
+    → c ≡ b ++ record { at = (length b + 1) * 1_000_000; what = answer (2 * number + 1) deleted } ∷ []
+    → d ≡ c ++ record { at = (length c + 1) * 1_000_000; what = answer (2 * number + 2) created } ∷ []
+    → e ≡ d ++ record { at = (length d + 1) * 1_000_000; what = delivery number before (delivered + 1) } ∷ []
+    → e ≡ a ++ at_places (length a + 1) (recovery number before delivered)
+recovery_pushed a b c d e number before delivered deleted created is_deleted is_created p q r s =
+    four_pushed a b c d e (delivery number before (delivered + 2)) (answer (2 * number + 1) deleted) (answer (2 * number + 2) created) (delivery number before (delivered + 1)) p q r s
+    ∙ ap₂ (λ (x y : List ℕ). a ++ at_places (length a + 1) (delivery number before (delivered + 2) ∷ answer (2 * number + 1) x ∷ answer (2 * number + 2) y ∷ delivery number before (delivered + 1) ∷ []))
+    is_deleted is_created
+
+none_left : (inbox before number left : ℕ) (more : List What) → left ≡ 0 → deliveries inbox before number left ++ more ≡ more
+none_left inbox before number left more none = ap (λ (n : ℕ). deliveries inbox before number n ++ more) none
+
+-- all of an episode
+pub all_pushed : (start loop new : List Event) (inbox before number delivered many : ℕ) → delivered ≡ many → delivered + 1 ≤ number
+    → loop ++ at_places (length loop + 1) (deliveries inbox before number (delivered + 1 - number) ++ recovery inbox before delivered)
+        ≡ start ++ at_places (length start + 1) (deliveries inbox before 1 delivered ++ recovery inbox before delivered)
+    → new ≡ loop ++ at_places (length loop + 1) (recovery inbox before delivered)
+    → new ≡ start ++ at_places (length start + 1) (deliveries inbox before 1 many ++ recovery inbox before many)
+all_pushed start loop new inbox before number delivered many same end rest last =
+    last
+    ∙ ap (λ (whats : List What). loop ++ at_places (length loop + 1) whats) (sym (none_left inbox before number (delivered + 1 - number) (recovery inbox before delivered) (omega arith)))
+    ∙ rest
+    ∙ ap (λ (n : ℕ). start ++ at_places (length start + 1) (deliveries inbox before 1 n ++ recovery inbox before n)) same
+
+pub on_ok : {A E P Q : Type 0} (r : Result A E) → (P → Q) → OnOk r P → OnOk r Q
+on_ok (Ok x) f h = f h
+on_ok (Err e) f h = tt
 
 -- ---- episodes
 
@@ -87,6 +119,25 @@ episode_pushed seed episode old new is before new_is =
     ∙ ap₂ (λ (es : List Event) (p : ℕ). es ++ at_places p (happens seed n)) before (let e : length old + 1 ≡ 1 + length (episodes seed 0 n) = omega (arith, long) in e)
     ∙ sym (places_append 1 (episodes seed 0 n) (happens seed n))
     ∙ ap (at_places 1) (sym one)
+
+pub before_small : (seed : ℕ) (episode : Episode) → episode ≡ episode_of seed episode.number → episode.number < 1_000_000 → episode.before < 10_000_000
+before_small seed episode is small =
+    let same : episode.before ≡ before seed episode.number = ap (λ (e : Episode). e.before) is in
+    let bound = before_bound seed episode.number in
+    omega (arith, same, bound)
+
+-- the episode after one of a seed is one of it too
+pub next_is : (seed : ℕ) (episode next : Episode) → episode ≡ episode_of seed episode.number
+    → next ≡ record { number = episode.number + 1; before = episode.before + (1 + episode.draw % 8); draw = 48_271 * episode.draw % 2_147_483_647 }
+    → next ≡ episode_of seed next.number
+next_is seed episode next is is_next =
+    let n : ℕ = episode.number in
+    let step : next ≡ record { number = n + 1; before = before seed (suc n); draw = draw seed (suc (suc n)) } =
+    is_next ∙ ap (λ (e : Episode). record { number = n + 1; before = e.before + (1 + e.draw % 8); draw = 48_271 * e.draw % 2_147_483_647 }) is in
+    let same : next.number ≡ suc n = ap (λ (e : Episode). e.number) step ∙ add-one n in
+    step
+    ∙ ap (λ (k : ℕ). record { number = k; before = before seed (suc n); draw = draw seed (suc (suc n)) }) (add-one n)
+    ∙ ap (episode_of seed) (sym same)
 
 length_deliveries : (inbox before number left : ℕ) → length (deliveries inbox before number left) ≡ left
 length_deliveries inbox before number zero = refl

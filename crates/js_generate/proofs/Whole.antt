@@ -1,9 +1,10 @@
 -- The run of a generated transcript: its input is valid, its server honest, and it yields as many as its last sequence.
-use Rattle.std.proofs.Common.{◌≡◌, ℕ, zero, suc, ◌+◌, ◌*◌, ◌^◌, ◌<◌, ◌≤◌, true, false, List, [], ◌∷◌, ◌++◌, take, drop, map, Some, None, codes, count_by, refl, sym, ap, ◌∙◌, subst, arith, append_assoc}
+use Rattle.std.proofs.Common.{◌≡◌, ℕ, zero, suc, ◌+◌, ◌*◌, ◌^◌, ◌<◌, ◌≤◌, true, false, List, [], ◌∷◌, ◌++◌, take, drop, map, Some, None, Result, Ok, Err, IfOk, codes, count_by, refl, sym, ap, ◌∙◌, subst, arith, append_assoc}
 use Rattle.std.specs.Prelude.{nat_lt}
 use Rattle.std.proofs.lemmas.List.{take-append-drop}
 use Rattle.std.proofs.lemmas.Bool.Decides.{nat_tests}
 use Rattle.js_json.specs.PullConfig.{new_ordered_pull_config}
+use Rattle.js_ordered.specs.declared.consumer.Given.{Given}
 use Rattle.js_ordered.specs.declared.event.Event as events
 use Rattle.js_ordered.specs.declared.event.What.{What}
 use Rattle.js_ordered.specs.declared.run.Output.{Output}
@@ -16,6 +17,7 @@ use Rattle.js_ordered.specs.Valid.{IsValid, IsReplay}
 use Rattle.js_generate.specs.Episodes.{before, episodes}
 use Rattle.js_generate.specs.Transcript.{settings, info, given, at_places, generated}
 use Rattle.js_generate.specs.Honesty.{server, IsServed}
+use Rattle.js_generate.specs.declared.summary.Summary.{Summary}
 use Rattle.js_generate.specs.Counts.{summary, YieldsItsLast}
 use Rattle.js_generate.proofs.Numbers.{before_bound}
 use Rattle.js_generate.proofs.Follows.{Follows, follows_append, follows_front, follows_starts, follows_count}
@@ -99,3 +101,24 @@ valid seed count small = record {
   moments = not_early count 1 0 0 (episodes seed 0 count) (omega arith);
   arrivals = arrivals_below seed count (small_before seed count small);
 }
+
+-- ---- of values that are equal
+
+pub if_ok : {A E : Type 0} {P Q : A → Type 0} (r : Result A E) → ((x : A) → P x → Q x) → IfOk r P → IfOk r Q
+if_ok (Ok x) f h = f x h
+if_ok (Err e) f h = tt
+
+pub still_valid : (g : Given) (es : List events.Event) (seed count : ℕ) → count ≤ 200_000 → g ≡ given → es ≡ generated seed count → IsValid g 0 es
+still_valid g es seed count small is_given is_generated =
+    subst (λ (g : Given). IsValid g 0 es) (sym is_given) (subst (λ (es : List events.Event). IsValid given 0 es) (sym is_generated) (valid seed count small))
+
+pub counted : (g : Given) (es : List events.Event) (seed count : ℕ) (run : Run) → IsReplay g 0 es run → g ≡ given → es ≡ generated seed count
+    → summary run ≡ summary (fold given 0 (generated seed count))
+counted g es seed count run replay is_given is_generated =
+    ap summary (replay.folded ∙ ap (λ (g : Given). fold g 0 es) is_given ∙ ap (λ (es : List events.Event). fold given 0 es) is_generated)
+
+pub whole : (g : Given) (es : List events.Event) (seed count : ℕ) (run : Run) (s : Summary) → count ≤ 200_000 → IsReplay g 0 es run → g ≡ given → es ≡ generated seed count
+    → s ≡ summary run → s.yields ≡ s.last
+whole g es seed count run s small replay is_given is_generated is =
+    let same : s ≡ summary (fold given 0 (generated seed count)) = is ∙ counted g es seed count run replay is_given is_generated in
+    subst (λ (s : Summary). s.yields ≡ s.last) (sym same) (fold_counts seed count small)

@@ -66,6 +66,7 @@ impl Episode {
     }
 
     /// Adds its events.
+    #[tactic(auto, using(std::proofs::lemmas::Grind::common_steps, crate::proofs::Making::pushed, crate::proofs::Making::next_delivery))]
     pub(crate) fn push_events(&self, alloc: Global, events: &mut Vec<Event>) -> Result<(), OutOfMemory>
         requires number { self.now.number < 1_000_000 }
         requires before { self.now.before < 10_000_000 }
@@ -121,9 +122,10 @@ impl Episode {
     {
         self.push_delivery(alloc, delivered + 2, events)?;
         let deleted = String::from_str(alloc, r#"{"success":true}"#)?;
-        push(events, answer(alloc, 2 * self.number + 1, deleted)?)?;
-        let created = texts::info(alloc, self.number + 1)?;
-        push(events, answer(alloc, 2 * self.number + 2, created)?)?;
+        push_answer(alloc, 2 * self.number + 1, deleted, events)?;
+        let name = texts::name(alloc, self.number + 1)?;
+        let created = texts::info(alloc, name.as_str())?;
+        push_answer(alloc, 2 * self.number + 2, created, events)?;
         self.push_delivery(alloc, delivered + 1, events)
     }
 }
@@ -153,6 +155,21 @@ fn answer(alloc: Global, request: u64, payload: String) -> Result<What, OutOfMem
         request,
         reply: Some(Boxed::new(alloc, message)?),
     })
+}
+
+/// Adds the answer to a request.
+fn push_answer(
+    alloc: Global,
+    request: u64,
+    payload: String,
+    events: &mut Vec<Event>,
+) -> Result<(), OutOfMemory>
+    requires { length events.old.items < 2_000_000 }
+    ensures { OnOk result (events.new.items ≡ events.old.items
+        ++ record { at = (length events.old.items + 1) * 1_000_000; what = episodes.answer request (string_bytes payload) } ∷ []) }
+{
+    let what = answer(alloc, request, payload)?;
+    push(events, what)
 }
 
 /// Adds what happens, a millisecond after the event before it.

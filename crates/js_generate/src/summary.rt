@@ -1,13 +1,14 @@
 //! How much the replay of a generated transcript puts out.
 ghost use Rattle.std.specs.Prelude.{◌≡◌, ◌≤◌, ◌+◌, [], IfOk, OnOk};
 ghost use Rattle.js_ordered.specs.Fold.{fold};
+ghost use Rattle.js_ordered.specs.Valid.{IsReplay, IsValid};
 ghost use Rattle.js_generate.specs.Counts as counts;
 ghost use Rattle.js_generate.specs.Transcript as transcript;
 
 use crate::setup::given;
 use crate::transcript::generated;
 use js_base::OutOfMemory;
-use js_ordered::{Output, ReplayError, Run, replay_ordered};
+use js_ordered::{Event, Given, Output, ReplayError, Run, replay_ordered};
 use std::alloc::Global;
 
 /// How much a run puts out, over its opening and all of its steps.
@@ -106,12 +107,30 @@ pub fn summary_of(run: &Run) -> Result<Summary, OutOfMemory>
     Ok(summary)
 }
 
+/// The run of valid events.
+fn replay(alloc: Global, given: &Given, events: &[Event]) -> Result<Run, OutOfMemory>
+    requires { IsValid given.now 0 events.now }
+    ensures { IfOk result (λ run. IsReplay given.now 0 events.now run) }
+{
+    match replay_ordered(
+        alloc,
+        &given.settings,
+        &given.setup,
+        &given.first,
+        0,
+        events,
+    ) {
+        Ok(run) => Ok(run),
+        Err(ReplayError::OutOfMemory) => Err(OutOfMemory),
+        Err(_) => unreachable!(),
+    }
+}
+
 /// The counts of the replay of the first `events` events that a seed gives.
 ///
 /// # Errors
 ///
 /// Want of memory.
-#[tactic(auto, using(std::proofs::lemmas::Grind::common_steps, crate::proofs::Whole::valid, crate::proofs::Whole::yields_last))]
 pub fn generate(alloc: Global, seed: u64, events: u64) -> Result<Summary, OutOfMemory>
     requires { events ≤ 200_000 }
     ensures counts { IfOk result (λ summary. summary ≡ counts.summary (fold transcript.given 0 (transcript.generated seed events))) }
@@ -121,16 +140,6 @@ pub fn generate(alloc: Global, seed: u64, events: u64) -> Result<Summary, OutOfM
 {
     let given = given(alloc)?;
     let events = generated(alloc, seed, events)?;
-    match replay_ordered(
-        alloc,
-        &given.settings,
-        &given.setup,
-        &given.first,
-        0,
-        events.as_slice(),
-    ) {
-        Ok(run) => summary_of(&run),
-        Err(ReplayError::OutOfMemory) => Err(OutOfMemory),
-        Err(_) => unreachable!(),
-    }
+    let run = replay(alloc, &given, events.as_slice())?;
+    summary_of(&run)
 }

@@ -1,5 +1,5 @@
 //! The texts of a generated transcript.
-ghost use Rattle.std.specs.Prelude.{◌≡◌, ◌+◌, ◌<◌, ◌^◌, IfOk, codes, decimal, string_bytes, ◌++◌};
+ghost use Rattle.std.specs.Prelude.{◌≡◌, IfOk, decimal, string_bytes};
 ghost use Rattle.js_generate.specs.Episodes as episodes;
 
 use std::alloc::{AllocError, Global};
@@ -18,26 +18,22 @@ pub(crate) fn decimal(alloc: Global, number: u64) -> Result<String, AllocError>
     format!(in alloc; "{number}")
 }
 
-/// What the server tells of the first consumer.
-pub(crate) const FIRST_INFO: &str = r#"{"ack_floor":{"consumer_seq":0,"stream_seq":0},"config":{"deliver_policy":"all"},"created":"2026-01-01T00:00:00Z","delivered":{"consumer_seq":0,"stream_seq":0},"name":"gen","num_ack_pending":0,"num_pending":0,"num_redelivered":0,"num_waiting":0,"stream_name":"events"}"#;
-
 /// The name of the consumer that the recreation with this serial makes.
-fn name(alloc: Global, serial: u64) -> Result<String, AllocError>
+pub(crate) fn name(alloc: Global, serial: u64) -> Result<String, AllocError>
     ensures { IfOk result (λ text. string_bytes text ≡ episodes.name_of serial) }
 {
     format!(in alloc; "gen_{serial}")
 }
 
-/// What the server tells of that consumer.
-pub(crate) fn info(alloc: Global, serial: u64) -> Result<String, AllocError>
-    ensures { IfOk result (λ text. string_bytes text ≡ episodes.info_text (episodes.name_of serial)) }
+/// What the server tells of the consumer with this name.
+pub(crate) fn info(alloc: Global, name: &str) -> Result<String, AllocError>
+    ensures { IfOk result (λ text. string_bytes text ≡ episodes.info_text name.now) }
 {
-    let name = name(alloc, serial)?;
     let mut text = String::from_str(
         alloc,
         r#"{"ack_floor":{"consumer_seq":0,"stream_seq":0},"config":{"deliver_policy":"all"},"created":"2026-01-01T00:00:00Z","delivered":{"consumer_seq":0,"stream_seq":0},"name":""#,
     )?;
-    text.push_str(name.as_str())?;
+    text.push_str(name)?;
     text.push_str(
         r#"","num_ack_pending":0,"num_pending":0,"num_redelivered":0,"num_waiting":0,"stream_name":"events"}"#,
     )?;

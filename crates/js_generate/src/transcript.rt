@@ -35,7 +35,6 @@ fn whole_episodes(alloc: Global, seed: u64, count: u64) -> Result<Vec<Event>, Ou
 /// # Errors
 ///
 /// Want of memory.
-#[tactic(auto, using(std::proofs::lemmas::Grind::common_steps, crate::proofs::Whole::served, crate::proofs::Whole::valid, crate::proofs::Whole::yields_last))]
 pub fn generated(alloc: Global, seed: u64, count: u64) -> Result<Vec<Event>, OutOfMemory>
     requires { count ≤ 200_000 }
     ensures events { IfOk result (λ events. events.items ≡ transcript.generated seed count) }
