@@ -20,12 +20,18 @@ pub(crate) struct Episode {
     pub(crate) draw: u64,
 }
 
+/// What a random number is multiplied by.
+const MULTIPLIER: u64 = 48_271;
+
+/// The random numbers are below this.
+const MODULUS: u64 = 2_147_483_647;
+
 /// The next random number.
 fn next_draw(draw: u64) -> u64
     requires { draw < 2_147_483_647 }
     ensures { result ≡ 48_271 * draw % 2_147_483_647 }
 {
-    48_271 * draw % 2_147_483_647
+    MULTIPLIER * draw % MODULUS
 }
 
 impl Episode {
