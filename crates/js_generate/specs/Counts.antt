@@ -1,0 +1,72 @@
+-- How much a run puts out.
+use Rattle.std.specs.Prelude.{◌≡◌, ℕ, ◌+◌, Bool, true, false, List, [], ◌∷◌, length, count_by}
+use Rattle.js_ordered.specs.declared.event.Event.{Event}
+use Rattle.js_ordered.specs.declared.run.Run.{Run}
+use Rattle.js_ordered.specs.declared.run.Output.{Output}
+use Rattle.js_ordered.specs.declared.run.Output.TheVariants as out
+use Rattle.js_ordered.specs.Fold.{is_request, is_subscribe}
+use Rattle.js_ordered.specs.Gapless.{all_outputs}
+use Rattle.js_ordered.specs.Valid.{IsReplay}
+use Rattle.js_generate.specs.declared.summary.Summary.{Summary}
+use Rattle.js_generate.specs.Transcript.{given}
+
+-- a message is handed out
+abbrev pub is_yield : Output → Bool
+is_yield (out.Yield sequence number subject payload) = true
+is_yield _ = false
+
+-- an error is handed out
+abbrev pub is_item : Output → Bool
+is_item (out.Item kind) = true
+is_item _ = false
+
+-- a recreation begins
+abbrev pub is_recreation : Output → Bool
+is_recreation (out.Recreate serial start) = true
+is_recreation _ = false
+
+-- a pull request goes out
+abbrev pub is_publish : Output → Bool
+is_publish (out.Publish subject reply payload) = true
+is_publish _ = false
+
+-- the last sequence that is yielded, after one that was the last so far
+abbrev pub last_yielded : ℕ → List Output → ℕ
+last_yielded last [] = last
+last_yielded last (out.Yield sequence number subject payload ∷ outputs) = last_yielded sequence outputs
+last_yielded last (_ ∷ outputs) = last_yielded last outputs
+
+-- the counts of some outputs
+abbrev pub counts : ℕ → List Output → Summary
+counts events outputs = record {
+  events = events;
+  yields = count_by is_yield outputs;
+  items = count_by is_item outputs;
+  recreations = count_by is_recreation outputs;
+  requests = count_by is_request outputs;
+  publishes = count_by is_publish outputs;
+  subscribes = count_by is_subscribe outputs;
+  last = last_yielded 0 outputs;
+}
+
+-- the counts with one output more
+abbrev pub tallied : Output → Summary → Summary
+tallied (out.Yield sequence number subject payload) s = record s { yields = s.yields + 1; last = sequence }
+tallied (out.Item kind) s = record s { items = s.items + 1 }
+tallied (out.Recreate serial start) s = record s { recreations = s.recreations + 1 }
+tallied (out.Request number subject payload) s = record s { requests = s.requests + 1 }
+tallied (out.Publish subject reply payload) s = record s { publishes = s.publishes + 1 }
+tallied (out.Subscribe inbox subject) s = record s { subscribes = s.subscribes + 1 }
+
+-- and with more of them
+abbrev pub tallied_all : List Output → Summary → Summary
+tallied_all [] s = s
+tallied_all (output ∷ outputs) s = tallied_all outputs (tallied output s)
+
+-- the counts of a run, over its opening and all of its steps
+abbrev pub summary : Run → Summary
+summary run = counts (length run.steps) (all_outputs run)
+
+-- a replay of the events yields as many messages as its last sequence says
+abbrev pub YieldsItsLast : List Event → Type 0
+YieldsItsLast events = (run : Run) → IsReplay given 0 events run → (summary run).yields ≡ (summary run).last

@@ -1,0 +1,4 @@
+pub mod Episodes
+pub mod Transcript
+pub mod Honesty
+pub mod Counts

@@ -1,0 +1,15 @@
+//! Generated transcripts: the events of an ordered pull consumer that loses messages again and again, from a number.
+#![tactic(auto)]
+
+mod episode;
+mod setup;
+mod summary;
+mod texts;
+mod transcript;
+
+pub use setup::given;
+pub use summary::{Summary, generate};
+pub use transcript::generated;
+
+#[cfg(test)]
+mod tests;

@@ -1,0 +1,145 @@
+//! How much the replay of a generated transcript puts out.
+ghost use Rattle.std.specs.Prelude.{◌≡◌, ◌≤◌, ◌+◌, [], IfOk, OnOk};
+ghost use Rattle.js_ordered.specs.Fold.{fold};
+ghost use Rattle.js_ordered.specs.Valid.{IsReplay, IsValid};
+ghost use Rattle.js_generate.specs.Counts as counts;
+ghost use Rattle.js_generate.specs.Transcript as transcript;
+
+use crate::setup::given;
+use crate::transcript::generated;
+use js_base::OutOfMemory;
+use js_ordered::{Event, Given, Output, ReplayError, Run, replay_ordered};
+use std::alloc::Global;
+
+/// How much a run puts out, over its opening and all of its steps.
+#[derive(Clone, Copy, Debug, PartialEq, Eq)]
+pub struct Summary {
+    pub events: u64,
+    pub yields: u64,
+    pub items: u64,
+    pub recreations: u64,
+    /// API requests.
+    pub requests: u64,
+    /// Pull requests, and answers to flow control.
+    pub publishes: u64,
+    pub subscribes: u64,
+    /// The stream sequence that was yielded last; 0 where nothing was.
+    pub last: u64,
+}
+
+/// One more.
+///
+/// What is counted lies in memory, which ends long before the numbers do.
+fn one_more(number: &mut u64) -> Result<(), OutOfMemory>
+    ensures { OnOk result (number.new ≡ number.old + 1) }
+{
+    match number.checked_add(1) {
+        Some(next) => {
+            *number = next;
+            Ok(())
+        }
+        None => Err(OutOfMemory),
+    }
+}
+
+impl Summary {
+    /// Nothing is counted yet.
+    fn new(events: u64) -> Summary
+        ensures { result ≡ counts.counts events [] }
+    {
+        Summary {
+            events,
+            yields: 0,
+            items: 0,
+            recreations: 0,
+            requests: 0,
+            publishes: 0,
+            subscribes: 0,
+            last: 0,
+        }
+    }
+
+    /// Counts one output more.
+    fn count(&mut self, output: &Output) -> Result<(), OutOfMemory>
+        ensures { OnOk result (self.new ≡ counts.tallied output.now self.old) }
+    {
+        match output {
+            Output::Yield {
+                stream_sequence, ..
+            } => {
+                self.last = *stream_sequence;
+                one_more(&mut self.yields)
+            }
+            Output::Item { .. } => one_more(&mut self.items),
+            Output::Recreate { .. } => one_more(&mut self.recreations),
+            Output::Request { .. } => one_more(&mut self.requests),
+            Output::Publish { .. } => one_more(&mut self.publishes),
+            Output::Subscribe { .. } => one_more(&mut self.subscribes),
+        }
+    }
+
+    /// Counts the outputs of a step.
+    fn count_all(&mut self, step: &[Output]) -> Result<(), OutOfMemory>
+        ensures { OnOk result (self.new ≡ counts.tallied_all step.now self.old) }
+    {
+        for output in step {
+            self.count(output)?;
+        }
+        Ok(())
+    }
+}
+
+/// The counts of a run.
+///
+/// # Errors
+///
+/// Want of memory.
+#[tactic(auto, using(std::proofs::lemmas::Grind::common_steps, crate::proofs::Tallies::counts_all, crate::proofs::Tallies::tallied_append))]
+pub fn summary_of(run: &Run) -> Result<Summary, OutOfMemory>
+    ensures { IfOk result (λ summary. summary ≡ counts.summary run.now) }
+{
+    let steps = run.steps.as_slice();
+    let mut summary = Summary::new(steps.len() as u64);
+    summary.count_all(run.opening.outputs.as_slice())?;
+    for step in steps {
+        summary.count_all(step.outputs.as_slice())?;
+    }
+    Ok(summary)
+}
+
+/// The run of valid events.
+fn replay(alloc: Global, given: &Given, events: &[Event]) -> Result<Run, OutOfMemory>
+    requires { IsValid given.now 0 events.now }
+    ensures { IfOk result (λ run. IsReplay given.now 0 events.now run) }
+{
+    match replay_ordered(
+        alloc,
+        &given.settings,
+        &given.setup,
+        &given.first,
+        0,
+        events,
+    ) {
+        Ok(run) => Ok(run),
+        Err(ReplayError::OutOfMemory) => Err(OutOfMemory),
+        Err(_) => unreachable!(),
+    }
+}
+
+/// The counts of the replay of the first `events` events that a seed gives.
+///
+/// # Errors
+///
+/// Want of memory.
+pub fn generate(alloc: Global, seed: u64, events: u64) -> Result<Summary, OutOfMemory>
+    requires { events ≤ 200_000 }
+    ensures counts { IfOk result (λ summary. summary ≡ counts.summary (fold transcript.given 0 (transcript.generated seed events))) }
+
+    // No message is missing among those that are yielded.
+    ensures whole { IfOk result (λ summary. summary.yields ≡ summary.last) }
+{
+    let given = given(alloc)?;
+    let events = generated(alloc, seed, events)?;
+    let run = replay(alloc, &given, events.as_slice())?;
+    summary_of(&run)
+}
