@@ -1,7 +1,8 @@
--- The lines that `info` and `window` write.
+-- The lines that `generate`, `info` and `window` write.
 use Rattle.std.specs.Prelude.{ℕ, List, [], ◌∷◌, codes, Result, Ok, Err}
 use Rattle.std.specs.Fmt.{signed_decimal}
 use Rattle.serde_json.specs.Data.{Data, boolean, string}
+use Rattle.js_generate.specs.declared.summary.Summary.{Summary}
 use Rattle.js_message.specs.Ack.{Info}
 use Rattle.js_message.specs.declared.info_error.InfoError.{InfoError}
 use Rattle.js_message.specs.declared.info_error.InfoError.TheVariants as error
@@ -9,6 +10,14 @@ use Rattle.js_workers.specs.declared.workers.WindowCounts.{WindowCounts}
 use Rattle.js_tool.specs.declared.status.Status.{Status}
 use Rattle.js_tool.specs.declared.status.Status.TheVariants as status
 use Rattle.js_tool.specs.Texts.{line_text, count, integer, text_or_null}
+
+-- ---- generated transcripts
+
+-- the line of how much a replay put out
+abbrev pub summary_text : Summary → List ℕ
+summary_text s = line_text (
+    string (codes "summary") ∷ count s.events ∷ count s.yields ∷ count s.items ∷ count s.recreations ∷ count s.requests
+    ∷ count s.publishes ∷ count s.subscribes ∷ count s.last ∷ [])
 
 -- ---- what a subject says
 

@@ -2,9 +2,13 @@
 use Rattle.std.specs.Prelude.{◌≡◌, ◌⊎◌, ◌≤◌, ◌+◌, ◌*◌, ℕ, List, length, nat_lt, if◌then◌else◌, Option, Some, None, Result, Ok, Err, ⊤}
 use Rattle.std.specs.Io.KnownBytes.{Appends}
 use Rattle.js_ends.specs.Causes.{Rose, AppendsPrefix}
+use Rattle.js_generate.specs.declared.summary.Summary.{Summary}
+use Rattle.js_generate.specs.Counts.{summary}
+use Rattle.js_generate.specs.Transcript as generated
 use Rattle.js_ordered.specs.declared.consumer.Given.{Given}
 use Rattle.js_ordered.specs.declared.run.Run.{Run}
 use Rattle.js_ordered.specs.declared.run.ReplayError.{ReplayError}
+use Rattle.js_ordered.specs.Fold.{fold}
 use Rattle.js_ordered.specs.Refusal.{refuse}
 use Rattle.js_ordered.specs.Valid.{IsReplay, IsValid}
 use Rattle.js_workers.specs.declared.workers.WindowCounts.{WindowCounts}
@@ -15,7 +19,7 @@ use Rattle.js_tool.specs.declared.program.Reply.{Reply}
 use Rattle.js_tool.specs.declared.program.Reply.TheVariants as reply
 use Rattle.js_tool.specs.declared.transcript.setup.Setup.{Setup}
 use Rattle.js_tool.specs.declared.transcript.Transcript.{Transcript}
-use Rattle.js_tool.specs.Commands.{Asked, Replay, Info, Window}
+use Rattle.js_tool.specs.Commands.{Asked, Replay, Generate, Info, Window}
 use Rattle.js_tool.specs.Transcripts.{transcript}
 use Rattle.js_tool.specs.Texts.{run_text, refusal_text}
 
@@ -86,12 +90,20 @@ IsUnlessUnwritten (status.BadLine line) called = called ≡ status.BadLine line
 IsUnlessUnwritten status.Refused called = called ≡ status.Refused
 IsUnlessUnwritten status.TooLong called = called ≡ status.TooLong
 
+-- ---- generated transcripts
+
+-- the counts of the replay of the first so many events that a seed gives, which yields every message up to its last
+pub record IsGenerated (seed events : ℕ) (counted : Summary) : Type 0 where
+  pub counts : counted ≡ summary (fold generated.given 0 (generated.generated seed events))
+  pub whole : counted.yields ≡ counted.last
+
 -- ---- threads on a window
 
 -- what is asked for that needs no threads
 abbrev pub without_threads : Option Asked → Option Asked
 without_threads None = None
 without_threads (Some Replay) = Some Replay
+without_threads (Some (Generate seed events)) = Some (Generate seed events)
 without_threads (Some (Info subject)) = Some (Info subject)
 without_threads (Some (Window capacity threads calls)) = None
 

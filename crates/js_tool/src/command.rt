@@ -1,7 +1,7 @@
 //! The words of a command line.
 
 ghost use Rattle.std.specs.Prelude.{◌≡◌, ◌≤◌, map, option_map, string_bytes, IfSome};
-ghost use Rattle.js_tool.specs.Commands.{asked, command_of as command_in, window_of as window_in, number_of, within, IsWithinLimits};
+ghost use Rattle.js_tool.specs.Commands.{asked, command_of as command_in, generate_of as generate_in, window_of as window_in, number_of, within, IsWithinLimits};
 
 use js_message::read_u64;
 
@@ -10,6 +10,11 @@ use js_message::read_u64;
 pub enum Command<'a> {
     /// To read a transcript, and to write the text of its run.
     Replay,
+    /// To replay the first so many events, at most 200,000, of the transcript that a seed gives, and to write their counts.
+    Generate {
+        seed: u64,
+        events: u64,
+    },
     /// To write what this acknowledgement subject says.
     Info {
         subject: &'a str,
@@ -45,7 +50,13 @@ pub fn command_of(words: &[String]) -> Option<Command<'_>>
                 None
             }
         }
-        [_, _, _] => None,
+        [name, seed, events] => {
+            if name.as_str() == "generate" {
+                generate_of(seed.as_str(), events.as_str())
+            } else {
+                None
+            }
+        }
         [name, capacity, threads, calls] => {
             if name.as_str() == "window" {
                 window_of(capacity.as_str(), threads.as_str(), calls.as_str())
@@ -55,6 +66,16 @@ pub fn command_of(words: &[String]) -> Option<Command<'_>>
         }
         [_, _, _, _, _, ..] => None,
     }
+}
+
+#[tactic(auto, unfolding(crate::specs::Commands::generate_of))]
+fn generate_of<'a>(seed: &str, events: &str) -> Option<Command<'a>>
+    ensures form { option_map asked result ≡ generate_in seed.now events.now }
+    ensures limits { IfSome result IsWithinLimits }
+{
+    let seed = read_number(seed)?;
+    let events = number_within(events, 0, 200_000)?;
+    Some(Command::Generate { seed, events })
 }
 
 #[tactic(auto, unfolding(crate::specs::Commands::window_of))]

@@ -2,6 +2,7 @@
 #![tactic(auto)]
 
 mod command;
+mod generate;
 mod info;
 mod lines;
 mod program;
@@ -12,6 +13,7 @@ mod transcript;
 mod window;
 
 pub use command::{Command, command_of};
+pub use generate::summary_line;
 pub use info::{error_line, info_line};
 pub use js_ends::{
     Failed, MemorySink, MemorySource, Pieces, PlainSink, PlainSource, ReadSource, Sink, Source,

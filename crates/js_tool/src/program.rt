@@ -5,15 +5,17 @@ ghost use Rattle.std.specs.Io.KnownBytes.{Keeps, Appends, IsAtEnd};
 ghost use Rattle.js_ends.specs.Causes.{Rose, AppendsPrefix};
 ghost use Rattle.js_ordered.specs.declared.run.Run.{Run};
 ghost use Rattle.js_ordered.specs.declared.run.ReplayError.{ReplayError};
+ghost use Rattle.js_generate.specs.declared.summary.Summary.{Summary};
 ghost use Rattle.js_message.specs.Ack.{Info as PlainInfo, ack};
 ghost use Rattle.js_message.specs.declared.info_error.InfoError.{InfoError};
 ghost use Rattle.js_workers.specs.declared.workers.WindowCounts.{WindowCounts};
-ghost use Rattle.js_tool.specs.Answers.{info_text, error_text, info_status, window_text};
-ghost use Rattle.js_tool.specs.Commands.{Replay, Info, Window, command_of as command_in};
-ghost use Rattle.js_tool.specs.Program.{Replays, IsRefused, FirstUnread, IsValidTranscript, IsWindowRun, WritesUnlessFault, called_for, IsUnlessFailed, IsUnlessUnwritten, SaysNothing, HasReadAll, without_threads};
+ghost use Rattle.js_tool.specs.Answers.{summary_text, info_text, error_text, info_status, window_text};
+ghost use Rattle.js_tool.specs.Commands.{Replay, Generate, Info, Window, command_of as command_in};
+ghost use Rattle.js_tool.specs.Program.{Replays, IsRefused, FirstUnread, IsValidTranscript, IsGenerated, IsWindowRun, WritesUnlessFault, called_for, IsUnlessFailed, IsUnlessUnwritten, SaysNothing, HasReadAll, without_threads};
 ghost use Rattle.js_tool.specs.Texts.{run_text as text_of_run, refusal_text};
 
 use crate::command::{Command, command_of};
+use crate::generate::tell_generate;
 use crate::info::tell_info;
 use crate::progress::replay;
 use crate::status::Status;
@@ -34,7 +36,8 @@ pub(crate) enum Reply {
 /// Does what the words say, with a source and a sink. What it promises of words that are not those of `window` is what
 /// [`run_plain`] promises.
 ///
-/// `replay` reads a transcript to its end and writes the text of its run. `info` writes what a subject says. `window`
+/// `replay` reads a transcript to its end and writes the text of its run. `generate` replays a transcript that a number
+/// gives, and writes how much its run puts out. `info` writes what a subject says. `window`
 /// lets threads take permits of one window and writes their counts; where no thread can be made, the work is done on
 /// the caller's. It may wait in `window` alone.
 pub fn run<R: Threads + Wait + Sync, S: Source, K: Sink>(
@@ -75,6 +78,16 @@ pub fn run<R: Threads + Wait + Sync, S: Source, K: Sink>(
 
     // No other command reads its source.
     ensures unread { (command_in (map string_bytes words.now) ≡ Some Replay → ⊥) → input.new ≡ input.old }
+
+    // `generate`: the line of how much the generated transcript's run puts out.
+    ensures generate_done { (seed events : ℕ) → command_in (map string_bytes words.now) ≡ Some (Generate seed events)
+        → result ≡ Status.Done → (counts : Summary) × IsGenerated seed events counts
+        × Appends (K.taken output.old) (K.taken output.new) (summary_text counts) }
+    ensures generate_written_before_fault { (seed events : ℕ) → command_in (map string_bytes words.now) ≡ Some (Generate seed events)
+        → result ≡ Status.WriteFault → (counts : Summary) × IsGenerated seed events counts
+        × AppendsPrefix (K.taken output.old) (K.taken output.new) (summary_text counts) }
+    ensures generate_otherwise { (seed events : ℕ) → command_in (map string_bytes words.now) ≡ Some (Generate seed events)
+        → IsUnlessUnwritten result Status.Done }
 
     // `info`: the line of what the subject says, or of why it is no acknowledgement subject.
     ensures info_done { (subject : List ℕ) → command_in (map string_bytes words.now) ≡ Some (Info subject)
@@ -155,6 +168,16 @@ pub fn run_plain<S: Source, K: Sink>(
     // No other command reads its source.
     ensures unread { (command_in (map string_bytes words.now) ≡ Some Replay → ⊥) → input.new ≡ input.old }
 
+    // `generate`: the line of how much the generated transcript's run puts out.
+    ensures generate_done { (seed events : ℕ) → command_in (map string_bytes words.now) ≡ Some (Generate seed events)
+        → result ≡ Status.Done → (counts : Summary) × IsGenerated seed events counts
+        × Appends (K.taken output.old) (K.taken output.new) (summary_text counts) }
+    ensures generate_written_before_fault { (seed events : ℕ) → command_in (map string_bytes words.now) ≡ Some (Generate seed events)
+        → result ≡ Status.WriteFault → (counts : Summary) × IsGenerated seed events counts
+        × AppendsPrefix (K.taken output.old) (K.taken output.new) (summary_text counts) }
+    ensures generate_otherwise { (seed events : ℕ) → command_in (map string_bytes words.now) ≡ Some (Generate seed events)
+        → IsUnlessUnwritten result Status.Done }
+
     // `info`: the line of what the subject says, or of why it is no acknowledgement subject.
     ensures info_done { (subject : List ℕ) → command_in (map string_bytes words.now) ≡ Some (Info subject)
         → result ≡ Status.Done → (info : PlainInfo)
@@ -171,6 +194,7 @@ pub fn run_plain<S: Source, K: Sink>(
 {
     match command_of(words) {
         Some(Command::Replay) => tell_replay(alloc, input, output),
+        Some(Command::Generate { seed, events }) => tell_generate(alloc, seed, events, output),
         Some(Command::Info { subject }) => tell_info(alloc, subject, output),
         Some(Command::Window { .. }) => Status::Usage,
         None => Status::Usage,

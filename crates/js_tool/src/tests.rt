@@ -260,6 +260,25 @@ fn subjects_are_told(rt: HostRuntime) -> Result<(), Fail> {
 }
 
 #[test]
+fn generated_transcripts_are_counted(rt: HostRuntime) -> Result<(), Fail> {
+    for (seed, events, text) in [
+        ("0", "12", "[\"summary\",12,8,0,1,2,2,1,8]\n"),
+        ("0", "13", "[\"summary\",13,9,0,1,2,2,1,9]\n"),
+        ("1", "11", "[\"summary\",11,7,0,1,2,2,1,7]\n"),
+        ("1", "0", "[\"summary\",0,0,0,0,0,1,0,0]\n"),
+    ] {
+        answers(
+            &rt,
+            rt.alloc(),
+            &["generate", seed, events],
+            Status::Done,
+            text,
+        )?;
+    }
+    Ok(())
+}
+
+#[test]
 fn threads_share_a_window(rt: HostRuntime) -> Result<(), Fail> {
     for (numbers, text) in [
         (["1", "1", "3"], "[\"window\",1,1,3,3,0,true]\n"),
@@ -346,6 +365,10 @@ fn other_words_are_no_command(rt: HostRuntime) -> Result<(), Fail> {
         &["Replay"],
         &["info"],
         &["info", "a", "b"],
+        &["generate", "0"],
+        &["generate", "0", "200001"],
+        &["generate", "18446744073709551616", "1"],
+        &["generate", "-1", "1"],
         &["window"],
         &["window", "1", "1"],
         &["window", "1", "1", "3", "3"],

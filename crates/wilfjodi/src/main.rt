@@ -1,4 +1,4 @@
-//! `wilfjodi`: JetStream consumers replayed from transcripts, acknowledgement subjects and publish windows, on a command line.
+//! `wilfjodi`: JetStream consumers replayed from transcripts and from numbers, acknowledgement subjects and publish windows, on a command line.
 #![tactic(auto)]
 
 use js_tool::{ReadSource, Status, WriteSink, run};
@@ -11,6 +11,9 @@ const HELP: &str = "\
 wilfjodi: JetStream consumers, replayed
 
   wilfjodi replay         reads a transcript from standard input, and writes the text of its run to standard output
+  wilfjodi generate SEED EVENTS
+                          replays the first EVENTS events (at most 200000) of the transcript that the number SEED gives,
+                          and writes how much its run puts out
   wilfjodi info SUBJECT   writes what an acknowledgement subject says
   wilfjodi window CAPACITY THREADS CALLS
                           runs THREADS threads (1 to 8) on a window of CAPACITY permits (1 to 4294967295): each takes
