@@ -53,4 +53,4 @@ pub record Creates (scope : ApiScope) (request : CreateRequest) (asked : RawCall
 pub record Makes {C K : Type 0} (scope : ApiScope) (request : CreateRequest) (call : Call (CreatingConsumer C K)) : Type 0 where
   pub asked : RawCall
   pub asks : Creates scope request asked
-  pub same : call ≡ calling (record { scope = scope; of = record { } }) asked
+  pub same : call ≡ calling (record { scope = scope; of = record {} }) asked

@@ -40,5 +40,5 @@ get_row of_config = record {
 -- the call, which is not sent
 abbrev pub getting : {C : Type 0} → ApiScope → List ℕ → List ℕ → Call (GettingConsumer C)
 getting scope consumer stream = calling
-    (record { scope = scope; consumer = consumer; stream = stream; of = record { } })
+    (record { scope = scope; consumer = consumer; stream = stream; of = record {} })
     (asking scope (of_consumer (codes "CONSUMER.INFO") stream consumer) (codes "{}"))

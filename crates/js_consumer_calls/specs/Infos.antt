@@ -56,4 +56,4 @@ info_request scope info = asking scope (of_consumer (codes "CONSUMER.INFO") info
 
 -- the call on the consumer of an info, which is not sent
 abbrev pub asking_info : ApiScope → Info → Call AskingInfo
-asking_info scope info = calling (record { }) (info_request scope info)
+asking_info scope info = calling (record {}) (info_request scope info)

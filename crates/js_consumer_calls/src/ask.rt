@@ -26,5 +26,10 @@ pub(crate) fn ask_consumer(
     ensures { IfOk result (λ call. call ≡ asking scope.now (of_consumer words.now stream.now consumer.now) (codes "{}")) }
 {
     let on_stream = with_word(alloc, words, stream)?;
-    scope.ask_named(alloc, on_stream.as_str(), consumer, Bytes::from_static(b"{}"))
+    scope.ask_named(
+        alloc,
+        on_stream.as_str(),
+        consumer,
+        Bytes::from_static(b"{}"),
+    )
 }

@@ -132,11 +132,7 @@ fn ask_create(
 }
 
 /// The request that makes a consumer, of a value that is given up.
-fn ask_for(
-    alloc: Global,
-    scope: &ApiScope,
-    request: CreateRequest,
-) -> Result<RawCall, OutOfMemory>
+fn ask_for(alloc: Global, scope: &ApiScope, request: CreateRequest) -> Result<RawCall, OutOfMemory>
     ensures { IfOk result (λ asked. Creates scope.now request asked) }
 {
     ask_create(alloc, scope, &request)

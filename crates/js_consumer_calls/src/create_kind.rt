@@ -4,8 +4,7 @@ ghost use Rattle.js_consumer_calls.specs.Kinds.{Kinds, consumer_kinds, strict_ki
 
 use crate::error::{ConsumerCreateStrictErrorKind, ConsumerErrorKind, ConsumerUpdateErrorKind};
 use js_call::RequestErrorKind;
-use js_codes::ErrorCode;
-use js_codes::errors;
+use js_codes::{ErrorCode, errors};
 use js_json::consumer::Action;
 
 /// The kinds of errors of a call that makes or changes a consumer, which tell the call.

@@ -6,8 +6,7 @@ use crate::ask::ask_consumer;
 use crate::error::{ConsumerInfoError, ConsumerInfoErrorKind};
 use js_base::{Error, OutOfMemory};
 use js_call::{ApiScope, Call, Meaning, RawCall, RequestErrorKind};
-use js_codes::ErrorCode;
-use js_codes::errors;
+use js_codes::{ErrorCode, errors};
 use js_fields::ReadError;
 use js_json::consumer::Info;
 use js_json::{Response, response_as};
@@ -48,11 +47,7 @@ pub(crate) fn info_failure(kind: RequestErrorKind) -> ConsumerInfoErrorKind
 }
 
 /// The request for the info of the consumer that an info is of.
-pub(crate) fn ask_info(
-    alloc: Global,
-    scope: &ApiScope,
-    info: &Info,
-) -> Result<RawCall, OutOfMemory>
+pub(crate) fn ask_info(alloc: Global, scope: &ApiScope, info: &Info) -> Result<RawCall, OutOfMemory>
     ensures { IfOk result (λ asked. asked ≡ info_request scope.now info.now) }
 {
     let stream = info.stream_name.as_str();

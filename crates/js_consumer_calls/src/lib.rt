@@ -15,10 +15,12 @@ mod info;
 mod refusal;
 mod told;
 
-pub use consumer::{Consumer, OrderedPullConsumer, OrderedPushConsumer, PullConsumer, PushConsumer};
+pub use consumer::{
+    Consumer, OrderedPullConsumer, OrderedPushConsumer, PullConsumer, PushConsumer,
+};
 pub use create::{
-    CreateConsumer, CreateConsumerStrict, CreatingConsumer, UpdateConsumer, create_consumer_on_stream,
-    create_consumer_strict_on_stream, update_consumer_on_stream,
+    CreateConsumer, CreateConsumerStrict, CreatingConsumer, UpdateConsumer,
+    create_consumer_on_stream, create_consumer_strict_on_stream, update_consumer_on_stream,
 };
 pub use create_kind::CreateKind;
 pub use delete::{DeleteConsumer, DeletingConsumer, delete_consumer_from_stream};

@@ -71,4 +71,4 @@ page_row reads = record {
 pub record AsksPage {A : Type 0} (lists : Lists) (scope : ApiScope) (offset : ℕ) (call : Call (AskingPage A)) : Type 0 where
   pub body : List ℕ
   pub text : text_of (lists.request offset) ≡ Ok body
-  pub same : call ≡ calling (record { of = record { } }) (asking scope lists.words body)
+  pub same : call ≡ calling (record { of = record {} }) (asking scope lists.words body)

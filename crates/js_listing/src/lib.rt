@@ -9,9 +9,7 @@ mod listing;
 mod page;
 mod rest;
 
-pub use error::{
-    GetStreamByNameError, GetStreamByNameErrorKind, StreamsError, StreamsErrorKind,
-};
+pub use error::{GetStreamByNameError, GetStreamByNameErrorKind, StreamsError, StreamsErrorKind};
 pub use find::{FindingStream, StreamBySubject, stream_by_subject};
 pub use ledger::Ledger;
 pub use listed::Listed;

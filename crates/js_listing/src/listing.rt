@@ -110,8 +110,7 @@ impl<T: Listed> Listing<T> {
     /// The list of an honest server is handed out whole, each place of it once: a law, which takes no steps.
     pub fn hands_out_whole()
         ensures { HandsOutWhole T.reads T.list }
-    {
-    }
+    {}
 }
 
 /// Lists the names of all streams. The one refusal is want of memory.

@@ -66,9 +66,13 @@ fn next(alloc: Global, names: &mut Listing<Text>, server: &mut ScriptedServer) -
 /// Whether the request of that place was on the names' subject with that body.
 fn asked(server: &mut ScriptedServer, place: usize, body: &str) -> bool {
     match server.link().sent().get(place) {
-        Some(Sent::Request {
-            subject, payload, ..
-        }) => subject.as_str() == NAMES && payload.as_slice() == body.as_bytes(),
+        Some(
+            Sent::Request {
+                subject,
+                payload,
+                ..
+            },
+        ) => subject.as_str() == NAMES && payload.as_slice() == body.as_bytes(),
         _ => false,
     }
 }
@@ -103,7 +107,10 @@ fn a_page_that_was_not_got_is_asked_for_again(rt: HostRuntime) -> Result<(), Fai
     ];
     let mut here = server(alloc, NAMES, &pages)?;
     let mut names = stream_names(alloc, &scope(alloc)?)?;
-    assert_eq!(rt; next(alloc, &mut names, &mut here), Told::Error(StreamsErrorKind::Other));
+    assert_eq!(rt;
+        next(alloc, &mut names, &mut here),
+        Told::Error(StreamsErrorKind::Other)
+    );
     assert_eq!(rt; next(alloc, &mut names, &mut here), Told::End);
     assert_eq!(rt; next(alloc, &mut names, &mut here), name(alloc, "a")?);
     assert_eq!(rt; next(alloc, &mut names, &mut here), Told::End);
@@ -147,9 +154,7 @@ fn found(
     }
 }
 
-fn kind(
-    error: &crate::GetStreamByNameError,
-) -> Option<Result<Text, GetStreamByNameErrorKind>> {
+fn kind(error: &crate::GetStreamByNameError) -> Option<Result<Text, GetStreamByNameErrorKind>> {
     match error.kind() {
         GetStreamByNameErrorKind::NotFound => Some(Err(GetStreamByNameErrorKind::NotFound)),
         GetStreamByNameErrorKind::Request => Some(Err(GetStreamByNameErrorKind::Request)),
@@ -174,7 +179,10 @@ fn the_stream_of_a_subject_is_the_first_item(rt: HostRuntime) -> Result<(), Fail
         Some(Err(GetStreamByNameErrorKind::InvalidSubject))
     );
     assert_eq!(rt; here.link().sent().len(), 0);
-    assert_eq!(rt; found(alloc, "events.x", &mut here)?, Some(Ok(Text::from_str(alloc, "b")?)));
+    assert_eq!(rt;
+        found(alloc, "events.x", &mut here)?,
+        Some(Ok(Text::from_str(alloc, "b")?))
+    );
     assert!(rt; asked(&mut here, 0, "{\"offset\":0,\"subject\":\"events.x\"}"));
     assert_eq!(rt;
         found(alloc, "events.x", &mut here)?,
