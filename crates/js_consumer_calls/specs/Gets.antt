@@ -1,0 +1,44 @@
+-- Getting a consumer: a row of the table of calls.
+use Rattle.std.specs.Prelude.{ℕ, Option, option_map, List, codes, Result, Ok, Err}
+use Rattle.js_base.specs.Errors.{plain}
+use Rattle.js_base.specs.declared.error.Error.{Error}
+use Rattle.js_fields.specs.Reading.{float_free}
+use Rattle.js_json.specs.Response.{response_of}
+use Rattle.js_json.specs.declared.consumer.config.Config.{Config}
+use Rattle.js_json.specs.declared.consumer.conversion.ConfigError.{ConfigError}
+use Rattle.js_json.specs.declared.response.Response.{Response}
+use Rattle.js_json.specs.declared.response.Response.TheVariants as response
+use Rattle.js_call.specs.declared.call.Call.{Call}
+use Rattle.js_call.specs.declared.scope.ApiScope.{ApiScope}
+use Rattle.js_call.specs.Calls.{calling}
+use Rattle.js_call.specs.Scopes.{asking}
+use Rattle.js_call.specs.Table.{Table, reads_as, refused_by}
+use Rattle.js_consumer_calls.specs.declared.consumer.Consumer.{Consumer}
+use Rattle.js_consumer_calls.specs.declared.error.ConsumerErrorKind.{ConsumerErrorKind}
+use Rattle.js_consumer_calls.specs.declared.error.ConsumerErrorKind.TheVariants.{JetStream, InvalidConsumerType}
+use Rattle.js_consumer_calls.specs.declared.get.GettingConsumer.{GettingConsumer}
+use Rattle.js_consumer_calls.specs.declared.told.Told.{Told}
+use Rattle.js_consumer_calls.specs.Kinds.{consumer_failure}
+use Rattle.js_consumer_calls.specs.Refusals.{get_refusal}
+use Rattle.js_consumer_calls.specs.Subjects.{of_consumer}
+use Rattle.js_consumer_calls.specs.Tells.{told_fields, converted}
+
+-- the consumer, or why it was not got
+abbrev pub got : {C : Type 0} → GettingConsumer C → Response (Told C) → Result (Consumer C) (Error ConsumerErrorKind)
+got s (response.Ok told) = converted InvalidConsumerType s.scope told.info told.config
+got s (response.Err error) = Err (plain (JetStream error))
+
+-- the row of `get_consumer_from_stream`, for a kind of consumer
+abbrev pub get_row : {C : Type 0} → (Config → Result C ConfigError) → Table (GettingConsumer C) (Response (Told C)) (Result (Consumer C) (Error ConsumerErrorKind))
+get_row of_config = record {
+  refused = λ s. refused_by (option_map plain (get_refusal s.consumer s.stream));
+  reads = reads_as (response_of (float_free (told_fields of_config)));
+  means = got;
+  fails = λ s kind. Err (plain (consumer_failure kind));
+}
+
+-- the call, which is not sent
+abbrev pub getting : {C : Type 0} → ApiScope → List ℕ → List ℕ → Call (GettingConsumer C)
+getting scope consumer stream = calling
+    (record { scope = scope; consumer = consumer; stream = stream; of = record {} })
+    (asking scope (of_consumer (codes "CONSUMER.INFO") stream consumer) (codes "{}"))

@@ -1,0 +1,9 @@
+pub mod Texts
+pub mod Subjects
+pub mod Refusals
+pub mod Tells
+pub mod Kinds
+pub mod Infos
+pub mod Gets
+pub mod Deletes
+pub mod Creates

@@ -1,0 +1,51 @@
+-- How refusals of calls on consumers are printed.
+use Rattle.std.specs.Prelude.{ℕ, List, ◌++◌, codes}
+use Rattle.js_codes.specs.Error.{error_text}
+use Rattle.js_consumer_calls.specs.declared.error.ConsumerInfoErrorKind.{ConsumerInfoErrorKind}
+use Rattle.js_consumer_calls.specs.declared.error.ConsumerInfoErrorKind.TheVariants as infos
+use Rattle.js_consumer_calls.specs.declared.error.ConsumerErrorKind.{ConsumerErrorKind}
+use Rattle.js_consumer_calls.specs.declared.error.ConsumerErrorKind.TheVariants as plainly
+use Rattle.js_consumer_calls.specs.declared.error.ConsumerCreateStrictErrorKind.{ConsumerCreateStrictErrorKind}
+use Rattle.js_consumer_calls.specs.declared.error.ConsumerCreateStrictErrorKind.TheVariants as strictly
+use Rattle.js_consumer_calls.specs.declared.error.ConsumerUpdateErrorKind.{ConsumerUpdateErrorKind}
+use Rattle.js_consumer_calls.specs.declared.error.ConsumerUpdateErrorKind.TheVariants as updates
+
+-- why an info was not got
+abbrev pub info_text : ConsumerInfoErrorKind → List ℕ
+info_text infos.InvalidName = codes "invalid consumer name"
+info_text infos.Offline = codes "consumer is offline"
+info_text infos.NotFound = codes "consumer not found"
+info_text infos.StreamNotFound = codes "stream not found"
+info_text infos.Request = codes "request error"
+info_text (infos.JetStream error) = codes "jetstream error: " ++ error_text error
+info_text infos.TimedOut = codes "timed out"
+info_text infos.NoResponders = codes "no responders"
+
+-- why a consumer was not got, made or deleted
+abbrev pub consumer_text : ConsumerErrorKind → List ℕ
+consumer_text plainly.InvalidName = codes "invalid consumer name"
+consumer_text plainly.TimedOut = codes "timed out"
+consumer_text plainly.Request = codes "request error"
+consumer_text plainly.InvalidConsumerType = codes "invalid consumer type"
+consumer_text (plainly.JetStream error) = codes "JetStream error: " ++ error_text error
+consumer_text plainly.Other = codes "consumer error"
+
+-- why one was not made where none may be there
+abbrev pub strict_text : ConsumerCreateStrictErrorKind → List ℕ
+strict_text strictly.InvalidName = codes "invalid consumer name"
+strict_text strictly.TimedOut = codes "timed out"
+strict_text strictly.Request = codes "request error"
+strict_text strictly.InvalidConsumerType = codes "invalid consumer type"
+strict_text (strictly.JetStream error) = codes "JetStream error: " ++ error_text error
+strict_text strictly.Other = codes "consumer error"
+strict_text strictly.AlreadyExists = codes "consumer already exists"
+
+-- why one was not changed
+abbrev pub update_text : ConsumerUpdateErrorKind → List ℕ
+update_text updates.InvalidName = codes "invalid consumer name"
+update_text updates.TimedOut = codes "timed out"
+update_text updates.Request = codes "request error"
+update_text updates.InvalidConsumerType = codes "invalid consumer type"
+update_text (updates.JetStream error) = codes "JetStream error: " ++ error_text error
+update_text updates.Other = codes "consumer error"
+update_text updates.DoesNotExist = codes "consumer does not exist"

@@ -1,0 +1,113 @@
+//! The three calls that make or change a consumer: what each asks for, and what it is refused with.
+ghost use Rattle.std.specs.Prelude.{◌≡◌};
+ghost use Rattle.js_consumer_calls.specs.Kinds.{Kinds, consumer_kinds, strict_kinds, update_kinds, consumer_failure};
+
+use crate::error::{ConsumerCreateStrictErrorKind, ConsumerErrorKind, ConsumerUpdateErrorKind};
+use js_call::RequestErrorKind;
+use js_codes::{ErrorCode, errors};
+use js_json::consumer::Action;
+
+/// The kinds of errors of a call that makes or changes a consumer, which tell the call.
+pub trait CreateKind: Drop {
+    ghost kinds: { Kinds Self };
+
+    /// What the request asks for.
+    fn action() -> Action
+        ensures { result ≡ kinds.action };
+
+    /// What a request without a reply means.
+    fn of_request(kind: RequestErrorKind) -> Self
+        ensures { result ≡ kinds.of_request kind };
+
+    /// What an error of the API means.
+    fn of_api(error: errors::Error) -> Self
+        ensures { result ≡ kinds.of_api error };
+
+    /// The consumer that was made is of another kind.
+    fn other() -> Self
+        ensures { result ≡ kinds.other };
+}
+
+/// What a request without a reply means to the calls on consumers.
+pub(crate) fn consumer_failure(kind: RequestErrorKind) -> ConsumerErrorKind
+    ensures { result ≡ consumer_failure kind }
+{
+    match kind {
+        RequestErrorKind::TimedOut => ConsumerErrorKind::TimedOut,
+        _ => ConsumerErrorKind::Request,
+    }
+}
+
+impl CreateKind for ConsumerErrorKind {
+    ghost kinds = { consumer_kinds };
+
+    fn action() -> Action {
+        Action::CreateOrUpdate
+    }
+
+    fn of_request(kind: RequestErrorKind) -> Self {
+        consumer_failure(kind)
+    }
+
+    fn of_api(error: errors::Error) -> Self {
+        ConsumerErrorKind::JetStream(error)
+    }
+
+    fn other() -> Self {
+        ConsumerErrorKind::Other
+    }
+}
+
+impl CreateKind for ConsumerCreateStrictErrorKind {
+    ghost kinds = { strict_kinds };
+
+    fn action() -> Action {
+        Action::Create
+    }
+
+    fn of_request(kind: RequestErrorKind) -> Self {
+        match kind {
+            RequestErrorKind::TimedOut => ConsumerCreateStrictErrorKind::TimedOut,
+            _ => ConsumerCreateStrictErrorKind::Request,
+        }
+    }
+
+    fn of_api(error: errors::Error) -> Self {
+        if error.err_code == ErrorCode::CONSUMER_ALREADY_EXISTS {
+            ConsumerCreateStrictErrorKind::AlreadyExists
+        } else {
+            ConsumerCreateStrictErrorKind::JetStream(error)
+        }
+    }
+
+    fn other() -> Self {
+        ConsumerCreateStrictErrorKind::Other
+    }
+}
+
+impl CreateKind for ConsumerUpdateErrorKind {
+    ghost kinds = { update_kinds };
+
+    fn action() -> Action {
+        Action::Update
+    }
+
+    fn of_request(kind: RequestErrorKind) -> Self {
+        match kind {
+            RequestErrorKind::TimedOut => ConsumerUpdateErrorKind::TimedOut,
+            _ => ConsumerUpdateErrorKind::Request,
+        }
+    }
+
+    fn of_api(error: errors::Error) -> Self {
+        if error.err_code == ErrorCode::CONSUMER_DOES_NOT_EXIST {
+            ConsumerUpdateErrorKind::DoesNotExist
+        } else {
+            ConsumerUpdateErrorKind::JetStream(error)
+        }
+    }
+
+    fn other() -> Self {
+        ConsumerUpdateErrorKind::Other
+    }
+}

@@ -1,0 +1,71 @@
+//! The call that deletes a consumer of a stream.
+ghost use Rattle.std.specs.Prelude.{◌≡◌, IfOk};
+ghost use Rattle.js_consumer_calls.specs.Deletes.{delete_row, deleting};
+
+use crate::ask::ask_consumer;
+use crate::create_kind::consumer_failure;
+use crate::error::{ConsumerError, ConsumerErrorKind};
+use crate::refusal::delete_refusal;
+use js_base::{Error, OutOfMemory, Text};
+use js_call::{ApiScope, Call, Meaning, RequestErrorKind};
+use js_fields::ReadError;
+use js_json::{Response, response_as};
+use js_stream::DeleteStatus;
+use std::alloc::Global;
+
+/// The row of `delete_consumer_from_stream`.
+#[derive(Drop)]
+pub struct DeletingConsumer {
+    consumer: Text,
+    stream: Text,
+}
+
+/// The state of `delete_consumer_from_stream`.
+pub type DeleteConsumer = Call<DeletingConsumer>;
+
+impl Meaning for DeletingConsumer {
+    type Reply = Response<DeleteStatus>;
+
+    type Answer = Result<DeleteStatus, ConsumerError>;
+
+    ghost table = { delete_row };
+
+    fn refusal(&self) -> Option<Result<DeleteStatus, ConsumerError>> {
+        match delete_refusal(self.consumer.as_str(), self.stream.as_str()) {
+            None => None,
+            Some(kind) => Some(Err(Error::new(kind))),
+        }
+    }
+
+    fn read(alloc: Global, payload: &[u8]) -> Result<Response<DeleteStatus>, ReadError> {
+        response_as(alloc, payload)
+    }
+
+    fn answer(self, reply: Response<DeleteStatus>) -> Result<DeleteStatus, ConsumerError> {
+        match reply {
+            Response::Ok(status) => Ok(status),
+            Response::Err { error } => Err(Error::new(ConsumerErrorKind::JetStream(error))),
+        }
+    }
+
+    fn failure(self, kind: RequestErrorKind) -> Result<DeleteStatus, ConsumerError> {
+        Err(Error::new(consumer_failure(kind)))
+    }
+}
+
+/// Deletes a consumer of a stream. The one refusal here is want of memory; others come from the first poll.
+pub fn delete_consumer_from_stream(
+    alloc: Global,
+    scope: &ApiScope,
+    consumer: &str,
+    stream: &str,
+) -> Result<DeleteConsumer, OutOfMemory>
+    ensures { IfOk result (λ call. call ≡ deleting scope.now consumer.now stream.now) }
+{
+    let asked = ask_consumer(alloc, scope, "CONSUMER.DELETE", stream, consumer)?;
+    let meaning = DeletingConsumer {
+        consumer: Text::from_str(alloc, consumer)?,
+        stream: Text::from_str(alloc, stream)?,
+    };
+    Ok(Call::new(meaning, asked))
+}

@@ -1,0 +1,82 @@
+//! The call that gets a consumer of a stream.
+ghost use Rattle.std.specs.Prelude.{◌≡◌, IfOk};
+ghost use Rattle.js_consumer_calls.specs.Gets.{get_row, getting, got};
+
+use crate::ask::ask_consumer;
+use crate::consumer::Consumer;
+use crate::create_kind::consumer_failure;
+use crate::error::{ConsumerError, ConsumerErrorKind};
+use crate::refusal::get_refusal;
+use crate::told::Told;
+use js_base::{Error, OutOfMemory, Text, TryClone};
+use js_call::{ApiScope, Call, Meaning, RequestErrorKind};
+use js_fields::ReadError;
+use js_json::consumer::FromConsumer;
+use js_json::{Response, response_as};
+use std::alloc::Global;
+use std::marker::PhantomData;
+
+/// The row of `get_consumer_from_stream`.
+#[derive(Drop)]
+pub struct GettingConsumer<T> {
+    scope: ApiScope,
+    consumer: Text,
+    stream: Text,
+    of: PhantomData<T>,
+}
+
+/// The state of `get_consumer_from_stream`.
+pub type GetConsumer<T> = Call<GettingConsumer<T>>;
+
+impl<T: FromConsumer> Meaning for GettingConsumer<T> {
+    type Reply = Response<Told<T>>;
+
+    type Answer = Result<Consumer<T>, ConsumerError>;
+
+    ghost table = { get_row T.of_config };
+
+    fn refusal(&self) -> Option<Result<Consumer<T>, ConsumerError>> {
+        match get_refusal(self.consumer.as_str(), self.stream.as_str()) {
+            None => None,
+            Some(kind) => Some(Err(Error::new(kind))),
+        }
+    }
+
+    fn read(alloc: Global, payload: &[u8]) -> Result<Response<Told<T>>, ReadError> {
+        response_as(alloc, payload)
+    }
+
+    fn answer(self, reply: Response<Told<T>>) -> Result<Consumer<T>, ConsumerError>
+        ensures { result ≡ got self reply }
+    {
+        match reply {
+            Response::Ok(told) => {
+                told.into_consumer(self.scope, ConsumerErrorKind::InvalidConsumerType)
+            }
+            Response::Err { error } => Err(Error::new(ConsumerErrorKind::JetStream(error))),
+        }
+    }
+
+    fn failure(self, kind: RequestErrorKind) -> Result<Consumer<T>, ConsumerError> {
+        Err(Error::new(consumer_failure(kind)))
+    }
+}
+
+/// Gets a consumer of a stream as one of that kind. The one refusal here is want of memory; others come from the first poll.
+pub fn get_consumer_from_stream<T: FromConsumer>(
+    alloc: Global,
+    scope: &ApiScope,
+    consumer: &str,
+    stream: &str,
+) -> Result<GetConsumer<T>, OutOfMemory>
+    ensures { IfOk result (λ call. call ≡ getting scope.now consumer.now stream.now) }
+{
+    let asked = ask_consumer(alloc, scope, "CONSUMER.INFO", stream, consumer)?;
+    let meaning = GettingConsumer {
+        scope: scope.try_clone()?,
+        consumer: Text::from_str(alloc, consumer)?,
+        stream: Text::from_str(alloc, stream)?,
+        of: PhantomData,
+    };
+    Ok(Call::new(meaning, asked))
+}

@@ -1,0 +1,36 @@
+//! The calls of the API on consumers, and the consumer that they hand out.
+//!
+//! A call is made by a function that takes the scope of its context, and is polled to its end. Its row of the table of calls stands in
+//! `specs/`: what its arguments are refused with, and what it answers to a reply or to a request that has none.
+#![tactic(auto)]
+
+mod ask;
+mod consumer;
+mod create;
+mod create_kind;
+mod delete;
+mod error;
+mod get;
+mod info;
+mod refusal;
+mod told;
+
+pub use consumer::{
+    Consumer, OrderedPullConsumer, OrderedPushConsumer, PullConsumer, PushConsumer,
+};
+pub use create::{
+    CreateConsumer, CreateConsumerStrict, CreatingConsumer, UpdateConsumer,
+    create_consumer_on_stream, create_consumer_strict_on_stream, update_consumer_on_stream,
+};
+pub use create_kind::CreateKind;
+pub use delete::{DeleteConsumer, DeletingConsumer, delete_consumer_from_stream};
+pub use error::{
+    ConsumerCreateStrictError, ConsumerCreateStrictErrorKind, ConsumerError, ConsumerErrorKind,
+    ConsumerInfoError, ConsumerInfoErrorKind, ConsumerUpdateError, ConsumerUpdateErrorKind,
+};
+pub use get::{GetConsumer, GettingConsumer, get_consumer_from_stream};
+pub use info::{AskingInfo, GetInfo};
+pub use told::Told;
+
+#[cfg(test)]
+mod tests;

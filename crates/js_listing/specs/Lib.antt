@@ -1,0 +1,5 @@
+pub mod Pages
+pub mod Finds
+pub mod Polls
+pub mod Chain
+pub mod Whole

@@ -1,0 +1,43 @@
+//! Why a list does not go on, and why no stream was found.
+ghost use Rattle.std.specs.Prelude.{◌≡◌, Some};
+ghost use Rattle.js_listing.specs.Finds.{find_text};
+
+use js_base::Error;
+use js_call::{RequestError, RequestErrorKind};
+use js_codes::errors;
+use std::fmt;
+
+/// Why a page of a list was not got, of which the kind is always `Other`.
+pub type StreamsError = RequestError;
+
+/// Why a page of a list was not got.
+pub type StreamsErrorKind = RequestErrorKind;
+
+/// Why no stream was found by a subject.
+#[derive(Debug, PartialEq, Eq, Drop)]
+pub enum GetStreamByNameErrorKind {
+    /// The request has no reply, the API answered an error, or the reply does not read.
+    Request,
+    /// No stream stores the subject.
+    NotFound,
+    /// The subject is none. Nothing was sent.
+    InvalidSubject,
+    /// Never given.
+    JetStream(errors::Error),
+}
+
+/// Why no stream was found by a subject, as an error.
+pub type GetStreamByNameError = Error<GetStreamByNameErrorKind>;
+
+impl fmt::Display for GetStreamByNameErrorKind {
+    ghost output = { λ kind. Some (find_text kind) };
+
+    fn fmt<W: fmt::Write>(&self, f: &mut fmt::Formatter<W>) -> fmt::Result {
+        match self {
+            GetStreamByNameErrorKind::Request => write!(f, "request error"),
+            GetStreamByNameErrorKind::NotFound => write!(f, "stream not found"),
+            GetStreamByNameErrorKind::InvalidSubject => write!(f, "invalid subject"),
+            GetStreamByNameErrorKind::JetStream(error) => write!(f, "jetstream error: {error}"),
+        }
+    }
+}
