@@ -1,5 +1,5 @@
 -- What an ordered pull consumer does at each event of an episode.
-use Rattle.std.proofs.Common.{◌≡◌, ℕ, suc, ◌+◌, ◌-◌, Bool, true, false, cond, List, [], ◌∷◌, ◌++◌, length, map, Option, Some, None, Ok, refl, sym, ap, ap₂, ◌∙◌, subst, arith, append-nil}
+use Rattle.std.proofs.Common.{◌≡◌, ℕ, suc, ◌+◌, ◌-◌, Bool, true, false, List, [], ◌∷◌, ◌++◌, length, map, Option, Some, None, Ok, refl, sym, ap, ap₂, ◌∙◌, subst, arith, append-nil}
 use Rattle.std.specs.Prelude.{◌==◌, ◌&&◌, min, not, if◌then◌else◌}
 use Rattle.std.proofs.lemmas.Bool.Decides.{Decides-eqb}
 use Rattle.js_base.specs.declared.message.Message.{Message}
@@ -25,15 +25,11 @@ use Rattle.js_pull.specs.declared.reader.Row.TheVariants as read
 use Rattle.js_ordered.specs.declared.setup.Settings.{Settings}
 use Rattle.js_ordered.specs.declared.setup.OrderedSetup.TheVariants.{Pull}
 use Rattle.js_ordered.specs.declared.consumer.Given.{Given}
-use Rattle.js_ordered.specs.declared.consumer.Consumer.{Consumer}
 use Rattle.js_ordered.specs.declared.consumer.Phase.{Phase}
 use Rattle.js_ordered.specs.declared.consumer.Phase.TheVariants.{Pulls, Recreates}
 use Rattle.js_ordered.specs.declared.consumer.Stage.{Stage}
 use Rattle.js_ordered.specs.declared.consumer.Stage.TheVariants.{Deleting, Creating}
-use Rattle.js_ordered.specs.declared.event.Event as events
-use Rattle.js_ordered.specs.declared.event.What.{What}
 use Rattle.js_ordered.specs.declared.event.What.TheVariants as what
-use Rattle.js_ordered.specs.declared.row.Row.{Row}
 use Rattle.js_ordered.specs.declared.row.Row.TheVariants.{Event, Read}
 use Rattle.js_ordered.specs.declared.run.Output.{Output}
 use Rattle.js_ordered.specs.declared.run.Start.{Start}
@@ -42,7 +38,7 @@ use Rattle.js_ordered.specs.Texts.{consumer_name, inbox_subject, recreation_time
 use Rattle.js_ordered.specs.declared.world.World.{World}
 use Rattle.js_ordered.specs.State.{Matter}
 use Rattle.js_ordered.specs.Reading.{read_row}
-use Rattle.js_ordered.specs.Fold.{Ran, after, passing, stays, and_then, pass_each, pass_to, rank, tick, opening, matter_of, event}
+use Rattle.js_ordered.specs.Fold.{Ran, after, stays, and_then, pass_each, pass_to, rank, tick, opening, matter_of, event}
 use Rattle.js_generate.proofs.Lists.{if_both}
 use Rattle.js_generate.proofs.Follows.{Follows, follows_append}
 
@@ -294,7 +290,7 @@ module _ (settings : Settings) (config : OrderedConfig) (first : Info) (starts :
     -- the next message is yielded
     pub yields : (depth : ℕ) (l : Ledger) → (source.inbox == inbox) ≡ true → readable_as (Some reply) ≡ Some place → (place.number == c.num + 1) ≡ true → place.sequence ≡ last + 1
         → Leads starts last from (IsOn source (accepted place c) asked made) place.sequence from
-            (pass_to given now arrives (suc (suc (suc depth))) (Read read.CheckArrival) (world_at (Pulls (reader source l)) c asked made))
+        (pass_to given now arrives (suc (suc (suc depth))) (Read read.CheckArrival) (world_at (Pulls (reader source l)) c asked made))
     yields depth l here reads next rises =
         rw (here, reads, next) (record { world = (goes_on depth l).world; outputs = (rises, (goes_on depth l).outputs) })
 
@@ -302,7 +298,7 @@ module _ (settings : Settings) (config : OrderedConfig) (first : Info) (starts :
     pub restarts : (depth : ℕ) (l : Ledger) → (source.inbox == inbox) ≡ true → readable_as (Some reply) ≡ Some place → (place.number == c.num + 1) ≡ false
         → (c.last == pull.u64_max) ≡ false → (c.last == 0) ≡ false → c.last ≡ last
         → Leads starts last from (IsRecreating Deleting (asked + 1) last made) last (last + 1)
-            (pass_to given now arrives (suc (suc (suc depth))) (Read read.CheckArrival) (world_at (Pulls (reader source l)) c asked made))
+        (pass_to given now arrives (suc (suc (suc depth))) (Read read.CheckArrival) (world_at (Pulls (reader source l)) c asked made))
     restarts depth l here reads next below some is =
         rw (here, reads, next, below, some) (record {
           world = record {
@@ -331,7 +327,7 @@ module _ (settings : Settings) (config : OrderedConfig) (first : Info) (starts :
     -- one on another inbox does nothing
     pub passes_over : (depth : ℕ) (l : Ledger) → (source.inbox == inbox) ≡ false → c.missed ≡ false
         → Leads starts last from (λ w. (missed : Bool) × IsOn source (record c { missed = missed }) asked made w) last from
-            (pass_to given now arrives (suc (suc depth)) (Read read.CheckArrival) (world_at (Pulls (reader source l)) c asked made))
+        (pass_to given now arrives (suc (suc depth)) (Read read.CheckArrival) (world_at (Pulls (reader source l)) c asked made))
     passes_over depth l other found =
         rw other (leads_alone starts last from last from (λ w. (missed : Bool) × IsOn source (record c { missed = missed }) asked made w)
         (pass_to given now arrives (suc depth) (Read read.CheckSilence) (world_at (Pulls (reader source l)) c (asked + 0) (made + 0)))
@@ -430,7 +426,7 @@ module _ (settings : Settings) (config : OrderedConfig) (first : Info) (starts :
         let c : Course = record { num = 0; last = at.last_now; serial = at.serial; name = at.name; missed = false; limited = at.limited; connection = at.connection } in
         let asked : ℕ = at.asked + 0 + 0 + 0 + 0 in
         let rest : Leads starts last from (IsOn source c asked (inbox + 1)) last from
-            (pass_each (pass_to given now says 6) (Read read.Threshold ∷ Read read.Arm ∷ []) (world_at (Pulls (reader source new)) c asked (inbox + 1))) =
+        (pass_each (pass_to given now says 6) (Read read.Threshold ∷ Read read.Arm ∷ []) (world_at (Pulls (reader source new)) c asked (inbox + 1))) =
         opens source c asked (inbox + 1) new in
         subst (λ (w : World). Leads starts last from (IsOpened request last made) last from (event given (record { at = now; what = what.Answer answered (Some answer) }) w)) (sym at.world)
         (rw (here, reads) (record {

@@ -1,25 +1,21 @@
 -- The server of a generated transcript is honest.
-use Rattle.std.proofs.Common.{◌≡◌, ℕ, zero, suc, ◌+◌, ◌-◌, ◌*◌, ◌^◌, ◌<◌, ◌≤◌, ◌⊎◌, List, [], ◌∷◌, ◌++◌, length, map, take, slice_index, Option, Some, None, decimal, refl, sym, ap, ◌∙◌, subst, inl, inr, arith, Contains}
+use Rattle.std.proofs.Common.{◌≡◌, ℕ, zero, suc, ◌+◌, ◌-◌, ◌*◌, ◌^◌, ◌<◌, ◌≤◌, ◌⊎◌, List, [], ◌∷◌, length, slice_index, Option, Some, decimal, refl, sym, ap, ◌∙◌, subst, inl, inr, arith}
 use Rattle.std.proofs.lemmas.List.{length-map}
-use Rattle.std.specs.Prelude.{IsTrue, slice_get, IfSome}
+use Rattle.std.specs.Prelude.{IfSome}
 use Rattle.std.specs.List.{AllByRecursion}
-use Rattle.std.specs.List.Sorted.{IsStrictlyIncreasing}
 use Rattle.std.proofs.lemmas.Grind.{get_or_default_zero}
-use Rattle.js_base.specs.Match.{filters_match}
 use Rattle.js_message.specs.Ack.{Place, readable_as}
 use Rattle.js_pull.specs.Reader.{u64_max}
 use Rattle.js_ordered.specs.declared.event.Event as events
 use Rattle.js_ordered.specs.declared.event.What.{What}
-use Rattle.js_ordered.specs.declared.event.What.TheVariants as what
-use Rattle.js_ordered.specs.Texts.{filters}
-use Rattle.js_ordered.specs.Gapless.{Logged, Server, entry_at, IsMatching, IsWhole, IsDelivery, IsHonestArrival, IsHonestEvent, entry_of}
-use Rattle.js_ordered.specs.Valid.{IsBelowEnd, IsEventBelowEnd}
-use Rattle.js_generate.specs.Episodes.{delivered, before, reply, info_text, name_of, plain, delivery, deliveries, answer, recovery, happens, episodes}
+use Rattle.js_ordered.specs.Gapless.{Logged, entry_at, IsMatching, IsWhole, IsDelivery, IsHonestEvent, entry_of}
+use Rattle.js_ordered.specs.Valid.{IsEventBelowEnd}
+use Rattle.js_generate.specs.Episodes.{delivered, before, reply, plain, delivery, deliveries, answer, recovery, happens, episodes}
 use Rattle.js_generate.specs.Transcript.{given, at_places, generated}
 use Rattle.js_generate.specs.Honesty.{upwards, log, server}
 use Rattle.js_generate.proofs.Lists.{all_append, all_take, length_upwards, index_upwards, map_upwards}
 use Rattle.js_generate.proofs.Replies.{reply_reads}
-use Rattle.js_generate.proofs.Numbers.{few, before_bound, before_rises}
+use Rattle.js_generate.proofs.Numbers.{before_rises}
 
 -- ---- the log
 
@@ -131,8 +127,7 @@ module _ (seed count : ℕ) (small : before seed count + 2 < 2 ^ 62) where
       let m : ℕ = delivered seed episode in
       let next : before seed (suc episode) ≤ before seed count = before_rises seed (suc episode) count (omega arith) in
       all_append (IsFine seed count) (deliveries episode s 1 m) (recovery episode s m)
-      (fine_deliveries episode 1 m (omega arith) (omega (arith, next)))
-      (
+      (fine_deliveries episode 1 m (omega arith) (omega (arith, next))) (
         fine_delivery episode (m + 2) (omega arith) (omega (arith, next)),
         (fine_answer (2 * episode + 1) _, (fine_answer (2 * episode + 2) _, (fine_delivery episode (m + 1) (omega arith) (omega (arith, next)), tt))),
       )

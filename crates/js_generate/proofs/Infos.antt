@@ -1,5 +1,5 @@
 -- What the answers of a generated transcript read as.
-use Rattle.std.proofs.Common.{◌≡◌, ℕ, ◌^◌, ◌<◌, ◌≤◌, List, [], ◌∷◌, ◌++◌, Option, Some, None, Ok, codes, decimal, refl, sym, ap, ◌∙◌, arith, option_and_then, append-nil, append_assoc}
+use Rattle.std.proofs.Common.{◌≡◌, ℕ, ◌^◌, ◌<◌, ◌≤◌, List, [], ◌∷◌, ◌++◌, Option, Some, Ok, codes, decimal, refl, sym, ap, ◌∙◌, arith, option_and_then, append-nil, append_assoc}
 use Rattle.std.specs.Int.{IsInRange}
 use Rattle.std.specs.Prelude.{Bool, true, Result, Err, if◌then◌else◌}
 use Rattle.std.specs.Str.{IsUtf8, is_utf8}

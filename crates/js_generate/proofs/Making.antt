@@ -1,12 +1,12 @@
 -- Events that are added one after another.
-use Rattle.std.proofs.Common.{◌≡◌, ℕ, zero, suc, ◌+◌, ◌-◌, ◌*◌, ◌%◌, ◌<◌, ◌≤◌, List, [], ◌∷◌, ◌++◌, length, take, codes, Result, Ok, Err, OnOk, refl, sym, ap, ap₂, ◌∙◌, subst, arith, append_assoc, append-nil, length-append, add-one}
+use Rattle.std.proofs.Common.{◌≡◌, ℕ, zero, suc, ◌+◌, ◌-◌, ◌*◌, ◌%◌, ◌<◌, ◌≤◌, List, [], ◌∷◌, ◌++◌, length, take, codes, Result, Ok, Err, OnOk, refl, sym, ap, ap₂, ◌∙◌, arith, append_assoc, append-nil, length-append, add-one}
 use Rattle.std.proofs.lemmas.List.{take-append-le}
 use Rattle.js_ordered.specs.declared.event.Event.{Event}
 use Rattle.js_ordered.specs.declared.event.What.{What}
 use Rattle.js_generate.specs.declared.episode.Episode.{Episode}
 use Rattle.js_generate.specs.Episodes.{draw, delivered, before, info_text, name_of, delivery, deliveries, answer, recovery, happens, episodes}
 use Rattle.js_generate.specs.Transcript.{at_places, generated}
-use Rattle.js_generate.proofs.Numbers.{few, before_bound}
+use Rattle.js_generate.proofs.Numbers.{before_bound}
 
 -- ---- places
 
@@ -65,7 +65,7 @@ none_left inbox before number left more none = ap (λ (n : ℕ). deliveries inbo
 -- all of an episode
 pub all_pushed : (start loop new : List Event) (inbox before number delivered many : ℕ) → delivered ≡ many → delivered + 1 ≤ number
     → loop ++ at_places (length loop + 1) (deliveries inbox before number (delivered + 1 - number) ++ recovery inbox before delivered)
-        ≡ start ++ at_places (length start + 1) (deliveries inbox before 1 delivered ++ recovery inbox before delivered)
+    ≡ start ++ at_places (length start + 1) (deliveries inbox before 1 delivered ++ recovery inbox before delivered)
     → new ≡ loop ++ at_places (length loop + 1) (recovery inbox before delivered)
     → new ≡ start ++ at_places (length start + 1) (deliveries inbox before 1 many ++ recovery inbox before many)
 all_pushed start loop new inbox before number delivered many same end rest last =

@@ -1,5 +1,5 @@
 -- The numbers of the episodes.
-use Rattle.std.proofs.Common.{◌≡◌, ℕ, zero, suc, ◌+◌, ◌*◌, ◌<◌, ◌≤◌, ◌⊎◌, inl, inr, refl, arith}
+use Rattle.std.proofs.Common.{◌≡◌, ℕ, zero, suc, ◌*◌, ◌<◌, ◌≤◌, ◌⊎◌, inl, inr, arith}
 use Rattle.js_generate.specs.Episodes.{draw, delivered, before}
 
 pub few : (seed episode : ℕ) → (1 ≤ delivered seed episode) × (delivered seed episode ≤ 8)

@@ -1,5 +1,5 @@
 -- The episodes, one after another: what they put out goes on.
-use Rattle.std.proofs.Common.{◌≡◌, ℕ, zero, suc, ◌+◌, ◌*◌, ◌^◌, ◌<◌, ◌≤◌, Bool, true, false, List, [], ◌∷◌, ◌++◌, length, Some, None, Ok, codes, decimal, refl, sym, ap, ◌∙◌, subst, arith, add-one}
+use Rattle.std.proofs.Common.{◌≡◌, ℕ, zero, suc, ◌+◌, ◌*◌, ◌^◌, ◌<◌, ◌≤◌, Bool, false, [], ◌∷◌, length, codes, decimal, refl, sym, ap, ◌∙◌, subst, arith, add-one}
 use Rattle.std.specs.Prelude.{◌==◌}
 use Rattle.std.proofs.lemmas.Bool.Decides.{nat_tests, Decides-eqb}
 use Rattle.js_json.specs.declared.consumer.info.Info.{Info}
@@ -9,11 +9,10 @@ use Rattle.js_pull.specs.Reader.{u64_max}
 use Rattle.js_pull.specs.declared.reader.Source.{Source}
 use Rattle.js_ordered.specs.declared.setup.Settings.{Settings}
 use Rattle.js_ordered.specs.declared.consumer.Given.{Given}
-use Rattle.js_ordered.specs.declared.event.What.{What}
 use Rattle.js_ordered.specs.declared.world.World.{World}
 use Rattle.js_ordered.specs.declared.consumer.Stage.TheVariants.{Deleting, Creating}
-use Rattle.js_ordered.specs.Fold.{Ran, stays, and_then, event}
-use Rattle.js_generate.specs.Episodes.{draw, delivered, before, reply, info_text, name_of, delivery, deliveries, answer, recovery, happens, episodes}
+use Rattle.js_ordered.specs.Fold.{Ran, event}
+use Rattle.js_generate.specs.Episodes.{delivered, before, reply, info_text, name_of, delivery, deliveries, answer, recovery, happens, episodes}
 use Rattle.js_generate.specs.Transcript as transcript
 use Rattle.js_generate.proofs.Numbers.{few, before_bound}
 use Rattle.js_generate.proofs.Replies.{reply_reads}
@@ -55,7 +54,7 @@ module _ (settings : Settings) (config : OrderedConfig) (first : Info) (starts :
 
     in_order : (now from : ℕ) (w : World) → before + (number + 1) < 2 ^ 64 → number + 1 < 2 ^ 64 → IsReading inbox number before w
         → Leads starts (before + number) from (IsReading inbox (number + 1) before) (before + (number + 1)) from
-            (event given (record { at = now; what = delivery inbox before (number + 1) }) w)
+        (event given (record { at = now; what = delivery inbox before (number + 1) }) w)
     in_order now from w s n r =
         at.heard settings config first starts now (before + number) from r.source r.c r.asked r.made inbox (reply (before + (number + 1)) (number + 1)) (decimal (before + (number + 1)))
         (before + (number + 1)) from (IsReading inbox (number + 1) before)
@@ -80,7 +79,7 @@ module _ (settings : Settings) (config : OrderedConfig) (first : Info) (starts :
 
   all_in_order : (left place inbox number before from : ℕ) (w : World) → before + (number + left) < 2 ^ 64 → number + left < 2 ^ 64 → IsReading inbox number before w
       → Leads starts (before + number) from (IsReading inbox (number + left) before) (before + (number + left)) from
-          (plays given place (deliveries inbox before (number + 1) left) w)
+      (plays given place (deliveries inbox before (number + 1) left) w)
   all_in_order zero place inbox number before from w s n r = record {
     world = subst (λ (k : ℕ). IsReading inbox k before w) (omega arith) r;
     outputs = (omega arith, refl);
@@ -103,7 +102,7 @@ module _ (settings : Settings) (config : OrderedConfig) (first : Info) (starts :
 
     gap : (now from : ℕ) (w : World) → IsReading inbox number before w
         → Leads starts (before + number) from (IsRecreating Deleting (2 * inbox + 1) (before + number) (inbox + 1)) (before + number) (before + number + 1)
-            (event given (record { at = now; what = delivery inbox before (number + 2) }) w)
+        (event given (record { at = now; what = delivery inbox before (number + 2) }) w)
     gap now from w r =
         at.heard settings config first starts now (before + number) from r.source r.c r.asked r.made inbox (reply (before + (number + 2)) (number + 2)) (decimal (before + (number + 2)))
         (before + number) (before + number + 1) (IsRecreating Deleting (2 * inbox + 1) (before + number) (inbox + 1))
@@ -121,7 +120,7 @@ module _ (settings : Settings) (config : OrderedConfig) (first : Info) (starts :
 
     late : (now from : ℕ) (w : World) → IsOpened (2 * inbox + 2) (before + number) (inbox + 1) w
         → Leads starts (before + number) from (IsReading (inbox + 1) 0 (before + number)) (before + number) from
-            (event given (record { at = now; what = delivery inbox before (number + 1) }) w)
+        (event given (record { at = now; what = delivery inbox before (number + 1) }) w)
     late now from w o =
         at.heard settings config first starts now (before + number) from o.source o.c o.asked o.made_now inbox (reply (before + (number + 1)) (number + 1)) (decimal (before + (number + 1)))
         (before + number) from (IsReading (inbox + 1) 0 (before + number))
@@ -194,10 +193,11 @@ module _ (settings : Settings) (config : OrderedConfig) (first : Info) (starts :
         let same : suc episode ≡ episode + 1 = sym (add-one episode) in
         let ran : Ran = plays given place (happens seed episode) w in
         let more = episodes_play left (episode + 1) place_then (next + 1) ran.world (omega arith) (subst (λ (n : ℕ). IsReading (episode + 1) 0 (before seed n) ran.world) same one.world) in
-        let end : episode + 1 + left ≡ episode + suc left = omega arith in
-        (more.0,
-        subst (λ (whole : Ran). Follows starts (before seed episode) from whole.outputs (before seed (episode + suc left)) more.0)
-        (sym (plays_append given place place_then (happens seed episode) (episodes seed (episode + 1) left) w refl))
-        (follows_append starts (before seed episode) from ran.outputs _ next (next + 1) (before seed (episode + suc left)) more.0 one.outputs
-        (subst (λ (n : ℕ). Follows starts (before seed n) (next + 1) (plays given place_then (episodes seed (episode + 1) left) ran.world).outputs (before seed (episode + suc left)) more.0) (sym same)
-        (subst (λ (n : ℕ). Follows starts (before seed (episode + 1)) (next + 1) (plays given place_then (episodes seed (episode + 1) left) ran.world).outputs (before seed n) more.0) end more.1))))
+        let end : episode + 1 + left ≡ episode + suc left = omega arith in (
+          more.0,
+          subst (λ (whole : Ran). Follows starts (before seed episode) from whole.outputs (before seed (episode + suc left)) more.0)
+              (sym (plays_append given place place_then (happens seed episode) (episodes seed (episode + 1) left) w refl))
+              (follows_append starts (before seed episode) from ran.outputs _ next (next + 1) (before seed (episode + suc left)) more.0 one.outputs
+              (subst (λ (n : ℕ). Follows starts (before seed n) (next + 1) (plays given place_then (episodes seed (episode + 1) left) ran.world).outputs (before seed (episode + suc left)) more.0) (sym same)
+              (subst (λ (n : ℕ). Follows starts (before seed (episode + 1)) (next + 1) (plays given place_then (episodes seed (episode + 1) left) ran.world).outputs (before seed n) more.0) end more.1))),
+        )

@@ -1,6 +1,6 @@
 -- What the replies of a generated transcript read as.
-use Rattle.std.proofs.Common.{◌≡◌, ℕ, ◌^◌, ◌<◌, List, [], ◌∷◌, ◌++◌, length, get_or, Option, Some, None, Ok, codes, decimal, refl, sym, ap, ◌∙◌, subst, arith, ◌≢◌}
-use Rattle.std.specs.Prelude.{◌==◌, false, true}
+use Rattle.std.proofs.Common.{◌≡◌, ℕ, ◌^◌, ◌<◌, List, [], ◌∷◌, ◌++◌, get_or, Some, None, Ok, codes, decimal, refl, sym, ap, ◌∙◌, subst, arith, ◌≢◌}
+use Rattle.std.specs.Prelude.{◌==◌, false}
 use Rattle.std.specs.List.{AllByRecursion, All}
 use Rattle.std.specs.Int.{IsInRange}
 use Rattle.std.specs.Str.Parse.{IsNumeral, AllDigits, digits_value, without_leading_plus, ParsesUnsigned}
@@ -11,7 +11,7 @@ use Rattle.std.proofs.lemmas.List.Splits.{slice_split_at}
 use Rattle.std.proofs.lemmas.Str.Parse.{digit_from_value, without_leading_plus_none}
 use Rattle.js_base.specs.Match.{tokens}
 use Rattle.js_message.specs.Number.{u64_of}
-use Rattle.js_message.specs.Ack.{Place, of_tokens, seven, place_of, readable_as}
+use Rattle.js_message.specs.Ack.{of_tokens, seven, place_of, readable_as}
 use Rattle.js_message.proofs.ReadNumbers.{u64_of-parse}
 use Rattle.js_generate.specs.Episodes.{reply}
 

@@ -1,12 +1,10 @@
 -- Counts with one output more.
-use Rattle.std.proofs.Common.{◌≡◌, ℕ, ◌+◌, Bool, true, false, List, [], ◌∷◌, ◌++◌, count_by, length, drop, get_or, refl, sym, ap, ◌∙◌, arith, append-nil, append_assoc}
+use Rattle.std.proofs.Common.{◌≡◌, ℕ, ◌+◌, Bool, true, false, List, [], ◌∷◌, ◌++◌, count_by, refl, sym, ap, ◌∙◌, arith, append-nil, append_assoc}
 use Rattle.std.specs.Prelude.{cond}
 use Rattle.std.proofs.lemmas.List.Sums.{sum_by_push}
 use Rattle.js_ordered.specs.declared.run.Output.{Output}
 use Rattle.js_ordered.specs.declared.run.Output.TheVariants as out
 use Rattle.js_ordered.specs.Fold.{is_request, is_subscribe}
-use Rattle.js_ordered.specs.declared.run.Step.{Step}
-use Rattle.js_ordered.specs.Gapless.{joined}
 use Rattle.js_generate.specs.declared.summary.Summary.{Summary}
 use Rattle.js_generate.specs.Counts.{is_yield, is_item, is_recreation, is_publish, last_yielded, counts, tallied, tallied_all}
 

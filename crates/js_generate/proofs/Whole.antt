@@ -1,5 +1,5 @@
 -- The run of a generated transcript: its input is valid, its server honest, and it yields as many as its last sequence.
-use Rattle.std.proofs.Common.{◌≡◌, ℕ, zero, suc, ◌+◌, ◌*◌, ◌^◌, ◌<◌, ◌≤◌, true, false, List, [], ◌∷◌, ◌++◌, take, drop, map, Some, None, Result, Ok, Err, IfOk, codes, count_by, refl, sym, ap, ◌∙◌, subst, arith, append_assoc}
+use Rattle.std.proofs.Common.{◌≡◌, ℕ, zero, suc, ◌+◌, ◌*◌, ◌^◌, ◌<◌, ◌≤◌, false, List, [], ◌∷◌, ◌++◌, take, drop, None, Result, Ok, Err, IfOk, codes, refl, sym, ap, ◌∙◌, subst, arith, append_assoc}
 use Rattle.std.specs.Prelude.{nat_lt}
 use Rattle.std.proofs.lemmas.List.{take-append-drop}
 use Rattle.std.proofs.lemmas.Bool.Decides.{nat_tests}
@@ -10,7 +10,7 @@ use Rattle.js_ordered.specs.declared.event.What.{What}
 use Rattle.js_ordered.specs.declared.run.Output.{Output}
 use Rattle.js_ordered.specs.declared.run.Run.{Run}
 use Rattle.js_ordered.specs.declared.world.World.{World}
-use Rattle.js_ordered.specs.Fold.{Ran, opening, run_events, fold}
+use Rattle.js_ordered.specs.Fold.{opening, run_events, fold}
 use Rattle.js_ordered.specs.Refusal.{first_early}
 use Rattle.js_ordered.specs.Gapless.{IsHonest, all_outputs}
 use Rattle.js_ordered.specs.Valid.{IsValid, IsReplay}
@@ -22,7 +22,7 @@ use Rattle.js_generate.specs.Counts.{summary, YieldsItsLast}
 use Rattle.js_generate.proofs.Numbers.{before_bound}
 use Rattle.js_generate.proofs.Follows.{Follows, follows_append, follows_front, follows_starts, follows_count}
 use Rattle.js_generate.proofs.Events as at
-use Rattle.js_generate.proofs.Runs.{plays, plays_outputs, outputs_of, run_front}
+use Rattle.js_generate.proofs.Runs.{plays_outputs, outputs_of, run_front}
 use Rattle.js_generate.proofs.Play.{IsReading, episodes_play}
 use Rattle.js_generate.proofs.Honest.{lists_whole, arrivals_honest, arrivals_below}
 
@@ -36,9 +36,11 @@ all_follow seed count small =
     let o = at.opened settings new_ordered_pull_config (info (codes "gen")) (starts seed) 0 in
     let w : World = (opening given 0).world in
     let r : IsReading 0 0 0 w = record { source = _; c = _; asked = 0; made = 1; on = o.world; inbox_is = refl; num_is = refl; last_is = refl; asked_is = refl; made_is = refl } in
-    let played = episodes_play settings new_ordered_pull_config (info (codes "gen")) (starts seed) seed (λ inbox. refl) count 0 1 0 w (omega arith) r in
-    (played.0, follows_append (starts seed) 0 0 (opening given 0).outputs _ 0 0 (before seed (0 + count)) played.0 o.outputs
-    (subst (λ (outputs : List Output). Follows (starts seed) 0 0 outputs (before seed (0 + count)) played.0) (plays_outputs given 1 (episodes seed 0 count) w) played.1))
+    let played = episodes_play settings new_ordered_pull_config (info (codes "gen")) (starts seed) seed (λ inbox. refl) count 0 1 0 w (omega arith) r in (
+      played.0,
+      follows_append (starts seed) 0 0 (opening given 0).outputs _ 0 0 (before seed (0 + count)) played.0 o.outputs
+          (subst (λ (outputs : List Output). Follows (starts seed) 0 0 outputs (before seed (0 + count)) played.0) (plays_outputs given 1 (episodes seed 0 count) w) played.1),
+    )
 
 -- and so does what its first events put out
 run_follows : (seed count : ℕ) → count ≤ 200_000

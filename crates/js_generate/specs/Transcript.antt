@@ -3,7 +3,6 @@ use Rattle.std.specs.Prelude.{ℕ, pos, ◌+◌, ◌*◌, List, [], ◌∷◌, t
 use Rattle.jiff.specs.Types.{Timestamp}
 use Rattle.js_json.specs.declared.consumer.info.Info.{Info}
 use Rattle.js_json.specs.declared.consumer.info.SequenceInfo.{SequenceInfo}
-use Rattle.js_json.specs.declared.pull.OrderedConfig.{OrderedConfig}
 use Rattle.js_json.specs.ConsumerConfig.{new_config}
 use Rattle.js_json.specs.PullConfig.{new_ordered_pull_config}
 use Rattle.js_ordered.specs.declared.setup.Settings.{Settings}

@@ -59,9 +59,9 @@ impl Episode {
         requires before { self.now.before < 10_000_000 }
         requires draw { self.now.draw < 2_147_483_647 }
         ensures { result ≡ record {
-            number = self.now.number + 1;
-            before = self.now.before + (1 + self.now.draw % 8);
-            draw = 48_271 * self.now.draw % 2_147_483_647;
+          number = self.now.number + 1;
+          before = self.now.before + (1 + self.now.draw % 8);
+          draw = 48_271 * self.now.draw % 2_147_483_647;
         } }
     {
         Episode {
@@ -73,14 +73,18 @@ impl Episode {
 
     /// Adds its events.
     #[tactic(auto, using(std::proofs::lemmas::Grind::common_steps, crate::proofs::Making::pushed, crate::proofs::Making::next_delivery))]
-    pub(crate) fn push_events(&self, alloc: Global, events: &mut Vec<Event>) -> Result<(), OutOfMemory>
+    pub(crate) fn push_events(
+        &self,
+        alloc: Global,
+        events: &mut Vec<Event>,
+    ) -> Result<(), OutOfMemory>
         requires number { self.now.number < 1_000_000 }
         requires before { self.now.before < 10_000_000 }
         requires room { length events.old.items < 1_000_000 }
         ensures { OnOk result (events.new.items ≡ events.old.items
             ++ transcript.at_places (length events.old.items + 1) (
-                episodes.deliveries self.now.number self.now.before 1 (1 + self.now.draw % 8)
-                ++ episodes.recovery self.now.number self.now.before (1 + self.now.draw % 8))) }
+            episodes.deliveries self.now.number self.now.before 1 (1 + self.now.draw % 8)
+            ++ episodes.recovery self.now.number self.now.before (1 + self.now.draw % 8))) }
     {
         let delivered = self.delivered();
         for number in 1..delivered + 1 {
@@ -90,7 +94,12 @@ impl Episode {
     }
 
     /// Adds the arrival of the message with this number.
-    fn push_delivery(&self, alloc: Global, number: u64, events: &mut Vec<Event>) -> Result<(), OutOfMemory>
+    fn push_delivery(
+        &self,
+        alloc: Global,
+        number: u64,
+        events: &mut Vec<Event>,
+    ) -> Result<(), OutOfMemory>
         requires number { number < 100 }
         requires before { self.now.before < 10_000_000 }
         requires room { length events.old.items < 1_100_000 }
@@ -118,7 +127,12 @@ impl Episode {
     }
 
     /// Adds the gap and what follows it.
-    fn push_recovery(&self, alloc: Global, delivered: u64, events: &mut Vec<Event>) -> Result<(), OutOfMemory>
+    fn push_recovery(
+        &self,
+        alloc: Global,
+        delivered: u64,
+        events: &mut Vec<Event>,
+    ) -> Result<(), OutOfMemory>
         requires number { self.now.number < 1_000_000 }
         requires before { self.now.before < 10_000_000 }
         requires delivered { delivered < 10 }

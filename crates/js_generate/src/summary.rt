@@ -65,7 +65,8 @@ impl Summary {
     {
         match output {
             Output::Yield {
-                stream_sequence, ..
+                stream_sequence,
+                ..
             } => {
                 self.last = *stream_sequence;
                 one_more(&mut self.yields)

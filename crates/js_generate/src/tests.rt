@@ -35,6 +35,8 @@ fn counts_of_some_seeds(rt: HostRuntime) {
 /// By a script that counts the episodes' events.
 #[test]
 fn counts_of_a_large_input(rt: HostRuntime) {
-    assert_eq!(rt; counts(rt.alloc(), 7, 200_000),
-        Ok([200_000, 105_872, 0, 23_532, 47_064, 23_533, 23_532, 105_872]));
+    assert_eq!(rt;
+        counts(rt.alloc(), 7, 200_000),
+        Ok([200_000, 105_872, 0, 23_532, 47_064, 23_533, 23_532, 105_872])
+    );
 }

@@ -1,4 +1,4 @@
-use Rattle.std.proofs.Common.{◌∙◌, sym}
+use Rattle.std.proofs.Common.{◌∙◌}
 use Rattle.js_generate.proofs.Whole.{if_ok, still_valid, counted, whole}
 use Rattle.js_generate.proofs.summary.generate.Goals as goal
 

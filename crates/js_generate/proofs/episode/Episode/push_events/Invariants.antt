@@ -1,4 +1,4 @@
-use Rattle.std.proofs.Common.{◌≡◌, ◌+◌, ◌-◌, ◌<◌, ◌≤◌, ◌%◌, ◌++◌, length}
+use Rattle.std.proofs.Common.{◌≡◌, ◌+◌, ◌-◌, ◌<◌, ◌≤◌, ◌++◌, length}
 use Rattle.js_generate.specs.Episodes.{deliveries, recovery}
 use Rattle.js_generate.specs.Transcript.{at_places}
 use Rattle.js_generate.proofs.episode.Episode.push_events.Given as goal
