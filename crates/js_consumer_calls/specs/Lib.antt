@@ -7,3 +7,4 @@ pub mod Infos
 pub mod Gets
 pub mod Deletes
 pub mod Creates
+pub mod Written

@@ -14,6 +14,7 @@ mod get;
 mod info;
 mod refusal;
 mod told;
+mod written;
 
 pub use consumer::{
     Consumer, OrderedPullConsumer, OrderedPushConsumer, PullConsumer, PushConsumer,
@@ -31,6 +32,7 @@ pub use error::{
 pub use get::{GetConsumer, GettingConsumer, get_consumer_from_stream};
 pub use info::{AskingInfo, GetInfo};
 pub use told::Told;
+pub use written::instants_alone_are_refused;
 
 #[cfg(test)]
 mod tests;
