@@ -269,6 +269,15 @@ fn each_call_has_its_request(rt: HostRuntime) -> Result<(), Fail> {
     Ok(())
 }
 
+/// Whether making and changing a stream answer so to a reply.
+fn both_make(alloc: Global, reply: Reply, wanted: &str) -> Result<bool, OutOfMemory> {
+    let call = creating(alloc, "$JS.API", "events")?;
+    if !replied(alloc, call, CREATE, reply, wanted)? {
+        return Ok(false);
+    }
+    replied(alloc, updating(alloc, "events")?, UPDATE, reply, wanted)
+}
+
 #[test]
 fn making_and_changing_refuse_alike(rt: HostRuntime) -> Result<(), Fail> {
     let alloc = rt.alloc();
@@ -278,12 +287,17 @@ fn making_and_changing_refuse_alike(rt: HostRuntime) -> Result<(), Fail> {
         (WRONG, WRONG_TEXT),
         (GARBLED, "response error"),
     ] {
-        let call = creating(alloc, "$JS.API", "events")?;
-        assert!(rt; replied(alloc, call, CREATE, reply, wanted)?, "{wanted}");
-        let call = updating(alloc, "events")?;
-        assert!(rt; replied(alloc, call, UPDATE, reply, wanted)?, "{wanted}");
+        assert!(rt; both_make(alloc, reply, wanted)?, "{wanted}");
     }
     Ok(())
+}
+
+/// Whether getting and deleting a stream answer so to a reply.
+fn both_get(alloc: Global, reply: Reply, wanted: &str) -> Result<bool, OutOfMemory> {
+    if !replied(alloc, getting(alloc, "events")?, INFO, reply, wanted)? {
+        return Ok(false);
+    }
+    replied(alloc, deleting(alloc, "events")?, DELETE, reply, wanted)
 }
 
 #[test]
@@ -298,10 +312,7 @@ fn getting_and_deleting_refuse_alike(rt: HostRuntime) -> Result<(), Fail> {
         (WRONG, WRONG_TEXT),
         (GARBLED, "request error"),
     ] {
-        let call = getting(alloc, "events")?;
-        assert!(rt; replied(alloc, call, INFO, reply, wanted)?, "{wanted}");
-        let call = deleting(alloc, "events")?;
-        assert!(rt; replied(alloc, call, DELETE, reply, wanted)?, "{wanted}");
+        assert!(rt; both_get(alloc, reply, wanted)?, "{wanted}");
     }
     Ok(())
 }
@@ -368,14 +379,31 @@ fn a_stream_that_is_not_there_is_made(rt: HostRuntime) -> Result<(), Fail> {
     Ok(())
 }
 
+/// Whether the calls of two requests end so with the reply to the first.
+fn both_end(alloc: Global, reply: Reply, wanted: &str) -> Result<bool, OutOfMemory> {
+    if !replied(
+        alloc,
+        getting_or_creating(alloc, "events")?,
+        INFO,
+        reply,
+        wanted,
+    )? {
+        return Ok(false);
+    }
+    replied(
+        alloc,
+        creating_or_updating(alloc, "events")?,
+        UPDATE,
+        reply,
+        wanted,
+    )
+}
+
 #[test]
 fn nothing_is_made_after_another_answer(rt: HostRuntime) -> Result<(), Fail> {
     let alloc = rt.alloc();
     for (reply, wanted) in [(KNOWN, "ok"), (WRONG, WRONG_TEXT)] {
-        let call = getting_or_creating(alloc, "events")?;
-        assert!(rt; replied(alloc, call, INFO, reply, wanted)?, "{wanted}");
-        let call = creating_or_updating(alloc, "events")?;
-        assert!(rt; replied(alloc, call, UPDATE, reply, wanted)?, "{wanted}");
+        assert!(rt; both_end(alloc, reply, wanted)?, "{wanted}");
     }
     Ok(())
 }
