@@ -16,3 +16,6 @@ pub use listed::Listed;
 pub use listing::{Listing, StreamNames, Streams, stream_names, streams};
 pub use page::AskingPage;
 pub use rest::Rest;
+
+#[cfg(test)]
+mod tests;
