@@ -1,8 +1,8 @@
 //! Lists over a scripted server.
 
 use crate::{
-    GetStreamByNameError, GetStreamByNameErrorKind, Listed, Listing, StreamNames, StreamsErrorKind,
-    stream_by_subject, stream_names, streams,
+    GetStreamByNameError, GetStreamByNameErrorKind, Listed, Listing, StreamsError,
+    StreamsErrorKind, stream_by_subject, stream_names, streams,
 };
 use bytes::Bytes;
 use js_base::{Message, Next, OutOfMemory, Subject, Text, Turn};
@@ -28,10 +28,6 @@ fn scope(alloc: Global) -> Result<ApiScope, OutOfMemory> {
         prefix: Text::from_str(alloc, "$JS.API")?,
         timeout: None,
     })
-}
-
-fn all_names(alloc: Global) -> Result<StreamNames, OutOfMemory> {
-    stream_names(alloc, &scope(alloc)?)
 }
 
 fn reply(alloc: Global, text: &str) -> Result<Message, OutOfMemory> {
@@ -77,55 +73,81 @@ fn asked(server: &mut ScriptedServer, on: &str, bodies: &[&str]) -> bool {
             .all(|(one, body)| is_request(one, on, body))
 }
 
-/// What a poll hands out, apart from items.
-#[derive(Clone, Copy, Debug, PartialEq, Eq)]
+/// What a poll is to hand out.
+#[derive(Clone, Copy)]
 enum Told {
-    Pending,
-    Item,
-    Error(StreamsErrorKind),
+    Item(&'static str),
+    Error,
     End,
-    OutOfMemory,
 }
 
-/// What the next poll hands out.
-fn next<T: Listed>(alloc: Global, list: &mut Listing<T>, server: &mut ScriptedServer) -> Told {
-    match list.poll_next(alloc, server, 0) {
-        Next::Pending => Told::Pending,
-        Next::Item(Ok(_)) => Told::Item,
-        Next::Item(Err(error)) => Told::Error(*error.kind()),
-        Next::End => Told::End,
-        Next::OutOfMemory => Told::OutOfMemory,
+/// An item of a list, which has a name.
+trait Named {
+    fn is_named(&self, name: &str) -> bool;
+}
+
+impl Named for Text {
+    fn is_named(&self, name: &str) -> bool {
+        self.as_str() == name
     }
 }
 
-/// The item that the next poll hands out.
-fn item<T: Listed>(alloc: Global, list: &mut Listing<T>, server: &mut ScriptedServer) -> Option<T> {
-    match list.poll_next(alloc, server, 0) {
-        Next::Item(Ok(item)) => Some(item),
-        _ => None,
+impl Named for Info {
+    fn is_named(&self, name: &str) -> bool {
+        self.config.name.as_str() == name
     }
 }
 
-/// Whether the next polls hand out these names.
-fn gives(
+/// Whether that was handed out, where each error is `Other`.
+fn is_told<T: Listed + Named>(next: Next<Result<T, StreamsError>>, told: Told) -> bool {
+    match next {
+        Next::Item(Ok(item)) => match told {
+            Told::Item(name) => item.is_named(name),
+            _ => false,
+        },
+        Next::Item(Err(error)) => match told {
+            Told::Error => *error.kind() == StreamsErrorKind::Other,
+            _ => false,
+        },
+        Next::End => matches!(told, Told::End),
+        _ => false,
+    }
+}
+
+/// Whether a list hands these out, poll by poll.
+fn tells<T: Listed + Named>(
     alloc: Global,
-    names: &mut StreamNames,
+    list: Listing<T>,
     server: &mut ScriptedServer,
-    wanted: &[&str],
+    wanted: &[Told],
 ) -> bool {
-    for name in wanted {
-        if !is_text(item(alloc, names, server), name) {
+    let mut list = list;
+    for told in wanted {
+        if !is_told(list.poll_next(alloc, server, 0), *told) {
             return false;
         }
     }
     true
 }
 
-fn is_text(got: Option<Text>, wanted: &str) -> bool {
-    match got {
-        Some(text) => text.as_str() == wanted,
-        None => false,
-    }
+/// Whether a list of all names hands these out.
+fn names_tell(
+    alloc: Global,
+    server: &mut ScriptedServer,
+    wanted: &[Told],
+) -> Result<bool, OutOfMemory> {
+    let list = stream_names(alloc, &scope(alloc)?)?;
+    Ok(tells(alloc, list, server, wanted))
+}
+
+/// Whether a list of all infos hands these out.
+fn infos_tell(
+    alloc: Global,
+    server: &mut ScriptedServer,
+    wanted: &[Told],
+) -> Result<bool, OutOfMemory> {
+    let list = streams(alloc, &scope(alloc)?)?;
+    Ok(tells(alloc, list, server, wanted))
 }
 
 #[test]
@@ -135,15 +157,19 @@ fn pages_are_handed_out_from_their_ends(rt: HostRuntime) -> Result<(), Fail> {
         "{\"total\":3,\"streams\":[\"a\",\"b\"]}",
         "{\"total\":3,\"streams\":[\"c\"]}",
     ];
+    let wanted = [
+        Told::Item("b"),
+        Told::Item("a"),
+        Told::Item("c"),
+        Told::End,
+        Told::End,
+    ];
     let bodies = [
         "{\"offset\":0,\"subject\":null}",
         "{\"offset\":2,\"subject\":null}",
     ];
     let mut here = server(alloc, NAMES, &pages)?;
-    let mut list = all_names(alloc)?;
-    assert!(rt; gives(alloc, &mut list, &mut here, &["b", "a", "c"]));
-    assert_eq!(rt; next(alloc, &mut list, &mut here), Told::End);
-    assert_eq!(rt; next(alloc, &mut list, &mut here), Told::End);
+    assert!(rt; names_tell(alloc, &mut here, &wanted)?);
     assert!(rt; asked(&mut here, NAMES, &bodies));
     Ok(())
 }
@@ -157,20 +183,21 @@ fn a_page_that_was_not_got_is_asked_for_again(rt: HostRuntime) -> Result<(), Fai
         "{\"streams\":[\"b\"]}",
         "{\"total\":2,\"streams\":[\"b\"]}",
     ];
+    let wanted = [
+        Told::Item("a"),
+        Told::Error,
+        Told::Error,
+        Told::Item("b"),
+        Told::End,
+    ];
     let bodies = [
         "{\"offset\":0,\"subject\":null}",
         "{\"offset\":1,\"subject\":null}",
         "{\"offset\":1,\"subject\":null}",
         "{\"offset\":1,\"subject\":null}",
     ];
-    let fault = Told::Error(StreamsErrorKind::Other);
     let mut here = server(alloc, NAMES, &pages)?;
-    let mut list = all_names(alloc)?;
-    assert!(rt; gives(alloc, &mut list, &mut here, &["a"]));
-    assert_eq!(rt; next(alloc, &mut list, &mut here), fault);
-    assert_eq!(rt; next(alloc, &mut list, &mut here), fault);
-    assert!(rt; gives(alloc, &mut list, &mut here, &["b"]));
-    assert_eq!(rt; next(alloc, &mut list, &mut here), Told::End);
+    assert!(rt; names_tell(alloc, &mut here, &wanted)?);
     assert!(rt; asked(&mut here, NAMES, &bodies));
     Ok(())
 }
@@ -183,36 +210,19 @@ fn an_empty_page_ends_the_list_until_the_next_poll(rt: HostRuntime) -> Result<()
         "{\"total\":1,\"streams\":[]}",
         "{\"total\":1,\"streams\":[\"a\"]}",
     ];
+    let wanted = [Told::End, Told::End, Told::Item("a"), Told::End];
+    let bodies = ["{\"offset\":0,\"subject\":null}"; 3];
     let mut here = server(alloc, NAMES, &pages)?;
-    let mut list = all_names(alloc)?;
-    assert_eq!(rt; next(alloc, &mut list, &mut here), Told::End);
-    assert_eq!(rt; next(alloc, &mut list, &mut here), Told::End);
-    assert!(rt; gives(alloc, &mut list, &mut here, &["a"]));
-    assert_eq!(rt; next(alloc, &mut list, &mut here), Told::End);
-    assert!(rt; asked(&mut here, NAMES, &["{\"offset\":0,\"subject\":null}"; 3]));
+    assert!(rt; names_tell(alloc, &mut here, &wanted)?);
+    assert!(rt; asked(&mut here, NAMES, &bodies));
     Ok(())
-}
-
-fn is_stream(got: Option<Info>, name: &str) -> bool {
-    match got {
-        Some(info) => info.config.name.as_str() == name && info.state.messages == 7,
-        None => false,
-    }
-}
-
-/// Whether a list of infos hands out one stream and then ends.
-fn is_list_of(alloc: Global, server: &mut ScriptedServer, name: &str) -> Result<bool, OutOfMemory> {
-    let mut list = streams(alloc, &scope(alloc)?)?;
-    let is_first = is_stream(item(alloc, &mut list, server), name);
-    let is_over = next(alloc, &mut list, server) == Told::End;
-    Ok(is_first && is_over)
 }
 
 #[test]
 fn infos_are_listed(rt: HostRuntime) -> Result<(), Fail> {
     let alloc = rt.alloc();
     let mut here = server(alloc, LIST, &[INFOS])?;
-    assert!(rt; is_list_of(alloc, &mut here, "events")?);
+    assert!(rt; infos_tell(alloc, &mut here, &[Told::Item("events"), Told::End])?);
     assert!(rt; asked(&mut here, LIST, &["{\"offset\":0}"]));
     Ok(())
 }
