@@ -117,11 +117,10 @@ fn is_told<T: Listed + Named>(next: Next<Result<T, StreamsError>>, told: Told) -
 /// Whether a list hands these out, poll by poll.
 fn tells<T: Listed + Named>(
     alloc: Global,
-    list: Listing<T>,
+    mut list: Listing<T>,
     server: &mut ScriptedServer,
     wanted: &[Told],
 ) -> bool {
-    let mut list = list;
     for told in wanted {
         if !is_told(list.poll_next(alloc, server, 0), *told) {
             return false;
