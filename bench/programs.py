@@ -8,6 +8,7 @@ import sys
 HERE = os.path.dirname(os.path.abspath(__file__))
 TOP = os.path.dirname(HERE)
 PROVED = os.path.join(TOP, "crates", "wilfjodi", "out", "wilfjodi")
+INFO = os.path.join(TOP, "crates", "info_bench", "out", "info_bench")
 PLAIN = os.path.join(HERE, "plain", "target", "release", "plain")
 PERMITS = os.path.join(HERE, "permits", "target", "release", "permits")
 # Where Debian's packages of Rust crates lie (librust-serde-json-dev).
@@ -27,6 +28,16 @@ def proved(path):
     example = os.path.join(TOP, "examples", "two_messages.transcript")
     subprocess.run([script, example], check=True, stdout=subprocess.DEVNULL)
     return PROVED
+
+
+def info(path):
+    """The path of the program that reads acknowledgement subjects, which is built here where no other was given."""
+    if path:
+        return os.path.abspath(path)
+    say("building the proved reader of subjects")
+    folder = os.path.join(TOP, "crates", "info_bench")
+    subprocess.run(["rt", "run", "--", "0", "none"], check=True, cwd=folder, stdout=subprocess.DEVNULL)
+    return INFO
 
 
 def plain():

@@ -1,4 +1,5 @@
-//! `replay` in plain Rust: reads a transcript from standard input and writes the text of its run.
+//! `replay` in plain Rust: reads a transcript from standard input and writes the text of its run. `info CALLS SUBJECT` reads an
+//! acknowledgement subject so many times, and prints whether it reads.
 //!
 //! It is written from the repository's documents alone, with one `serde_json::Value` a line, and shares no line with the
 //! proved program. The bench measures the proved program against it, and compares what the two write.
@@ -16,6 +17,7 @@ mod requests;
 mod text;
 mod transcript;
 
+use std::hint::black_box;
 use std::io::{self, Read, Write};
 use std::process::ExitCode;
 
@@ -62,12 +64,28 @@ impl Status {
 
 fn main() -> ExitCode {
     let words: Vec<String> = std::env::args().skip(1).collect();
-    let status =
-        if words == ["replay"] { run(&mut io::stdin().lock(), &mut io::stdout().lock()) } else { Status::Usage };
+    let status = match &words[..] {
+        [command] if command == "replay" => run(&mut io::stdin().lock(), &mut io::stdout().lock()),
+        [command, calls, subject] if command == "info" => info(calls, subject),
+        _ => Status::Usage,
+    };
     if let Some(line) = status.line() {
         eprintln!("{line}");
     }
     ExitCode::from(status.exit())
+}
+
+/// Reads a subject so many times.
+fn info(calls: &str, subject: &str) -> Status {
+    let Ok(calls) = calls.parse::<u64>() else {
+        return Status::Usage;
+    };
+    let mut reads = false;
+    for _ in 0..calls {
+        reads = ack::read_delivery(black_box(subject)).is_some();
+    }
+    println!("{reads}");
+    Status::Done
 }
 
 /// Reads the input to its end, replays it, and writes the text of the run or the line of the refusal.

@@ -1,0 +1,41 @@
+//! `info_bench CALLS SUBJECT` reads an acknowledgement subject over and over, and prints whether it reads: `bench/parse_info` times it.
+#![tactic(auto)]
+
+use js_message::parse_info;
+use std::process::ExitCode;
+use std::{env, io};
+
+/// Whether the subject reads, as each of so many calls answers.
+fn reads(subject: &str, calls: u64) -> bool {
+    let mut reads = false;
+    for _ in 0..calls {
+        reads = parse_info(subject).is_ok();
+    }
+    reads
+}
+
+fn words(rt: &HostRuntime) -> io::Result<Vec<String>> {
+    let mut words = Vec::new(rt.alloc());
+    for word in env::args(rt)?.skip(1) {
+        words.push(word)?;
+    }
+    Ok(words)
+}
+
+fn main(rt: HostRuntime) -> ExitCode {
+    let asked = match words(&rt) {
+        Ok(words) => words,
+        Err(_) => return ExitCode::from(1),
+    };
+    let told = match asked.as_slice() {
+        [calls, subject] => match calls.parse::<u64>() {
+            Ok(calls) => println!(rt; "{}", reads(subject.as_str(), calls)),
+            Err(_) => return ExitCode::from(2),
+        },
+        _ => return ExitCode::from(2),
+    };
+    match told {
+        Ok(()) => ExitCode::from(0),
+        Err(_) => ExitCode::from(1),
+    }
+}

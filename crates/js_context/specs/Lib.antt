@@ -1,0 +1,9 @@
+pub mod Errors
+pub mod Messages
+pub mod Contexts
+pub mod Builders
+pub mod Clocks
+pub mod Acks
+pub mod Sendings
+pub mod Reaps
+pub mod Waits

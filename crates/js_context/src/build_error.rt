@@ -1,0 +1,38 @@
+//! Why a context was not built.
+ghost use Rattle.std.specs.Prelude.{◌≡◌, Some};
+ghost use Rattle.js_context.specs.Builders.{build_text};
+ghost use Rattle.js_context.specs.declared.build_error.BuildError.TheVariants.{OutOfMemory as memory};
+
+use js_base::OutOfMemory;
+use std::fmt;
+
+/// Why a context was not built.
+#[derive(Clone, Copy, Debug, PartialEq, Eq)]
+pub enum BuildError {
+    /// There would be no permit.
+    ZeroCapacity,
+    /// There would be more permits than `u32::MAX`.
+    CapacityTooLarge,
+    /// Memory ran out.
+    OutOfMemory,
+}
+
+impl From<OutOfMemory> for BuildError {
+    ghost from_gives = { λ _ error. error ≡ memory };
+
+    fn from(_error: OutOfMemory) -> BuildError {
+        BuildError::OutOfMemory
+    }
+}
+
+impl fmt::Display for BuildError {
+    ghost output = { λ error. Some (build_text error) };
+
+    fn fmt<W: fmt::Write>(&self, f: &mut fmt::Formatter<W>) -> fmt::Result {
+        match self {
+            BuildError::ZeroCapacity => write!(f, "capacity is zero"),
+            BuildError::CapacityTooLarge => write!(f, "capacity is too large"),
+            BuildError::OutOfMemory => write!(f, "out of memory"),
+        }
+    }
+}

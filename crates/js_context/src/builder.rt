@@ -1,0 +1,178 @@
+//! How a context is built.
+ghost use Rattle.std.specs.Prelude.{◌≡◌, IfOk, Some, codes};
+ghost use Rattle.js_stream_calls.specs.Places.{domain_prefix as domain_prefix_in};
+ghost use Rattle.js_context.specs.Builders.{Builds, IsBuilder, capacity_of, refusal_of, scope_of, settings_of};
+ghost use Rattle.js_context.specs.Contexts.{usual_scope, usual_settings};
+
+use crate::build_error::BuildError;
+use crate::context::{Context, Settings};
+use js_base::{Nanos, OutOfMemory, Text};
+use js_call::ApiScope;
+use js_stream_calls::domain_prefix;
+use std::alloc::Global;
+use std::sync::Wait;
+
+/// Whether a builder may still be given its prefix: `Yes` or `No`.
+pub trait ToAssign: Drop {}
+
+/// The prefix may still be given.
+#[derive(Clone, Copy, Debug, PartialEq, Eq, Drop)]
+pub struct Yes;
+
+/// The prefix was given.
+#[derive(Clone, Copy, Debug, PartialEq, Eq, Drop)]
+pub struct No;
+
+impl ToAssign for Yes {}
+
+impl ToAssign for No {}
+
+/// A context that is not built yet: its prefix, its timeouts, and how it publishes.
+#[derive(Debug, Drop)]
+pub struct ContextBuilder<P> {
+    pub(crate) scope: ApiScope,
+    pub(crate) capacity: u64,
+    pub(crate) settings: Settings,
+    pub(crate) prefix_to_assign: P,
+}
+
+impl ContextBuilder<Yes> {
+    /// The prefix `$JS.API`, no timeout, 5,000 permits, thirty seconds for a detached ack, a publish that waits for its permit, and
+    /// no limit to the acks that a `reap` looks at. The one refusal is want of memory.
+    pub fn new(alloc: Global) -> Result<ContextBuilder<Yes>, OutOfMemory>
+        ensures { IfOk result (λ builder. IsBuilder builder (usual_scope (codes "$JS.API")) 5_000 usual_settings) }
+    {
+        Ok(ContextBuilder {
+            scope: ApiScope {
+                prefix: Text::from_str(alloc, "$JS.API")?,
+                timeout: None,
+            },
+            capacity: 5_000,
+            settings: Settings {
+                ack_timeout: 30_000_000_000,
+                backpressure: true,
+                concurrency_limit: None,
+            },
+            prefix_to_assign: Yes,
+        })
+    }
+
+    /// What the subjects of the API begin with, before a dot. The one refusal, which gives the builder up, is want of memory.
+    pub fn api_prefix(self, alloc: Global, prefix: &str) -> Result<ContextBuilder<No>, OutOfMemory>
+        ensures { IfOk result (λ builder. IsBuilder builder (record (scope_of self) { prefix = prefix.now }) (capacity_of self) (settings_of self)) }
+    {
+        let prefix = Text::from_str(alloc, prefix)?;
+        Ok(self.with_prefix(prefix))
+    }
+
+    /// The prefix of a domain, `$JS.{domain}.API`. The refusal is that of `api_prefix`.
+    pub fn domain(self, alloc: Global, domain: &str) -> Result<ContextBuilder<No>, OutOfMemory>
+        ensures { IfOk result (λ builder. IsBuilder builder (record (scope_of self) { prefix = domain_prefix_in domain.now }) (capacity_of self) (settings_of self)) }
+    {
+        let prefix = domain_prefix(alloc, domain)?;
+        Ok(self.with_prefix(prefix))
+    }
+
+    fn with_prefix(self, prefix: Text) -> ContextBuilder<No>
+        ensures { IsBuilder result (record (scope_of self) { prefix = prefix }) (capacity_of self) (settings_of self) }
+    {
+        ContextBuilder {
+            scope: ApiScope {
+                prefix,
+                ..self.scope
+            },
+            capacity: self.capacity,
+            settings: self.settings,
+            prefix_to_assign: No,
+        }
+    }
+}
+
+/// A builder of what is to be built with these.
+fn to_build(scope: ApiScope, capacity: u64, settings: Settings) -> ContextBuilder<Yes>
+    ensures { IsBuilder result scope capacity settings }
+{
+    ContextBuilder {
+        scope,
+        capacity,
+        settings,
+        prefix_to_assign: Yes,
+    }
+}
+
+impl<P: ToAssign> ContextBuilder<P> {
+    /// How long an answer is waited for, in nanoseconds. Where none is set, that is left to the connection, and an ack is awaited
+    /// for five seconds.
+    pub fn timeout(self, timeout: Nanos) -> ContextBuilder<Yes>
+        ensures { IsBuilder result (record (scope_of self) { timeout = Some timeout }) (capacity_of self) (settings_of self) }
+    {
+        let scope = ApiScope {
+            timeout: Some(timeout),
+            ..self.scope
+        };
+        to_build(scope, self.capacity, self.settings)
+    }
+
+    /// How long a detached ack keeps its permit without an answer, in nanoseconds, from the first `reap` on that looks at it.
+    pub fn ack_timeout(self, timeout: Nanos) -> ContextBuilder<Yes>
+        ensures { IsBuilder result (scope_of self) (capacity_of self) (record (settings_of self) { ack_timeout = timeout }) }
+    {
+        let settings = Settings {
+            ack_timeout: timeout,
+            ..self.settings
+        };
+        to_build(self.scope, self.capacity, settings)
+    }
+
+    /// How many permits there are: messages that were sent and whose acks have not come, 1 to `u32::MAX`.
+    pub fn max_ack_inflight(self, capacity: u64) -> ContextBuilder<Yes>
+        ensures { IsBuilder result (scope_of self) capacity (settings_of self) }
+    {
+        to_build(self.scope, capacity, self.settings)
+    }
+
+    /// Whether a publish waits where no permit is free. Where it does not, it is refused.
+    pub fn backpressure_on_inflight(self, enabled: bool) -> ContextBuilder<Yes>
+        ensures { IsBuilder result (scope_of self) (capacity_of self) (record (settings_of self) { backpressure = enabled }) }
+    {
+        let settings = Settings {
+            backpressure: enabled,
+            ..self.settings
+        };
+        to_build(self.scope, self.capacity, settings)
+    }
+
+    /// How many detached acks a `reap` looks at. None and 0 set no limit.
+    pub fn concurrency_limit(self, limit: Option<u64>) -> ContextBuilder<Yes>
+        ensures { IsBuilder result (scope_of self) (capacity_of self) (record (settings_of self) { concurrency_limit = limit }) }
+    {
+        let settings = Settings {
+            concurrency_limit: limit,
+            ..self.settings
+        };
+        to_build(self.scope, self.capacity, settings)
+    }
+
+    /// The context, with a window of its own. `ZeroCapacity` comes where there would be no permit, then `CapacityTooLarge` where there
+    /// would be more than `u32::MAX`.
+    pub fn build<R: Wait>(self, rt: &R, alloc: Global) -> Result<Context, BuildError>
+        ensures { Builds (refusal_of (capacity_of self)) result (scope_of self) (capacity_of self) (settings_of self) }
+    {
+        match refusal(self.capacity) {
+            Some(error) => Err(error),
+            None => Ok(Context::open(rt, alloc, self.scope, self.capacity, self.settings)?),
+        }
+    }
+}
+
+fn refusal(capacity: u64) -> Option<BuildError>
+    ensures { result ≡ refusal_of capacity }
+{
+    if capacity == 0 {
+        Some(BuildError::ZeroCapacity)
+    } else if capacity > u32::MAX as u64 {
+        Some(BuildError::CapacityTooLarge)
+    } else {
+        None
+    }
+}

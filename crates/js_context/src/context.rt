@@ -1,0 +1,294 @@
+//! A client's end of JetStream: where its requests go, its pass to the window of its permits, and the acks that nobody awaits.
+ghost use Rattle.std.specs.Prelude.{◌≡◌, ◌+◌, ◌<◌, ◌^◌, OnErr, IfOk, List, Some, codes, length, [], ◌∷◌, ◌++◌};
+ghost use Rattle.js_window.specs.Caller.{Makes, held};
+ghost use Rattle.js_window.specs.declared.history.Call.TheVariants.{AllFree, Give};
+ghost use Rattle.js_stream_calls.specs.Places.{domain_prefix};
+ghost use Rattle.js_context.specs.Contexts.{GivesBack, IsNew, IsUsual, SplitsOff, Takes, timeout_of};
+ghost use Rattle.js_context.specs.Reaps.{IsSplit, clocked_ack};
+ghost use Rattle.js_context.specs.Waits.{Settles};
+ghost use Rattle.js_context.specs.declared.context.Detached.{Detached};
+
+use crate::build_error::BuildError;
+use crate::builder::ContextBuilder;
+use js_base::{Moment, Nanos, OutOfMemory, TryClone};
+use js_call::{ApiScope, OpenRequest};
+use js_link::RequestId;
+use js_window::{Pass, Permit, Take, Window};
+use std::alloc::Global;
+use std::marker::Model;
+use std::sync::{Arc, Wait};
+use std::thread::yield_now;
+
+/// How a context publishes.
+#[derive(Clone, Copy, Debug, PartialEq, Eq)]
+pub(crate) struct Settings {
+    /// How long a detached ack keeps its permit without an answer, from the first `reap` on that looks at it.
+    pub(crate) ack_timeout: Nanos,
+    /// Whether a publish waits where no permit is free. Where it does not, it is refused.
+    pub(crate) backpressure: bool,
+    /// How many detached acks a `reap` looks at. None and 0 set no limit.
+    pub(crate) concurrency_limit: Option<u64>,
+}
+
+/// An ack that nobody awaits.
+#[derive(Drop)]
+pub(crate) struct Detached {
+    pub(crate) request: RequestId,
+    pub(crate) permit: Permit,
+    pub(crate) since: Option<Moment>,
+}
+
+/// A client's end of JetStream: where its requests go, how long they are waited for, and a window of permits, under which it
+/// publishes and which other contexts may share in any thread.
+///
+/// Each permit that it took is borne by an ack that is awaited, stands in the list of its detached acks, or was given back. Where it
+/// is dropped, the permits of its detached acks are never free again.
+#[derive(Drop)]
+pub struct Context {
+    scope: ApiScope,
+    window: Arc<Window, Global>,
+    pass: Pass,
+    awaited: usize,
+    detached: Vec<Detached>,
+    settings: Settings,
+}
+
+impl Model for Context {
+    ghost use Rattle.js_context.specs.Contexts.{ContextView, IsContext};
+
+    ghost Value = { ContextView };
+
+    ghost view = { λ c. record { scope = c.scope; pass = c.pass; awaited = c.awaited; detached = c.detached.items; settings = c.settings } };
+
+    ghost invariant = { λ c. IsContext c.window c.pass c.awaited c.detached };
+}
+
+/// What a build came to whose capacity was good.
+fn unless_memory(built: Result<Context, BuildError>) -> Result<Context, OutOfMemory>
+    ensures { IfOk result (λ context. built ≡ Ok context) }
+{
+    match built {
+        Ok(context) => Ok(context),
+        Err(_) => Err(OutOfMemory),
+    }
+}
+
+impl Context {
+    /// A context with the prefix `$JS.API`, and all else as `ContextBuilder::new` says. The one refusal is want of memory.
+    pub fn new<R: Wait>(rt: &R, alloc: Global) -> Result<Context, OutOfMemory>
+        ensures { IfOk result (λ context. IsUsual (codes "$JS.API") context) }
+    {
+        unless_memory(ContextBuilder::new(alloc)?.build(rt, alloc))
+    }
+
+    /// A context of a domain: its prefix is `$JS.{domain}.API`, and all else as of `new`. The one refusal is want of memory.
+    pub fn with_domain<R: Wait>(rt: &R, alloc: Global, domain: &str) -> Result<Context, OutOfMemory>
+        ensures { IfOk result (λ context. IsUsual (domain_prefix domain.now) context) }
+    {
+        unless_memory(
+            ContextBuilder::new(alloc)?
+                .domain(alloc, domain)?
+                .build(rt, alloc),
+        )
+    }
+
+    /// A context with that prefix, and all else as of `new`. The one refusal is want of memory.
+    pub fn with_prefix<R: Wait>(rt: &R, alloc: Global, prefix: &str) -> Result<Context, OutOfMemory>
+        ensures { IfOk result (λ context. IsUsual prefix.now context) }
+    {
+        unless_memory(
+            ContextBuilder::new(alloc)?
+                .api_prefix(alloc, prefix)?
+                .build(rt, alloc),
+        )
+    }
+
+    /// A context with a window of 1 to `u32::MAX` permits, all free. The one refusal is want of memory.
+    pub(crate) fn open<R: Wait>(
+        rt: &R,
+        alloc: Global,
+        scope: ApiScope,
+        capacity: u64,
+        settings: Settings,
+    ) -> Result<Context, OutOfMemory>
+        requires least { 0 < capacity }
+        requires most { capacity < 2 ^ 32 }
+        ensures { IfOk result (λ context. IsNew scope capacity settings context) }
+    {
+        let (window, pass) = Window::new(rt, alloc, capacity)?;
+        let window = Arc::new(alloc, window)?;
+        Ok(Context {
+            scope,
+            window,
+            pass,
+            awaited: 0,
+            detached: Vec::new(alloc),
+            settings,
+        })
+    }
+
+    /// Another context with the same scope and settings, over the same permits. It has no ack of its own. The one refusal is want
+    /// of memory.
+    pub fn split<R: Wait>(&mut self, rt: &R, alloc: Global) -> Result<Context, OutOfMemory>
+        ensures same { self.new ≡ self.old }
+        ensures other { IfOk result (λ context. SplitsOff self.old context) }
+    {
+        let scope = self.scope.try_clone()?;
+        let window = Arc::try_clone(&self.window)?;
+        let pass = window.split(rt, &mut self.pass);
+        Ok(Context {
+            scope,
+            window,
+            pass,
+            awaited: 0,
+            detached: Vec::new(alloc),
+            settings: self.settings,
+        })
+    }
+
+    /// Where its requests go, and how long they are waited for.
+    pub fn scope(&self) -> &ApiScope
+        ensures { result.now ≡ self.now.scope }
+    {
+        &self.scope
+    }
+
+    /// Sets how long an answer is waited for, in nanoseconds: that of a request that is made from here on, and the ack of a
+    /// message that is awaited, also where it was sent already.
+    pub fn set_timeout(&mut self, timeout: Nanos)
+        ensures { self.new ≡ record self.old { scope = record self.old.scope { timeout = Some timeout } } }
+    {
+        self.scope.timeout = Some(timeout);
+    }
+
+    /// How long an ack is awaited from its first poll on, in nanoseconds: the timeout that was set, and else five seconds.
+    pub fn timeout(&self) -> Nanos
+        ensures { result ≡ timeout_of self.now.scope.timeout }
+    {
+        match self.scope.timeout {
+            Some(timeout) => timeout,
+            None => 5_000_000_000,
+        }
+    }
+
+    pub(crate) fn settings(&self) -> Settings
+        ensures { result ≡ self.now.settings }
+    {
+        self.settings
+    }
+
+    /// How many acks are awaited: the permits that the pass holds, less the detached acks.
+    pub fn awaited(&self) -> u64
+        ensures awaited { result ≡ self.now.awaited }
+        ensures held { result + length self.now.detached ≡ held self.now.pass }
+    {
+        self.awaited as u64
+    }
+
+    /// How many acks are detached.
+    pub fn detached_len(&self) -> usize
+        ensures { result ≡ length self.now.detached }
+    {
+        self.detached.len()
+    }
+
+    /// Whether no permit of the window is out, those of other callers among them.
+    pub fn acks_settled<R: Wait>(&mut self, rt: &R) -> bool
+        ensures call { Makes (AllFree result) self.old.pass self.new.pass }
+        ensures same { self.new ≡ record self.old { pass = self.new.pass } }
+    {
+        self.window.all_free(rt, &mut self.pass)
+    }
+
+    /// Waits until no permit of the window is out. This caller has no ack, so that it waits for others alone.
+    pub fn wait_for_acks<R: Wait>(&mut self, rt: &R)
+        requires awaited { self.old.awaited ≡ 0 }
+        requires detached { length self.old.detached ≡ 0 }
+        ensures settles { Settles self.old.pass self.new.pass }
+        ensures same { self.new ≡ record self.old { pass = self.new.pass } }
+    {
+        for _ in rt.forever() {
+            if self.acks_settled(rt) {
+                return;
+            }
+            yield_now();
+        }
+        unreachable!()
+    }
+
+    /// Takes a permit for an ack that will be awaited, once there is room to detach it. None where no permit is free.
+    pub(crate) fn take<R: Wait>(&mut self, rt: &R) -> Result<Option<Permit>, OutOfMemory>
+        ensures err { OnErr result (self.new ≡ self.old) }
+        ensures ok { IfOk result (λ taken. Takes taken self.old self.new) }
+    {
+        // Each ack that is awaited keeps a place in the list, so that `detach` needs no memory.
+        let more = match self.awaited.checked_add(1) {
+            Some(more) => more,
+            None => return Err(OutOfMemory),
+        };
+        self.detached.reserve(more)?;
+        match self.window.take(rt, &mut self.pass) {
+            Take::Got(permit) => {
+                self.awaited = more;
+                Ok(Some(permit))
+            }
+            Take::Full => Ok(None),
+        }
+    }
+
+    /// Gives back the permit of an ack that was awaited.
+    pub(crate) fn give<R: Wait>(&mut self, rt: &R, permit: Permit)
+        requires permit { permit ≡ self.old.pass.number }
+        requires awaited { 0 < self.old.awaited }
+        ensures { GivesBack self.old self.new }
+    {
+        self.window.give(rt, &mut self.pass, permit);
+        self.awaited -= 1;
+    }
+
+    /// From here on nobody awaits that ack.
+    pub(crate) fn detach(&mut self, request: RequestId, permit: Permit, since: Option<Moment>)
+        requires permit { permit ≡ self.old.pass.number }
+        requires awaited { 0 < self.old.awaited }
+        ensures awaited { self.new.awaited + 1 ≡ self.old.awaited }
+        ensures list { self.new ≡ record self.old { awaited = self.new.awaited; detached = self.old.detached ++ record { request = request; permit = permit; since = since } ∷ [] } }
+    {
+        self.awaited -= 1;
+        self.detached.push_reserved(Detached {
+            request,
+            permit,
+            since,
+        });
+    }
+
+    /// The request of a detached ack, with its clock, which begins now where it has not begun.
+    pub(crate) fn detached_at(&self, place: usize, now: Moment) -> OpenRequest
+        requires { place < length self.now.detached }
+        ensures { (before after : List Detached) (ack : Detached) → IsSplit self.now.detached place before ack after → result ≡ clocked_ack ack now self.now.settings.ack_timeout }
+    {
+        let ack = &self.detached[place];
+        OpenRequest {
+            request: ack.request,
+            since: ack.since.unwrap_or(now),
+            timeout: Some(self.settings.ack_timeout),
+        }
+    }
+
+    /// The clock of a detached ack has begun.
+    pub(crate) fn begin_at(&mut self, place: usize, since: Moment)
+        requires { place < length self.old.detached }
+        ensures { (before after : List Detached) (ack : Detached) → IsSplit self.old.detached place before ack after → self.new ≡ record self.old { detached = before ++ record ack { since = Some since } ∷ after } }
+    {
+        self.detached[place].since = Some(since);
+    }
+
+    /// A detached ack is no more, and its permit is given back.
+    pub(crate) fn settle_at<R: Wait>(&mut self, rt: &R, place: usize)
+        requires { place < length self.old.detached }
+        ensures makes { Makes Give self.old.pass self.new.pass }
+        ensures list { (before after : List Detached) (ack : Detached) → IsSplit self.old.detached place before ack after → self.new ≡ record self.old { pass = self.new.pass; detached = before ++ after } }
+    {
+        let ack = self.detached.remove(place);
+        self.window.give(rt, &mut self.pass, ack.permit);
+    }
+}

@@ -1,0 +1,34 @@
+//! A client's end of JetStream: where its requests go, how long they are waited for, and all calls that are made by it.
+//!
+//! A [`Context`] is made by [`Context::new`], or by a [`ContextBuilder`]. A call of it hands out a state, which is polled with a
+//! link and a moment until it is ready.
+//!
+//! It publishes under a window of permits, which the contexts share that [`Context::split`] gives. A message takes a permit when it
+//! is sent, and its ack gives it back. Each permit that a context took is held by a [`PublishAckFuture`], stands in the list of its
+//! detached acks, or was given back.
+#![tactic(auto)]
+
+mod ack_future;
+mod build_error;
+mod builder;
+mod consumers;
+mod context;
+mod lists;
+mod provider;
+mod publish;
+mod publish_error;
+mod reap;
+mod requests;
+mod sending;
+mod streams;
+
+pub use ack_future::PublishAckFuture;
+pub use build_error::BuildError;
+pub use builder::{ContextBuilder, No, ToAssign, Yes};
+pub use context::Context;
+pub use provider::{ClientProvider, Publisher, RequestSender, Requester, TimeoutProvider};
+pub use publish_error::{PublishError, PublishErrorKind};
+pub use sending::Sending;
+
+#[cfg(test)]
+mod tests;

@@ -1,0 +1,37 @@
+//! The lists of streams that a context makes.
+ghost use Rattle.std.specs.Prelude.{◌≡◌, IfOk};
+ghost use Rattle.js_listing.specs.Finds.{Finds};
+ghost use Rattle.js_listing.specs.Polls.{fresh};
+
+use crate::context::Context;
+use js_base::OutOfMemory;
+use js_listing::{StreamBySubject, StreamNames, Streams, stream_by_subject, stream_names, streams};
+use std::alloc::Global;
+
+impl Context {
+    /// Finds the name of the stream that stores a subject: the first item of the list of such streams. The one refusal here is want
+    /// of memory; others come from the first poll.
+    pub fn stream_by_subject(
+        &self,
+        alloc: Global,
+        subject: &str,
+    ) -> Result<StreamBySubject, OutOfMemory>
+        ensures { IfOk result (λ call. Finds self.now.scope subject.now call) }
+    {
+        stream_by_subject(alloc, self.scope(), subject)
+    }
+
+    /// Lists the names of all streams. The one refusal is want of memory.
+    pub fn stream_names(&self, alloc: Global) -> Result<StreamNames, OutOfMemory>
+        ensures { IfOk result (λ list. list ≡ fresh self.now.scope) }
+    {
+        stream_names(alloc, self.scope())
+    }
+
+    /// Lists what the server knows of all streams. The one refusal is want of memory.
+    pub fn streams(&self, alloc: Global) -> Result<Streams, OutOfMemory>
+        ensures { IfOk result (λ list. list ≡ fresh self.now.scope) }
+    {
+        streams(alloc, self.scope())
+    }
+}

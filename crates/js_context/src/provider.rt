@@ -1,0 +1,126 @@
+//! What a context offers to code that takes any context.
+ghost use Rattle.std.specs.Prelude.{◌≡◌, IfOk, Ok, ℕ};
+ghost use Rattle.js_call.specs.Scopes.{raw_asking};
+ghost use Rattle.js_call.specs.Sending.{SendsRequest};
+ghost use Rattle.js_call.specs.declared.scope.ApiScope.{ApiScope};
+ghost use Rattle.js_context.specs.Contexts.{scope_in, timeout_in};
+ghost use Rattle.js_context.specs.Messages.{sending};
+
+use crate::context::Context;
+use crate::sending::Sending;
+use js_base::{Nanos, OutOfMemory};
+use js_call::{ApiScope, RawCall, RawRequest, SendError};
+use js_link::Link;
+use js_message::OutboundMessage;
+use std::alloc::Global;
+
+/// What makes requests whose answers are messages.
+pub trait Requester {
+    /// Where its requests go, and how long they are waited for.
+    ghost asks_by: { Self → ApiScope };
+
+    /// A request on that subject, which stands for itself, without a prefix. The one refusal here is want of memory.
+    fn raw_request(
+        &self,
+        alloc: Global,
+        subject: &str,
+        request: RawRequest,
+    ) -> Result<RawCall, OutOfMemory>
+        ensures { IfOk result (λ call. call ≡ raw_asking (asks_by self.now) subject.now request) };
+}
+
+/// What sends requests whose answers it does not wait for.
+pub trait RequestSender {
+    /// Where its requests go.
+    ghost sends_by: { Self → ApiScope };
+
+    /// Publishes the request under the prefix. Its answer goes to the request's inbox, or else to a fresh subject of the link.
+    ///
+    /// `LinkFailed` comes only where the link failed in this call; nothing was sent then.
+    fn send_request<L: Link>(
+        &self,
+        alloc: Global,
+        link: &mut L,
+        subject: &str,
+        request: RawRequest,
+    ) -> Result<(), SendError>
+        ensures { SendsRequest result (sends_by self.now) subject.now request (L.view link.old) (L.view link.new) };
+}
+
+/// What publishes messages.
+pub trait Publisher {
+    /// A message that is to be sent under a permit, which sends nothing itself. It takes no memory, and its `Result` is that of the
+    /// other calls which publish.
+    fn publish_message(&mut self, message: OutboundMessage) -> Result<Sending, OutOfMemory>
+        ensures message { result ≡ Ok (sending message) }
+        ensures same { self.new ≡ self.old };
+}
+
+/// What has a scope.
+pub trait ClientProvider {
+    /// Its scope.
+    ghost has_scope: { Self → ApiScope };
+
+    /// Where its requests go, and how long they are waited for.
+    fn client(&self) -> &ApiScope
+        ensures { result.now ≡ has_scope self.now };
+}
+
+/// What waits for answers.
+pub trait TimeoutProvider {
+    /// How long it waits.
+    ghost waits: { Self → ℕ };
+
+    /// How long an answer is waited for, in nanoseconds.
+    fn timeout(&self) -> Nanos
+        ensures { result ≡ waits self.now };
+}
+
+impl Requester for Context {
+    ghost asks_by = { scope_in };
+
+    fn raw_request(
+        &self,
+        alloc: Global,
+        subject: &str,
+        request: RawRequest,
+    ) -> Result<RawCall, OutOfMemory> {
+        self.scope().raw_request(alloc, subject, request)
+    }
+}
+
+impl RequestSender for Context {
+    ghost sends_by = { scope_in };
+
+    fn send_request<L: Link>(
+        &self,
+        alloc: Global,
+        link: &mut L,
+        subject: &str,
+        request: RawRequest,
+    ) -> Result<(), SendError> {
+        self.scope().send_request(alloc, link, subject, request)
+    }
+}
+
+impl Publisher for Context {
+    fn publish_message(&mut self, message: OutboundMessage) -> Result<Sending, OutOfMemory> {
+        Ok(Sending::new(message))
+    }
+}
+
+impl ClientProvider for Context {
+    ghost has_scope = { scope_in };
+
+    fn client(&self) -> &ApiScope {
+        self.scope()
+    }
+}
+
+impl TimeoutProvider for Context {
+    ghost waits = { timeout_in };
+
+    fn timeout(&self) -> Nanos {
+        Context::timeout(self)
+    }
+}

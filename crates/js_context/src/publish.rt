@@ -1,0 +1,64 @@
+//! The calls that publish. Each gives a message that is to be sent, and sends nothing itself.
+ghost use Rattle.std.specs.Prelude.{◌≡◌, IfOk, None, Some};
+ghost use Rattle.js_message.specs.Publishing.{outbound, outgoing};
+ghost use Rattle.js_context.specs.Messages.{sending};
+
+use crate::context::Context;
+use crate::sending::Sending;
+use bytes::Bytes;
+use js_base::{HeaderMap, OutOfMemory, Subject};
+use js_message::{OutboundMessage, PublishMessage};
+use std::alloc::Global;
+
+impl Context {
+    /// Publishes a payload to a subject. The one refusal here is want of memory; others come from the first poll.
+    pub fn publish(
+        &mut self,
+        alloc: Global,
+        subject: &str,
+        payload: Bytes,
+    ) -> Result<Sending, OutOfMemory>
+        ensures message { IfOk result (λ state. state ≡ sending (outbound subject.now payload None)) }
+        ensures same { self.new ≡ self.old }
+    {
+        let subject = Subject::new(alloc, subject)?;
+        self.publish_message(OutboundMessage::new(subject, payload, None))
+    }
+
+    /// Publishes a payload with headers to a subject. The refusals are those of `publish`.
+    pub fn publish_with_headers(
+        &mut self,
+        alloc: Global,
+        subject: &str,
+        headers: HeaderMap,
+        payload: Bytes,
+    ) -> Result<Sending, OutOfMemory>
+        ensures message { IfOk result (λ state. state ≡ sending (outbound subject.now payload (Some headers))) }
+        ensures same { self.new ≡ self.old }
+    {
+        let subject = Subject::new(alloc, subject)?;
+        self.publish_message(OutboundMessage::new(subject, payload, Some(headers)))
+    }
+
+    /// Publishes a message to a subject. The refusals are those of `publish`.
+    pub fn send_publish(
+        &mut self,
+        alloc: Global,
+        subject: &str,
+        publish: PublishMessage,
+    ) -> Result<Sending, OutOfMemory>
+        ensures message { IfOk result (λ state. state ≡ sending (outgoing subject.now publish)) }
+        ensures same { self.new ≡ self.old }
+    {
+        let message = publish.outbound_message(alloc, subject)?;
+        self.publish_message(message)
+    }
+
+    /// Publishes a message that has its subject. It takes no memory, and its `Result` is that of the other calls.
+    pub fn publish_message(&mut self, message: OutboundMessage) -> Result<Sending, OutOfMemory>
+        ensures message { result ≡ Ok (sending message) }
+        ensures same { self.new ≡ self.old }
+    {
+        Ok(Sending::new(message))
+    }
+}

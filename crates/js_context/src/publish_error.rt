@@ -1,0 +1,76 @@
+//! Why a message was not sent, or not stored.
+ghost use Rattle.std.specs.Prelude.{◌≡◌, Some};
+ghost use Rattle.js_context.specs.Errors.{kind_of, publish_text, refusal_by};
+
+use js_base::{Error, Source};
+use js_codes::{ErrorCode, errors};
+use std::fmt;
+
+/// Why a message was not sent, or not stored.
+#[derive(Clone, Copy, Debug, PartialEq, Eq)]
+pub enum PublishErrorKind {
+    /// No stream takes messages of the subject.
+    StreamNotFound,
+    /// The ack's timeout is due, and no answer had come.
+    TimedOut,
+    /// The subject is none, or the link failed, and nothing was sent; or the server refused it for another reason, or its answer
+    /// does not read.
+    Other,
+    /// The server can no longer answer.
+    BrokenPipe,
+    /// The stream's last message has another name than was expected.
+    WrongLastMessageId,
+    /// The stream's last message has another sequence than was expected.
+    WrongLastSequence,
+    /// No permit was free, and backpressure is off. Nothing was sent.
+    MaxAckPending,
+    /// Payload and headers are longer than the link sends. Nothing was sent.
+    MaxPayloadExceeded,
+}
+
+/// Why a message was not sent, or not stored, as an error. Its source is the server's error, where that is the reason.
+pub type PublishError = Error<PublishErrorKind>;
+
+impl fmt::Display for PublishErrorKind {
+    ghost output = { λ kind. Some (publish_text kind) };
+
+    fn fmt<W: fmt::Write>(&self, f: &mut fmt::Formatter<W>) -> fmt::Result {
+        match self {
+            PublishErrorKind::StreamNotFound => write!(f, "no stream found for given subject"),
+            PublishErrorKind::TimedOut => write!(f, "timed out: didn't receive ack in time"),
+            PublishErrorKind::Other => write!(f, "publish failed"),
+            PublishErrorKind::BrokenPipe => write!(f, "broken pipe"),
+            PublishErrorKind::WrongLastMessageId => write!(f, "wrong last message id"),
+            PublishErrorKind::WrongLastSequence => write!(f, "wrong last sequence"),
+            PublishErrorKind::MaxAckPending => write!(f, "max ack pending reached"),
+            PublishErrorKind::MaxPayloadExceeded => write!(f, "max payload size exceeded"),
+        }
+    }
+}
+
+fn kind_of(code: ErrorCode) -> PublishErrorKind
+    ensures { result ≡ kind_of code.0 }
+{
+    if code == ErrorCode::STREAM_WRONG_LAST_MESSAGE_ID {
+        PublishErrorKind::WrongLastMessageId
+    } else if code == ErrorCode::STREAM_WRONG_LAST_SEQUENCE
+        || code == ErrorCode::STREAM_WRONG_LAST_SEQUENCE_CONSTANT
+    {
+        PublishErrorKind::WrongLastSequence
+    } else {
+        PublishErrorKind::Other
+    }
+}
+
+/// The server's error, as that of a publish.
+pub(crate) fn refusal_by(error: errors::Error) -> PublishError
+    ensures { result ≡ refusal_by error }
+{
+    let kind = kind_of(error.err_code);
+    let source = Source::Api {
+        code: error.code,
+        err_code: error.err_code.0,
+        description: error.description,
+    };
+    Error::with_source(kind, source)
+}

@@ -1,0 +1,82 @@
+//! The calls on streams that a context makes.
+//!
+//! Each hands out a state, and refuses for want of memory alone; what else it refuses comes from the state's first poll,
+//! before anything is sent.
+ghost use Rattle.std.specs.Prelude.{◌≡◌, IfOk};
+ghost use Rattle.js_stream_calls.specs.Creates.{Creates, FindsOrCreates};
+ghost use Rattle.js_stream_calls.specs.Gets.{deleting, getting, GivesHandle};
+ghost use Rattle.js_stream_calls.specs.Updates.{Updates, UpdatesOrCreates};
+
+use crate::context::Context;
+use js_base::OutOfMemory;
+use js_stream::stream::Config;
+use js_stream_calls::{
+    CreateOrUpdateStream, CreateStream, DeleteStream, GetOrCreateStream, GetStream, GetStreamError,
+    StreamHandle, UpdateStream, create_or_update_stream, create_stream, delete_stream,
+    get_or_create_stream, get_stream, get_stream_no_info, update_stream,
+};
+use std::alloc::Global;
+
+impl Context {
+    /// Makes a stream. A mirror or source that has a domain alone gets the domain's API as its external.
+    pub fn create_stream(&self, alloc: Global, config: Config) -> Result<CreateStream, OutOfMemory>
+        ensures { IfOk result (λ call. Creates self.now.scope config call) }
+    {
+        create_stream(alloc, self.scope(), config)
+    }
+
+    /// Gets a stream with what the server knows of it.
+    pub fn get_stream(&self, alloc: Global, name: &str) -> Result<GetStream, OutOfMemory>
+        ensures { IfOk result (λ call. call ≡ getting self.now.scope name.now) }
+    {
+        get_stream(alloc, self.scope(), name)
+    }
+
+    /// A handle of a stream of that name, without asking the server whether it is there. An empty name is `EmptyName`, another
+    /// that no stream may have `InvalidStreamName`, and want of memory `OutOfMemory`.
+    pub fn get_stream_no_info(
+        &self,
+        alloc: Global,
+        name: &str,
+    ) -> Result<StreamHandle<()>, GetStreamError>
+        ensures { GivesHandle result self.now.scope name.now }
+    {
+        get_stream_no_info(alloc, self.scope(), name)
+    }
+
+    /// Gets a stream, and makes it as `create_stream` does where the API says 404.
+    pub fn get_or_create_stream(
+        &self,
+        alloc: Global,
+        config: Config,
+    ) -> Result<GetOrCreateStream, OutOfMemory>
+        ensures { IfOk result (λ calls. FindsOrCreates self.now.scope config calls) }
+    {
+        get_or_create_stream(alloc, self.scope(), config)
+    }
+
+    /// Changes a stream to that configuration.
+    pub fn update_stream(&self, alloc: Global, config: &Config) -> Result<UpdateStream, OutOfMemory>
+        ensures { IfOk result (λ call. Updates self.now.scope config.now call) }
+    {
+        update_stream(alloc, self.scope(), config)
+    }
+
+    /// Changes a stream, and makes it as `create_stream` does where the API answers that it is not there.
+    pub fn create_or_update_stream(
+        &self,
+        alloc: Global,
+        config: Config,
+    ) -> Result<CreateOrUpdateStream, OutOfMemory>
+        ensures { IfOk result (λ calls. UpdatesOrCreates self.now.scope config calls) }
+    {
+        create_or_update_stream(alloc, self.scope(), config)
+    }
+
+    /// Deletes a stream.
+    pub fn delete_stream(&self, alloc: Global, name: &str) -> Result<DeleteStream, OutOfMemory>
+        ensures { IfOk result (λ call. call ≡ deleting self.now.scope name.now) }
+    {
+        delete_stream(alloc, self.scope(), name)
+    }
+}

@@ -1,0 +1,5 @@
+//! Contexts over a link in memory.
+
+mod building;
+mod calls;
+mod publishing;
