@@ -416,26 +416,53 @@ fn messages_with_headers_are_sent(rt: HostRuntime) -> Result<(), Fail> {
     Ok(())
 }
 
-/// Holds a permit until the other thread has begun to wait, and then gives it back.
-fn hold<R: Wait>(rt: &R, mut holder: Context, mut link: MemoryLink, begun: &AtomicU64) -> u64 {
+/// Waits until the other thread has come to that stage, for a long time at most.
+fn wait_for(stage: &AtomicU64, number: u64) {
     for _ in 0..100_000_000u64 {
-        if begun.load(Ordering::SeqCst) == 1 {
-            break;
+        if stage.load(Ordering::SeqCst) == number {
+            return;
         }
         thread::yield_now();
     }
-    for _ in 0..1_000u64 {
-        thread::yield_now();
-    }
-    holder.reap(rt, &mut link, 0)
 }
 
-/// Waits for the other thread's permit. Whether all permits are free at the end.
-fn wait<R: Wait>(rt: &R, mut waiter: Context, begun: &AtomicU64) -> bool {
+/// A message that is sent, whose ack is there and not reaped.
+fn sent_and_answered<R: Wait>(
+    rt: &R,
+    alloc: Global,
+    holder: &mut Context,
+) -> Result<MemoryLink, OutOfMemory> {
+    let mut link = MemoryLink::new(alloc, "_INBOX.t")?;
+    let _ = published(rt, alloc, holder, &mut link, "a");
+    let answer = reply(alloc, None, STORED)?;
+    match link.respond(RequestId(1), Some(answer)) {
+        Ok(()) => Ok(link),
+        Err(_) => Err(OutOfMemory),
+    }
+}
+
+/// Holds a permit until the other thread has begun to wait, and then gives it back. How many were given back.
+fn hold<R: Wait + AllocGlobal>(rt: &R, mut holder: Context, stage: &AtomicU64) -> u64 {
+    match sent_and_answered(rt, rt.alloc(), &mut holder) {
+        Ok(mut link) => {
+            stage.store(1, Ordering::SeqCst);
+            wait_for(stage, 2);
+            for _ in 0..1_000u64 {
+                thread::yield_now();
+            }
+            holder.reap(rt, &mut link, 0)
+        }
+        Err(OutOfMemory) => 0,
+    }
+}
+
+/// Waits for the other thread's permit. Whether it was out at first, and all are free at the end.
+fn wait<R: Wait>(rt: &R, mut waiter: Context, stage: &AtomicU64) -> bool {
+    wait_for(stage, 1);
     if waiter.awaited() > 0 || waiter.detached_len() > 0 || waiter.acks_settled(rt) {
         return false;
     }
-    begun.store(1, Ordering::SeqCst);
+    stage.store(2, Ordering::SeqCst);
     waiter.wait_for_acks(rt);
     waiter.acks_settled(rt)
 }
@@ -443,21 +470,15 @@ fn wait<R: Wait>(rt: &R, mut waiter: Context, begun: &AtomicU64) -> bool {
 #[test]
 fn a_context_waits_for_the_acks_of_another_thread(rt: HostRuntime) -> Result<(), Fail> {
     let alloc = rt.alloc();
-    let (mut holder, mut link) = opened(&rt, alloc, 2, true)?;
+    let (mut holder, _) = opened(&rt, alloc, 2, true)?;
     let waiter = holder.split(&rt, alloc)?;
-    assert_eq!(rt;
-        published(&rt, alloc, &mut holder, &mut link, "a"),
-        Came::Sent
-    );
-    let answer = reply(alloc, None, STORED)?;
-    link.respond(RequestId(1), Some(answer))?;
-    let begun = AtomicU64::new(0);
-    let flag = &begun;
+    let stage = AtomicU64::new(0);
+    let shared = &stage;
     let here = &rt;
     let (reaped, settled) = thread::join(
         here,
-        move || hold(here, holder, link, flag),
-        move || wait(here, waiter, flag),
+        move || hold(here, holder, shared),
+        move || wait(here, waiter, shared),
     );
     assert_eq!(rt; reaped, 1);
     assert!(rt; settled);
