@@ -1,17 +1,27 @@
 //! `info_bench CALLS SUBJECT` reads an acknowledgement subject over and over, and prints whether it reads: `bench/parse_info` times it.
 #![tactic(auto)]
 
+ghost use Rattle.std.specs.Prelude.{◌≡◌, is_ok};
+ghost use Rattle.js_message.specs.Ack.{ack};
+
 use js_message::parse_info;
 use std::process::ExitCode;
 use std::{env, io};
 
-/// Whether the subject reads, as each of so many calls answers.
-fn reads(subject: &str, calls: u64) -> bool {
-    let mut reads = false;
+/// Whether the subject is an acknowledgement subject.
+fn reads(subject: &str) -> bool
+    ensures { result ≡ is_ok (ack subject.now) }
+{
+    parse_info(subject).is_ok()
+}
+
+/// What the last of so many calls answers.
+fn reads_often(subject: &str, calls: u64) -> bool {
+    let mut answer = false;
     for _ in 0..calls {
-        reads = parse_info(subject).is_ok();
+        answer = reads(subject);
     }
-    reads
+    answer
 }
 
 fn words(rt: &HostRuntime) -> io::Result<Vec<String>> {
@@ -29,7 +39,7 @@ fn main(rt: HostRuntime) -> ExitCode {
     };
     let told = match asked.as_slice() {
         [calls, subject] => match calls.parse::<u64>() {
-            Ok(calls) => println!(rt; "{}", reads(subject.as_str(), calls)),
+            Ok(calls) => println!(rt; "{}", reads_often(subject.as_str(), calls)),
             Err(_) => return ExitCode::from(2),
         },
         _ => return ExitCode::from(2),
