@@ -1,20 +1,31 @@
 //! Where a worker may be held between its first take and all that follows.
 
-ghost use Rattle.std.specs.Prelude.{◌≡◌, None, Some, option_map};
+ghost use Rattle.std.specs.Prelude.{◌≡◌, ℕ, None, Some, option_map, ⊤};
 
 use js_window::Pass;
 use std::snapshot::Snapshot;
 
 /// A gate that each worker passes once, after its first take and before it gives a permit back.
 pub trait Gate {
-    /// Returns when the worker with this number may go on.
-    fn pass(&self, worker: u64);
+    // The numbers of the workers that may come to the gate.
+    ghost admits: { Self → ℕ → Type 0 };
+
+    // What is known of a worker that has passed. Where a gate says nothing of itself, only a call can show it.
+    ghost passed: { Self → ℕ → Type 0 };
+
+    /// Returns when the worker with this number may go on. Only a worker that the gate admits may call it.
+    fn pass(&self, worker: u64)
+        requires { admits self.now worker }
+        ensures { passed self.now worker };
 }
 
 /// The gate that lets every worker pass at once.
 pub struct Open;
 
 impl Gate for Open {
+    ghost admits = { λ gate worker. ⊤ };
+    ghost passed = { λ gate worker. ⊤ };
+
     fn pass(&self, worker: u64) {
         let _ = worker;
     }
@@ -30,15 +41,19 @@ pub(crate) struct Way<'a, G> {
 
 impl<'a, G: Gate> Way<'a, G> {
     pub fn new(gate: &'a G) -> Way<'a, G>
-        ensures { result.passed ≡ None }
+        ensures gate { result.gate ≡ gate.entry }
+        ensures new { result.passed ≡ None }
     {
         Way { gate, passed: None }
     }
 
     /// Calls the gate.
     pub fn go(&mut self, worker: u64, pass: &Pass)
-        requires { self.old.passed ≡ None }
-        ensures { option_map (λ s. s.value) self.new.passed ≡ Some pass.now }
+        requires new { self.old.passed ≡ None }
+        requires admitted { G.admits self.old.gate.now worker }
+        ensures gate { self.new.gate ≡ self.old.gate }
+        ensures called { G.passed self.old.gate.now worker }
+        ensures passed { option_map (λ s. s.value) self.new.passed ≡ Some pass.now }
     {
         self.gate.pass(worker);
         self.passed = Some(Snapshot::of(pass));

@@ -1,3 +1,5 @@
+ghost use Rattle.std.specs.Prelude.{◌<◌, ⊤};
+
 use crate::{Gate, Open, WindowCounts, run_window, take_calls};
 use js_window::Window;
 use std::sync::atomic::{AtomicU64, Ordering};
@@ -30,11 +32,11 @@ impl Meeting {
 }
 
 impl Gate for Meeting {
+    ghost admits = { λ meeting worker. worker < 2 };
+    ghost passed = { λ meeting worker. ⊤ };
+
     fn pass(&self, worker: u64) {
         self.calls.fetch_add(1, Ordering::SeqCst);
-        if worker >= 2 {
-            return;
-        }
         let own = worker as usize;
         self.came[own].store(1, Ordering::SeqCst);
         for _ in 0..MOST_TURNS {

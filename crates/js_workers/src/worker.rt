@@ -1,5 +1,5 @@
 //! One worker: it takes permits of a window and gives each back.
-ghost use Rattle.std.specs.Prelude.{◌≡◌, ◌+◌, None, option_map};
+ghost use Rattle.std.specs.Prelude.{◌≡◌, ◌<◌, ◌+◌, None, option_map};
 ghost use Rattle.js_workers.specs.Worker.{TookCalls, PassedGate, IsReady, HasEnded};
 
 use crate::gate::{Gate, Way};
@@ -24,8 +24,8 @@ pub struct Ended {
 /// Takes a permit so many times, and gives each back before the next take. Answers how many takes got a permit, and
 /// how many found none free. The pass is one of this window's.
 ///
-/// After the first take, and before any permit is given back, it calls the gate once with the worker's number. With
-/// 0 calls it never calls the gate.
+/// After the first take, and before any permit is given back, it calls the gate once with the worker's number, which
+/// the gate has to admit. With 0 calls it never calls the gate.
 pub fn take_calls<R: Wait, G: Gate>(
     rt: &R,
     window: &Window,
@@ -34,9 +34,11 @@ pub fn take_calls<R: Wait, G: Gate>(
     worker: u64,
     gate: &G,
 ) -> (u64, u64)
-    requires { pass.old.window ≡ window.now }
+    requires own { pass.old.window ≡ window.now }
+    requires admitted { G.admits gate.now worker }
     ensures sum { result.0 + result.1 ≡ calls }
     ensures calls { TookCalls result.0 result.1 pass.old pass.new }
+    ensures called { 0 < calls → G.passed gate.now worker }
 {
     take_by(rt, window, pass, calls, worker, &mut Way::new(gate))
 }
@@ -52,8 +54,10 @@ fn take_by<R: Wait, G: Gate>(
 ) -> (u64, u64)
     requires own { pass.old.window ≡ window.now }
     requires new { way.old.passed ≡ None }
+    requires admitted { G.admits way.old.gate.now worker }
     ensures sum { result.0 + result.1 ≡ calls }
     ensures calls { TookCalls result.0 result.1 pass.old pass.new }
+    ensures called { 0 < calls → G.passed way.old.gate.now worker }
     ensures gate { PassedGate calls pass.old (option_map (λ s. s.value) way.new.passed) }
 {
     let mut got = 0;
@@ -76,7 +80,8 @@ fn take_by<R: Wait, G: Gate>(
 
 /// The whole of one worker's calls.
 pub fn work<R: Wait, G: Gate>(rt: &R, window: &Window, job: Job, calls: u64, gate: &G) -> Ended
-    requires { IsReady window.now job }
+    requires ready { IsReady window.now job }
+    requires admitted { G.admits gate.now job.worker }
     ensures { HasEnded window.now calls result }
 {
     let Job { mut pass, worker } = job;

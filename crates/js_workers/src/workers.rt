@@ -1,5 +1,5 @@
 //! All workers of one window.
-ghost use Rattle.std.specs.Prelude.{◌≡◌, ◌+◌, ◌*◌, ◌<◌, ◌≤◌, ◌^◌, IfOk, OnOk, All, vec_len, sum_by};
+ghost use Rattle.std.specs.Prelude.{◌≡◌, ◌+◌, ◌*◌, ◌<◌, ◌≤◌, ◌^◌, ℕ, IfOk, OnOk, All, vec_len, sum_by};
 ghost use mathlib.Core.List.{IsPrefix};
 ghost use Rattle.js_workers.specs.WindowCounts.{Counts, CountsOfRun};
 ghost use Rattle.js_workers.specs.Worker.{IsReady, HasEnded};
@@ -38,6 +38,7 @@ pub fn run_window<R: Threads + Wait + Sync, G: Gate + Sync>(
     requires capacity { (0 < capacity) × (capacity < 2 ^ 32) }
     requires threads { (0 < threads) × (threads ≤ 8) }
     requires calls { calls ≤ 100000 }
+    requires gate { (worker : ℕ) → worker < threads → G.admits gate.now worker }
     ensures sum { IfOk result (λ counts. counts.got + counts.full ≡ threads * calls) }
     ensures run { IfOk result (CountsOfRun capacity threads calls) }
 {
@@ -57,6 +58,7 @@ fn run_on<R: Threads + Wait + Sync, G: Gate + Sync>(
 ) -> Result<WindowCounts, OutOfMemory>
     requires own { first.old.window ≡ window.now }
     requires small { (threads ≤ 8) × (calls ≤ 100000) }
+    requires gate { (worker : ℕ) → worker < threads → G.admits gate.now worker }
     ensures sum { IfOk result (λ counts. counts.got + counts.full ≡ threads * calls) }
     ensures counts { IfOk result (Counts window.now threads calls first.new) }
 {
@@ -65,7 +67,7 @@ fn run_on<R: Threads + Wait + Sync, G: Gate + Sync>(
         rt,
         jobs,
         &|job: Job| -> Ended
-            requires { IsReady window.now job }
+            requires { IsReady window.now job × G.admits gate.now job.worker }
             ensures { HasEnded window.entry.now calls result }
         { work(rt, window, job, calls, gate) },
     )?;
@@ -89,6 +91,7 @@ fn ready<R: Wait>(
     requires { first.old.window ≡ window.now }
     ensures len { IfOk result (λ jobs. vec_len jobs ≡ threads) }
     ensures ready { IfOk result (λ jobs. All (IsReady window.now) jobs.items) }
+    ensures numbers { IfOk result (λ jobs. All (λ job. job.worker < threads) jobs.items) }
     ensures first { OnOk result (first.new ≡ first.old) }
 {
     let mut jobs = Vec::new(alloc);

@@ -1,4 +1,4 @@
-use Rattle.std.proofs.Common.{◌≡◌, ℕ, ◌+◌, Option, Some, option_map, arith, sym, subst}
+use Rattle.std.proofs.Common.{◌≡◌, ℕ, ◌+◌, Option, Some, option_map, arith, sym, subst, ◌∙◌}
 use Rattle.js_window.specs.Caller.{Caller}
 use Rattle.js_workers.specs.declared.gate.Way.{Way}
 use Rattle.js_workers.specs.Worker.{TookCalls, PassedGate}
@@ -16,9 +16,19 @@ loop-call-preserved g c =
     let gate : PassedGate (c.loop-call.call + 1) c.args.pass.now passed =
     elim c.if-call-eq0.branch [
       | then-call-eq0 w ↦ passed_first c.loop-call.call c.args.pass.now c.loop-call.pass c.take-taken.new.pass c.take-taken.result passed
-          (i.start w.if-call-eq0.true) c.take-taken.ensures.call (subst (λ (way : Way _). option_map (λ s. s.value) way.passed ≡ Some c.take-taken.new.pass) (sym w.way'-is) w.go.ensures)
+          (i.start w.if-call-eq0.true) c.take-taken.ensures.call (subst (λ (way : Way _). option_map (λ s. s.value) way.passed ≡ Some c.take-taken.new.pass) (sym w.way'-is) w.go.ensures.passed)
       | else-call-eq0 w ↦ subst (λ (way : Way _). PassedGate (c.loop-call.call + 1) c.args.pass.now (option_map (λ s. s.value) way.passed)) (sym w.way'-is)
           (passed_before c.loop-call.call c.args.pass.now _ w.if-call-eq0.false i.gate)
+    ] in
+    let called : g.G.Gate.passed c.args.way.now.gate.now c.args.worker =
+    elim c.if-call-eq0.branch [
+      | then-call-eq0 w ↦ subst (λ gate. g.G.Gate.passed gate.now c.args.worker) i.way w.go.ensures.called
+      | else-call-eq0 w ↦ i.called (omega (arith, w.if-call-eq0.false))
+    ] in
+    let way : c.if-call-eq0.way'.gate ≡ c.args.way.now.gate =
+    elim c.if-call-eq0.branch [
+      | then-call-eq0 w ↦ subst (λ (way : Way _). way.gate ≡ c.args.way.now.gate) (sym w.way'-is) (w.go.ensures.gate ∙ i.way)
+      | else-call-eq0 w ↦ subst (λ (way : Way _). way.gate ≡ c.args.way.now.gate) (sym w.way'-is) i.way
     ] in
     elim c.match-taken.branch [
       | in-Got w ↦
@@ -27,6 +37,8 @@ loop-call-preserved g c =
             took = subst (λ (z : ℕ × ℕ × Caller). TookCalls z.0 z.1 c.args.pass.now z.2) (λ k. (sym w.got-is k, sym w.full-is k, sym w.pass-is k))
                 (took_got _ _ _ _ _ _ i.took w.in-Got.ensures.call w.give.ensures);
             start = λ none. absurd (omega arith);
+            called = λ some. called;
+            way = way;
             gate = gate;
           }
       | in-Full w ↦
@@ -35,6 +47,8 @@ loop-call-preserved g c =
             took = subst (λ (z : ℕ × ℕ × Caller). TookCalls z.0 z.1 c.args.pass.now z.2) (λ k. (sym w.got-is k, sym w.full-is k, sym w.pass-is k))
                 (took_full _ _ _ _ _ i.took w.in-Full.ensures.call);
             start = λ none. absurd (omega arith);
+            called = λ some. called;
+            way = way;
             gate = gate;
           }
     ]

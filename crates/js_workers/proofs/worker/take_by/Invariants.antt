@@ -1,4 +1,4 @@
-use Rattle.std.proofs.Common.{◌≡◌, ◌+◌, option_map}
+use Rattle.std.proofs.Common.{◌≡◌, ◌<◌, ◌+◌, option_map}
 use Rattle.js_workers.specs.Worker.{TookCalls, PassedGate}
 use Rattle.js_workers.proofs.worker.take_by.Given as goal
 
@@ -7,5 +7,7 @@ invariant-loop-call g l = record {
   sum : l.got + l.full ≡ l.call;
   took : TookCalls l.got l.full l.fn.pass l.pass;
   start : l.call ≡ 0 → l.pass ≡ l.fn.pass;
+  called : 0 < l.call → g.G.Gate.passed l.fn.way.gate.now l.fn.worker;
+  way : l.way.gate ≡ l.fn.way.gate;
   gate : PassedGate l.call l.fn.pass (option_map (λ s. s.value) l.way.passed);
 }
