@@ -10,6 +10,3 @@ mod transcript;
 pub use setup::given;
 pub use summary::{Summary, generate};
 pub use transcript::generated;
-
-#[cfg(test)]
-mod tests;

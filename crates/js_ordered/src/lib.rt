@@ -29,6 +29,3 @@ pub use run::{Field, ItemKind, Output, ReplayError, Run, Start, Step};
 pub use setup::{OrderedSetup, Settings};
 pub use turn::Turn;
 pub use world::World;
-
-#[cfg(test)]
-mod tests;

@@ -14,6 +14,3 @@ pub use reader::{
     retry_wait, timeout_from,
 };
 pub use replies::info_of_reply;
-
-#[cfg(test)]
-mod tests;

@@ -1,5 +1,7 @@
 //! Whole runs over ends in memory.
 
+mod ordered;
+mod pull;
 mod rows;
 
 use crate::{
@@ -266,6 +268,12 @@ fn generated_transcripts_are_counted(rt: HostRuntime) -> Result<(), Fail> {
         ("0", "13", "[\"summary\",13,9,0,1,2,2,1,9]\n"),
         ("1", "11", "[\"summary\",11,7,0,1,2,2,1,7]\n"),
         ("1", "0", "[\"summary\",0,0,0,0,0,1,0,0]\n"),
+        // By a script that counts the episodes' events.
+        (
+            "7",
+            "20000",
+            "[\"summary\",20000,10604,0,2349,4698,2350,2349,10604]\n",
+        ),
     ] {
         answers(
             &rt,

@@ -21,6 +21,3 @@ mod window;
 pub use history::{Call, Entry};
 pub use rule::permits_balance;
 pub use window::{Pass, Permit, Take, Window};
-
-#[cfg(test)]
-mod tests;

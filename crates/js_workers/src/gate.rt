@@ -24,6 +24,7 @@ pub struct Open;
 
 impl Gate for Open {
     ghost admits = { λ gate worker. ⊤ };
+
     ghost passed = { λ gate worker. ⊤ };
 
     fn pass(&self, worker: u64) {

@@ -1,7 +1,7 @@
-ghost use Rattle.std.specs.Prelude.{◌<◌, ⊤};
+ghost use Rattle.std.specs.Prelude.{◌≡◌, ◌<◌, ⊤};
 
 use crate::{Gate, Open, WindowCounts, run_window, take_calls};
-use js_window::Window;
+use js_window::{Take, Window};
 use std::sync::atomic::{AtomicU64, Ordering};
 use std::test::Fail;
 
@@ -33,6 +33,7 @@ impl Meeting {
 
 impl Gate for Meeting {
     ghost admits = { λ meeting worker. worker < 2 };
+
     ghost passed = { λ meeting worker. ⊤ };
 
     fn pass(&self, worker: u64) {
@@ -104,5 +105,25 @@ fn workers_share_too_few_permits(rt: HostRuntime) -> Result<(), Fail> {
         assert_eq!(rt; counts.got + counts.full, takes);
         assert!(rt; counts.all_free);
     }
+    Ok(())
+}
+
+// One permit that two callers share: got, none left, given back, got again.
+#[test]
+fn two_callers_share_one_permit(rt: HostRuntime) -> Result<(), Fail> {
+    let (window, mut first) = Window::new(&rt, rt.alloc(), 1)?;
+    let mut second = window.split(&rt, &mut first);
+    assert!(rt; window.all_free(&rt, &mut second));
+    if let Take::Got(permit) = window.take(&rt, &mut first) {
+        assert!(rt; matches!(window.take(&rt, &mut second), Take::Full));
+        assert!(rt; !window.all_free(&rt, &mut first));
+        window.give(&rt, &mut first, permit);
+    } else {
+        assert!(rt; false, "the first take got none");
+    }
+    window.join(&rt, &mut first, second);
+    assert!(rt; window.all_free(&rt, &mut first));
+    assert!(rt; matches!(window.take(&rt, &mut first), Take::Got(_)));
+    assert!(rt; matches!(window.take(&rt, &mut first), Take::Full));
     Ok(())
 }

@@ -1,11 +1,11 @@
-//! Each call that takes memory, with enough of it.
+//! What the calls of a pull reader do that take memory, with enough of it.
 
-use crate::{Reader, Source, info_of_reply, ordered_batch_config};
 use bytes::Bytes;
 use js_base::{HeaderMap, Message, OutOfMemory, StatusCode, Subject, Text};
 use js_fields::ReadError;
 use js_json::consumer::Info;
 use js_json::{Response, response_as};
+use js_pull::{Reader, Source, info_of_reply, ordered_batch_config};
 use std::alloc::Global;
 
 const INFO: &str =

@@ -1,13 +1,13 @@
-//! Each call that takes memory, with enough of it.
+//! What the calls of an ordered consumer do that take memory, with enough of it: a list of events, and the same one by one.
 
-use crate::{
-    Course, Event, ItemKind, OrderedSetup, Output, ReplayError, Run, Settings, What, replay_ordered,
-};
 use bytes::Bytes;
 use js_base::{Boxed, Message, OutOfMemory, Subject, Text};
 use js_fields::ReadError;
 use js_json::consumer::Info;
 use js_json::{Response, pull, response_as};
+use js_ordered::{
+    Course, Event, ItemKind, OrderedSetup, Output, ReplayError, Run, Settings, What, replay_ordered,
+};
 use std::alloc::{AllocError, Global};
 
 const INFO: &str =
