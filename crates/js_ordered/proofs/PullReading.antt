@@ -1,5 +1,5 @@
 -- What each row of a pull reader comes to, case by case.
-use Rattle.std.proofs.Common.{◌≡◌, ℕ, ◌+◌, ◌<◌, ◌≤◌, ◌≢◌, Bool, true, false, List, [], ◌∷◌, ◌++◌, Option, Some, None, map, refl, ap, sym, ◌∙◌, arith}
+use Rattle.std.proofs.Common.{◌≡◌, ℕ, ◌+◌, ◌<◌, ◌≤◌, ◌≢◌, Bool, true, false, List, [], ◌∷◌, Option, Some, None, refl, ap, sym, ◌∙◌, arith}
 use Rattle.std.proofs.lemmas.Bool.{le-ltb, ne_eqb}
 use Rattle.std.proofs.lemmas.Bool.Decides.{nat_tests}
 use Rattle.std.specs.Prelude.{◌==◌, ◌&&◌, not, nat_lt, codes, option_map, unwrap_or, if◌then◌else◌}
@@ -10,33 +10,27 @@ use Rattle.js_base.specs.declared.clock.Timer.{Timer}
 use Rattle.js_base.specs.Clock.{is_due, is_any_due}
 use Rattle.js_json.specs.declared.consumer.info.Info.{Info}
 use Rattle.js_message.specs.Ack.{Place, readable_as}
-use Rattle.js_link.specs.Passing.{Passing}
 use Rattle.js_pull.specs.Kind.{pull_kind}
 use Rattle.js_pull.specs.declared.kind.Kind.{Kind}
 use Rattle.js_pull.specs.declared.kind.Kind.TheVariants as kind
 use Rattle.js_pull.specs.Limits.{pull_body}
 use Rattle.js_pull.specs.Passes.{asks_if}
 use Rattle.js_pull.specs.Reader as pull
-use Rattle.js_pull.specs.declared.reader.Inquiry.{Inquiry}
 use Rattle.js_pull.specs.declared.reader.Inquiry.TheVariants.{NoInquiry, Asked, Resting}
 use Rattle.js_pull.specs.declared.reader.Reader.{Reader}
 use Rattle.js_pull.specs.declared.reader.Reason.{Reason}
 use Rattle.js_pull.specs.declared.reader.Reason.TheVariants.{Low, Expired, Informed}
 use Rattle.js_pull.specs.declared.reader.Row.{Row as PullRow}
 use Rattle.js_pull.specs.declared.reader.Row.TheVariants as read
-use Rattle.js_pull.specs.declared.reader.Told.TheVariants as tells
 use Rattle.js_pull.specs.declared.reader.MessagesErrorKind.TheVariants as error
 use Rattle.js_ordered.specs.State.{Matter, Passed, quietly, at_phase}
 use Rattle.js_ordered.specs.Recreation.{message_on, start_row}
 use Rattle.js_ordered.specs.Reading.{read_row, with_sent, message_row, accepted, end_with, restart}
-use Rattle.js_ordered.specs.Fold.{Ran, passing, stays, and_then}
-use Rattle.js_ordered.specs.Turn.{pass}
+use Rattle.js_ordered.specs.Fold.{passing, stays, and_then}
 use Rattle.js_ordered.specs.Passes.{ran, from, at, then_row, informed_by, accepting, heard}
 use Rattle.js_ordered.specs.declared.consumer.Given.{Given}
-use Rattle.js_ordered.specs.declared.consumer.Consumer.{Consumer}
 use Rattle.js_ordered.specs.declared.consumer.Phase.{Phase}
 use Rattle.js_ordered.specs.declared.consumer.Phase.TheVariants.{Pulls, Ended}
-use Rattle.js_ordered.specs.declared.row.Row.{Row}
 use Rattle.js_ordered.specs.declared.row.Row.TheVariants.{Start, Read}
 use Rattle.js_ordered.specs.declared.run.ItemKind.TheVariants as item
 use Rattle.js_ordered.specs.declared.run.Output.{Output}

@@ -1,39 +1,36 @@
 -- What each row of a recreation comes to, case by case.
-use Rattle.std.proofs.Common.{◌≡◌, ℕ, ◌+◌, ◌<◌, ◌≤◌, arith, Bool, true, false, List, [], ◌∷◌, ◌++◌, Option, Some, None, map, min, refl, ap, ◌∙◌}
+use Rattle.std.proofs.Common.{◌≡◌, ℕ, ◌+◌, ◌<◌, ◌≤◌, arith, Bool, true, false, List, [], ◌∷◌, ◌++◌, Option, Some, None, min, refl, ap, ◌∙◌}
 use Rattle.std.proofs.lemmas.Bool.{ne_eqb, le-ltb}
 use Rattle.std.proofs.lemmas.Bool.Decides.{nat_tests}
-use Rattle.std.specs.Prelude.{◌==◌, nat_lt, is_some, codes, if◌then◌else◌}
+use Rattle.std.specs.Prelude.{◌==◌, nat_lt, codes, if◌then◌else◌}
 use Rattle.js_base.specs.declared.message.Message.{Message}
 use Rattle.js_base.specs.declared.clock.Timer.{Timer}
 use Rattle.js_base.specs.Clock.{is_due}
 use Rattle.js_json.specs.declared.consumer.info.Info.{Info}
 use Rattle.js_json.specs.declared.pull.OrderedConfig as pull_config
-use Rattle.js_json.specs.declared.push.OrderedConfig as push_config
 use Rattle.js_pull.specs.Reader as pull
 use Rattle.js_pull.specs.Reader.{new_reader}
 use Rattle.js_pull.specs.declared.reader.Row.TheVariants as read
 use Rattle.js_ordered.specs.State.{Matter, Passed, quietly, at_phase}
-use Rattle.js_ordered.specs.Texts.{configured_start, consumer_name, delete_subject, create_subject, create_body, inbox_subject, recreation_timeout, source_of}
+use Rattle.js_ordered.specs.Texts.{configured_start, delete_subject, create_subject, create_body, inbox_subject}
 use Rattle.js_link.specs.Passing.{Passing}
-use Rattle.js_pull.specs.declared.reader.Reader.{Reader}
 use Rattle.js_pull.specs.Reader.{reply_to}
 use Rattle.js_ordered.specs.Kept.{IsPull, IsPush}
 use Rattle.js_ordered.specs.Reading.{armed}
 use Rattle.js_ordered.specs.declared.consumer.Phase.{Phase}
 use Rattle.js_ordered.specs.declared.setup.OrderedSetup.{OrderedSetup}
-use Rattle.js_ordered.specs.Recreation.{create_row, succeed_row, succeed_pull, succeed_push, opened_by, start_after, recreation, at_stage, answered, stage_rows, hold, message_on, has_subject}
-use Rattle.js_ordered.specs.Fold.{Ran, passing, stays, and_then, pass_each}
-use Rattle.js_ordered.specs.Turn.{pass, row_at}
-use Rattle.js_ordered.specs.Passes.{ran, from, at, then_row, timeout_at, restarted, opened_as, waiting, reader_of, hearings, holding}
+use Rattle.js_ordered.specs.Recreation.{create_row, succeed_row, succeed_pull, succeed_push, opened_by, start_after, at_stage, answered, stage_rows, has_subject}
+use Rattle.js_ordered.specs.Fold.{passing, stays, and_then, pass_each}
+use Rattle.js_ordered.specs.Turn.{row_at}
+use Rattle.js_ordered.specs.Passes.{ran, at, then_row, timeout_at, restarted, opened_as, waiting, reader_of, hearings, holding}
 use Rattle.js_ordered.specs.declared.consumer.Given.{Given}
 use Rattle.js_ordered.specs.declared.consumer.Consumer.{Consumer}
 use Rattle.js_ordered.specs.declared.consumer.Opened.{Opened}
 use Rattle.js_ordered.specs.declared.consumer.Recreation.{Recreation}
 use Rattle.js_ordered.specs.declared.consumer.Phase.TheVariants.{Pulls, Pushes, Recreates, Idle, Ended, Exhausted}
-use Rattle.js_ordered.specs.declared.consumer.Stage.{Stage}
 use Rattle.js_ordered.specs.declared.consumer.Stage.TheVariants.{Between, Deleting, Creating, Waiting}
 use Rattle.js_ordered.specs.declared.row.Row.{Row}
-use Rattle.js_ordered.specs.declared.row.Row.TheVariants.{Start, Try, Create, Ask, Await, Answered, Hold, Succeed, Fail, Hear, Arm, Read}
+use Rattle.js_ordered.specs.declared.row.Row.TheVariants.{Start, Try, Create, Ask, Await, Answered, Hold, Succeed, Fail, Arm, Read}
 use Rattle.js_ordered.specs.declared.run.ItemKind.TheVariants as item
 use Rattle.js_ordered.specs.declared.run.Output.{Output}
 use Rattle.js_ordered.specs.declared.run.Output.TheVariants as out

@@ -1,17 +1,16 @@
 -- What an event comes to, case by case.
-use Rattle.std.proofs.Common.{◌≡◌, ℕ, Bool, true, false, List, [], ◌∷◌, ◌++◌, Option, Some, None, map, refl, ap, sym, ◌∙◌}
+use Rattle.std.proofs.Common.{◌≡◌, ℕ, Bool, true, false, [], ◌∷◌, Some, None, refl, ap, sym, ◌∙◌}
 use Rattle.std.specs.Prelude.{◌||◌, if◌then◌else◌}
 use Rattle.js_base.specs.declared.clock.Timer.{Timer}
 use Rattle.js_base.specs.declared.message.State.{State}
 use Rattle.js_link.specs.Passing.{Passing}
-use Rattle.js_pull.specs.Reader as pull
 use Rattle.js_pull.specs.declared.reader.Reader.{Reader}
 use Rattle.js_pull.specs.declared.reader.Row.TheVariants as read
 use Rattle.js_ordered.specs.State.{Matter, Change, Unchanged, Becomes, WatcherEnds, Passed, quietly, at_phase}
 use Rattle.js_ordered.specs.Recreation.{recreation_rows}
-use Rattle.js_ordered.specs.Reading.{read_row, end_with, restart}
-use Rattle.js_ordered.specs.Turn.{pass, event_row, event_change, changed, go_on, watcher_ended, same_state, is_connected, reader_row}
-use Rattle.js_ordered.specs.Fold.{Ran, passing, stays, and_then, pass_each, is_over}
+use Rattle.js_ordered.specs.Reading.{end_with, restart}
+use Rattle.js_ordered.specs.Turn.{event_row, event_change, changed, go_on, watcher_ended, same_state, is_connected, reader_row}
+use Rattle.js_ordered.specs.Fold.{Ran, passing, stays, pass_each, is_over}
 use Rattle.js_ordered.specs.Kept.{IsPull, IsPush}
 use Rattle.js_ordered.specs.Passes.{ran, from, at}
 use Rattle.js_ordered.specs.declared.consumer.Given.{Given}

@@ -1,5 +1,5 @@
 -- A replay: each event is passed whole, at its moment, with the link as it then stands.
-use Rattle.std.specs.Prelude.{ℕ, zero, suc, ◌+◌, Bool, true, false, List, [], ◌∷◌, ◌++◌, map, Some, None, option_map, count_by}
+use Rattle.std.specs.Prelude.{ℕ, zero, suc, ◌+◌, Bool, true, false, List, [], ◌∷◌, ◌++◌, map, Some, None, count_by}
 use Rattle.js_base.specs.declared.message.State.TheVariants.{Connected}
 use Rattle.js_link.specs.Passing.{Passing}
 use Rattle.js_pull.specs.Reader as pull
@@ -8,7 +8,6 @@ use Rattle.js_pull.specs.declared.reader.Row.TheVariants as read
 use Rattle.js_ordered.specs.declared.world.World.{World}
 use Rattle.js_ordered.specs.declared.run.Run.{Run}
 use Rattle.js_ordered.specs.declared.run.Step.{Step}
-use Rattle.js_ordered.specs.declared.consumer.Consumer.{Consumer}
 use Rattle.js_ordered.specs.State.{Matter, Unchanged, Becomes, WatcherEnds, Passed}
 use Rattle.js_ordered.specs.declared.row.Row.{Row}
 use Rattle.js_ordered.specs.declared.row.Row.TheVariants.{Event, Start, Try, Create, Ask, Await, Answered, Hold, Succeed, Fail, CheckArrival, Hear, CheckSilence, Arm, Read}

@@ -27,5 +27,4 @@ pub use replay::replay_ordered;
 pub use row::{Arrival, Row};
 pub use run::{Field, ItemKind, Output, ReplayError, Run, Start, Step};
 pub use setup::{OrderedSetup, Settings};
-pub use turn::Turn;
 pub use world::World;

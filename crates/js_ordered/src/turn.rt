@@ -5,7 +5,7 @@ use js_json::consumer::Info;
 
 /// What a consumer is made with, and what happens to it at this moment.
 #[derive(Clone, Copy)]
-pub struct Turn<'a> {
+pub(crate) struct Turn<'a> {
     pub settings: &'a Settings,
     pub setup: &'a OrderedSetup,
     /// What the server told of the first consumer.

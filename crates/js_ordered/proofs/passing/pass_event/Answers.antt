@@ -1,5 +1,5 @@
 use Rattle.std.proofs.Common.{◌≡◌, false, sym, ◌∙◌, ap}
-use Rattle.js_ordered.specs.Fold.{Ran, is_over}
+use Rattle.js_ordered.specs.Fold.{is_over}
 use Rattle.js_ordered.specs.Passes.{given_of, matter_now, ran}
 use Rattle.js_ordered.specs.State.{Becomes}
 use Rattle.js_ordered.specs.Turn.{same_state}

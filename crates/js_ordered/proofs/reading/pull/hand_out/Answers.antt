@@ -1,10 +1,9 @@
-use Rattle.std.proofs.Common.{◌≡◌, ◌∷◌, [], ◌++◌, List, OnOk, sym, subst, ◌∙◌, ap}
-use Rattle.js_message.specs.Ack as plain
+use Rattle.std.proofs.Common.{◌≡◌, ◌∷◌, [], ◌++◌, sym, ◌∙◌, ap}
 use Rattle.js_pull.specs.Reader as pull
 use Rattle.js_pull.specs.declared.reader.Reader.{Reader}
 use Rattle.js_pull.specs.declared.reader.Row.TheVariants as read
 use Rattle.js_ordered.specs.Fold.{Ran, and_then}
-use Rattle.js_ordered.specs.Passes.{given_of, matter_now, ran, at, Comes, place_shown, accepting}
+use Rattle.js_ordered.specs.Passes.{given_of, matter_now, ran, at, place_shown, accepting}
 use Rattle.js_ordered.specs.declared.consumer.Phase.TheVariants.{Pulls}
 use Rattle.js_ordered.specs.declared.row.Row.TheVariants.{Read}
 use Rattle.js_ordered.specs.declared.run.Output.{Output}

@@ -1,4 +1,4 @@
-use Rattle.std.proofs.Common.{◌≡◌, ◌+◌, Some, OnOk, true, sym, subst, ◌∙◌, ap}
+use Rattle.std.proofs.Common.{◌≡◌, ◌+◌, Some, OnOk, true, sym, subst}
 use Rattle.js_message.specs.Ack as plain
 use Rattle.js_ordered.specs.Fold.{Ran}
 use Rattle.js_ordered.specs.Passes.{given_of, matter_now, Comes, place_shown}
