@@ -1,12 +1,16 @@
 -- Counts with one output more.
-use Rattle.std.proofs.Common.{◌≡◌, ℕ, ◌+◌, Bool, true, false, List, [], ◌∷◌, ◌++◌, count_by, refl, sym, ap, ◌∙◌, arith, append-nil, append_assoc}
+use Rattle.std.proofs.Common.{◌≡◌, ℕ, ◌+◌, suc, Result, Ok, Err, OnOk, ◌<◌, ◌≤◌, Bool, true, false, List, [], ◌∷◌, ◌++◌, length, take, get_or, count_by, refl, sym, ap, ◌∙◌, arith, append-nil, append_assoc}
+use Rattle.std.proofs.Math.Seq.{take-suc}
+use Rattle.std.proofs.lemmas.List.{take_all}
 use Rattle.std.specs.Prelude.{cond}
 use Rattle.std.proofs.lemmas.List.Sums.{sum_by_push}
 use Rattle.js_ordered.specs.declared.run.Output.{Output}
+use Rattle.js_ordered.specs.declared.run.Step.{Step}
 use Rattle.js_ordered.specs.declared.run.Output.TheVariants as out
 use Rattle.js_ordered.specs.Fold.{is_request, is_subscribe}
+use Rattle.js_ordered.specs.Gapless.{joined}
 use Rattle.js_generate.specs.declared.summary.Summary.{Summary}
-use Rattle.js_generate.specs.Counts.{is_yield, is_item, is_recreation, is_publish, last_yielded, counts, tallied, tallied_all}
+use Rattle.js_generate.specs.Counts.{is_yield, is_item, is_recreation, is_publish, last_yielded, counts}
 
 one : (p : Output → Bool) (outputs : List Output) (o : Output) → p o ≡ true → count_by p (outputs ++ o ∷ []) ≡ count_by p outputs + 1
 one p outputs o is = sum_by_push (λ x. cond (p x) 1 0) outputs o ∙ ap (λ (b : Bool). count_by p outputs + cond b 1 0) is
@@ -24,6 +28,15 @@ last_push last (out.Recreate serial start ∷ outputs) o = last_push last output
 last_push last (out.Request number subject payload ∷ outputs) o = last_push last outputs o
 last_push last (out.Publish subject reply payload ∷ outputs) o = last_push last outputs o
 last_push last (out.Subscribe inbox subject ∷ outputs) o = last_push last outputs o
+
+-- the counts with one output more
+abbrev pub tallied : Output → Summary → Summary
+tallied (out.Yield sequence number subject payload) s = record s { yields = s.yields + 1; last = sequence }
+tallied (out.Item kind) s = record s { items = s.items + 1 }
+tallied (out.Recreate serial start) s = record s { recreations = s.recreations + 1 }
+tallied (out.Request number subject payload) s = record s { requests = s.requests + 1 }
+tallied (out.Publish subject reply payload) s = record s { publishes = s.publishes + 1 }
+tallied (out.Subscribe inbox subject) s = record s { subscribes = s.subscribes + 1 }
 
 counts_push : (events : ℕ) (outputs : List Output) (o : Output) → counts events (outputs ++ o ∷ []) ≡ tallied o (counts events outputs)
 counts_push events outputs (out.Yield sequence number subject payload) =
@@ -45,18 +58,39 @@ counts_push events outputs (out.Subscribe inbox subject) =
     let o = out.Subscribe inbox subject in
     rw (none is_yield outputs o refl, none is_item outputs o refl, none is_recreation outputs o refl, none is_request outputs o refl, none is_publish outputs o refl, one is_subscribe outputs o refl, last_push 0 outputs o) refl
 
-counts_more : (events : ℕ) (before outputs : List Output) → counts events (before ++ outputs) ≡ tallied_all outputs (counts events before)
-counts_more events before [] = ap (counts events) (append-nil before)
-counts_more events before (output ∷ outputs) =
-    ap (counts events) (sym (append_assoc before (output ∷ []) outputs))
-    ∙ counts_more events (before ++ output ∷ []) outputs
-    ∙ ap (tallied_all outputs) (counts_push events before output)
+-- what was counted stays counted with one output more, where that was counted
+pub counted : {T E P : Type 0} (r : Result T E) (o : Output) (old new : Summary) → (P → new ≡ tallied o old)
+    → (events : ℕ) (before : List Output) → old ≡ counts events before → OnOk r P → OnOk r (new ≡ counts events (before ++ o ∷ []))
+counted (Ok done) o old new is events before was more = is more ∙ ap (tallied o) was ∙ sym (counts_push events before o)
+counted (Err e) o old new is events before was more = tt
 
--- all outputs of a run, the opening's first
-pub counts_all : (events : ℕ) (opening outputs : List Output) → tallied_all outputs (tallied_all opening (counts events [])) ≡ counts events (opening ++ outputs)
-counts_all events opening outputs = ap (tallied_all outputs) (sym (counts_more events [] opening)) ∙ sym (counts_more events opening outputs)
+-- a list so far, with what is at this place
+take_next : {A : Type 0} → (list : List A) (i : ℕ) (x : A) → i < length list → x ≡ get_or list i x → take (i + 1) list ≡ take i list ++ x ∷ []
+take_next list i x within is =
+    let next : i + 1 ≡ suc i = omega arith in
+    ap (λ n. take n list) next ∙ take-suc list i x within ∙ ap (λ y. take i list ++ y ∷ []) (sym is)
 
--- those of a step, and then the rest
-pub tallied_append : (first second : List Output) (s : Summary) → tallied_all (first ++ second) s ≡ tallied_all second (tallied_all first s)
-tallied_append [] second s = refl
-tallied_append (output ∷ first) second s = tallied_append first second (tallied output s)
+pub counted_next : (before step : List Output) (i : ℕ) (o : Output) (events : ℕ) (new : Summary) → i < length step → o ≡ get_or step i o
+    → new ≡ counts events ((before ++ take i step) ++ o ∷ []) → new ≡ counts events (before ++ take (i + 1) step)
+counted_next before step i o events new within is was =
+    was ∙ ap (counts events) (append_assoc before (take i step) (o ∷ []) ∙ ap (λ more. before ++ more) (sym (take_next step i o within is)))
+
+pub counted_all : (before step : List Output) (i : ℕ) (events : ℕ) (new : Summary) → length step ≤ i
+    → new ≡ counts events (before ++ take i step) → new ≡ counts events (before ++ step)
+counted_all before step i events new past was = was ∙ ap (λ more. counts events (before ++ more)) (take_all i step past)
+
+joined_push : (steps : List Step) (step : Step) → joined (steps ++ step ∷ []) ≡ joined steps ++ step.outputs
+joined_push [] step = append-nil step.outputs
+joined_push (first ∷ steps) step = ap (λ more. first.outputs ++ more) (joined_push steps step) ∙ sym (append_assoc first.outputs (joined steps) step.outputs)
+
+-- what the opening put out
+pub counted_opening : (outputs : List Output) (steps : List Step) (events : ℕ) (new : Summary) → new ≡ counts events outputs
+    → new ≡ counts events (outputs ++ joined (take 0 steps))
+counted_opening outputs steps events new was = was ∙ ap (counts events) (sym (append-nil outputs))
+
+-- and what one step more did
+pub counted_step : (outputs : List Output) (steps : List Step) (i : ℕ) (step : Step) (events : ℕ) (new : Summary) → i < length steps → step ≡ get_or steps i step
+    → new ≡ counts events ((outputs ++ joined (take i steps)) ++ step.outputs) → new ≡ counts events (outputs ++ joined (take (i + 1) steps))
+counted_step outputs steps i step events new within is was =
+    let taken = ap joined (take_next steps i step within is) ∙ joined_push (take i steps) step in
+    was ∙ ap (counts events) (append_assoc outputs (joined (take i steps)) step.outputs ∙ ap (λ more. outputs ++ more) (sym taken))

@@ -1,5 +1,5 @@
 -- How much a run puts out.
-use Rattle.std.specs.Prelude.{◌≡◌, ℕ, ◌+◌, Bool, true, false, List, [], ◌∷◌, length, count_by}
+use Rattle.std.specs.Prelude.{◌≡◌, ℕ, Bool, true, false, List, [], ◌∷◌, length, count_by}
 use Rattle.js_ordered.specs.declared.event.Event.{Event}
 use Rattle.js_ordered.specs.declared.run.Run.{Run}
 use Rattle.js_ordered.specs.declared.run.Output.{Output}
@@ -48,20 +48,6 @@ counts events outputs = record {
   subscribes = count_by is_subscribe outputs;
   last = last_yielded 0 outputs;
 }
-
--- the counts with one output more
-abbrev pub tallied : Output → Summary → Summary
-tallied (out.Yield sequence number subject payload) s = record s { yields = s.yields + 1; last = sequence }
-tallied (out.Item kind) s = record s { items = s.items + 1 }
-tallied (out.Recreate serial start) s = record s { recreations = s.recreations + 1 }
-tallied (out.Request number subject payload) s = record s { requests = s.requests + 1 }
-tallied (out.Publish subject reply payload) s = record s { publishes = s.publishes + 1 }
-tallied (out.Subscribe inbox subject) s = record s { subscribes = s.subscribes + 1 }
-
--- and with more of them
-abbrev pub tallied_all : List Output → Summary → Summary
-tallied_all [] s = s
-tallied_all (output ∷ outputs) s = tallied_all outputs (tallied output s)
 
 -- the counts of a run, over its opening and all of its steps
 abbrev pub summary : Run → Summary

@@ -1,5 +1,6 @@
 //! How much the replay of a generated transcript puts out.
-ghost use Rattle.std.specs.Prelude.{◌≡◌, ◌≤◌, ◌+◌, [], IfOk, OnOk};
+ghost use Rattle.std.specs.Prelude.{◌≡◌, ◌≤◌, ◌+◌, ◌++◌, ◌∷◌, [], ℕ, List, IfOk, OnOk};
+ghost use Rattle.js_ordered.specs.declared.run.Output as outputs;
 ghost use Rattle.js_ordered.specs.Fold.{fold};
 ghost use Rattle.js_ordered.specs.Valid.{IsReplay, IsValid};
 ghost use Rattle.js_generate.specs.Counts as counts;
@@ -61,7 +62,8 @@ impl Summary {
 
     /// Counts one output more.
     fn count(&mut self, output: &Output) -> Result<(), OutOfMemory>
-        ensures { OnOk result (self.new ≡ counts.tallied output.now self.old) }
+        ensures { (events : ℕ) → (before : List outputs.Output) → self.old ≡ counts.counts events before
+            → OnOk result (self.new ≡ counts.counts events (before ++ output.now ∷ [])) }
     {
         match output {
             Output::Yield {
@@ -81,7 +83,8 @@ impl Summary {
 
     /// Counts the outputs of a step.
     fn count_all(&mut self, step: &[Output]) -> Result<(), OutOfMemory>
-        ensures { OnOk result (self.new ≡ counts.tallied_all step.now self.old) }
+        ensures { (events : ℕ) → (before : List outputs.Output) → self.old ≡ counts.counts events before
+            → OnOk result (self.new ≡ counts.counts events (before ++ step.now)) }
     {
         for output in step {
             self.count(output)?;
@@ -95,7 +98,6 @@ impl Summary {
 /// # Errors
 ///
 /// Want of memory.
-#[tactic(auto, using(std::proofs::lemmas::Grind::common_steps, crate::proofs::Tallies::counts_all, crate::proofs::Tallies::tallied_append))]
 pub fn summary_of(run: &Run) -> Result<Summary, OutOfMemory>
     ensures { IfOk result (λ summary. summary ≡ counts.summary run.now) }
 {
