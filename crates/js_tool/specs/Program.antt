@@ -1,10 +1,12 @@
 -- What the program answers to an input, and what it writes.
-use Rattle.std.specs.Prelude.{◌≡◌, ◌⊎◌, ◌≤◌, ◌+◌, ◌*◌, ℕ, List, length, nat_lt, if◌then◌else◌, Option, Some, None, Result, Ok, Err, ⊤}
-use Rattle.std.specs.Io.KnownBytes.{Appends}
+use Rattle.std.specs.Prelude.{◌≡◌, ◌⊎◌, ◌≤◌, ◌+◌, ◌*◌, ℕ, List, length, nat_lt, if◌then◌else◌, Option, Some, None, IfSome, Result, Ok, Err, ⊤}
+use Rattle.std.specs.Io.KnownBytes.{Appends, IsAtEnd}
 use Rattle.js_ends.specs.Causes.{Rose, AppendsPrefix}
 use Rattle.js_generate.specs.declared.summary.Summary.{Summary}
 use Rattle.js_generate.specs.Counts.{summary}
 use Rattle.js_generate.specs.Transcript as generated
+use Rattle.js_message.specs.Ack.{Info, ack}
+use Rattle.js_message.specs.declared.info_error.InfoError.{InfoError}
 use Rattle.js_ordered.specs.declared.consumer.Given.{Given}
 use Rattle.js_ordered.specs.declared.run.Run.{Run}
 use Rattle.js_ordered.specs.declared.run.ReplayError.{ReplayError}
@@ -19,7 +21,9 @@ use Rattle.js_tool.specs.declared.program.Reply.{Reply}
 use Rattle.js_tool.specs.declared.program.Reply.TheVariants as reply
 use Rattle.js_tool.specs.declared.transcript.setup.Setup.{Setup}
 use Rattle.js_tool.specs.declared.transcript.Transcript.{Transcript}
-use Rattle.js_tool.specs.Commands.{Asked, Replay, Generate, Info, Window}
+use Rattle.js_tool.specs.Answers.{summary_text, info_text, error_text, info_status, window_text}
+use Rattle.js_tool.specs.Commands.{Asked, Replay, Generate, Window}
+use Rattle.js_tool.specs.Commands as commands
 use Rattle.js_tool.specs.Transcripts.{transcript}
 use Rattle.js_tool.specs.Texts.{run_text, refusal_text}
 
@@ -104,7 +108,7 @@ abbrev pub without_threads : Option Asked → Option Asked
 without_threads None = None
 without_threads (Some Replay) = Some Replay
 without_threads (Some (Generate seed events)) = Some (Generate seed events)
-without_threads (Some (Info subject)) = Some (Info subject)
+without_threads (Some (commands.Info subject)) = Some (commands.Info subject)
 without_threads (Some (Window capacity threads calls)) = None
 
 -- what so many threads came to on a window with so many permits, where each took one so many times
@@ -139,3 +143,39 @@ HasReadAll status.ReadFault = ⊥
 HasReadAll status.Usage = ⊥
 HasReadAll status.OutOfMemory = ⊥
 HasReadAll status.TooLong = ⊥
+
+-- ---- what a command answers and writes, over ends before and after it: what the source had left, what the sink had taken, and the sink's count of faults
+
+-- `replay`
+pub record AnswersReplay (left left_after taken taken_after : Option (List ℕ)) (faults faults_after : ℕ) (answer : Status) : Type 0 where
+  -- the whole text of the input's run was written, and nothing else
+  pub done : answer ≡ status.Done → IfSome left (λ bytes. (run : Run) × Replays bytes run × Appends taken taken_after (run_text run))
+  pub refused : answer ≡ status.Refused → IfSome left (λ bytes. (refusal : ReplayError) × IsRefused bytes refusal
+      × WritesUnlessFault taken taken_after faults faults_after (refusal_text refusal))
+  -- a front of the run's text was written
+  pub written_before_fault : answer ≡ status.WriteFault → IfSome left (λ bytes. (run : Run) × Replays bytes run × AppendsPrefix taken taken_after (run_text run))
+  pub at_end : HasReadAll answer → IsAtEnd left_after
+  -- what the input calls for is answered, unless memory ran out or a count of faults rose
+  pub otherwise : IfSome left (λ bytes. IsUnlessFailed answer (called_for bytes))
+  pub valid : IfSome left (λ bytes. IsValidTranscript bytes → IsUnlessFailed answer status.Done)
+
+-- `generate`: the line of how much the generated transcript's run puts out
+pub record AnswersGenerate (seed events : ℕ) (taken taken_after : Option (List ℕ)) (answer : Status) : Type 0 where
+  pub done : answer ≡ status.Done → (counts : Summary) × IsGenerated seed events counts × Appends taken taken_after (summary_text counts)
+  pub written_before_fault : answer ≡ status.WriteFault → (counts : Summary) × IsGenerated seed events counts × AppendsPrefix taken taken_after (summary_text counts)
+  pub otherwise : IsUnlessUnwritten answer status.Done
+
+-- `info`: the line of what the subject says, or of why it is no acknowledgement subject
+pub record AnswersInfo (subject : List ℕ) (taken taken_after : Option (List ℕ)) (faults faults_after : ℕ) (answer : Status) : Type 0 where
+  pub done : answer ≡ status.Done → (info : Info) × (ack subject ≡ Ok info) × Appends taken taken_after (info_text info)
+  pub refused : answer ≡ status.Refused → (error : InfoError) × (ack subject ≡ Err error) × WritesUnlessFault taken taken_after faults faults_after (error_text error)
+  pub written_before_fault : answer ≡ status.WriteFault → (info : Info) × (ack subject ≡ Ok info) × AppendsPrefix taken taken_after (info_text info)
+  pub otherwise : IsUnlessUnwritten answer (info_status (ack subject))
+
+-- `window`: the line of what the threads came to
+pub record AnswersWindow (capacity threads calls : ℕ) (taken taken_after : Option (List ℕ)) (answer : Status) : Type 0 where
+  pub done : answer ≡ status.Done → (counts : WindowCounts) × IsWindowRun capacity threads calls counts
+      × Appends taken taken_after (window_text capacity threads calls counts)
+  pub written_before_fault : answer ≡ status.WriteFault → (counts : WindowCounts) × IsWindowRun capacity threads calls counts
+      × AppendsPrefix taken taken_after (window_text capacity threads calls counts)
+  pub otherwise : IsUnlessUnwritten answer status.Done

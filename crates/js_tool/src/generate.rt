@@ -1,11 +1,10 @@
 //! The replay of a generated transcript, and the line of its counts.
 
 ghost use Rattle.std.specs.Prelude.{◌≡◌, ◌≤◌, IfOk};
-ghost use Rattle.std.specs.Io.KnownBytes.{Keeps, Appends};
-ghost use Rattle.js_ends.specs.Causes.{Rose, AppendsPrefix};
-ghost use Rattle.js_generate.specs.declared.summary.Summary.{Summary as Counts};
+ghost use Rattle.std.specs.Io.KnownBytes.{Keeps};
+ghost use Rattle.js_ends.specs.Causes.{Rose};
 ghost use Rattle.js_tool.specs.Answers.{summary_text};
-ghost use Rattle.js_tool.specs.Program.{IsGenerated, IsUnlessUnwritten, SaysNothing};
+ghost use Rattle.js_tool.specs.Program.{AnswersGenerate, IsGenerated, SaysNothing};
 
 use crate::status::Status;
 use crate::text::{Cell, push_line};
@@ -22,13 +21,9 @@ pub(crate) fn tell_generate<K: Sink>(
     output: &mut K,
 ) -> Status
     requires { events ≤ 200_000 }
-    ensures done { result ≡ Status.Done → (counts : Counts) × IsGenerated seed events counts
-        × Appends (K.taken output.old) (K.taken output.new) (summary_text counts) }
+    ensures answers { AnswersGenerate seed events (K.taken output.old) (K.taken output.new) result }
     ensures write_fault { result ≡ Status.WriteFault → Rose (K.faults output.old) (K.faults output.new) }
-    ensures written_before_fault { result ≡ Status.WriteFault → (counts : Counts) × IsGenerated seed events counts
-        × AppendsPrefix (K.taken output.old) (K.taken output.new) (summary_text counts) }
     ensures silent { SaysNothing result → Keeps (K.taken output.old) (K.taken output.new) }
-    ensures otherwise { IsUnlessUnwritten result Status.Done }
 {
     let summary = match generated(alloc, seed, events) {
         Ok(summary) => summary,

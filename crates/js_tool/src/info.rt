@@ -1,14 +1,12 @@
 //! What an acknowledgement subject says, as a line.
 
-ghost use Rattle.std.specs.Prelude.{◌≡◌, IfOk, Ok, Err};
+ghost use Rattle.std.specs.Prelude.{◌≡◌, IfOk};
 ghost use Rattle.std.specs.Option.{option_copied};
-ghost use Rattle.std.specs.Io.KnownBytes.{Keeps, Appends};
-ghost use Rattle.js_ends.specs.Causes.{Rose, AppendsPrefix};
-ghost use Rattle.js_message.specs.Ack.{Info as PlainInfo, ack};
+ghost use Rattle.std.specs.Io.KnownBytes.{Keeps};
+ghost use Rattle.js_ends.specs.Causes.{Rose};
 ghost use Rattle.js_message.specs.Shown.{shown};
-ghost use Rattle.js_message.specs.declared.info_error.InfoError.{InfoError as Error};
-ghost use Rattle.js_tool.specs.Answers.{info_text, error_text, info_status};
-ghost use Rattle.js_tool.specs.Program.{WritesUnlessFault, IsUnlessUnwritten, SaysNothing};
+ghost use Rattle.js_tool.specs.Answers.{info_text, error_text};
+ghost use Rattle.js_tool.specs.Program.{AnswersInfo, SaysNothing};
 ghost use Rattle.js_tool.specs.Texts.{cell_data, text_or_null};
 
 use crate::status::Status;
@@ -19,16 +17,9 @@ use std::alloc::{AllocError, Global};
 
 /// Reads an acknowledgement subject, and writes the line of what it says, or of why it is none.
 pub(crate) fn tell_info<K: Sink>(alloc: Global, subject: &str, output: &mut K) -> Status
-    ensures done { result ≡ Status.Done → (info : PlainInfo)
-        × (ack subject.now ≡ Ok info) × Appends (K.taken output.old) (K.taken output.new) (info_text info) }
-    ensures refused { result ≡ Status.Refused → (error : Error)
-        × (ack subject.now ≡ Err error) × WritesUnlessFault (K.taken output.old) (K.taken output.new)
-        (K.faults output.old) (K.faults output.new) (error_text error) }
+    ensures answers { AnswersInfo subject.now (K.taken output.old) (K.taken output.new) (K.faults output.old) (K.faults output.new) result }
     ensures write_fault { result ≡ Status.WriteFault → Rose (K.faults output.old) (K.faults output.new) }
-    ensures written_before_fault { result ≡ Status.WriteFault → (info : PlainInfo)
-        × (ack subject.now ≡ Ok info) × AppendsPrefix (K.taken output.old) (K.taken output.new) (info_text info) }
     ensures silent { SaysNothing result → Keeps (K.taken output.old) (K.taken output.new) }
-    ensures otherwise { IsUnlessUnwritten result (info_status (ack subject.now)) }
 {
     match parse_info(subject) {
         Ok(info) => match info_line(alloc, &info) {

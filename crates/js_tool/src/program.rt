@@ -1,18 +1,10 @@
 //! The top call: what the program does with its words, its source and its sink.
 
-ghost use Rattle.std.specs.Prelude.{◌≡◌, ◌≤◌, ◌<◌, ◌↔◌, ℕ, List, length, map, Some, None, Ok, Err, IfOk, IfSome, string_bytes};
-ghost use Rattle.std.specs.Io.KnownBytes.{Keeps, Appends, IsAtEnd};
-ghost use Rattle.js_ends.specs.Causes.{Rose, AppendsPrefix};
-ghost use Rattle.js_ordered.specs.declared.run.Run.{Run};
-ghost use Rattle.js_ordered.specs.declared.run.ReplayError.{ReplayError};
-ghost use Rattle.js_generate.specs.declared.summary.Summary.{Summary};
-ghost use Rattle.js_message.specs.Ack.{Info as PlainInfo, ack};
-ghost use Rattle.js_message.specs.declared.info_error.InfoError.{InfoError};
-ghost use Rattle.js_workers.specs.declared.workers.WindowCounts.{WindowCounts};
-ghost use Rattle.js_tool.specs.Answers.{summary_text, info_text, error_text, info_status, window_text};
+ghost use Rattle.std.specs.Prelude.{◌≡◌, ◌≤◌, ◌<◌, ◌↔◌, ℕ, List, length, map, Some, None, IfSome, string_bytes};
+ghost use Rattle.std.specs.Io.KnownBytes.{Keeps};
+ghost use Rattle.js_ends.specs.Causes.{Rose};
 ghost use Rattle.js_tool.specs.Commands.{Replay, Generate, Info, Window, command_of as command_in};
-ghost use Rattle.js_tool.specs.Program.{Replays, IsRefused, FirstUnread, IsValidTranscript, IsGenerated, IsWindowRun, WritesUnlessFault, called_for, IsUnlessFailed, IsUnlessUnwritten, SaysNothing, HasReadAll, without_threads};
-ghost use Rattle.js_tool.specs.Texts.{run_text as text_of_run, refusal_text};
+ghost use Rattle.js_tool.specs.Program.{AnswersReplay, AnswersGenerate, AnswersInfo, AnswersWindow, FirstUnread, SaysNothing, without_threads};
 
 use crate::command::{Command, command_of};
 use crate::generate::tell_generate;
@@ -48,73 +40,30 @@ pub fn run<R: Threads + Wait + Sync, S: Source, K: Sink>(
     output: &mut K,
 ) -> Status
     ensures usage { (result ≡ Status.Usage) ↔ (command_in (map string_bytes words.now) ≡ None) }
+
+    // What each command answers and writes. Of `replay`, `done` is that the text of the input's run was written, which
+    // leaves no gap where the server was honest.
+    ensures replay { command_in (map string_bytes words.now) ≡ Some Replay
+        → AnswersReplay (S.left input.old) (S.left input.new) (K.taken output.old) (K.taken output.new)
+        (K.faults output.old) (K.faults output.new) result }
+    ensures generate { (seed events : ℕ) → command_in (map string_bytes words.now) ≡ Some (Generate seed events)
+        → AnswersGenerate seed events (K.taken output.old) (K.taken output.new) result }
+    ensures info { (subject : List ℕ) → command_in (map string_bytes words.now) ≡ Some (Info subject)
+        → AnswersInfo subject (K.taken output.old) (K.taken output.new) (K.faults output.old) (K.faults output.new) result }
+    ensures window { (capacity threads calls : ℕ)
+        → command_in (map string_bytes words.now) ≡ Some (Window capacity threads calls)
+        → AnswersWindow capacity threads calls (K.taken output.old) (K.taken output.new) result }
+
+    // What else a status tells.
     ensures write_fault { result ≡ Status.WriteFault → Rose (K.faults output.old) (K.faults output.new) }
     ensures silent { SaysNothing result → Keeps (K.taken output.old) (K.taken output.new) }
-
-    // `replay`: the whole text of the input's run was written, and nothing else.
-    ensures done { command_in (map string_bytes words.now) ≡ Some Replay → result ≡ Status.Done
-        → IfSome (S.left input.old) (λ bytes. (run : Run)
-        × Replays bytes run × Appends (K.taken output.old) (K.taken output.new) (text_of_run run)) }
-    ensures at_end { command_in (map string_bytes words.now) ≡ Some Replay → HasReadAll result
-        → IsAtEnd (S.left input.new) }
     ensures read_fault { result ≡ Status.ReadFault → Rose (S.faults input.old) (S.faults input.new) }
     ensures too_long { result ≡ Status.TooLong
         → IfSome (S.left input.old) (λ bytes. 67_108_864 < length bytes) }
     ensures bad_line { (line : ℕ) → result ≡ Status.BadLine line
         → IfSome (S.left input.old) (λ bytes. FirstUnread bytes line) }
-    ensures refused { command_in (map string_bytes words.now) ≡ Some Replay → result ≡ Status.Refused
-        → IfSome (S.left input.old) (λ bytes. (refusal : ReplayError)
-        × IsRefused bytes refusal × WritesUnlessFault (K.taken output.old) (K.taken output.new)
-        (K.faults output.old) (K.faults output.new) (refusal_text refusal)) }
-    // A front of the run's text was written.
-    ensures written_before_fault { command_in (map string_bytes words.now) ≡ Some Replay → result ≡ Status.WriteFault
-        → IfSome (S.left input.old) (λ bytes. (run : Run)
-        × Replays bytes run × AppendsPrefix (K.taken output.old) (K.taken output.new) (text_of_run run)) }
-    // What the input calls for is answered, unless memory ran out or a count of faults rose.
-    ensures otherwise { command_in (map string_bytes words.now) ≡ Some Replay
-        → IfSome (S.left input.old) (λ bytes. IsUnlessFailed result (called_for bytes)) }
-    ensures valid { command_in (map string_bytes words.now) ≡ Some Replay
-        → IfSome (S.left input.old) (λ bytes. IsValidTranscript bytes → IsUnlessFailed result Status.Done) }
-
-    // No other command reads its source.
+    // Words that are not those of `replay` leave the source as it was.
     ensures unread { (command_in (map string_bytes words.now) ≡ Some Replay → ⊥) → input.new ≡ input.old }
-
-    // `generate`: the line of how much the generated transcript's run puts out.
-    ensures generate_done { (seed events : ℕ) → command_in (map string_bytes words.now) ≡ Some (Generate seed events)
-        → result ≡ Status.Done → (counts : Summary) × IsGenerated seed events counts
-        × Appends (K.taken output.old) (K.taken output.new) (summary_text counts) }
-    ensures generate_written_before_fault { (seed events : ℕ) → command_in (map string_bytes words.now) ≡ Some (Generate seed events)
-        → result ≡ Status.WriteFault → (counts : Summary) × IsGenerated seed events counts
-        × AppendsPrefix (K.taken output.old) (K.taken output.new) (summary_text counts) }
-    ensures generate_otherwise { (seed events : ℕ) → command_in (map string_bytes words.now) ≡ Some (Generate seed events)
-        → IsUnlessUnwritten result Status.Done }
-
-    // `info`: the line of what the subject says, or of why it is no acknowledgement subject.
-    ensures info_done { (subject : List ℕ) → command_in (map string_bytes words.now) ≡ Some (Info subject)
-        → result ≡ Status.Done → (info : PlainInfo)
-        × (ack subject ≡ Ok info) × Appends (K.taken output.old) (K.taken output.new) (info_text info) }
-    ensures info_refused { (subject : List ℕ) → command_in (map string_bytes words.now) ≡ Some (Info subject)
-        → result ≡ Status.Refused → (error : InfoError)
-        × (ack subject ≡ Err error) × WritesUnlessFault (K.taken output.old) (K.taken output.new)
-        (K.faults output.old) (K.faults output.new) (error_text error) }
-    ensures info_written_before_fault { (subject : List ℕ) → command_in (map string_bytes words.now) ≡ Some (Info subject)
-        → result ≡ Status.WriteFault → (info : PlainInfo)
-        × (ack subject ≡ Ok info) × AppendsPrefix (K.taken output.old) (K.taken output.new) (info_text info) }
-    ensures info_otherwise { (subject : List ℕ) → command_in (map string_bytes words.now) ≡ Some (Info subject)
-        → IsUnlessUnwritten result (info_status (ack subject)) }
-
-    // `window`: the line of what the threads came to.
-    ensures window_done { (capacity threads calls : ℕ)
-        → command_in (map string_bytes words.now) ≡ Some (Window capacity threads calls)
-        → result ≡ Status.Done → (counts : WindowCounts) × IsWindowRun capacity threads calls counts
-        × Appends (K.taken output.old) (K.taken output.new) (window_text capacity threads calls counts) }
-    ensures window_written_before_fault { (capacity threads calls : ℕ)
-        → command_in (map string_bytes words.now) ≡ Some (Window capacity threads calls)
-        → result ≡ Status.WriteFault → (counts : WindowCounts) × IsWindowRun capacity threads calls counts
-        × AppendsPrefix (K.taken output.old) (K.taken output.new) (window_text capacity threads calls counts) }
-    ensures window_otherwise { (capacity threads calls : ℕ)
-        → command_in (map string_bytes words.now) ≡ Some (Window capacity threads calls)
-        → IsUnlessUnwritten result Status.Done }
 {
     if let Some(
         Command::Window {
@@ -137,60 +86,27 @@ pub fn run_plain<S: Source, K: Sink>(
     output: &mut K,
 ) -> Status
     ensures usage { (result ≡ Status.Usage) ↔ (without_threads (command_in (map string_bytes words.now)) ≡ None) }
+
+    // What each command answers and writes. Of `replay`, `done` is that the text of the input's run was written, which
+    // leaves no gap where the server was honest.
+    ensures replay { command_in (map string_bytes words.now) ≡ Some Replay
+        → AnswersReplay (S.left input.old) (S.left input.new) (K.taken output.old) (K.taken output.new)
+        (K.faults output.old) (K.faults output.new) result }
+    ensures generate { (seed events : ℕ) → command_in (map string_bytes words.now) ≡ Some (Generate seed events)
+        → AnswersGenerate seed events (K.taken output.old) (K.taken output.new) result }
+    ensures info { (subject : List ℕ) → command_in (map string_bytes words.now) ≡ Some (Info subject)
+        → AnswersInfo subject (K.taken output.old) (K.taken output.new) (K.faults output.old) (K.faults output.new) result }
+
+    // What else a status tells.
     ensures write_fault { result ≡ Status.WriteFault → Rose (K.faults output.old) (K.faults output.new) }
     ensures silent { SaysNothing result → Keeps (K.taken output.old) (K.taken output.new) }
-
-    // `replay`: the whole text of the input's run was written, and nothing else.
-    ensures done { command_in (map string_bytes words.now) ≡ Some Replay → result ≡ Status.Done
-        → IfSome (S.left input.old) (λ bytes. (run : Run)
-        × Replays bytes run × Appends (K.taken output.old) (K.taken output.new) (text_of_run run)) }
-    ensures at_end { command_in (map string_bytes words.now) ≡ Some Replay → HasReadAll result
-        → IsAtEnd (S.left input.new) }
     ensures read_fault { result ≡ Status.ReadFault → Rose (S.faults input.old) (S.faults input.new) }
     ensures too_long { result ≡ Status.TooLong
         → IfSome (S.left input.old) (λ bytes. 67_108_864 < length bytes) }
     ensures bad_line { (line : ℕ) → result ≡ Status.BadLine line
         → IfSome (S.left input.old) (λ bytes. FirstUnread bytes line) }
-    ensures refused { command_in (map string_bytes words.now) ≡ Some Replay → result ≡ Status.Refused
-        → IfSome (S.left input.old) (λ bytes. (refusal : ReplayError)
-        × IsRefused bytes refusal × WritesUnlessFault (K.taken output.old) (K.taken output.new)
-        (K.faults output.old) (K.faults output.new) (refusal_text refusal)) }
-    // A front of the run's text was written.
-    ensures written_before_fault { command_in (map string_bytes words.now) ≡ Some Replay → result ≡ Status.WriteFault
-        → IfSome (S.left input.old) (λ bytes. (run : Run)
-        × Replays bytes run × AppendsPrefix (K.taken output.old) (K.taken output.new) (text_of_run run)) }
-    // What the input calls for is answered, unless memory ran out or a count of faults rose.
-    ensures otherwise { command_in (map string_bytes words.now) ≡ Some Replay
-        → IfSome (S.left input.old) (λ bytes. IsUnlessFailed result (called_for bytes)) }
-    ensures valid { command_in (map string_bytes words.now) ≡ Some Replay
-        → IfSome (S.left input.old) (λ bytes. IsValidTranscript bytes → IsUnlessFailed result Status.Done) }
-
-    // No other command reads its source.
+    // Words that are not those of `replay` leave the source as it was.
     ensures unread { (command_in (map string_bytes words.now) ≡ Some Replay → ⊥) → input.new ≡ input.old }
-
-    // `generate`: the line of how much the generated transcript's run puts out.
-    ensures generate_done { (seed events : ℕ) → command_in (map string_bytes words.now) ≡ Some (Generate seed events)
-        → result ≡ Status.Done → (counts : Summary) × IsGenerated seed events counts
-        × Appends (K.taken output.old) (K.taken output.new) (summary_text counts) }
-    ensures generate_written_before_fault { (seed events : ℕ) → command_in (map string_bytes words.now) ≡ Some (Generate seed events)
-        → result ≡ Status.WriteFault → (counts : Summary) × IsGenerated seed events counts
-        × AppendsPrefix (K.taken output.old) (K.taken output.new) (summary_text counts) }
-    ensures generate_otherwise { (seed events : ℕ) → command_in (map string_bytes words.now) ≡ Some (Generate seed events)
-        → IsUnlessUnwritten result Status.Done }
-
-    // `info`: the line of what the subject says, or of why it is no acknowledgement subject.
-    ensures info_done { (subject : List ℕ) → command_in (map string_bytes words.now) ≡ Some (Info subject)
-        → result ≡ Status.Done → (info : PlainInfo)
-        × (ack subject ≡ Ok info) × Appends (K.taken output.old) (K.taken output.new) (info_text info) }
-    ensures info_refused { (subject : List ℕ) → command_in (map string_bytes words.now) ≡ Some (Info subject)
-        → result ≡ Status.Refused → (error : InfoError)
-        × (ack subject ≡ Err error) × WritesUnlessFault (K.taken output.old) (K.taken output.new)
-        (K.faults output.old) (K.faults output.new) (error_text error) }
-    ensures info_written_before_fault { (subject : List ℕ) → command_in (map string_bytes words.now) ≡ Some (Info subject)
-        → result ≡ Status.WriteFault → (info : PlainInfo)
-        × (ack subject ≡ Ok info) × AppendsPrefix (K.taken output.old) (K.taken output.new) (info_text info) }
-    ensures info_otherwise { (subject : List ℕ) → command_in (map string_bytes words.now) ≡ Some (Info subject)
-        → IsUnlessUnwritten result (info_status (ack subject)) }
 {
     match command_of(words) {
         Some(Command::Replay) => tell_replay(alloc, input, output),
@@ -206,21 +122,13 @@ fn tell_replay<S: Source, K: Sink>(alloc: Global, input: &mut S, output: &mut K)
     ensures not_usage { result ≡ Status.Usage → ⊥ }
     ensures write_fault { result ≡ Status.WriteFault → Rose (K.faults output.old) (K.faults output.new) }
     ensures silent { SaysNothing result → Keeps (K.taken output.old) (K.taken output.new) }
-    ensures done { result ≡ Status.Done → IfSome (S.left input.old) (λ bytes. (run : Run)
-        × Replays bytes run × Appends (K.taken output.old) (K.taken output.new) (text_of_run run)) }
-    ensures at_end { HasReadAll result → IsAtEnd (S.left input.new) }
+    ensures answers { AnswersReplay (S.left input.old) (S.left input.new) (K.taken output.old) (K.taken output.new)
+        (K.faults output.old) (K.faults output.new) result }
     ensures read_fault { result ≡ Status.ReadFault → Rose (S.faults input.old) (S.faults input.new) }
     ensures too_long { result ≡ Status.TooLong
         → IfSome (S.left input.old) (λ bytes. 67_108_864 < length bytes) }
     ensures bad_line { (line : ℕ) → result ≡ Status.BadLine line
         → IfSome (S.left input.old) (λ bytes. FirstUnread bytes line) }
-    ensures refused { result ≡ Status.Refused → IfSome (S.left input.old) (λ bytes. (refusal : ReplayError)
-        × IsRefused bytes refusal × WritesUnlessFault (K.taken output.old) (K.taken output.new)
-        (K.faults output.old) (K.faults output.new) (refusal_text refusal)) }
-    ensures written_before_fault { result ≡ Status.WriteFault → IfSome (S.left input.old) (λ bytes. (run : Run)
-        × Replays bytes run × AppendsPrefix (K.taken output.old) (K.taken output.new) (text_of_run run)) }
-    ensures otherwise { IfSome (S.left input.old) (λ bytes. IsUnlessFailed result (called_for bytes)) }
-    ensures valid { IfSome (S.left input.old) (λ bytes. IsValidTranscript bytes → IsUnlessFailed result Status.Done) }
 {
     let bytes = match read_all(alloc, input) {
         Ok(bytes) => bytes,

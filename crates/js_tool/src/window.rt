@@ -1,11 +1,10 @@
 //! Threads that take permits of one window, and the line of their counts.
 
-ghost use Rattle.std.specs.Prelude.{◌≡◌, ◌+◌, ◌*◌, ◌<◌, ◌≤◌, ◌^◌, IfOk};
-ghost use Rattle.std.specs.Io.KnownBytes.{Keeps, Appends};
-ghost use Rattle.js_ends.specs.Causes.{Rose, AppendsPrefix};
-ghost use Rattle.js_workers.specs.declared.workers.WindowCounts.{WindowCounts as Counts};
+ghost use Rattle.std.specs.Prelude.{◌≡◌, ◌<◌, ◌≤◌, ◌^◌, IfOk};
+ghost use Rattle.std.specs.Io.KnownBytes.{Keeps};
+ghost use Rattle.js_ends.specs.Causes.{Rose};
 ghost use Rattle.js_tool.specs.Answers.{window_text};
-ghost use Rattle.js_tool.specs.Program.{IsWindowRun, IsUnlessUnwritten, SaysNothing};
+ghost use Rattle.js_tool.specs.Program.{AnswersWindow, SaysNothing};
 
 use crate::status::Status;
 use crate::text::{Cell, push_line};
@@ -28,13 +27,9 @@ pub(crate) fn tell_window<R: Threads + Wait + Sync, K: Sink>(
     requires capacity { (0 < capacity) × (capacity < 2 ^ 32) }
     requires threads { (0 < threads) × (threads ≤ 8) }
     requires calls { calls ≤ 100000 }
-    ensures done { result ≡ Status.Done → (counts : Counts) × IsWindowRun capacity threads calls counts
-        × Appends (K.taken output.old) (K.taken output.new) (window_text capacity threads calls counts) }
+    ensures answers { AnswersWindow capacity threads calls (K.taken output.old) (K.taken output.new) result }
     ensures write_fault { result ≡ Status.WriteFault → Rose (K.faults output.old) (K.faults output.new) }
-    ensures written_before_fault { result ≡ Status.WriteFault → (counts : Counts) × IsWindowRun capacity threads calls counts
-        × AppendsPrefix (K.taken output.old) (K.taken output.new) (window_text capacity threads calls counts) }
     ensures silent { SaysNothing result → Keeps (K.taken output.old) (K.taken output.new) }
-    ensures otherwise { IsUnlessUnwritten result Status.Done }
 {
     let counts = match run_window(rt, alloc, capacity, threads, calls, &Open) {
         Ok(counts) => counts,
