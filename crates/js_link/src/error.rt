@@ -1,6 +1,22 @@
+//! What a link's refusals are made of, and how they are printed.
+ghost use Rattle.std.specs.Prelude.{Some};
+ghost use Rattle.js_link.specs.Texts.{link_text};
+
 use crate::link::LinkError;
 use js_base::OutOfMemory;
 use std::alloc::{AllocError, AllocFailed};
+use std::fmt;
+
+impl fmt::Display for LinkError {
+    ghost output = { λ error. Some (link_text error) };
+
+    fn fmt<W: fmt::Write>(&self, f: &mut fmt::Formatter<W>) -> fmt::Result {
+        match self {
+            LinkError::Failed => write!(f, "link failed"),
+            LinkError::OutOfMemory => write!(f, "out of memory"),
+        }
+    }
+}
 
 impl From<OutOfMemory> for LinkError {
     ghost use Rattle.std.specs.Prelude.{◌≡◌};

@@ -11,6 +11,3 @@ pub use link::{Answer, Link, LinkError, Taken, Watch};
 pub use memory::MemoryLink;
 pub use sent::{InboxId, RequestId, Sent};
 pub use server::ScriptedServer;
-
-#[cfg(test)]
-mod tests;

@@ -1,3 +1,4 @@
+//! The trait of a connection: what its calls answer, and what an adapter to a real one owes.
 ghost use Rattle.std.specs.Prelude.{◌≡◌, ℕ, false, IfSome, length};
 ghost use Rattle.std.specs.Option.{option_copied};
 ghost use Rattle.js_link.specs.LinkView.{LinkView};
@@ -62,11 +63,16 @@ pub enum Watch {
 ///   server sends with a status is a message too: an answer of status 503 is an answer, and `Gone` is for a request that none
 ///   can reach any more.
 /// - A call that finds no memory has sent nothing and changed nothing.
+/// - Nothing reaches the wire that a server would read as something else. A call refuses as `Failed`, and sends nothing of: a
+///   subject, a reply subject or a queue group that is none (`is_valid_subject` is the test); headers that are not sendable
+///   (`HeaderMap::is_sendable` is the test: no CR, LF or NUL in a value; none of those, no colon and no space in a name); and a
+///   body that with its headers is longer than the server takes. The states of this client test a part of this before they call.
+///   What else their caller handed them, such as the reply subject of a message that is acknowledged, comes to the link as it is.
 /// - What it may tell besides (the numbers and the subjects that come next, what lies in its inboxes, which answers have come,
 ///   what it sent) it tells truly or not at all.
 /// - Where it tells whether it is up, it tells the truth: it fails no send while it is up, and none goes out while it is
-///   down. An adapter that cannot know this beforehand tells nothing of it, and may then fail at any time. Whether it is up
-///   changes in a call of its own alone, and so does what `state` answers.
+///   down. An adapter that cannot know this beforehand, as one that refuses what must not reach the wire cannot, tells nothing of
+///   it, and may then fail at any time. Whether it is up changes in a call of its own alone, and so does what `state` answers.
 ///
 /// # While a connection is being made anew
 ///

@@ -1,3 +1,4 @@
+//! A link in memory, which tells all: what it sends is kept, and what it receives is given to it.
 ghost use Rattle.std.specs.Prelude.{◌≡◌, ◌≢◌, IfOk, OnOk, OnErr, MatchOption, Some, None, string_bytes};
 ghost use Rattle.std.specs.Option.{option_copied};
 ghost use Rattle.js_link.specs.Calls.{Fails, AsksOf};
@@ -20,6 +21,9 @@ enum Request {
 }
 
 /// A link in memory: what it sends is kept, and what it receives is given to it.
+///
+/// It tells all of itself, so no send fails while it is up: it has no wire, and refuses no subject, no header and no length. What it
+/// was handed stands in `sent` as it came, which shows a test what an adapter would have been asked to send.
 ///
 /// Inboxes are numbered from 0 and requests from 1, in the order in which they are made. Both take memory, so that their
 /// numbers never come to their type's end.

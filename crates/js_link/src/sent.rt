@@ -1,3 +1,4 @@
+//! What a link has sent, and how its inboxes and requests are named.
 use bytes::Bytes;
 use js_base::{HeaderMap, Subject, Text};
 
