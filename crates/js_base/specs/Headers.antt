@@ -1,5 +1,6 @@
 -- Looking up headers.
-use Rattle.std.specs.Prelude.{ℕ, ◌+◌, ◌-◌, ◌^◌, List, [], ◌∷◌, ◌++◌, length, map, filter, sum_by, min, not, reverse, Option, Some, None, if◌then◌else◌}
+use Rattle.std.specs.Prelude.{ℕ, Bool, ◌==◌, ◌||◌, ◌&&◌, ◌+◌, ◌-◌, ◌^◌, List, [], ◌∷◌, ◌++◌, length, map, filter, sum_by, min, not, reverse, Option, Some, None, if◌then◌else◌}
+use Rattle.std.specs.List.{list_all}
 use Rattle.std.specs.Str.{bytes_eq}
 use Rattle.js_base.specs.declared.headers.Header.{Header}
 
@@ -37,3 +38,22 @@ line_len header = length header.name + length header.value + 4
 abbrev pub wire_len : List Header → ℕ
 wire_len [] = 0
 wire_len (header ∷ headers) = min (12 + sum_by line_len (header ∷ headers)) (2 ^ 64 - 1)
+
+-- ---- what can be sent
+
+-- a carriage return, a line feed or a NUL: what follows it would be read as something else
+abbrev pub is_breaking : ℕ → Bool
+is_breaking c = c == 13 || c == 10 || c == 0
+
+-- such a byte, or a colon or a space, which end a name
+abbrev pub ends_name : ℕ → Bool
+ends_name c = is_breaking c || c == 58 || c == 32
+
+-- a name without bytes that end it, and a value without bytes that break it
+abbrev pub is_sendable_header : Header → Bool
+is_sendable_header header =
+    list_all (λ c. not (ends_name c)) header.name && list_all (λ c. not (is_breaking c)) header.value
+
+-- each header arrives as the one that it is
+abbrev pub is_sendable : List Header → Bool
+is_sendable headers = list_all is_sendable_header headers

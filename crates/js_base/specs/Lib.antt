@@ -3,3 +3,4 @@ pub mod Headers
 pub mod Match
 pub mod Errors
 pub mod Statuses
+pub mod Numbers

@@ -1,3 +1,5 @@
+//! Values on the heap, which contracts see as the values.
+
 ghost use Rattle.std.specs.Prelude.{◌≡◌, IfOk};
 
 use crate::memory::{OutOfMemory, TryClone};
@@ -17,6 +19,7 @@ impl<T> Model for Boxed<T> {
 }
 
 impl<T> Boxed<T> {
+    /// Takes the value off the heap.
     pub fn into_inner(self) -> T
         ensures { result ≡ self }
     {
@@ -24,6 +27,7 @@ impl<T> Boxed<T> {
         Box::into_inner(inner)
     }
 
+    /// The value.
     pub fn get(&self) -> &T
         ensures { result.now ≡ self.now }
     {

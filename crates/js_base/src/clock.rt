@@ -1,5 +1,7 @@
+//! Moments, lengths of time and waits, in whole nanoseconds.
+
 ghost use Rattle.std.specs.Prelude.{◌≡◌};
-ghost use Rattle.js_base.specs.Clock.{is_due, is_over};
+ghost use Rattle.js_base.specs.Clock.{is_any_due, is_due, is_over};
 
 /// A length of time in whole nanoseconds.
 pub type Nanos = u64;
@@ -21,7 +23,9 @@ pub fn due(now: Moment, set: Moment, wait: Nanos) -> bool
 /// A wait that began at a moment.
 #[derive(Clone, Copy, Debug, PartialEq, Eq)]
 pub struct Timer {
+    /// When the wait began.
     pub set: Moment,
+    /// How long it lasts. One that would end past `u64::MAX` is never over.
     pub wait: Nanos,
 }
 
@@ -31,5 +35,15 @@ impl Timer {
         ensures { result ≡ is_due self.now now }
     {
         due(now, self.set, self.wait)
+    }
+}
+
+/// Whether there is a wait, and it is over at `now`.
+pub fn is_any_due(timer: &Option<Timer>, now: Moment) -> bool
+    ensures { result ≡ is_any_due timer.now now }
+{
+    match timer {
+        None => false,
+        Some(timer) => timer.is_due(now),
     }
 }

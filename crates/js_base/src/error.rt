@@ -1,6 +1,8 @@
-ghost use Rattle.std.specs.Prelude.{◌≡◌, ℕ, Some, IfSome};
+//! Errors of calls: a kind, and where it comes from.
+
+ghost use Rattle.std.specs.Prelude.{◌≡◌, Some, option_map};
 ghost use Rattle.std.specs.Option.{option_copied};
-ghost use Rattle.js_base.specs.Errors.{plain, caused, kind_of, source_of, described, source_text, printed};
+ghost use Rattle.js_base.specs.Errors.{plain, caused, kind_of, source_of, sent_by_api, parts_of, described, api_text, source_text, printed};
 
 use crate::text::Text;
 use std::fmt;
@@ -12,10 +14,33 @@ pub enum Source {
     Text(Text),
     /// A refusal by the server's API.
     Api {
+        /// The kind of refusal, in the numbers of HTTP.
         code: u64,
+        /// Which error it is; 0 where the server gave no number.
         err_code: u64,
+        /// What the server says of it.
         description: Option<Text>,
     },
+}
+
+impl Source {
+    /// The server's error, where it is the source.
+    fn api_error(&self) -> Option<ApiError<'_>>
+        ensures { option_map parts_of result ≡ sent_by_api (Some self.now) }
+    {
+        match self {
+            Source::Text(_) => None,
+            Source::Api {
+                code,
+                err_code,
+                description,
+            } => Some(ApiError {
+                code: *code,
+                err_code: *err_code,
+                description: description.as_ref(),
+            }),
+        }
+    }
 }
 
 impl fmt::Display for Source {
@@ -23,25 +48,50 @@ impl fmt::Display for Source {
 
     fn fmt<W: fmt::Write>(&self, f: &mut fmt::Formatter<W>) -> fmt::Result {
         match self {
-            Source::Text(text) => {
-                let text = text.as_str();
-                write!(f, "{text}")
-            }
+            Source::Text(text) => write!(f, "{text}"),
             Source::Api {
                 code,
                 err_code,
                 description,
             } => {
-                let description = or_unknown(description);
-                write!(f, "{description} (code {code}, error code {err_code})")
+                let error = ApiError {
+                    code: *code,
+                    err_code: *err_code,
+                    description: description.as_ref(),
+                };
+                write!(f, "{error}")
             }
         }
     }
 }
 
+/// An error that the server's API sent.
+///
+/// It prints its description, or `unknown` where it has none, and its numbers: `stream not found (code 404, error code 10059)`.
+#[derive(Clone, Copy, Debug, PartialEq, Eq)]
+pub struct ApiError<'a> {
+    /// The kind of refusal, in the numbers of HTTP.
+    pub code: u64,
+    /// Which error it is, by the server's table of errors; 0 where it gave no number.
+    pub err_code: u64,
+    /// What the server says of it.
+    pub description: Option<&'a Text>,
+}
+
+impl fmt::Display for ApiError<'_> {
+    ghost output = { λ e. Some (api_text e.code e.err_code (option_copied e.description)) };
+
+    fn fmt<W: fmt::Write>(&self, f: &mut fmt::Formatter<W>) -> fmt::Result {
+        let description = or_unknown(self.description);
+        let code = self.code;
+        let err_code = self.err_code;
+        write!(f, "{description} (code {code}, error code {err_code})")
+    }
+}
+
 /// The description, where there is one.
-fn or_unknown(description: &Option<Text>) -> &str
-    ensures { result.now ≡ described description.now }
+fn or_unknown(description: Option<&Text>) -> &str
+    ensures { result.now ≡ described (option_copied description.entry) }
 {
     match description {
         None => "unknown",
@@ -88,6 +138,15 @@ impl<K> Error<K> {
         ensures { option_copied result ≡ source_of self.now }
     {
         self.source.as_ref()
+    }
+}
+
+impl<K> Error<K> {
+    /// The server's error, where one was sent; none where the error has no source, or has a text alone.
+    pub fn api_error(&self) -> Option<ApiError<'_>>
+        ensures { option_map parts_of result ≡ sent_by_api (source_of self.now) }
+    {
+        self.source.as_ref()?.api_error()
     }
 }
 

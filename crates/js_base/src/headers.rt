@@ -1,8 +1,11 @@
-ghost use Rattle.std.specs.Prelude.{◌≡◌, [], ◌∷◌, ◌++◌, ◌-◌, ◌^◌, ◌&&◌, nat_eq, min, OnOk, OnErr};
+//! The headers of a message.
+
+ghost use Rattle.std.specs.Prelude.{◌≡◌, [], ◌∷◌, ◌++◌, ◌-◌, ◌^◌, ◌&&◌, nat_eq, min, not, OnOk, OnErr};
+ghost use Rattle.std.specs.List.{list_all};
 ghost use Rattle.std.specs.Cmp.{on_per, and_per, on_equiv, and_equiv, partial_equiv_from_equiv};
 ghost use Rattle.std.specs.Cmp.Lexicographic.{pointwise, lists_per, lists_equiv, nat_list_eq_equiv};
 ghost use Rattle.std.specs.Option.{option_copied};
-ghost use Rattle.js_base.specs.Headers.{first_value, last_value, with_only, wire_len, line_len, without_name};
+ghost use Rattle.js_base.specs.Headers.{first_value, last_value, with_only, wire_len, line_len, without_name, is_breaking, ends_name, is_sendable, is_sendable_header};
 
 use crate::items::Items;
 use crate::memory::{OutOfMemory, TryClone};
@@ -13,7 +16,9 @@ use std::marker::Model;
 /// A name with one of its values.
 #[derive(Debug, PartialEq, Eq, Drop)]
 pub struct Header {
+    /// Its name, which compares byte for byte.
     pub name: Text,
+    /// Its value.
     pub value: Text,
 }
 
@@ -28,6 +33,38 @@ impl Header {
         let value = self.value.as_str().len() as u64;
         name.saturating_add(value).saturating_add(4)
     }
+
+    /// Whether it arrives as the one header that it is.
+    fn is_sendable(&self) -> bool
+        ensures { result ≡ is_sendable_header self.now }
+    {
+        is_sendable_name(self.name.as_str().as_bytes())
+            && is_sendable_value(self.value.as_str().as_bytes())
+    }
+}
+
+fn is_breaking(byte: u8) -> bool
+    ensures { result ≡ is_breaking byte }
+{
+    matches!(byte, b'\r' | b'\n' | 0)
+}
+
+fn ends_name(byte: u8) -> bool
+    ensures { result ≡ ends_name byte }
+{
+    is_breaking(byte) || byte == b':' || byte == b' '
+}
+
+fn is_sendable_name(name: &[u8]) -> bool
+    ensures { result ≡ list_all (λ c. not (ends_name c)) name.now }
+{
+    name.iter().all(|byte| !ends_name(*byte))
+}
+
+fn is_sendable_value(value: &[u8]) -> bool
+    ensures { result ≡ list_all (λ c. not (is_breaking c)) value.now }
+{
+    value.iter().all(|byte| !is_breaking(*byte))
 }
 
 impl TryClone for Header {
@@ -137,6 +174,18 @@ impl HeaderMap {
             len = len.saturating_add(header.wire_len());
         }
         len
+    }
+
+    /// Whether each header arrives as the one that it is: no carriage return, line feed or NUL stands in a value, and none of
+    /// those, no colon and no space in a name. Whoever writes headers to a connection refuses those that are not: the rest of
+    /// such a name or value would be read as headers, or as commands, of its own. An empty name passes, since it breaks no line.
+    pub fn is_sendable(&self) -> bool
+        ensures { result ≡ is_sendable self.now }
+    {
+        self.headers
+            .as_slice()
+            .iter()
+            .all(|header| header.is_sendable())
     }
 }
 

@@ -15,17 +15,14 @@ mod tokens;
 mod turn;
 
 pub use boxed::Boxed;
-pub use clock::{Moment, Nanos, Timer, due};
-pub use error::{Error, Source};
+pub use clock::{Moment, Nanos, Timer, due, is_any_due};
+pub use error::{ApiError, Error, Source};
 pub use headers::{Header, HeaderIter, HeaderMap};
 pub use items::Items;
 pub use memory::{OutOfMemory, TryClone};
-pub use message::{Message, State, StatusCode};
+pub use message::{Entry, Message, State, StatusCode};
 pub use subject::{Subject, is_valid_subject, subject_matches};
 pub use text::Text;
 pub use text_map::{ByName, TextMap};
 pub use tokens::{Tokens, token_count};
 pub use turn::{Next, Turn};
-
-#[cfg(test)]
-mod tests;

@@ -1,5 +1,7 @@
+//! Messages as the link delivers them, their statuses, and the entries of a log.
+
 ghost use Rattle.std.specs.Prelude.{Some};
-ghost use Rattle.js_base.specs.Statuses.{three_digits};
+ghost use Rattle.js_base.specs.Statuses.{state_text, three_digits};
 
 use crate::headers::HeaderMap;
 use crate::memory::{OutOfMemory, TryClone};
@@ -8,12 +10,27 @@ use crate::text::Text;
 use bytes::Bytes;
 use std::fmt;
 
-/// Where the connection stands.
+/// Where the connection stands. It prints its name in small letters.
 #[derive(Clone, Copy, Debug, PartialEq, Eq)]
 pub enum State {
+    /// It was never there so far.
     Pending,
+    /// It is there.
     Connected,
+    /// It is lost, and may come back.
     Disconnected,
+}
+
+impl fmt::Display for State {
+    ghost output = { λ state. Some (state_text state) };
+
+    fn fmt<W: fmt::Write>(&self, f: &mut fmt::Formatter<W>) -> fmt::Result {
+        match self {
+            State::Pending => write!(f, "pending"),
+            State::Connected => write!(f, "connected"),
+            State::Disconnected => write!(f, "disconnected"),
+        }
+    }
 }
 
 /// The status of a message that the server sends in place of a stream's message. Any `u16` may stand here. It prints three
@@ -25,15 +42,21 @@ impl StatusCode {
     /// The server is there, and has nothing to send.
     pub const IDLE_HEARTBEAT: StatusCode = StatusCode(100);
 
+    /// What was asked for is done.
     pub const OK: StatusCode = StatusCode(200);
 
+    /// There is no message that fits.
     pub const NOT_FOUND: StatusCode = StatusCode(404);
 
+    /// A pull request ran into its time limit.
     pub const TIMEOUT: StatusCode = StatusCode(408);
+
     /// A pull request ended before all that it asked for had come.
     pub const REQUEST_TERMINATED: StatusCode = StatusCode(409);
+
     /// Another client of the group is pinned.
     pub const PIN_ID_MISMATCH: StatusCode = StatusCode(423);
+
     /// Nobody listens to the subject of a request.
     pub const NO_RESPONDERS: StatusCode = StatusCode(503);
 }
@@ -56,10 +79,13 @@ impl fmt::Display for StatusCode {
 /// A message as the link delivers it.
 #[derive(Debug, PartialEq, Eq, Drop)]
 pub struct Message {
+    /// What it was sent under.
     pub subject: Subject,
     /// Where an answer goes. For a stream's message this is its acknowledgement subject.
     pub reply: Option<Subject>,
+    /// The bytes that it carries.
     pub payload: Bytes,
+    /// Its headers, where it has any.
     pub headers: Option<HeaderMap>,
     /// There only where the server speaks for itself.
     pub status: Option<StatusCode>,
@@ -79,6 +105,27 @@ impl TryClone for Message {
             status: self.status,
             description: self.description.try_clone()?,
             length: self.length,
+        })
+    }
+}
+
+/// An entry of a log: a message of a stream by its sequence.
+#[derive(Debug, PartialEq, Eq, Drop)]
+pub struct Entry {
+    /// What it was sent under.
+    pub subject: Subject,
+    /// Its place in the stream: the first is 1, and later ones are greater.
+    pub sequence: u64,
+    /// The bytes that it carries.
+    pub payload: Bytes,
+}
+
+impl TryClone for Entry {
+    fn try_clone(&self) -> Result<Entry, OutOfMemory> {
+        Ok(Entry {
+            subject: self.subject.try_clone()?,
+            sequence: self.sequence,
+            payload: self.payload.clone()?,
         })
     }
 }

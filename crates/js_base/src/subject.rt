@@ -1,13 +1,17 @@
+//! Subjects, and which subjects a filter matches.
+
 ghost use Rattle.std.specs.Prelude.{◌≡◌, ◌==◌, ◌∷◌, [], IfOk, string_bytes, nat_eq, not};
 ghost use Rattle.std.specs.Cmp.Lexicographic.{pointwise, nat_list_eq_equiv};
 ghost use Rattle.std.specs.Cmp.{partial_equiv_from_equiv};
 ghost use Rattle.std.specs.List.{list_all};
 ghost use Rattle.std.specs.Str.{bytes_eq};
-ghost use Rattle.js_base.specs.Match.{is_space, is_valid_subject, token_matches, subject_matches};
+ghost use Rattle.std.specs.Char.{is_ascii_whitespace};
+ghost use Rattle.js_base.specs.Match.{is_valid_subject, token_matches, subject_matches};
 
 use crate::memory::{OutOfMemory, TryClone};
 use crate::tokens::Tokens;
 use std::alloc::Global;
+use std::fmt;
 use std::marker::Model;
 
 /// The name that a message is sent under: tokens joined by dots. Contracts see its text.
@@ -25,7 +29,7 @@ impl Model for Subject {
 }
 
 impl Subject {
-    /// A copy of the text, whatever it holds. The one refusal is want of memory.
+    /// A copy of the text, whatever it holds: `is_valid_subject` tells whether it may be sent. The one refusal is want of memory.
     pub fn new(alloc: Global, text: &str) -> Result<Subject, OutOfMemory>
         ensures { IfOk result (λ subject. subject ≡ text.now) }
     {
@@ -34,10 +38,22 @@ impl Subject {
         })
     }
 
+    /// Its text.
     pub fn as_str(&self) -> &str
         ensures { result.now ≡ self.now }
     {
         self.text.as_str()
+    }
+}
+
+impl fmt::Display for Subject {
+    ghost use Rattle.std.specs.Prelude.{Some};
+
+    ghost output = { λ subject. Some subject };
+
+    fn fmt<W: fmt::Write>(&self, f: &mut fmt::Formatter<W>) -> fmt::Result {
+        let text = self.as_str();
+        write!(f, "{text}")
     }
 }
 
@@ -71,16 +87,10 @@ impl Eq for Subject {
     ghost laws = { nat_list_eq_equiv };
 }
 
-fn is_space(byte: u8) -> bool
-    ensures { result ≡ is_space byte }
-{
-    matches!(byte, b' ' | b'\t' | b'\n' | 0x0C | b'\r')
-}
-
 fn has_no_space(text: &[u8]) -> bool
-    ensures { result ≡ list_all (λ c. not (is_space c)) text.now }
+    ensures { result ≡ list_all (λ c. not (is_ascii_whitespace c)) text.now }
 {
-    text.iter().all(|byte| !is_space(*byte))
+    text.iter().all(|byte| !byte.is_ascii_whitespace())
 }
 
 /// Whether a text may be a subject: it is not empty, has no ASCII white space, and neither begins nor ends with a dot.

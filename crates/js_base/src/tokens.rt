@@ -1,3 +1,5 @@
+//! The tokens of a subject, which stand between its dots.
+
 ghost use Rattle.std.specs.Prelude.{◌≡◌, ◌<◌, ◌∷◌, ◌==◌, length, [], MatchOption, count_by};
 ghost use Rattle.std.specs.Option.{option_copied};
 ghost use Rattle.js_base.specs.Match.{tokens, tokens_left};

@@ -1,3 +1,5 @@
+//! What polls answer.
+
 /// What a poll of a call answers. A state that is not at its end is handed back.
 #[derive(Debug, PartialEq, Eq, Drop)]
 pub enum Turn<S, T> {
@@ -14,6 +16,7 @@ pub enum Turn<S, T> {
 pub enum Next<T> {
     /// Nothing has come yet.
     Pending,
+    /// The next item.
     Item(T),
     /// Nothing more will come.
     End,

@@ -1,11 +1,11 @@
 -- Names of streams and consumers.
 use Rattle.std.specs.Prelude.{ℕ, List, [], ◌∷◌, Bool, true, false, not, ◌||◌, ◌&&◌, ◌==◌}
 use Rattle.std.specs.List.{list_all}
-use Rattle.js_base.specs.Match.{is_space}
+use Rattle.std.specs.Char.{is_ascii_whitespace}
 
--- no white space, and neither a dot nor a star nor a greater-than sign
+-- no ASCII white space, and neither a dot nor a star nor a greater-than sign
 abbrev pub is_name_byte : ℕ → Bool
-is_name_byte b = not (is_space b || b == 46 || b == 42 || b == 62)
+is_name_byte b = not (is_ascii_whitespace b || b == 46 || b == 42 || b == 62)
 
 -- whether nothing stands there
 abbrev pub is_empty : List ℕ → Bool
