@@ -33,6 +33,7 @@ impl Model for MemorySource {
 }
 
 impl MemorySource {
+    /// A source of these bytes, whose calls with these numbers fail.
     pub fn new(bytes: Vec<u8>, failing: Vec<u64>) -> MemorySource
         ensures { result ≡ record { left = bytes.items; failing = failing.items; calls = 0; faults = 0 } }
     {
@@ -98,6 +99,7 @@ impl Model for MemorySink {
 }
 
 impl MemorySink {
+    /// A sink that has taken nothing. It takes at most `most` bytes a call; where `most` is 0, each write of some bytes is a fault.
     pub fn new(alloc: Global, most: u64, failing: Vec<u64>) -> MemorySink
         ensures { result ≡ record { taken = []; most = most; failing = failing.items; calls = 0; faults = 0 } }
     {

@@ -1,6 +1,6 @@
 //! Bytes that are given up piece by piece as they are read.
 
-ghost use Rattle.std.specs.Prelude.{◌≡◌, ◌<◌, [], ◌++◌, length, OnOk, IfSome, MatchOption};
+ghost use Rattle.std.specs.Prelude.{◌≡◌, ◌<◌, [], ◌++◌, length, OnOk, OnErr, IfSome, MatchOption};
 ghost use Rattle.js_ends.specs.Pieces.{EndsLine};
 
 use memchr::memrchr;
@@ -42,28 +42,29 @@ impl Pieces {
         }
     }
 
-    /// Adds bytes after all others.
+    /// Adds bytes after all others. After a refusal the bytes are what they were.
     pub fn add(&mut self, alloc: Global, bytes: &[u8]) -> Result<(), AllocError>
-        ensures { OnOk result (self.new ≡ self.old ++ bytes.now) }
+        ensures ok { OnOk result (self.new ≡ self.old ++ bytes.now) }
+        ensures err { OnErr result (self.new ≡ self.old) }
     {
-        self.rest.extend_from_slice(bytes)?;
         if self.rest.len() >= PIECE {
             self.cut(alloc)?;
         }
-        Ok(())
+        self.rest.extend_from_slice(bytes)
     }
 
-    // What follows the last line feed begins the next piece.
+    // What follows the last line feed begins the next piece. The memory is taken first, and no byte moves without it.
     fn cut(&mut self, alloc: Global) -> Result<(), AllocError>
-        ensures { OnOk result (self.new ≡ self.old) }
+        ensures { self.new ≡ self.old }
     {
         let Some(end) = memrchr(b'\n', &self.rest) else {
             return Ok(());
         };
+        self.whole.reserve(1)?;
         let rest = Vec::from_slice(alloc, &self.rest[end + 1..])?;
         self.rest.truncate(end + 1);
         let piece = mem::replace(&mut self.rest, rest);
-        self.whole.push_back(piece)?;
+        self.whole.push_back_reserved(piece);
         Ok(())
     }
 

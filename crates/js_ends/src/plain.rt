@@ -28,6 +28,7 @@ impl Model for PlainSource {
 }
 
 impl PlainSource {
+    /// A source of these bytes.
     pub fn new(bytes: Vec<u8>) -> PlainSource
         ensures { result ≡ bytes.items }
     {
@@ -63,6 +64,7 @@ impl Model for PlainSink {
 }
 
 impl PlainSink {
+    /// A sink that has taken nothing.
     pub fn new(alloc: Global) -> PlainSink
         ensures { result ≡ record { taken = []; faults = 0 } }
     {

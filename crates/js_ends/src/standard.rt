@@ -13,6 +13,7 @@ pub struct ReadSource<R: Read> {
 }
 
 impl<R: Read> ReadSource<R> {
+    /// A source over the reader, which has not failed yet.
     pub fn new(reader: R) -> ReadSource<R>
         ensures { (result.reader ≡ reader) × (result.faults ≡ 0) }
     {
@@ -44,6 +45,7 @@ pub struct WriteSink<W: Write> {
 }
 
 impl<W: Write> WriteSink<W> {
+    /// A sink over the writer, which has not failed yet.
     pub fn new(writer: W) -> WriteSink<W>
         ensures { (result.writer ≡ writer) × (result.faults ≡ 0) }
     {
