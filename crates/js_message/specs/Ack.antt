@@ -3,7 +3,8 @@ use Rattle.std.specs.Prelude.{ℕ, ℤ, pos, ◌^◌, ◌-◌, ◌+◌, Bool, �
 use Rattle.std.specs.List.{starts_with}
 use Rattle.std.specs.Str.{bytes_eq}
 use Rattle.js_base.specs.Match.{tokens}
-use Rattle.js_message.specs.Number.{u64_of, int_of}
+use Rattle.js_base.specs.Numbers.{signed_of}
+use Rattle.js_message.specs.Number.{u64_of}
 use Rattle.js_message.specs.declared.info_error.InfoError.{InfoError}
 use Rattle.js_message.specs.declared.info_error.InfoError.TheVariants.{Prefix, TokenCount, Number, Instant}
 
@@ -31,11 +32,11 @@ is_instant n = int_le (neg_ℤ (pos 377_705_023_201_000_000_000)) n && int_le n 
 
 -- the text as an i64
 abbrev pub i64_of : List ℕ → Option ℤ
-i64_of = int_of (neg_ℤ (pos (2 ^ 63))) (pos (2 ^ 63 - 1))
+i64_of = signed_of (neg_ℤ (pos (2 ^ 63))) (pos (2 ^ 63 - 1))
 
 -- the text as an i128
 abbrev pub i128_of : List ℕ → Option ℤ
-i128_of = int_of (neg_ℤ (pos (2 ^ 127))) (pos (2 ^ 127 - 1))
+i128_of = signed_of (neg_ℤ (pos (2 ^ 127))) (pos (2 ^ 127 - 1))
 
 -- the seven tokens, of which the first is at the place, read from left to right
 abbrev pub seven : ℕ → Option (List ℕ) → Option (List ℕ) → Option (List ℕ) → List ℕ → List ℕ → List ℕ → List ℕ → List ℕ → List ℕ → List ℕ → Result Info InfoError

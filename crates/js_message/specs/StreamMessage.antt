@@ -1,15 +1,20 @@
 -- What the headers of a message say of how it lies in its stream.
-use Rattle.std.specs.Prelude.{ℕ, ℤ, ◌≡◌, ◌⊎◌, List, Option, Some, None, Result, Ok, Err, codes}
+use Rattle.std.specs.Prelude.{ℕ, ℤ, ◌≡◌, ◌⊎◌, List, [], Option, Some, None, Result, Ok, Err, codes}
 use Rattle.std.specs.Result.{result_ok, result_map_both}
 use Rattle.jiff.specs.Words.{parse_timestamp}
 use Rattle.js_base.specs.declared.error.Error.{Error}
+use Rattle.js_base.specs.declared.error.Source.TheVariants as source
 use Rattle.js_base.specs.declared.headers.Header.{Header}
 use Rattle.js_base.specs.declared.message.Message.{Message}
+use Rattle.js_base.specs.Errors.{plain, caused}
 use Rattle.js_base.specs.Headers.{last_value}
 use Rattle.js_message.specs.Number.{u64_of}
 use Rattle.js_message.specs.declared.stream_message.StreamMessage.{StreamMessage}
 use Rattle.js_message.specs.declared.stream_message.StreamMessageErrorKind.{StreamMessageErrorKind}
 use Rattle.js_message.specs.declared.stream_message.StreamMessageErrorKind.TheVariants.{MissingHeader, ParseError, OutOfMemory}
+use Rattle.js_message.specs.declared.stream_message.HeaderFault.{HeaderFault}
+use Rattle.js_message.specs.declared.stream_message.StreamHeader.{StreamHeader}
+use Rattle.js_message.specs.declared.stream_message.StreamHeader.TheVariants.{Sequence, TimeStamp, Subject}
 use Rattle.js_message.specs.declared.stream_message.Told as declared
 
 -- how each kind is printed
@@ -28,24 +33,38 @@ pub record Told : Type 0 where
   pub sequence : ℕ
   pub time : ℤ
 
--- the value that is there, or the refusal; then what follows
-abbrev pub or_refused : {A B : Type 0} → Option A → StreamMessageErrorKind → (A → Result B StreamMessageErrorKind) → Result B StreamMessageErrorKind
-or_refused None kind next = Err kind
-or_refused (Some value) kind next = next value
+-- the name of a header
+abbrev pub name_of : StreamHeader → List ℕ
+name_of Sequence = codes "Nats-Sequence"
+name_of TimeStamp = codes "Nats-Time-Stamp"
+name_of Subject = codes "Nats-Subject"
+
+-- a header that is not there
+abbrev pub is_missing : StreamHeader → HeaderFault
+is_missing header = record { kind = MissingHeader; header = header }
+
+-- a header whose value does not parse
+abbrev pub is_unreadable : StreamHeader → HeaderFault
+is_unreadable header = record { kind = ParseError; header = header }
+
+-- the value that is there, or the fault; then what follows
+abbrev pub or_fault : {A B : Type 0} → Option A → HeaderFault → (A → Result B HeaderFault) → Result B HeaderFault
+or_fault None fault next = Err fault
+or_fault (Some value) fault next = next value
 
 -- what the headers say, read in this order
-abbrev pub told_in : List Header → Result Told StreamMessageErrorKind
+abbrev pub told_in : List Header → Result Told HeaderFault
 told_in headers =
-    or_refused (last_value (codes "Nats-Sequence") headers) MissingHeader (λ sequence_text.
-    or_refused (u64_of sequence_text) ParseError (λ sequence.
-    or_refused (last_value (codes "Nats-Time-Stamp") headers) MissingHeader (λ time_text.
-    or_refused (time_of time_text) ParseError (λ time.
-    or_refused (last_value (codes "Nats-Subject") headers) MissingHeader (λ subject.
+    or_fault (last_value (name_of Sequence) headers) (is_missing Sequence) (λ sequence_text.
+    or_fault (u64_of sequence_text) (is_unreadable Sequence) (λ sequence.
+    or_fault (last_value (name_of TimeStamp) headers) (is_missing TimeStamp) (λ time_text.
+    or_fault (time_of time_text) (is_unreadable TimeStamp) (λ time.
+    or_fault (last_value (name_of Subject) headers) (is_missing Subject) (λ subject.
     Ok (record { subject = subject; sequence = sequence; time = time }))))))
 
 -- what was read, as plain values
-abbrev pub told_by : Result declared.Told StreamMessageErrorKind → Result Told StreamMessageErrorKind
-told_by result = result_map_both (λ t. record { subject = t.subject.now; sequence = t.sequence; time = t.time.nanosecond }) (λ kind. kind) result
+abbrev pub told_by : Result declared.Told HeaderFault → Result Told HeaderFault
+told_by result = result_map_both (λ t. record { subject = t.subject.now; sequence = t.sequence; time = t.time.nanosecond }) (λ fault. fault) result
 
 -- the message that was read says what the headers say, and has them and the body
 pub record IsStreamMessage (headers : List Header) (payload : List ℕ) (s : StreamMessage) : Type 0 where
@@ -53,17 +72,22 @@ pub record IsStreamMessage (headers : List Header) (payload : List ℕ) (s : Str
   pub headers_stay : s.headers ≡ headers
   pub payload_stays : s.payload ≡ payload
 
--- the error, which has no source, is the refusal of the headers, or want of memory
-pub record Refuses (headers : List Header) (error : Error StreamMessageErrorKind) : Type 0 where
-  pub kind : (told_in headers ≡ Err error.kind) ⊎ (error.kind ≡ OutOfMemory)
-  pub no_source : error.source ≡ None
+-- the error is of the fault's kind, and its source is the header's name; or memory ran out
+abbrev pub IsRefusal : HeaderFault → Error StreamMessageErrorKind → Type 0
+IsRefusal fault error = (error ≡ caused fault.kind (source.Text (name_of fault.header))) ⊎ (error ≡ plain OutOfMemory)
 
--- reading a message with these headers and this body: want of memory apart, each refusal is that of the headers
+-- refusing what was read of the headers: their fault is told, or memory ran out
+abbrev pub RefusesAs : Result Told HeaderFault → Error StreamMessageErrorKind → Type 0
+RefusesAs (Err fault) error = IsRefusal fault error
+RefusesAs (Ok told) error = error ≡ plain OutOfMemory
+
+-- Reading a message with these headers and this body: want of memory apart, each refusal is that of the headers' fault. A message
+-- that has none is refused as one whose headers are empty.
 abbrev pub Reads : Option (List Header) → List ℕ → Result StreamMessage (Error StreamMessageErrorKind) → Type 0
 Reads None payload (Ok s) = ⊥
-Reads None payload (Err error) = error ≡ record { kind = MissingHeader; source = None }
+Reads None payload (Err error) = RefusesAs (told_in []) error
 Reads (Some headers) payload (Ok s) = IsStreamMessage headers payload s
-Reads (Some headers) payload (Err error) = Refuses headers error
+Reads (Some headers) payload (Err error) = RefusesAs (told_in headers) error
 
 -- reading the message
 abbrev pub ReadsMessage : Message → Result StreamMessage (Error StreamMessageErrorKind) → Type 0

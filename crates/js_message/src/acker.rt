@@ -1,3 +1,4 @@
+//! Acknowledgements: one message to the reply subject of what was received.
 ghost use Rattle.std.specs.Prelude.{◌≡◌, [], IfOk};
 ghost use Rattle.std.specs.Option.{option_copied};
 ghost use Rattle.js_message.specs.Acking.{Acks, ack_body, unsent};
@@ -7,19 +8,38 @@ use crate::double_ack::{DoubleAck, double_acknowledge};
 use js_base::{Nanos, OutOfMemory, Subject};
 use js_link::{Link, LinkError};
 use std::alloc::Global;
+use std::fmt;
 
 /// Why a message was not acknowledged.
 #[derive(Clone, Copy, Debug, PartialEq, Eq)]
 pub enum AckError {
-    /// The message has no reply subject.
+    /// The message has no reply subject: it came from no consumer that wants acknowledgements.
     NoReply,
-    /// The link could not send.
+    /// The link could not open the inbox or send.
     LinkFailed,
-    /// No answer came in time.
+    /// No answer to a double ack came in time.
     TimedOut,
-    /// The inbox for the answer was closed.
+    /// The inbox for the answer to a double ack was closed.
     SubscriptionDropped,
+    /// Memory ran out. Nothing was sent.
     OutOfMemory,
+}
+
+impl fmt::Display for AckError {
+    ghost use Rattle.std.specs.Prelude.{Some};
+    ghost use Rattle.js_message.specs.Texts.{ack_text};
+
+    ghost output = { λ error. Some (ack_text error) };
+
+    fn fmt<W: fmt::Write>(&self, f: &mut fmt::Formatter<W>) -> fmt::Result {
+        match self {
+            AckError::NoReply => write!(f, "no reply subject"),
+            AckError::LinkFailed => write!(f, "link failed"),
+            AckError::TimedOut => write!(f, "timed out"),
+            AckError::SubscriptionDropped => write!(f, "subscription dropped"),
+            AckError::OutOfMemory => write!(f, "out of memory"),
+        }
+    }
 }
 
 /// Sends a body to a reply subject.
@@ -59,7 +79,7 @@ pub(crate) fn acknowledge_with<L: Link>(
     }
 }
 
-/// What is needed to acknowledge a message, without the message.
+/// What is needed to acknowledge a message, without the message. `Message::split` gives one.
 #[derive(Debug, PartialEq, Eq, Drop)]
 pub struct Acker {
     timeout: Nanos,
@@ -69,22 +89,25 @@ pub struct Acker {
 impl Acker {
     ghost use Rattle.js_message.specs.Acker.{acker, timeout_of, reply_of};
 
-    /// What acknowledges to a reply subject, with a double ack waiting so long for its answer.
+    /// What acknowledges to a reply subject. A double ack waits `timeout` nanoseconds for its answer, from its first poll on.
     pub fn new(timeout: Nanos, reply: Option<Subject>) -> Acker
         ensures { result ≡ acker timeout reply }
     {
         Acker { timeout, reply }
     }
 
-    /// Says that the message was handled, by an empty body. `NoReply` comes where there is no reply subject, `LinkFailed`
-    /// where the link could not send.
+    /// Says that the message was handled, by an empty body to its reply subject (ADR-15). Nothing tells whether the server
+    /// took it in: `double_ack` waits for that.
+    ///
+    /// `NoReply` comes where there is no reply subject, `LinkFailed` where the link could not send, and `OutOfMemory` where
+    /// memory ran out. Nothing was sent then.
     pub fn ack<L: Link>(&self, alloc: Global, link: &mut L) -> Result<(), AckError>
         ensures { Acks (reply_of self.now) [] result (L.view link.old) (L.view link.new) }
     {
         acknowledge(alloc, link, self.reply.as_ref(), &[])
     }
 
-    /// Says what became of the message. The errors are those of `ack`.
+    /// Says what became of the message, by the body of the kind. The errors are those of `ack`.
     pub fn ack_with<L: Link>(
         &self,
         alloc: Global,
@@ -96,14 +119,20 @@ impl Acker {
         acknowledge_with(alloc, link, self.reply.as_ref(), kind)
     }
 
-    /// Says that the message was handled, and waits for the server's answer.
+    /// Says that the message was handled, and waits for the server's answer: a state to be polled, which has sent nothing yet.
+    ///
+    /// Whatever comes on its inbox counts as the answer, so it may be Ok where the server has not taken the ack in: a link
+    /// whose server tells that nobody listens, as after the consumer was deleted, answers by a message of status 503.
     pub fn double_ack(&self, alloc: Global) -> Result<DoubleAck, OutOfMemory>
         ensures { IfOk result (λ call. call ≡ unsent (timeout_of self.now) (reply_of self.now) (ack_body AckKind.Ack)) }
     {
         self.double_ack_with(alloc, AckKind::Ack)
     }
 
-    /// Says what became of the message, and waits for the server's answer.
+    /// Says what became of the message, and waits for the server's answer, as `double_ack` does.
+    ///
+    /// With `AckKind::Next` the answer that counts is the next message of the consumer, which comes on the inbox of the double
+    /// ack: it is taken as the answer and given up, so use `ack_with` for that kind.
     pub fn double_ack_with(&self, alloc: Global, kind: AckKind) -> Result<DoubleAck, OutOfMemory>
         ensures { IfOk result (λ call. call ≡ unsent (timeout_of self.now) (reply_of self.now) (ack_body kind)) }
     {

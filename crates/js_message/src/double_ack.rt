@@ -1,3 +1,4 @@
+//! Acknowledgements whose answer is waited for, as a state with a poll.
 ghost use Rattle.std.specs.Prelude.{◌≡◌, IfOk};
 ghost use Rattle.std.specs.Option.{option_copied};
 ghost use Rattle.js_message.specs.Acking.{ack_body, unsent, opened, waiting, PollsOf, OpensAndSends, FailsToOpen, Sends, Looks};
@@ -29,7 +30,8 @@ pub(crate) enum Stage {
 
 /// An acknowledgement that waits for the server's answer to it.
 ///
-/// One that is dropped before its end leaves its inbox open.
+/// One that is dropped before its end leaves its inbox open. Whatever comes on that inbox is the answer: the next message of
+/// the consumer after `AckKind::Next`, which is given up, and a message of status 503 where the consumer was deleted.
 #[derive(Debug, PartialEq, Eq, Drop)]
 pub struct DoubleAck {
     outgoing: Option<Outgoing>,

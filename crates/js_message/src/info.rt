@@ -1,3 +1,4 @@
+//! What an acknowledgement subject says.
 use jiff::Timestamp;
 
 /// What an acknowledgement subject says. Its texts lie in the subject.
@@ -7,7 +8,9 @@ pub struct Info<'a> {
     pub domain: Option<&'a str>,
     /// The hash of the account, which the long form alone has.
     pub acc_hash: Option<&'a str>,
+    /// The name of the stream.
     pub stream: &'a str,
+    /// The name of the consumer.
     pub consumer: &'a str,
     /// The message's sequence in its stream.
     pub stream_sequence: u64,

@@ -1,3 +1,9 @@
+//! Why a text is no acknowledgement subject.
+ghost use Rattle.std.specs.Prelude.{Some};
+ghost use Rattle.js_message.specs.Texts.{info_text};
+
+use std::fmt;
+
 /// Why a text is no acknowledgement subject.
 #[derive(Clone, Copy, Debug, PartialEq, Eq)]
 pub enum InfoError {
@@ -9,4 +15,17 @@ pub enum InfoError {
     Number { place: u64 },
     /// The time is outside what an instant holds.
     Instant,
+}
+
+impl fmt::Display for InfoError {
+    ghost output = { λ error. Some (info_text error) };
+
+    fn fmt<W: fmt::Write>(&self, f: &mut fmt::Formatter<W>) -> fmt::Result {
+        match self {
+            InfoError::Prefix => write!(f, "the subject does not begin with $JS.ACK."),
+            InfoError::TokenCount { n } => write!(f, "the subject has {n} tokens after its prefix"),
+            InfoError::Number { place } => write!(f, "token {place} is no number in range"),
+            InfoError::Instant => write!(f, "the time is out of range"),
+        }
+    }
 }

@@ -22,6 +22,3 @@ pub use numbers::read_u64;
 pub use parse::parse_info;
 pub use publish::{OutboundMessage, PublishMessage};
 pub use stream_message::{StreamMessage, StreamMessageError, StreamMessageErrorKind};
-
-#[cfg(test)]
-mod tests;

@@ -1,3 +1,4 @@
+//! Messages as a consumer delivers them: where they stand in their stream, and their acknowledgement.
 ghost use Rattle.std.specs.Prelude.{◌≡◌, [], IfOk};
 ghost use Rattle.js_message.specs.Acking.{Acks, ack_body, unsent};
 
@@ -10,28 +11,49 @@ use crate::parse::parse_info;
 use js_base::{Nanos, OutOfMemory};
 use js_link::Link;
 use std::alloc::Global;
+use std::fmt;
 
 /// Why a message does not tell where it stands in its stream.
 #[derive(Clone, Copy, Debug, PartialEq, Eq)]
 pub enum MessageInfoError {
     /// It has no reply subject.
     NoReply,
-    /// Its reply subject is no acknowledgement subject.
+    /// Its reply subject is no acknowledgement subject, for this reason.
     Unreadable(InfoError),
+}
+
+impl fmt::Display for MessageInfoError {
+    ghost use Rattle.std.specs.Prelude.{Some};
+    ghost use Rattle.js_message.specs.Texts.{message_info_text};
+
+    ghost output = { λ error. Some (message_info_text error) };
+
+    fn fmt<W: fmt::Write>(&self, f: &mut fmt::Formatter<W>) -> fmt::Result {
+        match self {
+            MessageInfoError::NoReply => write!(f, "no reply subject"),
+            MessageInfoError::Unreadable(error) => {
+                write!(f, "no acknowledgement subject: {error}")
+            }
+        }
+    }
 }
 
 /// A message of a stream, as a consumer delivers it.
 #[derive(Debug, PartialEq, Eq, Drop)]
 pub struct Message {
+    /// The message itself. Its reply subject is where acknowledgements go.
     pub message: js_base::Message,
-    /// How long a double ack waits for its answer.
+    /// How long a double ack waits for its answer, in nanoseconds.
     pub timeout: Nanos,
 }
 
 impl Message {
     ghost use Rattle.js_message.specs.Message.{info_of, shown_info, without_reply, acker_of};
 
-    /// Where the message stands in its stream, which its reply subject says.
+    /// Where the message stands in its stream, which its reply subject says (`parse_info`). It takes no memory.
+    ///
+    /// `NoReply` comes where there is no reply subject, and `Unreadable` with the refusal of `parse_info` where it is no
+    /// acknowledgement subject.
     pub fn info(&self) -> Result<Info<'_>, MessageInfoError>
         ensures { shown_info result ≡ info_of self.now.message.reply }
     {
@@ -57,15 +79,18 @@ impl Message {
         (message, Acker::new(timeout, reply))
     }
 
-    /// Says that the message was handled, by an empty body. `NoReply` comes where there is no reply subject, `LinkFailed`
-    /// where the link could not send.
+    /// Says that the message was handled, by an empty body to its reply subject (ADR-15). Nothing tells whether the server
+    /// took it in: `double_ack` waits for that.
+    ///
+    /// `NoReply` comes where there is no reply subject, `LinkFailed` where the link could not send, and `OutOfMemory` where
+    /// memory ran out. Nothing was sent then.
     pub fn ack<L: Link>(&self, alloc: Global, link: &mut L) -> Result<(), AckError>
         ensures { Acks self.now.message.reply [] result (L.view link.old) (L.view link.new) }
     {
         acknowledge(alloc, link, self.message.reply.as_ref(), &[])
     }
 
-    /// Says what became of the message. The errors are those of `ack`.
+    /// Says what became of the message, by the body of the kind. The errors are those of `ack`.
     pub fn ack_with<L: Link>(
         &self,
         alloc: Global,
@@ -77,14 +102,20 @@ impl Message {
         acknowledge_with(alloc, link, self.message.reply.as_ref(), kind)
     }
 
-    /// Says that the message was handled, and waits for the server's answer.
+    /// Says that the message was handled, and waits for the server's answer: a state to be polled, which has sent nothing yet.
+    ///
+    /// Whatever comes on its inbox counts as the answer, so it may be Ok where the server has not taken the ack in: a link
+    /// whose server tells that nobody listens, as after the consumer was deleted, answers by a message of status 503.
     pub fn double_ack(&self, alloc: Global) -> Result<DoubleAck, OutOfMemory>
         ensures { IfOk result (λ call. call ≡ unsent self.now.timeout self.now.message.reply (ack_body AckKind.Ack)) }
     {
         self.double_ack_with(alloc, AckKind::Ack)
     }
 
-    /// Says what became of the message, and waits for the server's answer.
+    /// Says what became of the message, and waits for the server's answer, as `double_ack` does.
+    ///
+    /// With `AckKind::Next` the answer that counts is the next message of the consumer, which comes on the inbox of the double
+    /// ack: it is taken as the answer and given up, so use `ack_with` for that kind.
     pub fn double_ack_with(&self, alloc: Global, kind: AckKind) -> Result<DoubleAck, OutOfMemory>
         ensures { IfOk result (λ call. call ≡ unsent self.now.timeout self.now.message.reply (ack_body kind)) }
     {

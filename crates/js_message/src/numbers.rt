@@ -1,3 +1,4 @@
+//! Numbers in a text.
 ghost use Rattle.std.specs.Prelude.{◌≡◌};
 ghost use Rattle.js_message.specs.Number.{u64_of};
 ghost use Rattle.js_message.specs.Ack.{i64_of, i128_of};

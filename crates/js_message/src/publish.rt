@@ -1,3 +1,4 @@
+//! Messages that are to be published, and the headers that ask the server for more than storing them.
 ghost use Rattle.std.specs.Prelude.{◌≡◌, ◌/◌, codes, IfOk, string_bytes};
 ghost use Rattle.std.specs.Fmt.{decimal};
 
@@ -8,14 +9,19 @@ use std::alloc::{AllocError, Global};
 /// A message that is to be published to a subject.
 #[derive(Debug, PartialEq, Eq, Drop)]
 pub struct OutboundMessage {
+    /// Where it goes.
     pub subject: Subject,
+    /// Its body.
     pub payload: Bytes,
+    /// Its headers, where it has any.
     pub headers: Option<HeaderMap>,
 }
 
 impl OutboundMessage {
     ghost use Rattle.js_message.specs.Publishing.{outbound};
 
+    /// A message with this body and these headers to a subject. Nothing is tested here: the publishing call tests the subject and
+    /// the length.
     pub fn new(subject: Subject, payload: Bytes, headers: Option<HeaderMap>) -> OutboundMessage
         ensures { result ≡ outbound subject payload headers }
     {
@@ -27,8 +33,10 @@ impl OutboundMessage {
     }
 }
 
-/// A message that is to be published, with what the server is asked to do with it. A setter that finds no memory gives the
-/// message up.
+/// A message that is to be published, with what the server is asked to do with it.
+///
+/// Each setter sets one header, whose earlier value goes; one that finds no memory gives the message up. The server refuses
+/// a message whose expectation is not met, with an API error, and stores nothing.
 #[derive(Debug, PartialEq, Eq, Drop)]
 pub struct PublishMessage {
     payload: Bytes,
@@ -64,7 +72,7 @@ impl PublishMessage {
         }
     }
 
-    /// Sets all headers: those that were set before go.
+    /// Sets all headers: those that were set before go, by whichever setter.
     pub fn headers(self, headers: HeaderMap) -> PublishMessage
         ensures { result ≡ with_headers headers self }
     {
@@ -74,7 +82,7 @@ impl PublishMessage {
         }
     }
 
-    /// Sets the one value of a header.
+    /// Sets the one value of a header: other values of that name go. Names are told apart by case.
     pub fn header(
         self,
         alloc: Global,
@@ -102,14 +110,15 @@ impl PublishMessage {
         self.header(alloc, name, text.as_str())
     }
 
-    /// Names the message: the server stores one message of a name within the stream's window for doubles.
+    /// Sets `Nats-Msg-Id`, the message's name: the server stores one message of a name within the stream's duplicate window, and
+    /// acknowledges the others as duplicates.
     pub fn message_id(self, alloc: Global, id: &str) -> Result<PublishMessage, OutOfMemory>
         ensures { IfOk result (λ message. message ≡ with_header (codes "Nats-Msg-Id") id.now self) }
     {
         self.header(alloc, "Nats-Msg-Id", id)
     }
 
-    /// Stores the message only if the stream's last one has this name.
+    /// Sets `Nats-Expected-Last-Msg-Id`: the message is stored only if the stream's last one has this name.
     pub fn expected_last_message_id(
         self,
         alloc: Global,
@@ -120,7 +129,7 @@ impl PublishMessage {
         self.header(alloc, "Nats-Expected-Last-Msg-Id", id)
     }
 
-    /// Stores the message only if the stream's last one has this sequence.
+    /// Sets `Nats-Expected-Last-Sequence`: the message is stored only if the stream's last one has this sequence.
     pub fn expected_last_sequence(
         self,
         alloc: Global,
@@ -131,7 +140,8 @@ impl PublishMessage {
         self.number(alloc, "Nats-Expected-Last-Sequence", sequence)
     }
 
-    /// Stores the message only if the last one of its subject has this sequence.
+    /// Sets `Nats-Expected-Last-Subject-Sequence`: the message is stored only if the last one of its subject has this sequence in
+    /// the stream, which is 0 where the subject has none.
     pub fn expected_last_subject_sequence(
         self,
         alloc: Global,
@@ -142,21 +152,22 @@ impl PublishMessage {
         self.number(alloc, "Nats-Expected-Last-Subject-Sequence", sequence)
     }
 
-    /// Stores the message only if the stream that takes it has this name.
+    /// Sets `Nats-Expected-Stream`: the message is stored only if the stream that takes it has this name.
     pub fn expected_stream(self, alloc: Global, name: &str) -> Result<PublishMessage, OutOfMemory>
         ensures { IfOk result (λ message. message ≡ with_header (codes "Nats-Expected-Stream") name.now self) }
     {
         self.header(alloc, "Nats-Expected-Stream", name)
     }
 
-    /// Stores the message for so long, in whole seconds, rounded down.
+    /// Sets `Nats-TTL`, for how many nanoseconds the message is kept (ADR-43). The header has whole seconds, rounded down, so
+    /// less than a second becomes 0. The stream has to allow it.
     pub fn ttl(self, alloc: Global, ttl: Nanos) -> Result<PublishMessage, OutOfMemory>
         ensures { IfOk result (λ message. message ≡ with_header (codes "Nats-TTL") (decimal (ttl / 1_000_000_000)) self) }
     {
         self.number(alloc, "Nats-TTL", ttl / 1_000_000_000)
     }
 
-    /// The message, to be published to a subject.
+    /// The message, to be published to a subject. `OutOfMemory` comes where memory ran out, and gives the message up.
     pub fn outbound_message(
         self,
         alloc: Global,

@@ -1,29 +1,33 @@
+//! Messages as they lie in their stream: what their headers say of that.
 ghost use Rattle.std.specs.Prelude.{◌≡◌};
 ghost use Rattle.std.specs.Option.{option_map};
-ghost use Rattle.js_message.specs.StreamMessage.{time_of, told_by, told_in};
+ghost use Rattle.js_message.specs.StreamMessage.{IsRefusal, is_missing, is_unreadable, time_of, told_by, told_in};
 
 use crate::numbers::read_u64;
 use bytes::Bytes;
 use jiff::Timestamp;
-use js_base::{Error, HeaderMap, Message, Subject};
+use js_base::{Error, HeaderMap, Message, Source, Subject, Text};
 use std::alloc::Global;
 use std::fmt;
 
 /// A message as it lies in its stream.
 #[derive(Debug, PartialEq, Eq, Drop)]
 pub struct StreamMessage {
+    /// The subject to which it was published, from the header `Nats-Subject`.
     pub subject: Subject,
+    /// Its sequence in the stream, from the header `Nats-Sequence`.
     pub sequence: u64,
+    /// All headers that came with it, the three that are read among them.
     pub headers: HeaderMap,
     pub payload: Bytes,
-    /// When the stream stored it.
+    /// When the stream stored it, from the header `Nats-Time-Stamp`.
     pub time: Timestamp,
 }
 
 /// Why a message does not tell how it lies in its stream.
 #[derive(Clone, Copy, Debug, PartialEq, Eq)]
 pub enum StreamMessageErrorKind {
-    /// It has no headers, or not that one.
+    /// It has not that header, or no headers at all.
     MissingHeader,
     /// Its sequence is no `u64`, or its time no instant.
     ParseError,
@@ -45,7 +49,38 @@ impl fmt::Display for StreamMessageErrorKind {
     }
 }
 
+/// Why a message does not tell how it lies in its stream, as an error. Its source is the name of the header that is missing
+/// or does not parse; `OutOfMemory` has no source.
 pub type StreamMessageError = Error<StreamMessageErrorKind>;
+
+/// A header that says how a message lies in its stream.
+#[derive(Clone, Copy)]
+enum StreamHeader {
+    Sequence,
+    TimeStamp,
+    Subject,
+}
+
+impl StreamHeader {
+    ghost use Rattle.js_message.specs.StreamMessage.{name_of};
+
+    fn name(self) -> &'static str
+        ensures { result.now ≡ name_of self }
+    {
+        match self {
+            StreamHeader::Sequence => "Nats-Sequence",
+            StreamHeader::TimeStamp => "Nats-Time-Stamp",
+            StreamHeader::Subject => "Nats-Subject",
+        }
+    }
+}
+
+/// A header that tells nothing, and why.
+#[derive(Clone, Copy)]
+struct HeaderFault {
+    kind: StreamMessageErrorKind,
+    header: StreamHeader,
+}
 
 /// What the headers say of a message of a stream.
 #[derive(Clone, Copy)]
@@ -61,20 +96,38 @@ fn read_time(text: &str) -> Option<Timestamp>
     text.parse::<Timestamp>().ok()
 }
 
-fn read_headers(headers: &HeaderMap) -> Result<Told<'_>, StreamMessageErrorKind>
+fn missing(header: StreamHeader) -> HeaderFault
+    ensures { result ≡ is_missing header }
+{
+    HeaderFault {
+        kind: StreamMessageErrorKind::MissingHeader,
+        header,
+    }
+}
+
+fn unreadable(header: StreamHeader) -> HeaderFault
+    ensures { result ≡ is_unreadable header }
+{
+    HeaderFault {
+        kind: StreamMessageErrorKind::ParseError,
+        header,
+    }
+}
+
+fn read_headers(headers: &HeaderMap) -> Result<Told<'_>, HeaderFault>
     ensures { told_by result ≡ told_in headers.now }
 {
     let sequence = headers
-        .get_last("Nats-Sequence")
-        .ok_or(StreamMessageErrorKind::MissingHeader)?;
-    let sequence = read_u64(sequence).ok_or(StreamMessageErrorKind::ParseError)?;
+        .get_last(StreamHeader::Sequence.name())
+        .ok_or(missing(StreamHeader::Sequence))?;
+    let sequence = read_u64(sequence).ok_or(unreadable(StreamHeader::Sequence))?;
     let time = headers
-        .get_last("Nats-Time-Stamp")
-        .ok_or(StreamMessageErrorKind::MissingHeader)?;
-    let time = read_time(time).ok_or(StreamMessageErrorKind::ParseError)?;
+        .get_last(StreamHeader::TimeStamp.name())
+        .ok_or(missing(StreamHeader::TimeStamp))?;
+    let time = read_time(time).ok_or(unreadable(StreamHeader::TimeStamp))?;
     let subject = headers
-        .get_last("Nats-Subject")
-        .ok_or(StreamMessageErrorKind::MissingHeader)?;
+        .get_last(StreamHeader::Subject.name())
+        .ok_or(missing(StreamHeader::Subject))?;
     Ok(Told {
         subject,
         sequence,
@@ -82,11 +135,25 @@ fn read_headers(headers: &HeaderMap) -> Result<Told<'_>, StreamMessageErrorKind>
     })
 }
 
+/// The error that tells of a header.
+fn refusal(alloc: Global, fault: HeaderFault) -> StreamMessageError
+    ensures { IsRefusal fault result }
+{
+    match Text::from_str(alloc, fault.header.name()) {
+        Ok(name) => Error::with_source(fault.kind, Source::Text(name)),
+        Err(_) => Error::new(StreamMessageErrorKind::OutOfMemory),
+    }
+}
+
 impl StreamMessage {
     ghost use Rattle.js_message.specs.StreamMessage.{ReadsMessage};
 
-    /// Reads the last values of `Nats-Sequence`, `Nats-Time-Stamp` and `Nats-Subject`, in this order; the first that is
-    /// missing or unreadable decides. On any refusal the message is given up.
+    /// Reads a message that the server sent from a stream, as by a direct get (ADR-31).
+    ///
+    /// The last values of `Nats-Sequence`, `Nats-Time-Stamp` and `Nats-Subject` are read, in this order, and the first that
+    /// is missing or unreadable decides: `MissingHeader` where there is none (for a message with no headers that is
+    /// `Nats-Sequence`), `ParseError` where the sequence is no `u64` or the time no instant. The error's source is the name of
+    /// that header. `OutOfMemory` comes where memory ran out. On any refusal the message is given up.
     pub fn try_from_message(
         alloc: Global,
         message: Message,
@@ -99,11 +166,11 @@ impl StreamMessage {
             ..
         } = message;
         let Some(headers) = headers else {
-            return Err(Error::new(StreamMessageErrorKind::MissingHeader));
+            return Err(refusal(alloc, missing(StreamHeader::Sequence)));
         };
         let told = match read_headers(&headers) {
             Ok(told) => told,
-            Err(kind) => return Err(Error::new(kind)),
+            Err(fault) => return Err(refusal(alloc, fault)),
         };
         let sequence = told.sequence;
         let time = told.time;
