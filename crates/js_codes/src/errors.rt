@@ -2,10 +2,10 @@
 
 ghost use Rattle.std.specs.Prelude.{◌≡◌};
 ghost use Rattle.js_codes.specs.Description.{description_or_unknown};
-ghost use Rattle.js_codes.specs.Error.{error_fields, error_value};
+ghost use Rattle.js_codes.specs.Error.{api_source, error_fields, error_value};
 
 pub use crate::code::ErrorCode;
-use js_base::{OutOfMemory, Text, TryClone};
+use js_base::{OutOfMemory, Source, Text, TryClone};
 use js_fields::{FromValue, Key, Object, ReadError, ToValue, defaulted, optional, required};
 use serde_json::Value;
 use std::alloc::Global;
@@ -41,6 +41,17 @@ impl Error {
         ensures { result ≡ self.now.err_code }
     {
         self.err_code
+    }
+
+    /// The same error as the source of a call's error.
+    pub fn into_source(self) -> Source
+        ensures { result ≡ api_source self }
+    {
+        Source::Api {
+            code: self.code,
+            err_code: self.err_code.0,
+            description: self.description,
+        }
     }
 
     fn description(&self) -> &str
