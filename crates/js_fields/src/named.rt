@@ -10,8 +10,10 @@ use serde_json::Value;
 
 /// An enum whose values have names.
 pub trait Named: Drop {
+    /// The value of each name.
     ghost value_of: { List ℕ → Option Self };
 
+    /// The value of that name, where it is one.
     fn from_name(name: &str) -> Option<Self>
         ensures { result ≡ value_of name.now };
 }

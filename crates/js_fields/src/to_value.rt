@@ -12,8 +12,10 @@ use std::alloc::Global;
 
 /// What is written as a JSON object.
 pub trait ToValue {
+    /// The object, or the fault of the first member that has no JSON.
     ghost written: { Self → Result Data ReadError };
 
+    /// The object that is written.
     fn to_value(&self, alloc: Global) -> Result<Value, ReadError>
         ensures { Shows result (written self.now) };
 

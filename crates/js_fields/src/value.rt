@@ -55,10 +55,5 @@ fn are_only(members: &Map<String, Value>, keys: &[Key]) -> bool
 fn is_among(keys: &[Key], name: &str) -> bool
     ensures { result ≡ is_key_among keys.now name.now }
 {
-    for key in keys {
-        if name == key.name() {
-            return true;
-        }
-    }
-    false
+    keys.iter().any(|key| name == key.name())
 }
