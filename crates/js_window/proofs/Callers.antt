@@ -63,6 +63,7 @@ module _ (t u : TableId) (v w : View) (same : u ≡ t) where
       record {
         goes_on = continues s.caller (s.between ++ e ∷ [], sym (append_assoc v.seen s.between (e ∷ [])) ∙ sym s.seen);
         before = v.seen ++ s.between;
+        earlier = (s.between, refl);
         last = s.seen;
         cause = s.caller.legal.each (v.seen ++ s.between) [] e s.seen;
         mine = s.mine;
@@ -102,6 +103,7 @@ makes_after call p q r a m =
         own = m.goes_on.own;
       };
       before = m.before;
+      earlier = prefix-trans p.seen q.seen m.before a.grows m.earlier;
       last = m.last ∙ ap (λ e. m.before ++ e ∷ []) named;
       cause = subst (λ (z : WindowId × ℕ). MayFollow z.0.capacity m.before z.1 call) (λ i. (a.window i, a.number i)) m.cause;
       mine = m.mine ∙ ap (λ l. l ++ entry q.number call ∷ []) a.mine ∙ ap (λ e. p.mine ++ e ∷ []) named;

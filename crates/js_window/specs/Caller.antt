@@ -38,10 +38,11 @@ Holds Full before after = after ≡ before
 Holds Give before after = after + 1 ≡ before
 Holds (AllFree _) before after = after ≡ before
 
--- the caller made this call: it is the last that the caller has seen, it may follow all before it, and it is one more of the caller's
+-- the caller made this call: it is the last that the caller has seen, it follows all that was seen before, it may follow it, and it is one more of the caller's
 pub record Makes (call : Call) (p q : Caller) : Type 0 where
   pub goes_on : Continues p q
   pub before : List Entry
+  pub earlier : IsPrefix p.seen before
   pub last : q.seen ≡ before ++ entry p.number call ∷ []
   pub cause : MayFollow p.window.capacity before p.number call
   pub mine : q.mine ≡ p.mine ++ entry p.number call ∷ []

@@ -15,7 +15,7 @@ full_in-append : (xs ys : List Entry) → full_in (xs ++ ys) ≡ full_in xs + fu
 full_in-append xs ys = count_by-append (λ e. is_full e.call) xs ys
 
 pub took_none : (p : Caller) → TookCalls 0 0 p p
-took_none p = record { window = refl; number = refl; grows = prefix-refl p.seen; got_more = omega arith; full_more = omega arith; held = refl }
+took_none p = record { window = refl; number = refl; grows = prefix-refl p.seen; got_more = omega arith; full_more = omega arith; held = refl; own = λ same. same }
 
 pub took_got : (got full : ℕ) (p q r s : Caller) → TookCalls got full p q → Makes Got q r → Makes Give r s → TookCalls (got + 1) full p s
 took_got got full p q r s t a b = record {
@@ -25,6 +25,7 @@ took_got got full p q r s t a b = record {
   got_more = omega (arith, t.got_more, ap got_in a.mine, ap got_in b.mine, got_in-append q.mine (entry q.number Got ∷ []), got_in-append r.mine (entry r.number Give ∷ []));
   full_more = omega (arith, t.full_more, ap full_in a.mine, ap full_in b.mine, full_in-append q.mine (entry q.number Got ∷ []), full_in-append r.mine (entry r.number Give ∷ []));
   held = omega (arith, t.held, a.holds, b.holds);
+  own = λ _. b.goes_on.own;
 }
 
 pub took_full : (got full : ℕ) (p q r : Caller) → TookCalls got full p q → Makes Full q r → TookCalls got (full + 1) p r
@@ -35,6 +36,7 @@ took_full got full p q r t a = record {
   got_more = omega (arith, t.got_more, ap got_in a.mine, got_in-append q.mine (entry q.number Full ∷ []));
   full_more = omega (arith, t.full_more, ap full_in a.mine, full_in-append q.mine (entry q.number Full ∷ []));
   held = omega (arith, t.held, a.holds);
+  own = λ _. a.goes_on.own;
 }
 
 one_take : (first q : Caller) (taken : Take) → Makes (call_of taken) first q → Makes Got first q ⊎ Makes Full first q

@@ -8,6 +8,3 @@ mod workers;
 pub use gate::{Gate, Open};
 pub use worker::{Ended, take_calls};
 pub use workers::{WindowCounts, run_window};
-
-#[cfg(test)]
-mod tests;

@@ -82,7 +82,8 @@ fn take_by<R: Wait, G: Gate>(
 pub fn work<R: Wait, G: Gate>(rt: &R, window: &Window, job: Job, calls: u64, gate: &G) -> Ended
     requires ready { IsReady window.now job }
     requires admitted { G.admits gate.now job.worker }
-    ensures { HasEnded window.now calls result }
+    ensures ended { HasEnded window.now calls result }
+    ensures called { 0 < calls → G.passed gate.now job.worker }
 {
     let Job { mut pass, worker } = job;
     let (got, full) = take_calls(rt, window, &mut pass, calls, worker, gate);

@@ -2,7 +2,7 @@
 ghost use Rattle.std.specs.Prelude.{◌≡◌, ◌+◌, ◌*◌, ◌<◌, ◌≤◌, ◌^◌, ℕ, IfOk, OnOk, All, vec_len, sum_by};
 ghost use mathlib.Core.List.{IsPrefix};
 ghost use Rattle.js_workers.specs.WindowCounts.{Counts, CountsOfRun};
-ghost use Rattle.js_workers.specs.Worker.{IsReady, HasEnded};
+ghost use Rattle.js_workers.specs.Worker.{AreNumbered, EachPassed, IsReady, HasEnded};
 
 use crate::gate::Gate;
 use crate::worker::{Ended, Job, work};
@@ -24,7 +24,7 @@ pub struct WindowCounts {
 
 /// Runs 1 to 8 workers, numbered from 0, on a window of their own with 1 to `u32::MAX` permits. Each makes so many
 /// calls, at most 100,000, as [`take_calls`](crate::take_calls) does. When all have ended, joins their passes and
-/// asks once whether all permits are free.
+/// asks once whether all permits are free. With at least one call each worker passes the gate.
 ///
 /// A worker for which no thread can be made runs on the caller. The one refusal is want of memory.
 pub fn run_window<R: Threads + Wait + Sync, G: Gate + Sync>(
@@ -41,6 +41,7 @@ pub fn run_window<R: Threads + Wait + Sync, G: Gate + Sync>(
     requires gate { (worker : ℕ) → worker < threads → G.admits gate.now worker }
     ensures sum { IfOk result (λ counts. counts.got + counts.full ≡ threads * calls) }
     ensures run { IfOk result (CountsOfRun capacity threads calls) }
+    ensures gate { IfOk result (λ _. 0 < calls → EachPassed (G.passed gate.now) threads) }
 {
     let (window, mut first) = Window::new(rt, alloc, capacity)?;
     run_on(rt, alloc, &window, &mut first, threads, calls, gate)
@@ -61,6 +62,7 @@ fn run_on<R: Threads + Wait + Sync, G: Gate + Sync>(
     requires gate { (worker : ℕ) → worker < threads → G.admits gate.now worker }
     ensures sum { IfOk result (λ counts. counts.got + counts.full ≡ threads * calls) }
     ensures counts { IfOk result (Counts window.now threads calls first.new) }
+    ensures gate { IfOk result (λ _. 0 < calls → EachPassed (G.passed gate.now) threads) }
 {
     let jobs = ready(rt, alloc, window, first, threads)?;
     let ended = thread::map_vec(
@@ -68,7 +70,8 @@ fn run_on<R: Threads + Wait + Sync, G: Gate + Sync>(
         jobs,
         &|job: Job| -> Ended
             requires { IsReady window.now job × G.admits gate.now job.worker }
-            ensures { HasEnded window.entry.now calls result }
+            ensures ended { HasEnded window.entry.now calls result }
+            ensures gate { 0 < calls → G.passed gate.entry.now job.worker }
         { work(rt, window, job, calls, gate) },
     )?;
     let (got, full) = collect(rt, window, first, ended, calls);
@@ -91,7 +94,8 @@ fn ready<R: Wait>(
     requires { first.old.window ≡ window.now }
     ensures len { IfOk result (λ jobs. vec_len jobs ≡ threads) }
     ensures ready { IfOk result (λ jobs. All (IsReady window.now) jobs.items) }
-    ensures numbers { IfOk result (λ jobs. All (λ job. job.worker < threads) jobs.items) }
+    ensures small { IfOk result (λ jobs. All (λ job. job.worker < threads) jobs.items) }
+    ensures numbers { IfOk result (λ jobs. AreNumbered jobs.items) }
     ensures first { OnOk result (first.new ≡ first.old) }
 {
     let mut jobs = Vec::new(alloc);
