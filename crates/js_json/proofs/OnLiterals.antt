@@ -7,7 +7,7 @@ use Rattle.js_codes.specs.Error.{error_fields}
 use Rattle.js_json.specs.AckPolicy.{ack_policy_named}
 use Rattle.js_json.specs.Batch.{batch_config_value, pull_request_value}
 use Rattle.js_json.specs.ConsumerConfig.{names, delivery, flow, limits, priorities, config_fields, config_value}
-use Rattle.js_json.specs.ConsumerInfo.{identity, counts, states, info_fields}
+use Rattle.js_json.specs.ConsumerInfo.{identity, progress, states, info_fields}
 use Rattle.js_json.specs.CreateRequest.{create_request_value}
 use Rattle.js_json.specs.DeliverPolicy.{plain_policy_named, deliver_policy_of}
 use Rattle.js_json.specs.PriorityPolicy.{priority_policy_named}
@@ -24,5 +24,5 @@ requests_on_literals = tt
 unfoldable pub infos_on_literals : ⊤
 unfolding reading_on_literals is_utf8 chars error_code error_fields plain_policy_named deliver_policy_of ack_policy_named
     replay_policy_named priority_policy_named names delivery flow limits priorities config_fields sequence_info_fields
-    identity counts states info_fields error_in response_of
+    identity progress states info_fields error_in response_of
 infos_on_literals = tt

@@ -1,5 +1,5 @@
 -- What each kind of consumer asks the server for, as a general configuration, and back.
-use Rattle.std.specs.Prelude.{ℕ, List, pos, Option, Some, None, true, Result, Ok, Err}
+use Rattle.std.specs.Prelude.{ℕ, List, codes, pos, Option, Some, None, true, Result, Ok, Err}
 use Rattle.js_json.specs.declared.consumer.config.Config.{Config}
 use Rattle.js_json.specs.declared.consumer.conversion.ConfigError.{ConfigError}
 use Rattle.js_json.specs.declared.consumer.conversion.ConfigError.TheVariants.{HasDeliverSubject, NoDeliverSubject}
@@ -9,6 +9,11 @@ use Rattle.js_json.specs.declared.pull.OrderedConfig as ordered_pull
 use Rattle.js_json.specs.declared.push.Config as push
 use Rattle.js_json.specs.declared.push.OrderedConfig as ordered_push
 use Rattle.js_json.specs.ConsumerConfig.{new_config}
+
+-- what is printed of a configuration that is not of that kind
+abbrev pub config_error_text : ConfigError → List ℕ
+config_error_text HasDeliverSubject = codes "pull consumer cannot have delivery subject"
+config_error_text NoDeliverSubject = codes "push consumer must have delivery subject"
 
 -- a pull consumer has no deliver subject and what goes with one
 abbrev pub pull_config : pull.Config → Config

@@ -4,6 +4,7 @@
 
 pub mod account;
 pub mod consumer;
+mod gather;
 mod publish_ack;
 pub mod pull;
 pub mod push;
@@ -11,6 +12,3 @@ mod response;
 
 pub use publish_ack::PublishAck;
 pub use response::{Response, response_as, response_from};
-
-#[cfg(test)]
-mod tests;

@@ -1,59 +1,83 @@
 //! Pull consumers: their configurations and their requests.
 
-ghost use Rattle.std.specs.Prelude.{◌≡◌, Ok, refl};
+ghost use Rattle.std.specs.Prelude.{◌≡◌, refl};
 ghost use Rattle.js_json.specs.PullConfig.{new_pull_config, new_ordered_pull_config};
 ghost use Rattle.js_json.specs.Conversions.{pull_config, as_pull_config, ordered_pull_config, as_ordered_pull_config};
 
 mod batch;
+mod plain;
 
 use crate::consumer::{
     self, AckPolicy, ConfigError, DeliverPolicy, FromConsumer, IntoConsumerConfig,
     ORDERED_INACTIVE_THRESHOLD, PriorityPolicy, ReplayPolicy,
 };
+use crate::gather::{all_4, all_5};
 pub use batch::BatchConfig;
 use jiff::Timestamp;
 use js_base::{Items, Nanos, OutOfMemory, Text, TextMap, TryClone};
 use std::alloc::Global;
 
-/// The configuration of a pull consumer.
+/// The configuration of a pull consumer: readers ask for messages. It has no deliver subject and what goes with one.
 #[derive(Debug, PartialEq, Eq, Drop)]
 pub struct Config {
+    /// The name of a consumer that outlives its readers; the older way to give one.
     pub durable_name: Option<Text>,
+    /// The name of the consumer; none lets the server choose.
     pub name: Option<Text>,
+    /// Words for people; the server does nothing with them.
     pub description: Option<Text>,
+    /// Where it begins.
     pub deliver_policy: DeliverPolicy,
+    /// How messages are acknowledged.
     pub ack_policy: AckPolicy,
-    /// How long the server waits for an acknowledgement, in nanoseconds.
+    /// How long the server waits for an acknowledgement before it delivers again, in nanoseconds; 0 leaves it to the
+    /// server, which takes 30 seconds.
     pub ack_wait: Nanos,
-    /// How often a message is delivered at most; 0 leaves it to the server, and -1 sets no bound.
+    /// How often a message is delivered at most, the first time counted; -1 is no bound, and 0 leaves it to the
+    /// server, which sets none.
     pub max_deliver: i64,
-    /// The subjects that are read; empty for all of the stream.
+    /// The subjects that are read, which may have wildcards; empty for all of the stream.
     pub filter_subject: Text,
+    /// The same, where they are several. A server takes one of the two fields alone.
     pub filter_subjects: Items<Text>,
+    /// How fast the messages that are there already are sent.
     pub replay_policy: ReplayPolicy,
-    /// In bits a second; 0 for none.
+    /// How fast messages are sent at most, in bits a second; 0 for no bound. It serves push consumers alone.
     pub rate_limit: u64,
     /// The share of acknowledgements that are sampled, in percent.
     pub sample_frequency: u8,
+    /// How many pull requests may wait at once; 0 leaves it to the server, which takes 512. It serves pull
+    /// consumers alone.
     pub max_waiting: i64,
+    /// How many messages may wait for their acknowledgement at once; -1 is no bound, and 0 leaves it to the server,
+    /// which takes 1,000.
     pub max_ack_pending: i64,
+    /// Whether messages come without their payloads.
     pub headers_only: bool,
+    /// How many messages one pull request may ask for; 0 for no bound.
     pub max_batch: i64,
+    /// How many bytes one pull request may ask for; 0 for no bound.
     pub max_bytes: i64,
-    /// How long a pull request may wait at most, in nanoseconds; 0 for no bound.
+    /// How long one pull request may wait, in nanoseconds; 0 for no bound.
     pub max_expires: Nanos,
-    /// How long the consumer outlives its last reader, in nanoseconds.
+    /// How long the consumer outlives its last reader, in nanoseconds; 0 for ever where it is durable, and otherwise
+    /// what the server chooses, 5 seconds.
     pub inactive_threshold: Nanos,
-    /// 0 for as many as the stream has.
+    /// How many servers keep its state; 0 for as many as keep the stream.
     pub num_replicas: u64,
+    /// Whether its state is kept in memory alone.
     pub memory_storage: bool,
+    /// Names and values for people and tools.
     pub metadata: TextMap,
-    /// The waits before the further deliveries, in nanoseconds.
+    /// The waits before the further deliveries, in nanoseconds; with any, `ack_wait` is not used.
     pub backoff: Items<Nanos>,
+    /// Which reader of a priority group is served.
     pub priority_policy: PriorityPolicy,
+    /// The names of its priority groups; a server takes one at most.
     pub priority_groups: Items<Text>,
-    /// In nanoseconds.
+    /// After how long without a request a pinned reader is given up, in nanoseconds.
     pub priority_timeout: Nanos,
+    /// Until when nothing is delivered; none where it is not paused.
     pub pause_until: Option<Timestamp>,
 }
 
@@ -96,16 +120,28 @@ impl Config {
 
 impl TryClone for Config {
     fn try_clone(&self) -> Result<Config, OutOfMemory> {
+        let (durable_name, name, description, filter_subject) = all_4(
+            self.durable_name.try_clone(),
+            self.name.try_clone(),
+            self.description.try_clone(),
+            self.filter_subject.try_clone(),
+        )?;
+        let (filter_subjects, metadata, backoff, priority_groups) = all_4(
+            self.filter_subjects.try_clone(),
+            self.metadata.try_clone(),
+            self.backoff.try_clone(),
+            self.priority_groups.try_clone(),
+        )?;
         Ok(Config {
-            durable_name: self.durable_name.try_clone()?,
-            name: self.name.try_clone()?,
-            description: self.description.try_clone()?,
+            durable_name,
+            name,
+            description,
             deliver_policy: self.deliver_policy,
             ack_policy: self.ack_policy,
             ack_wait: self.ack_wait,
             max_deliver: self.max_deliver,
-            filter_subject: self.filter_subject.try_clone()?,
-            filter_subjects: self.filter_subjects.try_clone()?,
+            filter_subject,
+            filter_subjects,
             replay_policy: self.replay_policy,
             rate_limit: self.rate_limit,
             sample_frequency: self.sample_frequency,
@@ -118,10 +154,10 @@ impl TryClone for Config {
             inactive_threshold: self.inactive_threshold,
             num_replicas: self.num_replicas,
             memory_storage: self.memory_storage,
-            metadata: self.metadata.try_clone()?,
-            backoff: self.backoff.try_clone()?,
+            metadata,
+            backoff,
             priority_policy: self.priority_policy,
-            priority_groups: self.priority_groups.try_clone()?,
+            priority_groups,
             priority_timeout: self.priority_timeout,
             pause_until: self.pause_until,
         })
@@ -206,26 +242,41 @@ impl FromConsumer for Config {
     }
 }
 
-/// The configuration of an ordered pull consumer. What is not here is chosen for it.
+/// The configuration of an ordered pull consumer.
+///
+/// What is not here is chosen for it: no acknowledgements, each message delivered once, its state in the memory of one
+/// server, and given up 30 seconds after its last reader. It has no durable name and no priorities.
+/// `try_from_consumer_config` passes over what a general configuration says of these.
 #[derive(Debug, PartialEq, Eq, Drop)]
 pub struct OrderedConfig {
+    /// The name of the consumer; none lets the server choose.
     pub name: Option<Text>,
+    /// Words for people; the server does nothing with them.
     pub description: Option<Text>,
-    /// The subjects that are read; empty for all of the stream.
+    /// The subjects that are read, which may have wildcards; empty for all of the stream.
     pub filter_subject: Text,
+    /// The same, where they are several. A server takes one of the two fields alone.
     pub filter_subjects: Items<Text>,
+    /// How fast the messages that are there already are sent.
     pub replay_policy: ReplayPolicy,
-    /// In bits a second; 0 for none.
+    /// How fast messages are sent at most, in bits a second; 0 for no bound. It serves push consumers alone.
     pub rate_limit: u64,
     /// The share of acknowledgements that are sampled, in percent.
     pub sample_frequency: u8,
+    /// Whether messages come without their payloads.
     pub headers_only: bool,
+    /// Where it begins.
     pub deliver_policy: DeliverPolicy,
+    /// How many pull requests may wait at once; 0 leaves it to the server, which takes 512. It serves pull
+    /// consumers alone.
     pub max_waiting: i64,
+    /// Names and values for people and tools.
     pub metadata: TextMap,
+    /// How many messages one pull request may ask for; 0 for no bound.
     pub max_batch: i64,
+    /// How many bytes one pull request may ask for; 0 for no bound.
     pub max_bytes: i64,
-    /// How long a pull request may wait at most, in nanoseconds; 0 for no bound.
+    /// How long one pull request may wait, in nanoseconds; 0 for no bound.
     pub max_expires: Nanos,
 }
 
@@ -255,18 +306,25 @@ impl OrderedConfig {
 
 impl TryClone for OrderedConfig {
     fn try_clone(&self) -> Result<OrderedConfig, OutOfMemory> {
+        let (name, description, filter_subject, filter_subjects, metadata) = all_5(
+            self.name.try_clone(),
+            self.description.try_clone(),
+            self.filter_subject.try_clone(),
+            self.filter_subjects.try_clone(),
+            self.metadata.try_clone(),
+        )?;
         Ok(OrderedConfig {
-            name: self.name.try_clone()?,
-            description: self.description.try_clone()?,
-            filter_subject: self.filter_subject.try_clone()?,
-            filter_subjects: self.filter_subjects.try_clone()?,
+            name,
+            description,
+            filter_subject,
+            filter_subjects,
             replay_policy: self.replay_policy,
             rate_limit: self.rate_limit,
             sample_frequency: self.sample_frequency,
             headers_only: self.headers_only,
             deliver_policy: self.deliver_policy,
             max_waiting: self.max_waiting,
-            metadata: self.metadata.try_clone()?,
+            metadata,
             max_batch: self.max_batch,
             max_bytes: self.max_bytes,
             max_expires: self.max_expires,
@@ -325,36 +383,5 @@ impl FromConsumer for OrderedConfig {
             max_bytes: config.max_bytes,
             max_expires: config.max_expires,
         })
-    }
-}
-
-impl From<OrderedConfig> for Config {
-    ghost from_gives = { λ ordered config. as_pull_config (ordered_pull_config ordered) ≡ Ok config };
-
-    fn from(ordered: OrderedConfig) -> Config {
-        let filter_subjects = ordered.filter_subjects.into_vec();
-        let alloc = *filter_subjects.allocator();
-        Config {
-            name: ordered.name,
-            description: ordered.description,
-            deliver_policy: ordered.deliver_policy,
-            ack_policy: AckPolicy::None,
-            max_deliver: 1,
-            filter_subject: ordered.filter_subject,
-            filter_subjects: Items::from(filter_subjects),
-            replay_policy: ordered.replay_policy,
-            rate_limit: ordered.rate_limit,
-            sample_frequency: ordered.sample_frequency,
-            max_waiting: ordered.max_waiting,
-            headers_only: ordered.headers_only,
-            max_batch: ordered.max_batch,
-            max_bytes: ordered.max_bytes,
-            max_expires: ordered.max_expires,
-            inactive_threshold: ORDERED_INACTIVE_THRESHOLD,
-            num_replicas: 1,
-            memory_storage: true,
-            metadata: ordered.metadata,
-            ..Config::new(alloc)
-        }
     }
 }

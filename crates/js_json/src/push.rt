@@ -8,6 +8,7 @@ use crate::consumer::{
     self, AckPolicy, ConfigError, DeliverPolicy, FromConsumer, IntoConsumerConfig,
     ORDERED_INACTIVE_THRESHOLD, ReplayPolicy,
 };
+use crate::gather::{all_4, all_5};
 use jiff::Timestamp;
 use js_base::{Items, Nanos, OutOfMemory, Text, TextMap, TryClone};
 use std::alloc::Global;
@@ -15,42 +16,64 @@ use std::alloc::Global;
 /// The heartbeat of an ordered push consumer: 5 seconds.
 const ORDERED_HEARTBEAT: Nanos = 5_000_000_000;
 
-/// The configuration of a push consumer.
+/// The configuration of a push consumer: the server sends messages to its deliver subject. It has no bounds on pull
+/// requests and no priorities.
 #[derive(Debug, PartialEq, Eq, Drop)]
 pub struct Config {
+    /// The subject that messages are delivered to.
     pub deliver_subject: Text,
+    /// The name of a consumer that outlives its readers; the older way to give one.
     pub durable_name: Option<Text>,
+    /// The name of the consumer; none lets the server choose.
     pub name: Option<Text>,
+    /// Words for people; the server does nothing with them.
     pub description: Option<Text>,
+    /// The queue group that messages are delivered to.
     pub deliver_group: Option<Text>,
+    /// Where it begins.
     pub deliver_policy: DeliverPolicy,
+    /// How messages are acknowledged.
     pub ack_policy: AckPolicy,
-    /// How long the server waits for an acknowledgement, in nanoseconds.
+    /// How long the server waits for an acknowledgement before it delivers again, in nanoseconds; 0 leaves it to the
+    /// server, which takes 30 seconds.
     pub ack_wait: Nanos,
-    /// How often a message is delivered at most; 0 leaves it to the server, and -1 sets no bound.
+    /// How often a message is delivered at most, the first time counted; -1 is no bound, and 0 leaves it to the
+    /// server, which sets none.
     pub max_deliver: i64,
-    /// The subjects that are read; empty for all of the stream.
+    /// The subjects that are read, which may have wildcards; empty for all of the stream.
     pub filter_subject: Text,
+    /// The same, where they are several. A server takes one of the two fields alone.
     pub filter_subjects: Items<Text>,
+    /// How fast the messages that are there already are sent.
     pub replay_policy: ReplayPolicy,
-    /// In bits a second; 0 for none.
+    /// How fast messages are sent at most, in bits a second; 0 for no bound. It serves push consumers alone.
     pub rate_limit: u64,
     /// The share of acknowledgements that are sampled, in percent.
     pub sample_frequency: u8,
+    /// How many pull requests may wait at once; 0 leaves it to the server, which takes 512. It serves pull
+    /// consumers alone.
     pub max_waiting: i64,
+    /// How many messages may wait for their acknowledgement at once; -1 is no bound, and 0 leaves it to the server,
+    /// which takes 1,000.
     pub max_ack_pending: i64,
+    /// Whether messages come without their payloads.
     pub headers_only: bool,
+    /// Whether the server waits for answers to its flow-control messages.
     pub flow_control: bool,
-    /// In nanoseconds; 0 for no heartbeats.
+    /// After how long without a message the server sends a heartbeat, in nanoseconds; 0 for no heartbeats.
     pub idle_heartbeat: Nanos,
-    /// How long the consumer outlives its last reader, in nanoseconds.
+    /// How long the consumer outlives its last reader, in nanoseconds; 0 for ever where it is durable, and otherwise
+    /// what the server chooses, 5 seconds.
     pub inactive_threshold: Nanos,
-    /// 0 for as many as the stream has.
+    /// How many servers keep its state; 0 for as many as keep the stream.
     pub num_replicas: u64,
+    /// Whether its state is kept in memory alone.
     pub memory_storage: bool,
+    /// Names and values for people and tools.
     pub metadata: TextMap,
-    /// The waits before the further deliveries, in nanoseconds.
+    /// The waits before the further deliveries, in nanoseconds; with any, `ack_wait` is not used.
     pub backoff: Items<Nanos>,
+    /// Until when nothing is delivered; none where it is not paused.
     pub pause_until: Option<Timestamp>,
 }
 
@@ -91,18 +114,31 @@ impl Config {
 
 impl TryClone for Config {
     fn try_clone(&self) -> Result<Config, OutOfMemory> {
+        let (deliver_subject, durable_name, name, description, deliver_group) = all_5(
+            self.deliver_subject.try_clone(),
+            self.durable_name.try_clone(),
+            self.name.try_clone(),
+            self.description.try_clone(),
+            self.deliver_group.try_clone(),
+        )?;
+        let (filter_subject, filter_subjects, metadata, backoff) = all_4(
+            self.filter_subject.try_clone(),
+            self.filter_subjects.try_clone(),
+            self.metadata.try_clone(),
+            self.backoff.try_clone(),
+        )?;
         Ok(Config {
-            deliver_subject: self.deliver_subject.try_clone()?,
-            durable_name: self.durable_name.try_clone()?,
-            name: self.name.try_clone()?,
-            description: self.description.try_clone()?,
-            deliver_group: self.deliver_group.try_clone()?,
+            deliver_subject,
+            durable_name,
+            name,
+            description,
+            deliver_group,
             deliver_policy: self.deliver_policy,
             ack_policy: self.ack_policy,
             ack_wait: self.ack_wait,
             max_deliver: self.max_deliver,
-            filter_subject: self.filter_subject.try_clone()?,
-            filter_subjects: self.filter_subjects.try_clone()?,
+            filter_subject,
+            filter_subjects,
             replay_policy: self.replay_policy,
             rate_limit: self.rate_limit,
             sample_frequency: self.sample_frequency,
@@ -114,8 +150,8 @@ impl TryClone for Config {
             inactive_threshold: self.inactive_threshold,
             num_replicas: self.num_replicas,
             memory_storage: self.memory_storage,
-            metadata: self.metadata.try_clone()?,
-            backoff: self.backoff.try_clone()?,
+            metadata,
+            backoff,
             pause_until: self.pause_until,
         })
     }
@@ -193,23 +229,37 @@ impl FromConsumer for Config {
     }
 }
 
-/// The configuration of an ordered push consumer. What is not here is chosen for it.
+/// The configuration of an ordered push consumer.
+///
+/// What is not here is chosen for it: no acknowledgements, each message delivered once, flow control, a heartbeat each
+/// 5 seconds, its state in the memory of one server, and given up 30 seconds after its last reader. It has no durable
+/// name and no deliver group. `try_from_consumer_config` passes over what a general configuration says of these.
 #[derive(Debug, PartialEq, Eq, Drop)]
 pub struct OrderedConfig {
+    /// The subject that messages are delivered to.
     pub deliver_subject: Text,
+    /// The name of the consumer; none lets the server choose.
     pub name: Option<Text>,
+    /// Words for people; the server does nothing with them.
     pub description: Option<Text>,
-    /// The subjects that are read; empty for all of the stream.
+    /// The subjects that are read, which may have wildcards; empty for all of the stream.
     pub filter_subject: Text,
+    /// The same, where they are several. A server takes one of the two fields alone.
     pub filter_subjects: Items<Text>,
+    /// How fast the messages that are there already are sent.
     pub replay_policy: ReplayPolicy,
-    /// In bits a second; 0 for none.
+    /// How fast messages are sent at most, in bits a second; 0 for no bound. It serves push consumers alone.
     pub rate_limit: u64,
     /// The share of acknowledgements that are sampled, in percent.
     pub sample_frequency: u8,
+    /// Whether messages come without their payloads.
     pub headers_only: bool,
+    /// Where it begins.
     pub deliver_policy: DeliverPolicy,
+    /// How many pull requests may wait at once; 0 leaves it to the server, which takes 512. It serves pull
+    /// consumers alone.
     pub max_waiting: i64,
+    /// Names and values for people and tools.
     pub metadata: TextMap,
 }
 

@@ -7,6 +7,7 @@ ghost use Rattle.js_json.specs.declared.consumer.conversion.ConfigError.{ConfigE
 use crate::consumer::config::Config;
 use js_base::Nanos;
 use std::alloc::Global;
+use std::fmt;
 
 /// How long an ordered consumer outlives its last reader: 30 seconds.
 pub(crate) const ORDERED_INACTIVE_THRESHOLD: Nanos = 30_000_000_000;
@@ -18,6 +19,24 @@ pub enum ConfigError {
     HasDeliverSubject,
     /// A push consumer has one.
     NoDeliverSubject,
+}
+
+impl fmt::Display for ConfigError {
+    ghost use Rattle.std.specs.Prelude.{Some};
+    ghost use Rattle.js_json.specs.Conversions.{config_error_text};
+
+    ghost output = { λ e. Some (config_error_text e) };
+
+    fn fmt<W: fmt::Write>(&self, f: &mut fmt::Formatter<W>) -> fmt::Result {
+        match self {
+            ConfigError::HasDeliverSubject => {
+                write!(f, "pull consumer cannot have delivery subject")
+            }
+            ConfigError::NoDeliverSubject => {
+                write!(f, "push consumer must have delivery subject")
+            }
+        }
+    }
 }
 
 /// A configuration that the server is sent as a general one.

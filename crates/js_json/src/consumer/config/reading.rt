@@ -1,0 +1,218 @@
+//! How the configuration of a consumer is read: in five parts, one after another.
+
+ghost use Rattle.serde_json.specs.View.{view};
+ghost use Rattle.js_fields.specs.Reading.{Gives, nested as nested_in};
+
+use crate::consumer::config::Config;
+use crate::consumer::deliver_policy::DeliverPolicy;
+use crate::consumer::policies::{AckPolicy, PriorityPolicy, ReplayPolicy};
+use jiff::Timestamp;
+use js_base::{Items, Nanos, Text, TextMap};
+use js_fields::{FromValue, Key, Member, ReadError, defaulted, nested, optional};
+use serde_json::Value;
+use std::alloc::Global;
+
+/// Who it is, and to whom it delivers.
+#[derive(Drop)]
+struct Names {
+    deliver_subject: Option<Text>,
+    durable_name: Option<Text>,
+    name: Option<Text>,
+    description: Option<Text>,
+    deliver_group: Option<Text>,
+}
+
+impl Names {
+    ghost use Rattle.js_json.specs.ConsumerConfig.{names};
+
+    #[tactic(auto, unfolding(crate::specs::ConsumerConfig::names))]
+    fn read(alloc: Global, object: &Value) -> Result<Names, ReadError>
+        ensures { Gives result (names (view object.now)) }
+    {
+        Ok(Names {
+            deliver_subject: optional(alloc, object, Key::DeliverSubject)?,
+            durable_name: optional(alloc, object, Key::DurableName)?,
+            name: optional(alloc, object, Key::Name)?,
+            description: optional(alloc, object, Key::Description)?,
+            deliver_group: optional(alloc, object, Key::DeliverGroup)?,
+        })
+    }
+}
+
+/// What is delivered, and how it is acknowledged.
+#[derive(Drop)]
+struct Delivery {
+    deliver_policy: DeliverPolicy,
+    ack_policy: AckPolicy,
+    ack_wait: Nanos,
+    max_deliver: i64,
+    filter_subject: Text,
+    filter_subjects: Items<Text>,
+    replay_policy: ReplayPolicy,
+}
+
+impl Delivery {
+    ghost use Rattle.js_json.specs.ConsumerConfig.{delivery};
+
+    #[tactic(auto, unfolding(crate::specs::ConsumerConfig::delivery))]
+    fn read(alloc: Global, object: &Value) -> Result<Delivery, ReadError>
+        ensures { Gives result (delivery (view object.now)) }
+    {
+        Ok(Delivery {
+            deliver_policy: DeliverPolicy::from_fields(alloc, object)?,
+            ack_policy: defaulted(alloc, object, Key::AckPolicy)?,
+            ack_wait: defaulted(alloc, object, Key::AckWait)?,
+            max_deliver: defaulted(alloc, object, Key::MaxDeliver)?,
+            filter_subject: defaulted(alloc, object, Key::FilterSubject)?,
+            filter_subjects: defaulted(alloc, object, Key::FilterSubjects)?,
+            replay_policy: defaulted(alloc, object, Key::ReplayPolicy)?,
+        })
+    }
+}
+
+/// How fast it goes.
+#[derive(Drop)]
+struct Flow {
+    rate_limit: u64,
+    sample_frequency: u8,
+    max_waiting: i64,
+    max_ack_pending: i64,
+    headers_only: bool,
+    flow_control: bool,
+    idle_heartbeat: Nanos,
+}
+
+impl Flow {
+    ghost use Rattle.js_json.specs.ConsumerConfig.{flow};
+
+    #[tactic(auto, unfolding(crate::specs::ConsumerConfig::flow))]
+    fn read(alloc: Global, object: &Value) -> Result<Flow, ReadError>
+        ensures { Gives result (flow (view object.now)) }
+    {
+        Ok(Flow {
+            rate_limit: defaulted(alloc, object, Key::RateLimitBps)?,
+            sample_frequency: defaulted(alloc, object, Key::SampleFreq)?,
+            max_waiting: defaulted(alloc, object, Key::MaxWaiting)?,
+            max_ack_pending: defaulted(alloc, object, Key::MaxAckPending)?,
+            headers_only: defaulted(alloc, object, Key::HeadersOnly)?,
+            flow_control: defaulted(alloc, object, Key::FlowControl)?,
+            idle_heartbeat: defaulted(alloc, object, Key::IdleHeartbeat)?,
+        })
+    }
+}
+
+/// What bounds it.
+#[derive(Drop)]
+struct Limits {
+    max_batch: i64,
+    max_bytes: i64,
+    max_expires: Nanos,
+    inactive_threshold: Nanos,
+    num_replicas: u64,
+}
+
+impl Limits {
+    ghost use Rattle.js_json.specs.ConsumerConfig.{limits};
+
+    #[tactic(auto, unfolding(crate::specs::ConsumerConfig::limits))]
+    fn read(alloc: Global, object: &Value) -> Result<Limits, ReadError>
+        ensures { Gives result (limits (view object.now)) }
+    {
+        Ok(Limits {
+            max_batch: defaulted(alloc, object, Key::MaxBatch)?,
+            max_bytes: defaulted(alloc, object, Key::MaxBytes)?,
+            max_expires: defaulted(alloc, object, Key::MaxExpires)?,
+            inactive_threshold: defaulted(alloc, object, Key::InactiveThreshold)?,
+            num_replicas: defaulted(alloc, object, Key::NumReplicas)?,
+        })
+    }
+}
+
+/// Where it is kept, and who reads first.
+#[derive(Drop)]
+struct Priorities {
+    memory_storage: bool,
+    metadata: TextMap,
+    backoff: Items<Nanos>,
+    priority_policy: PriorityPolicy,
+    priority_groups: Items<Text>,
+    priority_timeout: Nanos,
+    pause_until: Option<Timestamp>,
+}
+
+impl Priorities {
+    ghost use Rattle.js_json.specs.ConsumerConfig.{priorities};
+
+    #[tactic(auto, unfolding(crate::specs::ConsumerConfig::priorities))]
+    fn read(alloc: Global, object: &Value) -> Result<Priorities, ReadError>
+        ensures { Gives result (priorities (view object.now)) }
+    {
+        Ok(Priorities {
+            memory_storage: defaulted(alloc, object, Key::MemStorage)?,
+            metadata: defaulted(alloc, object, Key::Metadata)?,
+            backoff: defaulted(alloc, object, Key::Backoff)?,
+            priority_policy: defaulted(alloc, object, Key::PriorityPolicy)?,
+            priority_groups: defaulted(alloc, object, Key::PriorityGroups)?,
+            priority_timeout: defaulted(alloc, object, Key::PriorityTimeout)?,
+            pause_until: optional(alloc, object, Key::PauseUntil)?,
+        })
+    }
+}
+
+impl FromValue for Config {
+    ghost use Rattle.js_json.specs.ConsumerConfig.{config_fields};
+
+    ghost fields = { config_fields };
+
+    #[tactic(auto, unfolding(crate::specs::ConsumerConfig::config_fields))]
+    fn from_fields(alloc: Global, object: &Value) -> Result<Config, ReadError> {
+        let names = Names::read(alloc, object)?;
+        let delivery = Delivery::read(alloc, object)?;
+        let flow = Flow::read(alloc, object)?;
+        let limits = Limits::read(alloc, object)?;
+        let priorities = Priorities::read(alloc, object)?;
+        Ok(Config {
+            deliver_subject: names.deliver_subject,
+            durable_name: names.durable_name,
+            name: names.name,
+            description: names.description,
+            deliver_group: names.deliver_group,
+            deliver_policy: delivery.deliver_policy,
+            ack_policy: delivery.ack_policy,
+            ack_wait: delivery.ack_wait,
+            max_deliver: delivery.max_deliver,
+            filter_subject: delivery.filter_subject,
+            filter_subjects: delivery.filter_subjects,
+            replay_policy: delivery.replay_policy,
+            rate_limit: flow.rate_limit,
+            sample_frequency: flow.sample_frequency,
+            max_waiting: flow.max_waiting,
+            max_ack_pending: flow.max_ack_pending,
+            headers_only: flow.headers_only,
+            flow_control: flow.flow_control,
+            idle_heartbeat: flow.idle_heartbeat,
+            max_batch: limits.max_batch,
+            max_bytes: limits.max_bytes,
+            max_expires: limits.max_expires,
+            inactive_threshold: limits.inactive_threshold,
+            num_replicas: limits.num_replicas,
+            memory_storage: priorities.memory_storage,
+            metadata: priorities.metadata,
+            backoff: priorities.backoff,
+            priority_policy: priorities.priority_policy,
+            priority_groups: priorities.priority_groups,
+            priority_timeout: priorities.priority_timeout,
+            pause_until: priorities.pause_until,
+        })
+    }
+}
+
+impl Member for Config {
+    ghost use Rattle.js_json.specs.ConsumerConfig.{config_fields};
+
+    ghost reads = { nested_in config_fields };
+
+    fn read(alloc: Global, key: Key, value: &Value) -> Result<Config, ReadError> {
+        nested(alloc, key, value)
+    }
+}

@@ -1,0 +1,39 @@
+//! An ordered pull consumer's configuration as one of a plain pull consumer.
+
+ghost use Rattle.std.specs.Prelude.{◌≡◌, Ok};
+ghost use Rattle.js_json.specs.Conversions.{as_pull_config, ordered_pull_config};
+
+use crate::consumer::{AckPolicy, ORDERED_INACTIVE_THRESHOLD};
+use crate::pull::{Config, OrderedConfig};
+use js_base::Items;
+
+impl From<OrderedConfig> for Config {
+    ghost from_gives = { λ ordered config. as_pull_config (ordered_pull_config ordered) ≡ Ok config };
+
+    fn from(ordered: OrderedConfig) -> Config {
+        let filter_subjects = ordered.filter_subjects.into_vec();
+        let alloc = *filter_subjects.allocator();
+        Config {
+            name: ordered.name,
+            description: ordered.description,
+            deliver_policy: ordered.deliver_policy,
+            ack_policy: AckPolicy::None,
+            max_deliver: 1,
+            filter_subject: ordered.filter_subject,
+            filter_subjects: Items::from(filter_subjects),
+            replay_policy: ordered.replay_policy,
+            rate_limit: ordered.rate_limit,
+            sample_frequency: ordered.sample_frequency,
+            max_waiting: ordered.max_waiting,
+            headers_only: ordered.headers_only,
+            max_batch: ordered.max_batch,
+            max_bytes: ordered.max_bytes,
+            max_expires: ordered.max_expires,
+            inactive_threshold: ORDERED_INACTIVE_THRESHOLD,
+            num_replicas: 1,
+            memory_storage: true,
+            metadata: ordered.metadata,
+            ..Config::new(alloc)
+        }
+    }
+}
