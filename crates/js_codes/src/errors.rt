@@ -1,23 +1,24 @@
 //! The error in an answer of the API.
 
 ghost use Rattle.std.specs.Prelude.{◌≡◌};
-ghost use Rattle.js_codes.specs.Description.{description_or_unknown};
 ghost use Rattle.js_codes.specs.Error.{api_source, error_fields, error_value};
 
 pub use crate::code::ErrorCode;
-use js_base::{OutOfMemory, Source, Text, TryClone};
+use js_base::{ApiError, OutOfMemory, Source, Text, TryClone};
 use js_fields::{FromValue, Key, Object, ReadError, ToValue, defaulted, optional, required};
 use serde_json::Value;
 use std::alloc::Global;
 use std::fmt;
 
-/// What the API answers in place of a result.
+/// What the API answers in place of a result. It prints as `js_base::ApiError` does:
+/// `stream not found (code 404, error code 10059)`.
 #[derive(Debug, PartialEq, Eq, Drop)]
 pub struct Error {
     /// The kind of refusal, in the numbers of HTTP.
     pub code: u64,
     /// Which error it is.
     pub err_code: ErrorCode,
+    /// What the server says of it.
     pub description: Option<Text>,
 }
 
@@ -53,15 +54,6 @@ impl Error {
             description: self.description,
         }
     }
-
-    fn description(&self) -> &str
-        ensures { result.now ≡ description_or_unknown self.now.description }
-    {
-        match &self.description {
-            None => "unknown",
-            Some(text) => text.as_str(),
-        }
-    }
 }
 
 impl fmt::Display for Error {
@@ -71,10 +63,12 @@ impl fmt::Display for Error {
     ghost output = { λ e. Some (error_text e) };
 
     fn fmt<W: fmt::Write>(&self, f: &mut fmt::Formatter<W>) -> fmt::Result {
-        let description = self.description();
-        let code = self.code;
-        let err_code = self.err_code.0;
-        write!(f, "{description} (code {code}, error code {err_code})")
+        let error = ApiError {
+            code: self.code,
+            err_code: self.err_code.0,
+            description: self.description.as_ref(),
+        };
+        write!(f, "{error}")
     }
 }
 
