@@ -3,11 +3,15 @@ use Rattle.std.specs.Prelude.{ℕ, ◌≡◌, true, None, List, Result, Ok, Err}
 use Rattle.serde_json.specs.Data.{Data}
 use Rattle.serde_json.specs.View.{view}
 use Rattle.serde_json.specs.declared.value.Value.{Value}
-use Rattle.js_base.specs.Errors.{plain}
+use Rattle.js_base.specs.Errors.{plain, caused}
 use Rattle.js_base.specs.declared.error.Error.{Error}
+use Rattle.js_base.specs.declared.error.Source.{Source}
 use Rattle.js_fields.specs.Reading.{GivesAs}
 use Rattle.js_fields.specs.Values.{value_of}
 use Rattle.js_call.specs.declared.error.RequestErrorKind.{RequestErrorKind}
+use Rattle.js_call.specs.declared.error.RequestErrorKind.TheVariants.{Other}
+use Rattle.js_call.specs.declared.failure.Failure.{Failure}
+use Rattle.js_call.specs.declared.failure.Failure.TheVariants.{Request, Read}
 use Rattle.js_call.specs.declared.api_request.AskingValue.{AskingValue}
 use Rattle.js_call.specs.declared.call.Call.{Call}
 use Rattle.js_call.specs.declared.raw_call.RawCall.{RawCall}
@@ -16,13 +20,18 @@ use Rattle.js_call.specs.Calls.{calling}
 use Rattle.js_call.specs.Scopes.{Calling}
 use Rattle.js_call.specs.Table.{Table}
 
+-- the error of the request itself; a reply that does not read is another error, with the read error's text
+abbrev pub request_error : Failure → Source → Error RequestErrorKind
+request_error (Request kind) source = plain kind
+request_error (Read error) source = caused Other source
+
 -- the reply is read as a value, and is the answer
 abbrev pub value_row : Table AskingValue Value (Result Value (Error RequestErrorKind))
 value_row = record {
   refused = λ s. None;
   reads = λ payload read. GivesAs view read (value_of payload);
   means = λ s value. Ok value;
-  fails = λ s kind. Err (plain kind);
+  fails = λ s failure source. Err (request_error failure source);
 }
 
 -- a request under the prefix whose body is a value's text

@@ -10,11 +10,13 @@ use Rattle.js_link.specs.LinkView.{LinkView}
 use Rattle.js_fields.specs.declared.error.ReadError.{ReadError}
 use Rattle.js_fields.specs.declared.error.ReadError.TheVariants.{OutOfMemory}
 use Rattle.js_call.specs.declared.error.RequestErrorKind.{RequestErrorKind}
-use Rattle.js_call.specs.declared.error.RequestErrorKind.TheVariants as kind
+use Rattle.js_call.specs.declared.failure.Failure.{Failure}
+use Rattle.js_call.specs.declared.failure.Failure.TheVariants.{Request, Read}
 use Rattle.js_call.specs.declared.call.Call.{Call}
 use Rattle.js_call.specs.declared.call.Stage.{Stage}
-use Rattle.js_call.specs.declared.call.Stage.TheVariants.{Asking, Answered}
+use Rattle.js_call.specs.declared.call.Stage.TheVariants.{Asking, Answered, Failed}
 use Rattle.js_call.specs.declared.raw_call.RawCall.{RawCall}
+use Rattle.js_call.specs.Failures.{told_by}
 use Rattle.js_call.specs.Raw.{RawPolled}
 use Rattle.js_call.specs.Table.{Table}
 
@@ -26,28 +28,37 @@ calling meaning asked = record { meaning = meaning; stage = Asking asked }
 abbrev pub answered : {M : Type 0} → M → Message → Call M
 answered meaning message = record { meaning = meaning; stage = Answered message }
 
--- what is answered to a reply that was read, or does not read
-abbrev pub IsAnswerTo : {M R A : Type 0} → Table M R A → M → Result R ReadError → A → Type 0
-IsAnswerTo t meaning (Ok reply) answer = answer ≡ t.means meaning reply
-IsAnswerTo t meaning (Err OutOfMemory) answer = ⊥
-IsAnswerTo t meaning (Err fault) answer = answer ≡ t.fails meaning kind.Other
+-- a call that has failed, and has not told it yet
+abbrev pub failed : {M : Type 0} → M → Failure → Call M
+failed meaning failure = record { meaning = meaning; stage = Failed failure }
 
--- a reply that came is answered by what it reads as, and kept where memory runs out
+-- a failure is answered with its text as the source, and kept where memory runs out
+abbrev pub Fails : {M R A : Type 0} → Table M R A → M → Failure → Turn (Call M) A → Type 0
+Fails t meaning failure (Ready answer) = answer ≡ t.fails meaning failure (told_by failure)
+Fails t meaning failure (turns.OutOfMemory next) = next ≡ failed meaning failure
+Fails t meaning failure (Pending next) = ⊥
+
+-- a reply that was read is answered; one that does not read is a failure, and one for which no memory is left is kept
+abbrev pub AnswersTo : {M R A : Type 0} → Table M R A → M → Message → Result R ReadError → Turn (Call M) A → Type 0
+AnswersTo t meaning message (Ok reply) turn = turn ≡ Ready (t.means meaning reply)
+AnswersTo t meaning message (Err OutOfMemory) turn = turn ≡ turns.OutOfMemory (answered meaning message)
+AnswersTo t meaning message (Err fault) turn = Fails t meaning (Read fault) turn
+
+-- a reply that came is answered by what it reads as
 abbrev pub Reads : {M R A : Type 0} → Table M R A → M → Message → Turn (Call M) A → Type 0
-Reads {R = R} t meaning message (Ready answer) = (read : Result R ReadError) × t.reads message.payload read × IsAnswerTo t meaning read answer
-Reads t meaning message (turns.OutOfMemory next) = next ≡ answered meaning message
-Reads t meaning message (Pending next) = ⊥
+Reads {R = R} t meaning message turn = (read : Result R ReadError) × t.reads message.payload read × AnswersTo t meaning message read turn
 
 -- what a call answers to what its request does
 abbrev pub Turns : {M R A : Type 0} → Table M R A → M → Turn RawCall (Result Message (Error RequestErrorKind)) → Turn (Call M) A → Type 0
 Turns t meaning (Pending asked) turn = turn ≡ Pending (calling meaning asked)
 Turns t meaning (turns.OutOfMemory asked) turn = turn ≡ turns.OutOfMemory (calling meaning asked)
 Turns t meaning (Ready (Ok message)) turn = Reads t meaning message turn
-Turns t meaning (Ready (Err error)) turn = turn ≡ Ready (t.fails meaning (kind_of error))
+Turns t meaning (Ready (Err error)) turn = Fails t meaning (Request (kind_of error)) turn
 
--- a reply that was kept is read, and else the request goes on
+-- a reply that was kept is read, a failure that was kept is told, and else the request goes on
 abbrev pub GoesOn : {M R A : Type 0} → Table M R A → M → Stage → ℕ → Turn (Call M) A → LinkView → LinkView → Type 0
 GoesOn t meaning (Answered message) now turn old new = (new ≡ old) × Reads t meaning message turn
+GoesOn t meaning (Failed failure) now turn old new = (new ≡ old) × Fails t meaning failure turn
 GoesOn t meaning (Asking call) now turn old new =
     (asked : Turn RawCall (Result Message (Error RequestErrorKind))) × RawPolled call now asked old new × Turns t meaning asked turn
 

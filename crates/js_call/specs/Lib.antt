@@ -1,4 +1,5 @@
 pub mod Texts
+pub mod Failures
 pub mod Raw
 pub mod Scopes
 pub mod Table

@@ -1,15 +1,16 @@
 //! A request of the API whose reply is any JSON value.
-ghost use Rattle.std.specs.Prelude.{IfOk};
+ghost use Rattle.std.specs.Prelude.{◌≡◌, IfOk};
 ghost use Rattle.serde_json.specs.View.{view};
-ghost use Rattle.js_call.specs.ApiRequests.{value_row, AskingFor};
+ghost use Rattle.js_call.specs.ApiRequests.{value_row, request_error, AskingFor};
 
 use crate::call::Call;
 use crate::error::{RequestError, RequestErrorKind};
+use crate::failure::Failure;
 use crate::meaning::Meaning;
 use crate::raw_call::RawCall;
 use crate::scope::ApiScope;
 use bytes::Bytes;
-use js_base::{Error, OutOfMemory};
+use js_base::{Error, OutOfMemory, Source};
 use js_fields::{ReadError, value_of};
 use serde_json::Value;
 use std::alloc::Global;
@@ -20,6 +21,16 @@ pub struct AskingValue;
 
 /// A request of the API under way. Its answer is the JSON value that the reply's body is, in which no float may stand.
 pub type ApiRequest = Call<AskingValue>;
+
+/// The error of the request itself; a reply that does not read is another error, with the read error's text.
+fn request_error(failure: Failure, source: Source) -> RequestError
+    ensures { result ≡ request_error failure source }
+{
+    match failure {
+        Failure::Request(kind) => Error::new(kind),
+        Failure::Read(_) => Error::with_source(RequestErrorKind::Other, source),
+    }
+}
 
 impl Meaning for AskingValue {
     type Reply = Value;
@@ -40,8 +51,8 @@ impl Meaning for AskingValue {
         Ok(reply)
     }
 
-    fn failure(self, kind: RequestErrorKind) -> Result<Value, RequestError> {
-        Err(Error::new(kind))
+    fn failure(self, failure: Failure, source: Source) -> Result<Value, RequestError> {
+        Err(request_error(failure, source))
     }
 }
 

@@ -2,20 +2,22 @@
 ghost use Rattle.std.specs.Prelude.{◌≡◌, Result};
 ghost use Rattle.js_base.specs.declared.error.Error.{Error};
 ghost use Rattle.js_base.specs.declared.turn.Turn.{Turn};
-ghost use Rattle.js_call.specs.Calls.{calling, Polled, Reads, Turns};
+ghost use Rattle.js_call.specs.Calls.{calling, Fails, Polled, Reads, Turns};
 
-use crate::error::{RequestError, RequestErrorKind};
+use crate::error::RequestError;
+use crate::failure::Failure;
 use crate::meaning::Meaning;
 use crate::raw_call::RawCall;
 use crate::state::State;
-use js_base::{Message, Moment, Turn};
+use js_base::{Message, Moment, OutOfMemory, Turn};
 use js_fields::ReadError;
 use js_link::Link;
 use std::alloc::Global;
 
 /// A call of the API under way: its request is sent at its first poll.
 ///
-/// Refused arguments are answered before anything is sent. A reply for which no memory is left is kept, and read at the next poll.
+/// Refused arguments are answered before anything is sent. A reply for which no memory is left is kept, and read at the next
+/// poll; so is a failure for whose text none is left.
 #[derive(Drop)]
 pub struct Call<M> {
     pub(crate) meaning: M,
@@ -28,6 +30,8 @@ pub(crate) enum Stage {
     Asking(RawCall),
     /// The reply has come, and is not read yet.
     Answered(Message),
+    /// It has failed, and that is not told yet.
+    Failed(Failure),
 }
 
 impl<M: Meaning> Call<M> {
@@ -42,6 +46,19 @@ impl<M: Meaning> Call<M> {
     }
 }
 
+/// Tells a failure, which is kept where memory runs out.
+fn fail<M: Meaning>(alloc: Global, meaning: M, failure: Failure) -> Turn<Call<M>, M::Answer>
+    ensures { Fails M.table meaning failure result }
+{
+    match failure.to_source(alloc) {
+        Ok(source) => Turn::Ready(meaning.failure(failure, source)),
+        Err(OutOfMemory) => Turn::OutOfMemory(Call {
+            meaning,
+            stage: Stage::Failed(failure),
+        }),
+    }
+}
+
 /// Reads a reply, which is kept where memory runs out.
 fn read<M: Meaning>(alloc: Global, meaning: M, message: Message) -> Turn<Call<M>, M::Answer>
     ensures { Reads M.table meaning message result }
@@ -52,7 +69,7 @@ fn read<M: Meaning>(alloc: Global, meaning: M, message: Message) -> Turn<Call<M>
             meaning,
             stage: Stage::Answered(message),
         }),
-        Err(_) => Turn::Ready(meaning.failure(RequestErrorKind::Other)),
+        Err(fault) => fail(alloc, meaning, Failure::Read(fault)),
     }
 }
 
@@ -70,7 +87,7 @@ fn turn<M: Meaning>(
         Turn::Ready(Ok(message)) => read(alloc, meaning, message),
         Turn::Ready(Err(error)) => {
             let kind = *error.kind();
-            Turn::Ready(meaning.failure(kind))
+            fail(alloc, meaning, Failure::Request(kind))
         }
     }
 }
@@ -87,6 +104,7 @@ impl<M: Meaning> State for Call<M> {
         let Call { meaning, stage } = self;
         match stage {
             Stage::Answered(message) => read(alloc, meaning, message),
+            Stage::Failed(failure) => fail(alloc, meaning, failure),
             Stage::Asking(asked) => {
                 let asked = asked.poll(alloc, link, now);
                 turn(alloc, meaning, asked)

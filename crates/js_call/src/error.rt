@@ -43,6 +43,7 @@ pub type RequestError = Error<RequestErrorKind>;
 pub enum SendError {
     /// The link failed.
     LinkFailed,
+    /// Memory ran out.
     OutOfMemory,
 }
 

@@ -8,6 +8,7 @@
 mod api_request;
 mod call;
 mod error;
+mod failure;
 mod meaning;
 mod open_request;
 mod raw_call;
@@ -20,13 +21,11 @@ mod then;
 pub use api_request::{ApiRequest, AskingValue};
 pub use call::Call;
 pub use error::{RequestError, RequestErrorKind, SendError};
+pub use failure::Failure;
 pub use meaning::Meaning;
 pub use open_request::{OpenRequest, Shown};
-pub use raw_call::RawCall;
+pub use raw_call::{RawCall, has_no_responders};
 pub use raw_request::RawRequest;
 pub use scope::ApiScope;
 pub use state::State;
 pub use then::{Decision, IfAbsent, Then};
-
-#[cfg(test)]
-mod tests;

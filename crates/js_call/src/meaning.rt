@@ -2,7 +2,8 @@
 ghost use Rattle.std.specs.Prelude.{◌≡◌};
 ghost use Rattle.js_call.specs.Table.{Table};
 
-use crate::error::RequestErrorKind;
+use crate::failure::Failure;
+use js_base::Source;
 use js_fields::ReadError;
 use std::alloc::Global;
 
@@ -31,7 +32,7 @@ pub trait Meaning: Drop {
     fn answer(self, reply: Self::Reply) -> Self::Answer
         ensures { result ≡ table.means self reply };
 
-    /// What it answers where its request has no reply.
-    fn failure(self, kind: RequestErrorKind) -> Self::Answer
-        ensures { result ≡ table.fails self kind };
+    /// What it answers where its request has no reply, or its reply does not read. The source is the failure's text.
+    fn failure(self, failure: Failure, source: Source) -> Self::Answer
+        ensures { result ≡ table.fails self failure source };
 }

@@ -9,10 +9,11 @@ use js_link::{Answer, Link, RequestId};
 /// A request that was sent, and has given no answer.
 #[derive(Clone, Copy, Debug, PartialEq, Eq)]
 pub struct OpenRequest {
+    /// Its number on the link.
     pub request: RequestId,
     /// When it was sent.
     pub since: Moment,
-    /// How long it is waited for, or none where it is waited for without end.
+    /// How long it is waited for, in nanoseconds, or none where it is waited for without end.
     pub timeout: Option<Nanos>,
 }
 

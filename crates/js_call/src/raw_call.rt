@@ -2,7 +2,7 @@
 ghost use Rattle.std.specs.Prelude.{◌≡◌, Result};
 ghost use Rattle.js_link.specs.LinkView.{LinkView};
 ghost use Rattle.js_link.specs.Calls.{RefusedSend};
-ghost use Rattle.js_call.specs.Raw.{Meets, RawPolled, SendsOf, bar_of, reply_of, met_turn};
+ghost use Rattle.js_call.specs.Raw.{Meets, RawPolled, SendsOf, bar_of, has_no_responders, reply_of, met_turn};
 
 use crate::error::{RequestError, RequestErrorKind};
 use crate::open_request::{OpenRequest, Shown};
@@ -16,8 +16,9 @@ use std::alloc::Global;
 
 /// One request, which is sent at its first poll.
 ///
-/// A call made by `raw_request` tests its subject and then the length of its body before it sends, and looks at the answer in
-/// the poll that sends. One made by `ApiScope::call` tests neither, and looks from its second poll on.
+/// It tests its subject and then the length of its body before it sends, and looks at the answer in the poll that sends. One made
+/// by `ApiScope::call` tests neither: the poll that sends it is pending, and it looks at the answer and the clock from the next
+/// poll on.
 #[derive(Drop)]
 pub struct RawCall {
     pub(crate) subject: Subject,
@@ -43,13 +44,24 @@ pub(crate) enum Met {
     Shown(OpenRequest, Shown),
 }
 
+/// Whether the status of a reply says that nobody answers: it is 503.
+pub fn has_no_responders(status: Option<StatusCode>) -> bool
+    ensures { result ≡ has_no_responders status }
+{
+    match status {
+        None => false,
+        Some(status) => status == StatusCode::NO_RESPONDERS,
+    }
+}
+
 /// The reply, unless it says that nobody answers.
 fn reply_of(message: Message) -> Result<Message, RequestError>
     ensures { result ≡ reply_of message }
 {
-    match message.status {
-        Some(StatusCode(503)) => Err(Error::new(RequestErrorKind::NoResponders)),
-        _ => Ok(message),
+    if has_no_responders(message.status) {
+        Err(Error::new(RequestErrorKind::NoResponders))
+    } else {
+        Ok(message)
     }
 }
 

@@ -10,8 +10,9 @@ use js_base::{HeaderMap, Nanos, Subject};
 pub struct RawRequest {
     /// The body. None is an empty one.
     pub payload: Option<Bytes>,
+    /// The headers. None sends a message without any.
     pub headers: Option<HeaderMap>,
-    /// How long the answer is waited for. None leaves it to the context and then to the connection; `Some(None)` waits without end.
+    /// How long the answer is waited for, in nanoseconds. None leaves it to the context and then to the connection; `Some(None)` waits without end.
     pub timeout: Option<Option<Nanos>>,
     /// Where an answer goes that `send_request` does not wait for. None lets the link choose.
     pub inbox: Option<Subject>,

@@ -15,7 +15,7 @@ use std::alloc::{AllocError, Global};
 pub struct ApiScope {
     /// What subjects begin with, before a dot.
     pub prefix: Text,
-    /// How long the context waits for an answer, or none where it leaves that to the connection.
+    /// How long the context waits for an answer, in nanoseconds, or none where it leaves that to the connection.
     pub timeout: Option<Nanos>,
 }
 
@@ -62,7 +62,8 @@ impl ApiScope {
         })
     }
 
-    /// A request under the prefix with that body, which tests its subject neither nor its size: they are known to be good.
+    /// A request under the prefix with that body, which tests neither its subject nor the size of its body: the caller knows that
+    /// they are good. So it never answers `InvalidSubject`, and its `Other` never comes from the body's size.
     ///
     /// The poll that sends it is pending, and the answer and the clock are looked at from the next poll on. The one refusal is want of memory.
     pub fn call(&self, alloc: Global, subject: &str, body: &Value) -> Result<RawCall, OutOfMemory>
@@ -76,7 +77,8 @@ impl ApiScope {
         })
     }
 
-    /// A request under the prefix with that body. The one refusal is want of memory.
+    /// A request under the prefix with that body, which tests its subject and its body's size before it is sent. The one refusal
+    /// is want of memory.
     pub fn ask(&self, alloc: Global, subject: &str, body: Bytes) -> Result<RawCall, OutOfMemory>
         ensures { IfOk result (λ call. call ≡ asking self.now subject.now body) }
     {
