@@ -1,10 +1,10 @@
 -- Finding the stream that stores a subject: a row of the table of calls.
 use Rattle.std.specs.Prelude.{ℕ, ◌≡◌, Option, Some, None, option_map, List, ◌++◌, codes, Result, Ok, Err, if◌then◌else◌}
 use Rattle.serde_json.specs.Data.{Data}
-use Rattle.js_base.specs.Errors.{plain}
+use Rattle.js_base.specs.Errors.{plain, caused}
 use Rattle.js_base.specs.Match.{is_valid_subject}
 use Rattle.js_base.specs.declared.error.Error.{Error}
-use Rattle.js_codes.specs.Error.{error_text}
+use Rattle.js_codes.specs.Error.{api_source, error_text}
 use Rattle.js_fields.specs.Reading.{float_free, text}
 use Rattle.js_fields.specs.Rows.{text_of}
 use Rattle.js_fields.specs.declared.error.ReadError.{ReadError}
@@ -39,10 +39,10 @@ abbrev pub first_or_none : Option (List ℕ) → Result (List ℕ) (Error GetStr
 first_or_none (Some name) = Ok name
 first_or_none None = Err (plain NotFound)
 
--- the first item of the list; an error of the API makes it an error item
+-- the first item of the list; an error of the API makes it an error item, and is its source
 abbrev pub found : Response (Page (List ℕ)) → Result (List ℕ) (Error GetStreamByNameErrorKind)
 found (response.Ok page) = first_or_none (first_given (items_of page.streams))
-found (response.Err error) = Err (plain Request)
+found (response.Err error) = Err (caused Request (api_source error))
 
 -- the row of `stream_by_subject`
 abbrev pub find_row : Table FindingStream (Response (Page (List ℕ))) (Result (List ℕ) (Error GetStreamByNameErrorKind))
@@ -50,7 +50,7 @@ find_row = record {
   refused = λ s. refused_by (option_map plain (find_refusal s.subject));
   reads = reads_as (response_of (float_free (page_fields text)));
   means = λ s reply. found reply;
-  fails = λ s kind. Err (plain Request);
+  fails = λ s failure source. Err (caused Request source);
 }
 
 -- what asks for the first page of the names of streams that store a subject

@@ -1,8 +1,9 @@
 -- The pages of a list: how each is asked for, and what its reply means.
 use Rattle.std.specs.Prelude.{ℕ, ◌≡◌, Option, Some, None, List, [], ◌∷◌, reverse, codes, Result, Ok, Err}
 use Rattle.serde_json.specs.Data.{Data}
-use Rattle.js_base.specs.Errors.{plain}
+use Rattle.js_base.specs.Errors.{caused}
 use Rattle.js_base.specs.declared.error.Error.{Error}
+use Rattle.js_codes.specs.Error.{api_source}
 use Rattle.js_fields.specs.Reading.{Reads, float_free}
 use Rattle.js_fields.specs.Rows.{text_of}
 use Rattle.js_fields.specs.declared.error.ReadError.{ReadError}
@@ -53,18 +54,18 @@ head_of (x ∷ xs) = Some x
 abbrev pub first_given : {A : Type 0} → List A → Option A
 first_given items = head_of (reverse items)
 
--- a page; an error of the API is another error
+-- a page; an error of the API is another error, and its source
 abbrev pub page_in : {A : Type 0} → Response (Page A) → Result (Page A) (Error RequestErrorKind)
 page_in (response.Ok page) = Ok page
-page_in (response.Err error) = Err (plain Other)
+page_in (response.Err error) = Err (caused Other (api_source error))
 
--- the row of the request for a page; whatever it fails with is another error
+-- the row of the request for a page; whatever it fails with is another error, and its source
 abbrev pub page_row : {A : Type 0} → Reads A → Table (AskingPage A) (Response (Page A)) (Result (Page A) (Error RequestErrorKind))
 page_row reads = record {
   refused = λ s. None;
   reads = reads_as (response_of (float_free (page_fields reads)));
   means = λ s reply. page_in reply;
-  fails = λ s kind. Err (plain Other);
+  fails = λ s failure source. Err (caused Other source);
 }
 
 -- the request for the page that begins at an offset, which is not sent

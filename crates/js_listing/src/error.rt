@@ -7,7 +7,8 @@ use js_call::{RequestError, RequestErrorKind};
 use js_codes::errors;
 use std::fmt;
 
-/// Why a page of a list was not got, of which the kind is always `Other`.
+/// Why a page of a list was not got. The kind is always `Other`, and the source is the text of the request's or the reply's error, or
+/// the server's error.
 pub type StreamsError = RequestError;
 
 /// Why a page of a list was not got.
@@ -16,7 +17,7 @@ pub type StreamsErrorKind = RequestErrorKind;
 /// Why no stream was found by a subject.
 #[derive(Debug, PartialEq, Eq, Drop)]
 pub enum GetStreamByNameErrorKind {
-    /// The request has no reply, the API answered an error, or the reply does not read.
+    /// The request has no reply, the API answered an error, or the reply does not read: the source tells which.
     Request,
     /// No stream stores the subject.
     NotFound,

@@ -6,8 +6,8 @@ ghost use Rattle.js_listing.specs.Finds.{find_row, find_refusal, found, Finds, f
 use crate::error::{GetStreamByNameError, GetStreamByNameErrorKind};
 use crate::rest::first_of;
 use bytes::Bytes;
-use js_base::{Error, OutOfMemory, Text, is_valid_subject};
-use js_call::{ApiScope, Call, Meaning, RequestErrorKind};
+use js_base::{Error, OutOfMemory, Source, Text, is_valid_subject};
+use js_call::{ApiScope, Call, Failure, Meaning};
 use js_fields::{ReadError, ToValue};
 use js_json::{Response, response_as};
 use js_stream::stream::{NamesRequest, Page};
@@ -57,12 +57,15 @@ impl Meaning for FindingStream {
                 Some(name) => Ok(name),
                 None => Err(Error::new(GetStreamByNameErrorKind::NotFound)),
             },
-            Response::Err { error: _ } => Err(Error::new(GetStreamByNameErrorKind::Request)),
+            Response::Err { error } => Err(Error::with_source(
+                GetStreamByNameErrorKind::Request,
+                error.into_source(),
+            )),
         }
     }
 
-    fn failure(self, _kind: RequestErrorKind) -> Result<Text, GetStreamByNameError> {
-        Err(Error::new(GetStreamByNameErrorKind::Request))
+    fn failure(self, _failure: Failure, source: Source) -> Result<Text, GetStreamByNameError> {
+        Err(Error::with_source(GetStreamByNameErrorKind::Request, source))
     }
 }
 
@@ -80,8 +83,11 @@ fn find_body(alloc: Global, subject: &str) -> Result<Bytes, OutOfMemory>
     }
 }
 
-/// Finds the name of the stream that stores a subject: the first item of the list of such streams. The one refusal here is want of
-/// memory; others come from the first poll.
+/// Finds the name of the stream that stores a subject: the first item of the list of such streams.
+///
+/// The one refusal here is want of memory; others come from the polls. `InvalidSubject` comes from the first, and nothing is sent.
+/// `NotFound` comes where no stream stores the subject. `Request` has as its source the server's error, or the text of the
+/// request's or the reply's.
 pub fn stream_by_subject(
     alloc: Global,
     scope: &ApiScope,

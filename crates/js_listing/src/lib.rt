@@ -16,6 +16,3 @@ pub use listed::Listed;
 pub use listing::{Listing, StreamNames, Streams, stream_names, streams};
 pub use page::AskingPage;
 pub use rest::Rest;
-
-#[cfg(test)]
-mod tests;

@@ -83,7 +83,8 @@ impl<T: Listed> Listing<T> {
 
     /// Hands out the next item.
     ///
-    /// A page that could not be got is an item with the error `Other`, and the next poll asks for the same page again. `Pending` comes
+    /// A page that could not be got is an item with the error `Other`, whose source says why, and the next poll asks for the same page
+    /// again. `Pending` comes
     /// only where the page's request waits and is in time. `End` comes where a page is empty, after which the next poll asks
     /// again, and after the last page for good.
     pub fn poll_next<L: Link>(
@@ -113,14 +114,15 @@ impl<T: Listed> Listing<T> {
     {}
 }
 
-/// Lists the names of all streams. The one refusal is want of memory.
+/// Lists the names of all streams, page by page: nothing is sent before the first poll. The one refusal is want of memory.
 pub fn stream_names(alloc: Global, scope: &ApiScope) -> Result<StreamNames, OutOfMemory>
     ensures { IfOk result (λ list. list ≡ fresh scope.now) }
 {
     Listing::new(alloc, scope)
 }
 
-/// Lists what the server knows of all streams. The one refusal is want of memory.
+/// Lists what the server knows of all streams, page by page: nothing is sent before the first poll. The one refusal is want of
+/// memory.
 pub fn streams(alloc: Global, scope: &ApiScope) -> Result<Streams, OutOfMemory>
     ensures { IfOk result (λ list. list ≡ fresh scope.now) }
 {

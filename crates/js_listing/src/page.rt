@@ -6,8 +6,8 @@ ghost use Rattle.js_listing.specs.Pages.{page_row, page_in, AsksPage};
 use crate::error::{StreamsError, StreamsErrorKind};
 use crate::listed::Listed;
 use bytes::Bytes;
-use js_base::{Error, OutOfMemory};
-use js_call::{ApiScope, Call, Meaning, RequestErrorKind};
+use js_base::{Error, OutOfMemory, Source};
+use js_call::{ApiScope, Call, Failure, Meaning};
 use js_fields::ReadError;
 use js_json::{Response, response_as};
 use js_stream::stream::Page;
@@ -40,12 +40,14 @@ impl<T: Listed> Meaning for AskingPage<T> {
     {
         match reply {
             Response::Ok(page) => Ok(page),
-            Response::Err { error: _ } => Err(Error::new(StreamsErrorKind::Other)),
+            Response::Err { error } => {
+                Err(Error::with_source(StreamsErrorKind::Other, error.into_source()))
+            }
         }
     }
 
-    fn failure(self, _kind: RequestErrorKind) -> Result<Page<T>, StreamsError> {
-        Err(Error::new(StreamsErrorKind::Other))
+    fn failure(self, _failure: Failure, source: Source) -> Result<Page<T>, StreamsError> {
+        Err(Error::with_source(StreamsErrorKind::Other, source))
     }
 }
 

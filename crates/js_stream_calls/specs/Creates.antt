@@ -4,7 +4,6 @@ use Rattle.js_base.specs.Errors.{plain}
 use Rattle.js_base.specs.declared.error.Error.{Error}
 use Rattle.js_fields.specs.Reading.{float_free}
 use Rattle.js_fields.specs.Rows.{text_of}
-use Rattle.js_codes.specs.declared.errors.Error.{Error as ApiError}
 use Rattle.js_json.specs.Response.{response_of}
 use Rattle.js_json.specs.declared.response.Response.{Response}
 use Rattle.js_json.specs.declared.response.Response.TheVariants as response
@@ -13,7 +12,6 @@ use Rattle.js_stream.specs.StreamInfo.{info_fields}
 use Rattle.js_stream.specs.declared.stream.config.Config.{Config}
 use Rattle.js_stream.specs.declared.stream.info.Info.{Info}
 use Rattle.js_call.specs.declared.call.Call.{Call}
-use Rattle.js_call.specs.declared.error.RequestErrorKind.{RequestErrorKind}
 use Rattle.js_call.specs.declared.raw_call.RawCall.{RawCall}
 use Rattle.js_call.specs.declared.scope.ApiScope.{ApiScope}
 use Rattle.js_call.specs.declared.then.IfAbsent.{IfAbsent}
@@ -26,17 +24,9 @@ use Rattle.js_stream_calls.specs.declared.error.CreateStreamErrorKind.{CreateStr
 use Rattle.js_stream_calls.specs.declared.handle.StreamHandle.{StreamHandle}
 use Rattle.js_stream_calls.specs.declared.create.CreatingStream.{CreatingStream}
 use Rattle.js_stream_calls.specs.declared.get_or_create.FindingStream.{FindingStream}
-use Rattle.js_stream_calls.specs.Errors.{create_kind, api_kind}
+use Rattle.js_stream_calls.specs.Errors.{create_failure, api_error}
 use Rattle.js_stream_calls.specs.Places.{two_places, placed_in}
 use Rattle.js_stream_calls.specs.Refusals.{name_refusal, create_refusal}
-
--- an error of the API as the error of a call
-abbrev pub api_error : ApiError → Error CreateStreamErrorKind
-api_error error = plain (api_kind error)
-
--- a request without a reply as the error of a call
-abbrev pub request_error : RequestErrorKind → Error CreateStreamErrorKind
-request_error kind = plain (create_kind kind)
 
 -- the body is the text of the configuration
 abbrev pub IsTextOf : Config → List ℕ → Type 0
@@ -59,7 +49,7 @@ create_row = record {
   refused = λ s. refused_by (option_map plain (create_refusal (name_refusal s.name) s.two_places));
   reads = reads_as (response_of (float_free info_fields));
   means = created;
-  fails = λ s kind. Err (request_error kind);
+  fails = λ s failure source. Err (create_failure failure source);
 }
 
 -- what the call keeps of its arguments
@@ -88,7 +78,7 @@ find_row = record {
   refused = λ s. refused_by (option_map plain (name_refusal s.name));
   reads = reads_as (response_of (float_free info_fields));
   means = found;
-  fails = λ s kind. Err (request_error kind);
+  fails = λ s failure source. Err (create_failure failure source);
 }
 
 -- the first call, which is not sent

@@ -16,10 +16,11 @@ use Rattle.js_call.specs.Calls.{calling}
 use Rattle.js_call.specs.Scopes.{asking, under}
 use Rattle.js_call.specs.Table.{Table, reads_as, refused_by}
 use Rattle.js_stream_calls.specs.declared.error.GetStreamErrorKind.{GetStreamErrorKind}
-use Rattle.js_stream_calls.specs.declared.error.GetStreamErrorKind.TheVariants.{JetStream, Request, OutOfMemory}
+use Rattle.js_stream_calls.specs.declared.error.GetStreamErrorKind.TheVariants.{JetStream, OutOfMemory}
 use Rattle.js_stream_calls.specs.declared.handle.StreamHandle.{StreamHandle}
 use Rattle.js_stream_calls.specs.declared.get.GettingStream.{GettingStream}
 use Rattle.js_stream_calls.specs.declared.delete.DeletingStream.{DeletingStream}
+use Rattle.js_stream_calls.specs.Errors.{get_failure}
 use Rattle.js_stream_calls.specs.Refusals.{get_refusal}
 
 -- the stream, or the API's error
@@ -33,7 +34,7 @@ get_row = record {
   refused = λ s. refused_by (option_map plain (get_refusal s.name));
   reads = reads_as (response_of (float_free info_fields));
   means = got;
-  fails = λ s kind. Err (plain Request);
+  fails = λ s failure source. Err (get_failure source);
 }
 
 -- the call, which is not sent
@@ -65,7 +66,7 @@ delete_row = record {
   refused = λ s. refused_by (option_map plain (get_refusal s.name));
   reads = reads_as (response_of (float_free delete_status_fields));
   means = λ s reply. deleted reply;
-  fails = λ s kind. Err (plain Request);
+  fails = λ s failure source. Err (get_failure source);
 }
 
 -- the call, which is not sent

@@ -21,7 +21,8 @@ use Rattle.js_stream_calls.specs.declared.error.CreateStreamErrorKind.TheVariant
 use Rattle.js_stream_calls.specs.declared.update.UpdatingStream.{UpdatingStream}
 use Rattle.js_stream_calls.specs.declared.create_or_update.CreatingInfo.{CreatingInfo}
 use Rattle.js_stream_calls.specs.declared.create_or_update.IfNotFound.{IfNotFound}
-use Rattle.js_stream_calls.specs.Creates.{api_error, request_error, AsksToCreate, AsksWith}
+use Rattle.js_stream_calls.specs.Creates.{AsksToCreate, AsksWith}
+use Rattle.js_stream_calls.specs.Errors.{create_failure, api_error}
 use Rattle.js_stream_calls.specs.Places.{two_places}
 use Rattle.js_stream_calls.specs.Refusals.{name_refusal, create_refusal}
 
@@ -38,7 +39,7 @@ update_row = record {
   refused = λ s. refused_by (option_map plain (name_refusal s.name));
   reads = reads_as (response_of (float_free info_fields));
   means = λ s reply. told reply;
-  fails = λ s kind. Err (request_error kind);
+  fails = λ s failure source. Err (create_failure failure source);
 }
 
 -- the call, which is not sent: it asks with the configuration as it is
@@ -54,7 +55,7 @@ create_info_row = record {
   refused = λ s. refused_by (option_map plain (create_refusal (name_refusal s.name) s.two_places));
   reads = reads_as (response_of (float_free info_fields));
   means = λ s reply. told reply;
-  fails = λ s kind. Err (request_error kind);
+  fails = λ s failure source. Err (create_failure failure source);
 }
 
 -- what the second call keeps of its arguments

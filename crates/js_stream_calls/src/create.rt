@@ -2,19 +2,19 @@
 ghost use Rattle.std.specs.Prelude.{◌≡◌, IfOk};
 ghost use Rattle.js_stream_calls.specs.Creates.{create_row, AsksToCreate, AsksWith, Creates, IsTextOf};
 
-use crate::error::{CreateStreamError, api_kind, create_kind};
+use crate::error::{CreateStreamError, api_error, create_failure};
 use crate::handle::StreamHandle;
 use crate::name::create_refusal;
 use crate::places::{place_all, two_places};
 use bytes::Bytes;
-use js_base::{Error, OutOfMemory, Text, TryClone};
-use js_call::{ApiScope, Call, Meaning, RawCall, RequestErrorKind};
+use js_base::{Error, OutOfMemory, Source, Text, TryClone};
+use js_call::{ApiScope, Call, Failure, Meaning, RawCall};
 use js_fields::{ReadError, ToValue};
 use js_json::{Response, response_as};
 use js_stream::stream::{Config, Info};
 use std::alloc::Global;
 
-/// The row of `create_stream`.
+/// The row of `create_stream`: what the call keeps of its arguments.
 #[derive(Drop)]
 pub struct CreatingStream {
     scope: ApiScope,
@@ -51,12 +51,16 @@ impl Meaning for CreatingStream {
                 name: self.name,
                 info,
             }),
-            Response::Err { error } => Err(Error::new(api_kind(error))),
+            Response::Err { error } => Err(api_error(error)),
         }
     }
 
-    fn failure(self, kind: RequestErrorKind) -> Result<StreamHandle<Info>, CreateStreamError> {
-        Err(Error::new(create_kind(kind)))
+    fn failure(
+        self,
+        failure: Failure,
+        source: Source,
+    ) -> Result<StreamHandle<Info>, CreateStreamError> {
+        Err(create_failure(failure, source))
     }
 }
 
@@ -95,9 +99,12 @@ pub(crate) fn ask_to_create(
     ask_with(alloc, scope, "STREAM.CREATE", &there)
 }
 
-/// Makes a stream. A mirror or source that has a domain alone gets the domain's API as its external.
+/// Makes a stream, and answers a handle of it. A mirror or source that has a domain alone gets the domain's API as its external.
 ///
-/// The one refusal here is want of memory; others come from the first poll, before anything is sent.
+/// The server answers a stream that has that name and configuration already, and refuses another configuration as `JetStream`.
+///
+/// The one refusal here is want of memory; others come from the polls. `EmptyStreamName`, `InvalidStreamName` and
+/// `DomainAndExternalSet` come from the first, and nothing is sent. The other errors are those of `update_stream`.
 pub fn create_stream(
     alloc: Global,
     scope: &ApiScope,

@@ -3,12 +3,12 @@ ghost use Rattle.std.specs.Prelude.{◌≡◌, IfOk};
 ghost use Rattle.js_stream_calls.specs.Updates.{create_info_row, CreatesInfo, unless_missing, UpdatesOrCreates};
 
 use crate::create::ask_to_create;
-use crate::error::{CreateStreamError, CreateStreamErrorKind, create_kind};
+use crate::error::{CreateStreamError, CreateStreamErrorKind, create_failure};
 use crate::name::create_refusal;
 use crate::places::two_places;
 use crate::update::{UpdateStream, told, update_stream};
-use js_base::{Error, OutOfMemory, Text, TryClone};
-use js_call::{ApiScope, Call, Decision, Meaning, RequestErrorKind, Then};
+use js_base::{Error, OutOfMemory, Source, Text, TryClone};
+use js_call::{ApiScope, Call, Decision, Failure, Meaning, Then};
 use js_fields::ReadError;
 use js_json::{Response, response_as};
 use js_stream::stream::{Config, Info};
@@ -47,8 +47,8 @@ impl Meaning for CreatingInfo {
         told(reply)
     }
 
-    fn failure(self, kind: RequestErrorKind) -> Result<Info, CreateStreamError> {
-        Err(Error::new(create_kind(kind)))
+    fn failure(self, failure: Failure, source: Source) -> Result<Info, CreateStreamError> {
+        Err(create_failure(failure, source))
     }
 }
 
@@ -91,9 +91,11 @@ fn create_info(
     Ok(Call::new(meaning, asked))
 }
 
-/// Changes a stream, and makes it as `create_stream` does where the API answers that it is not there.
+/// Changes a stream, and makes it as `create_stream` does where the server answers that it is not there, in the same poll. Where it
+/// is there, what `Config` does not name is reset, as by `update_stream`.
 ///
-/// The one refusal here is want of memory; those of the name come from the first poll.
+/// The one refusal here is want of memory; those of the name come from the first poll, and nothing is sent. The other errors are those
+/// of `update_stream` and then of `create_stream`.
 pub fn create_or_update_stream(
     alloc: Global,
     scope: &ApiScope,

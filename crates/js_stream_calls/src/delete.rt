@@ -5,8 +5,8 @@ ghost use Rattle.js_stream_calls.specs.Gets.{delete_row, deleting};
 use crate::error::{DeleteStreamError, DeleteStreamErrorKind};
 use crate::name::get_refusal;
 use bytes::Bytes;
-use js_base::{Error, OutOfMemory, Text};
-use js_call::{ApiScope, Call, Meaning, RequestErrorKind};
+use js_base::{Error, OutOfMemory, Source, Text};
+use js_call::{ApiScope, Call, Failure, Meaning};
 use js_fields::ReadError;
 use js_json::{Response, response_as};
 use js_stream::DeleteStatus;
@@ -46,12 +46,14 @@ impl Meaning for DeletingStream {
         }
     }
 
-    fn failure(self, _kind: RequestErrorKind) -> Result<DeleteStatus, DeleteStreamError> {
-        Err(Error::new(DeleteStreamErrorKind::Request))
+    fn failure(self, _failure: Failure, source: Source) -> Result<DeleteStatus, DeleteStreamError> {
+        Err(Error::with_source(DeleteStreamErrorKind::Request, source))
     }
 }
 
-/// Deletes a stream. The one refusal here is want of memory; others come from the first poll.
+/// Deletes a stream with all its messages and consumers.
+///
+/// The one refusal here is want of memory; others come from the polls, as those of `get_stream`.
 pub fn delete_stream(
     alloc: Global,
     scope: &ApiScope,

@@ -1,9 +1,10 @@
 //! Why a call on a stream was refused.
 ghost use Rattle.std.specs.Prelude.{◌≡◌, Some};
-ghost use Rattle.js_stream_calls.specs.Errors.{get_text, create_text, create_kind, api_kind};
+ghost use Rattle.std.specs.Option.{option_copied};
+ghost use Rattle.js_stream_calls.specs.Errors.{get_held, create_held, get_text, create_text, create_kind, create_failure, api_error};
 
-use js_base::Error;
-use js_call::RequestErrorKind;
+use js_base::{Error, Source};
+use js_call::{Failure, RequestErrorKind};
 use js_codes::{ErrorCode, errors};
 use std::fmt;
 
@@ -12,11 +13,11 @@ use std::fmt;
 pub enum GetStreamErrorKind {
     /// The name is empty. Nothing was sent.
     EmptyName,
-    /// The request has no reply, or its reply does not read.
+    /// The request has no reply, or its reply does not read: the source tells which.
     Request,
     /// The name is none that a stream may have. Nothing was sent.
     InvalidStreamName,
-    /// The API answered an error.
+    /// The API answered this error.
     JetStream(errors::Error),
     /// Memory ran out in a call that answers at once.
     OutOfMemory,
@@ -30,6 +31,18 @@ pub type DeleteStreamErrorKind = GetStreamErrorKind;
 
 /// Why a stream was not deleted, as an error.
 pub type DeleteStreamError = GetStreamError;
+
+impl GetStreamErrorKind {
+    /// The server's error, which `JetStream` holds. It stands here and not in the source.
+    pub fn api_error(&self) -> Option<&errors::Error>
+        ensures { option_copied result ≡ get_held self.now }
+    {
+        match self {
+            GetStreamErrorKind::JetStream(error) => Some(error),
+            _ => None,
+        }
+    }
+}
 
 impl fmt::Display for GetStreamErrorKind {
     ghost output = { λ kind. Some (get_text kind) };
@@ -54,9 +67,9 @@ pub enum CreateStreamErrorKind {
     InvalidStreamName,
     /// A mirror or a source has both a domain and an external. Nothing was sent.
     DomainAndExternalSet,
-    /// The API knows no such stream.
+    /// The API knows no such stream. The source is its error.
     NotFound,
-    /// The API answered another error.
+    /// The API answered this error, another than `NotFound`.
     JetStream(errors::Error),
     /// The timeout is due, and no answer had come.
     TimedOut,
@@ -76,6 +89,18 @@ pub type UpdateStreamErrorKind = CreateStreamErrorKind;
 
 /// Why a stream was not changed, as an error.
 pub type UpdateStreamError = CreateStreamError;
+
+impl CreateStreamErrorKind {
+    /// The server's error, which `JetStream` holds. It stands here and not in the source; that of `NotFound` is the source.
+    pub fn api_error(&self) -> Option<&errors::Error>
+        ensures { option_copied result ≡ create_held self.now }
+    {
+        match self {
+            CreateStreamErrorKind::JetStream(error) => Some(error),
+            _ => None,
+        }
+    }
+}
 
 impl fmt::Display for CreateStreamErrorKind {
     ghost output = { λ kind. Some (create_text kind) };
@@ -100,7 +125,7 @@ impl fmt::Display for CreateStreamErrorKind {
 }
 
 /// What a request without a reply means where a stream is made or changed.
-pub(crate) fn create_kind(kind: RequestErrorKind) -> CreateStreamErrorKind
+fn create_kind(kind: RequestErrorKind) -> CreateStreamErrorKind
     ensures { result ≡ create_kind kind }
 {
     match kind {
@@ -111,13 +136,20 @@ pub(crate) fn create_kind(kind: RequestErrorKind) -> CreateStreamErrorKind
     }
 }
 
+/// A failure as the error of a call that makes or changes a stream.
+pub(crate) fn create_failure(failure: Failure, source: Source) -> CreateStreamError
+    ensures { result ≡ create_failure failure source }
+{
+    Error::with_source(create_kind(failure.kind()), source)
+}
+
 /// What an error of the API means where a stream is made or changed.
-pub(crate) fn api_kind(error: errors::Error) -> CreateStreamErrorKind
-    ensures { result ≡ api_kind error }
+pub(crate) fn api_error(error: errors::Error) -> CreateStreamError
+    ensures { result ≡ api_error error }
 {
     if error.err_code == ErrorCode::STREAM_NOT_FOUND {
-        CreateStreamErrorKind::NotFound
+        Error::with_source(CreateStreamErrorKind::NotFound, error.into_source())
     } else {
-        CreateStreamErrorKind::JetStream(error)
+        Error::new(CreateStreamErrorKind::JetStream(error))
     }
 }

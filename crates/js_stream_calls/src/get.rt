@@ -6,8 +6,8 @@ use crate::error::{GetStreamError, GetStreamErrorKind};
 use crate::handle::StreamHandle;
 use crate::name::get_refusal;
 use bytes::Bytes;
-use js_base::{Error, OutOfMemory, Text, TryClone};
-use js_call::{ApiScope, Call, Meaning, RequestErrorKind};
+use js_base::{Error, OutOfMemory, Source, Text, TryClone};
+use js_call::{ApiScope, Call, Failure, Meaning};
 use js_fields::ReadError;
 use js_json::{Response, response_as};
 use js_stream::stream::Info;
@@ -52,12 +52,20 @@ impl Meaning for GettingStream {
         }
     }
 
-    fn failure(self, _kind: RequestErrorKind) -> Result<StreamHandle<Info>, GetStreamError> {
-        Err(Error::new(GetStreamErrorKind::Request))
+    fn failure(
+        self,
+        _failure: Failure,
+        source: Source,
+    ) -> Result<StreamHandle<Info>, GetStreamError> {
+        Err(Error::with_source(GetStreamErrorKind::Request, source))
     }
 }
 
-/// Gets a stream with what the server knows of it. The one refusal here is want of memory; others come from the first poll.
+/// Gets a stream with what the server knows of it.
+///
+/// The one refusal here is want of memory; others come from the polls. `EmptyName` and `InvalidStreamName` come from the first, and
+/// nothing is sent. `JetStream` holds the server's error. `Request` comes where the request has no reply or its reply does not read, and
+/// has that error's text as the source: so a timeout and an absent JetStream are told apart.
 pub fn get_stream(alloc: Global, scope: &ApiScope, name: &str) -> Result<GetStream, OutOfMemory>
     ensures { IfOk result (λ call. call ≡ getting scope.now name.now) }
 {

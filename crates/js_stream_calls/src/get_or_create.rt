@@ -4,12 +4,12 @@ ghost use Rattle.js_call.specs.Scopes.{asking, under};
 ghost use Rattle.js_stream_calls.specs.Creates.{find_row, finding, FindsOrCreates};
 
 use crate::create::{CreateStream, create_stream};
-use crate::error::{CreateStreamError, api_kind, create_kind};
+use crate::error::{CreateStreamError, api_error, create_failure};
 use crate::handle::StreamHandle;
 use crate::name::name_refusal;
 use bytes::Bytes;
-use js_base::{Error, OutOfMemory, Text, TryClone};
-use js_call::{ApiScope, Call, IfAbsent, Meaning, RawCall, RequestErrorKind, Then};
+use js_base::{Error, OutOfMemory, Source, Text, TryClone};
+use js_call::{ApiScope, Call, Failure, IfAbsent, Meaning, RawCall, Then};
 use js_fields::ReadError;
 use js_json::{Response, response_as};
 use js_stream::stream::{Config, Info};
@@ -57,7 +57,7 @@ impl Meaning for FindingStream {
                 if error.code == 404 {
                     Ok(None)
                 } else {
-                    Err(Error::new(api_kind(error)))
+                    Err(api_error(error))
                 }
             }
         }
@@ -65,9 +65,10 @@ impl Meaning for FindingStream {
 
     fn failure(
         self,
-        kind: RequestErrorKind,
+        failure: Failure,
+        source: Source,
     ) -> Result<Option<StreamHandle<Info>>, CreateStreamError> {
-        Err(Error::new(create_kind(kind)))
+        Err(create_failure(failure, source))
     }
 }
 
@@ -110,9 +111,11 @@ fn find_stream(
     Ok(Call::new(meaning, asked))
 }
 
-/// Gets a stream, and makes it as `create_stream` does where the API says 404.
+/// Gets a stream, and makes it as `create_stream` does where the server answers code 404, in the same poll. A stream that is there is
+/// given as it is, whatever the configuration says.
 ///
-/// The one refusal here is want of memory; those of the name come from the first poll.
+/// The one refusal here is want of memory; those of the name come from the first poll, and nothing is sent. The other errors are those
+/// of `create_stream`.
 pub fn get_or_create_stream(
     alloc: Global,
     scope: &ApiScope,

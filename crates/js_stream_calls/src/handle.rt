@@ -5,7 +5,10 @@ use js_call::ApiScope;
 /// A stream of the server: where its calls go, its name, and what is known of it.
 #[derive(Debug, PartialEq, Eq, Drop)]
 pub struct StreamHandle<T> {
+    /// The prefix and the timeout of its calls.
     pub scope: ApiScope,
+    /// The stream's name.
     pub name: Text,
+    /// What the server knew of it when the handle was made, or `()` where it was not asked.
     pub info: T,
 }

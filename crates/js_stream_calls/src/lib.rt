@@ -26,6 +26,3 @@ pub use get_or_create::{FindingStream, GetOrCreateStream, get_or_create_stream};
 pub use handle::StreamHandle;
 pub use places::domain_prefix;
 pub use update::{UpdateStream, UpdatingStream, update_stream};
-
-#[cfg(test)]
-mod tests;

@@ -3,10 +3,10 @@ ghost use Rattle.std.specs.Prelude.{◌≡◌, IfOk};
 ghost use Rattle.js_stream_calls.specs.Updates.{told as told_in, update_row, Updates};
 
 use crate::create::ask_with;
-use crate::error::{CreateStreamError, UpdateStreamError, api_kind, create_kind};
+use crate::error::{CreateStreamError, UpdateStreamError, api_error, create_failure};
 use crate::name::name_refusal;
-use js_base::{Error, OutOfMemory, Text, TryClone};
-use js_call::{ApiScope, Call, Meaning, RequestErrorKind};
+use js_base::{Error, OutOfMemory, Source, Text, TryClone};
+use js_call::{ApiScope, Call, Failure, Meaning};
 use js_fields::ReadError;
 use js_json::{Response, response_as};
 use js_stream::stream::{Config, Info};
@@ -27,7 +27,7 @@ pub(crate) fn told(reply: Response<Info>) -> Result<Info, CreateStreamError>
 {
     match reply {
         Response::Ok(info) => Ok(info),
-        Response::Err { error } => Err(Error::new(api_kind(error))),
+        Response::Err { error } => Err(api_error(error)),
     }
 }
 
@@ -53,12 +53,23 @@ impl Meaning for UpdatingStream {
         told(reply)
     }
 
-    fn failure(self, kind: RequestErrorKind) -> Result<Info, UpdateStreamError> {
-        Err(Error::new(create_kind(kind)))
+    fn failure(self, failure: Failure, source: Source) -> Result<Info, UpdateStreamError> {
+        Err(create_failure(failure, source))
     }
 }
 
-/// Changes a stream to that configuration. The one refusal here is want of memory; others come from the first poll.
+/// Changes a stream to that configuration, and answers what the server then knows of it.
+///
+/// The server takes the configuration as a whole. What `Config` does not name is reset to the server's default, also where it was
+/// read from the server before: `max_consumers`, `no_ack`, `duplicate_window`, `discard_new_per_subject`, `first_seq`, `sealed`,
+/// `subject_transform`, `consumer_limits`, `metadata` and whatever newer servers add, and `opt_start_time` and
+/// `subject_transforms` of a mirror or a source. A change that the server does not allow, as of a mirror that had a start time, is
+/// refused by it.
+///
+/// The one refusal here is want of memory; others come from the polls. `EmptyStreamName` and `InvalidStreamName` come from the first,
+/// and nothing is sent. `NotFound` comes where the server does not know the stream, and has its error as the source; another
+/// error of the server is `JetStream`. `TimedOut`, `JetStreamUnavailable`, `InvalidStreamName` (the whole subject is none) and
+/// `Response` (the link failed, or the reply does not read) have the request's or the reply's error as the source.
 pub fn update_stream(
     alloc: Global,
     scope: &ApiScope,
