@@ -1,6 +1,5 @@
 -- Worked examples, which the definitions compute.
 use Rattle.std.specs.Prelude.{◌≡◌, ℕ, pos, neg_ℤ, refl, true, false, Bool, List, [], ◌∷◌, Some, None, codes}
-use Rattle.js_base.specs.declared.headers.Header.{Header}
 use Rattle.js_base.specs.Headers.{is_sendable}
 use Rattle.js_base.specs.Numbers.{unsigned_of, signed_of}
 

@@ -1,6 +1,6 @@
 -- Looking up headers.
-use Rattle.std.specs.Prelude.{ℕ, Bool, ◌==◌, ◌||◌, ◌&&◌, ◌+◌, ◌-◌, ◌^◌, List, [], ◌∷◌, ◌++◌, length, map, filter, sum_by, min, not, reverse, Option, Some, None, if◌then◌else◌}
-use Rattle.std.specs.List.{list_all}
+use Rattle.std.specs.Prelude.{ℕ, Bool, ◌==◌, ◌||◌, ◌&&◌, ◌+◌, ◌-◌, ◌^◌, List, [], ◌∷◌, ◌++◌, length, map, filter, sum_by, min, not, reverse, Option, Some, None, option_map, if◌then◌else◌}
+use Rattle.std.specs.List.{find, list_all}
 use Rattle.std.specs.Str.{bytes_eq}
 use Rattle.js_base.specs.declared.headers.Header.{Header}
 
@@ -8,6 +8,10 @@ use Rattle.js_base.specs.declared.headers.Header.{Header}
 abbrev pub first_value : List ℕ → List Header → Option (List ℕ)
 first_value name [] = None
 first_value name (header ∷ headers) = if bytes_eq name header.name then Some header.value else first_value name headers
+
+-- the value of the first header that has the name
+abbrev pub first_found : List ℕ → List Header → Option (List ℕ)
+first_found name headers = option_map (λ header. header.value) (find (λ header. bytes_eq name header.name) headers)
 
 -- the last value of a name
 abbrev pub last_value : List ℕ → List Header → Option (List ℕ)

@@ -4,3 +4,4 @@ pub mod Match
 pub mod Errors
 pub mod Statuses
 pub mod Numbers
+pub mod Texts

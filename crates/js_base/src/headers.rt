@@ -1,11 +1,11 @@
 //! The headers of a message.
 
-ghost use Rattle.std.specs.Prelude.{◌≡◌, [], ◌∷◌, ◌++◌, ◌-◌, ◌^◌, ◌&&◌, nat_eq, min, not, OnOk, OnErr};
+ghost use Rattle.std.specs.Prelude.{◌≡◌, [], ◌∷◌, ◌++◌, ◌-◌, ◌^◌, ◌&&◌, nat_eq, min, not, reverse, OnOk, OnErr};
 ghost use Rattle.std.specs.List.{list_all};
 ghost use Rattle.std.specs.Cmp.{on_per, and_per, on_equiv, and_equiv, partial_equiv_from_equiv};
 ghost use Rattle.std.specs.Cmp.Lexicographic.{pointwise, lists_per, lists_equiv, nat_list_eq_equiv};
 ghost use Rattle.std.specs.Option.{option_copied};
-ghost use Rattle.js_base.specs.Headers.{first_value, last_value, with_only, wire_len, line_len, without_name, is_breaking, ends_name, is_sendable, is_sendable_header};
+ghost use Rattle.js_base.specs.Headers.{first_found, first_value, last_value, with_only, wire_len, line_len, without_name, is_breaking, ends_name, is_sendable, is_sendable_header};
 
 use crate::items::Items;
 use crate::memory::{OutOfMemory, TryClone};
@@ -132,24 +132,14 @@ impl HeaderMap {
     pub fn get(&self, name: &str) -> Option<&str>
         ensures { option_copied result ≡ first_value name.now self.now }
     {
-        for header in self.headers.as_slice() {
-            if name == header.name.as_str() {
-                return Some(header.value.as_str());
-            }
-        }
-        None
+        first_named(self.headers.as_slice(), name)
     }
 
     /// The last value of a name.
     pub fn get_last(&self, name: &str) -> Option<&str>
         ensures { option_copied result ≡ last_value name.now self.now }
     {
-        for header in self.headers.as_slice().iter().rev() {
-            if name == header.name.as_str() {
-                return Some(header.value.as_str());
-            }
-        }
-        None
+        last_named(self.headers.as_slice(), name)
     }
 
     /// The names and values in order.
@@ -187,6 +177,22 @@ impl HeaderMap {
             .iter()
             .all(|header| header.is_sendable())
     }
+}
+
+fn first_named<'a>(headers: &'a [Header], name: &str) -> Option<&'a str>
+    ensures { option_copied result ≡ first_found name.now headers.now }
+{
+    let mut headers = headers.iter();
+    let header = headers.find(|header| name == header.name.as_str())?;
+    Some(header.value.as_str())
+}
+
+fn last_named<'a>(headers: &'a [Header], name: &str) -> Option<&'a str>
+    ensures { option_copied result ≡ first_found name.now (reverse headers.now) }
+{
+    let mut headers = headers.iter().rev();
+    let header = headers.find(|header| name == header.name.as_str())?;
+    Some(header.value.as_str())
 }
 
 /// The names and values of headers, in order. Contracts see the headers that are left.
