@@ -1,6 +1,6 @@
 -- The first line feed cuts the first line off.
 use Rattle.std.proofs.Common.{◌≡◌, ℕ, zero, suc, ◌+◌, ◌<◌, ◌==◌, Bool, List, [], ◌∷◌, length, get_or, take, drop, true, false, refl, arith, add-one}
-use Rattle.std.proofs.Common.{◌++◌, append_assoc, append-nil, if◌then◌else◌}
+use Rattle.std.proofs.Common.{◌++◌, append_assoc, append-nil, if◌then◌else◌, Option, None, Some, MatchOption, IfSome, ap, ◌∙◌, length-append}
 use Rattle.js_ends.specs.Pieces.{EndsLine}
 use Rattle.js_tool.specs.Lines.{lines_of, onto_first}
 
@@ -52,3 +52,14 @@ lines_append p [] ends = simp append-nil
 lines_append p (b ∷ q) ends =
     let e = ends (omega arith) in
     rw e.1 (rw append_assoc (lines_joined e.0 (b ∷ q)))
+
+-- a piece that was taken off has the first of the lines that were left, and the rest have the others
+module _ {Piece : Type 0} (items : Piece → List ℕ) where
+  pub piece_lines : (taken : Option Piece) (old new : List ℕ) → MatchOption taken (old ≡ []) (λ piece. old ≡ items piece ++ new) → IfSome taken (λ piece. 0 < length new → EndsLine (items piece))
+      → MatchOption taken (old ≡ []) (λ piece. lines_of old ≡ lines_of (items piece) ++ lines_of new)
+  piece_lines None old new whole ends = whole
+  piece_lines (Some piece) old new whole ends = ap lines_of whole ∙ lines_append (items piece) new ends
+
+  pub piece_length : (taken : Option Piece) (old new : List ℕ) → MatchOption taken (old ≡ []) (λ piece. old ≡ items piece ++ new) → IfSome taken (λ piece. length old ≡ length (items piece) + length new)
+  piece_length None old new whole = tt
+  piece_length (Some piece) old new whole = ap length whole ∙ length-append (items piece) new

@@ -3,5 +3,4 @@ mod Compact
 mod Cuts
 mod Headers
 mod Loop
-mod PieceLines
 mod Passing

@@ -43,12 +43,6 @@ transcript bytes = transcript_of (lines_of bytes)
 abbrev pub after_lines : List Event → Result (List Event) ℕ → Result (List Event) ℕ
 after_lines before reading = reading >>= λ events. Ok (before ++ events)
 
--- Some lines were read: whatever follows is read from the next number on, or one of them is the first that does not read.
-abbrev pub ReadsOn : List Event → ℕ → List (List ℕ) → List Event → Result ℕ Unread → Type 0
-ReadsOn before number lines after (Ok next) = (more : List (List ℕ)) → after_lines before (events_from number (lines ++ more)) ≡ after_lines after (events_from next more)
-ReadsOn before number lines after (Err unread.OutOfMemory) = ⊤
-ReadsOn before number lines after (Err (unread.BadLine n)) = (more : List (List ℕ)) → events_from number (lines ++ more) ≡ Err n
-
 abbrev pub StopsAt : {A : Type 0} → Unread → Result A ℕ → Type 0
 StopsAt unread.OutOfMemory reading = ⊤
 StopsAt (unread.BadLine n) reading = reading ≡ Err n

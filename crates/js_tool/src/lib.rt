@@ -19,11 +19,9 @@ pub use js_ends::{
     Failed, MemorySink, MemorySource, Pieces, PlainSink, PlainSource, ReadSource, Sink, Source,
     WriteSink,
 };
+pub use js_workers::{Gate, Open, WindowCounts, run_window, take_calls};
 pub use program::{run, run_plain};
 pub use status::Status;
-pub use text::{refusal_line, run_text};
-pub use transcript::{Setup, Transcript, Unread, read};
+pub use text::refusal_line;
+pub use transcript::{Setup, Transcript, Unread};
 pub use window::window_line;
-
-#[cfg(test)]
-mod tests;

@@ -1,39 +1,16 @@
 //! The text of a run: a line for each output, in order, and a last one.
 
 ghost use Rattle.std.specs.Prelude.{◌≡◌, ◌++◌, [], ◌∷◌, length, flat_map, OnOk, IfOk};
-ghost use Rattle.js_tool.specs.Texts.{cell_data, start_data, kind_name, field_name, text_or_null, unless_empty, output_text, steps_text, last_line, run_text as run_text_in, refusal_text};
+ghost use Rattle.js_tool.specs.Texts.{cell_data, start_data, kind_name, field_name, text_or_null, unless_empty, output_text, last_line, refusal_text};
 
 mod line;
 mod quoted;
 
 use js_base::Subject;
-use js_ordered::{Field, ItemKind, Output, ReplayError, Run, Start, Step};
+use js_ordered::{Field, ItemKind, Output, ReplayError, Start};
 pub(crate) use line::{Cell, push_line};
 pub(crate) use quoted::plain_front;
 use std::alloc::{AllocError, Global};
-
-/// The text of a run.
-#[tactic(auto, unfolding(crate::specs::Texts::run_text))]
-pub fn run_text(alloc: Global, run: &Run) -> Result<Vec<u8>, AllocError>
-    ensures { IfOk result (λ text. text.items ≡ run_text_in run.now) }
-{
-    let mut out = Vec::new(alloc);
-    push_outputs(&mut out, 0, run.opening.outputs.as_slice())?;
-    push_steps(&mut out, run.steps.as_slice())?;
-    push_end(&mut out, run.ended, run.steps.as_slice().len() as u64)?;
-    Ok(out)
-}
-
-fn push_steps(out: &mut Vec<u8>, steps: &[Step]) -> Result<(), AllocError>
-    ensures { OnOk result (out.new.items ≡ out.old.items ++ steps_text 1 steps.now) }
-{
-    let mut number = 1;
-    for step in steps {
-        push_outputs(out, number, step.outputs.as_slice())?;
-        number += 1;
-    }
-    Ok(())
-}
 
 /// Adds the lines of what a step has put out.
 pub(crate) fn push_outputs(

@@ -37,10 +37,12 @@ impl Gate for Open {
 #[derive(Drop)]
 pub(crate) struct Way<'a, G> {
     gate: &'a G,
+    /// The caller as it was when it passed.
     pub passed: Option<Snapshot<Pass>>,
 }
 
 impl<'a, G: Gate> Way<'a, G> {
+    /// A way that nobody has gone yet.
     pub fn new(gate: &'a G) -> Way<'a, G>
         ensures gate { result.gate ≡ gate.entry }
         ensures new { result.passed ≡ None }
