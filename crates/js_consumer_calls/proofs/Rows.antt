@@ -3,11 +3,13 @@ use Rattle.std.proofs.Common.{◌≡◌, refl, ap, ◌∙◌, ℕ, List, [], ◌
 use Rattle.jiff.specs.Types.{Timestamp}
 use Rattle.serde_json.specs.Data.{Data, string, array, object, Members, no_members, put}
 use Rattle.serde_json.specs.View.{items_of}
+use Rattle.serde_json.specs.Written.{compact_text}
 use Rattle.js_fields.specs.declared.key.Key.{Key}
 use Rattle.js_fields.specs.declared.error.ReadError.{ReadError}
 use Rattle.js_fields.specs.Rows.{Writes, Row, with_row, with_rows, put_some, always, unless, where_some, some, text_data, natural_data, integer_data, truth_data, percent_data, instant_data}
-use Rattle.js_fields.specs.Rows.{list_data, all_data, by_name_data, entries_data, is_empty, is_zero, is_zero_integer, object_of}
-use Rattle.js_json.specs.ConsumerConfig.{config_rows, config_value}
+use Rattle.js_fields.specs.Rows.{list_data, all_data, by_name_data, entries_data, is_empty, is_zero, is_zero_integer, object_of, text_of}
+use Rattle.js_json.specs.ConsumerConfig.{config_rows, config_value, config_data}
+use Rattle.js_json.specs.CreateRequest.{action_data, create_request_rows, create_request_value}
 use Rattle.js_json.specs.AckPolicy.{ack_policy_data}
 use Rattle.js_json.specs.DeliverPolicy.{deliver_policy_data}
 use Rattle.js_json.specs.PriorityPolicy.{priority_policy_data, is_blank_priority_policy}
@@ -17,7 +19,10 @@ use Rattle.js_json.specs.declared.consumer.deliver_policy.DeliverPolicy.TheVaria
 use Rattle.js_json.specs.declared.consumer.policies.AckPolicy.TheVariants as ack
 use Rattle.js_json.specs.declared.consumer.policies.PriorityPolicy.TheVariants as priority
 use Rattle.js_json.specs.declared.consumer.policies.ReplayPolicy.TheVariants as replay
+use Rattle.js_json.specs.declared.consumer.create_request.Action.TheVariants as action
+use Rattle.js_json.specs.declared.consumer.create_request.CreateRequest.{CreateRequest}
 use Rattle.js_consumer_calls.specs.Written.{HasText, HasTexts}
+use Rattle.js_consumer_calls.specs.Written as law
 
 -- every value of the type is written, under every key
 abbrev IsWritten : {A : Type 0} → Writes A → Type 0
@@ -164,6 +169,37 @@ all_rows c has =
     unless_fills is_zero natural_data _ c.priority_timeout naturals & instant_fills _ _ has.pause & tt
 
 -- a configuration is written whose instants have texts
-pub written : (c : Config) → HasTexts c → (d : Data) × (config_value c ≡ Ok d)
+written : (c : Config) → HasTexts c → (d : Data) × (config_value c ≡ Ok d)
 unfolding config_value object_of
 written c has = let made = rows_filled (config_rows c) no_members (all_rows c has) in (object made.0, rw made.1 refl)
+
+-- ---- the request
+
+actions : IsWritten action_data
+actions key action.CreateOrUpdate = (_, refl)
+actions key action.Create = (_, refl)
+actions key action.Update = (_, refl)
+
+-- a row of a configuration whose instants have texts
+config_fills : (key : Key) (c : Config) → HasTexts c → Fills (always config_data key c)
+unfolding always
+config_fills key c has = some_fills (config_value c) (written c has).0 (written c has).1
+
+request_rows : (r : CreateRequest) → HasTexts r.config → AreFilled (create_request_rows r)
+request_rows r has =
+    always_fills action_data _ r.action actions & config_fills _ r.config has & always_fills text_data _ r.stream_name texts & tt
+
+request_value : (r : CreateRequest) → HasTexts r.config → (d : Data) × (create_request_value r ≡ Ok d)
+unfolding create_request_value object_of
+request_value r has = let made = rows_filled (create_request_rows r) no_members (request_rows r has) in (object made.0, rw made.1 refl)
+
+text_written : (value : Result Data ReadError) (d : Data) → value ≡ Ok d → (text : List ℕ) × (text_of value ≡ Ok text)
+unfolding text_of
+text_written value d is = (compact_text d, rw is refl)
+
+-- a request has a text whose configuration's instants have texts
+pub request_written : (r : CreateRequest) → HasTexts r.config → law.IsWritten r
+request_written r has = record {
+  config = written r.config has;
+  whole = let value = request_value r has in text_written (create_request_value r) value.0 value.1;
+}

@@ -1,5 +1,5 @@
 -- Deleting a consumer: a row of the table of calls.
-use Rattle.std.specs.Prelude.{ℕ, Option, option_map, List, codes, Result, Ok, Err}
+use Rattle.std.specs.Prelude.{ℕ, option_map, List, codes, Result, Ok, Err}
 use Rattle.js_base.specs.Errors.{plain}
 use Rattle.js_base.specs.declared.error.Error.{Error}
 use Rattle.js_fields.specs.Reading.{float_free}
@@ -16,14 +16,14 @@ use Rattle.js_call.specs.Table.{Table, reads_as, refused_by}
 use Rattle.js_consumer_calls.specs.declared.delete.DeletingConsumer.{DeletingConsumer}
 use Rattle.js_consumer_calls.specs.declared.error.ConsumerErrorKind.{ConsumerErrorKind}
 use Rattle.js_consumer_calls.specs.declared.error.ConsumerErrorKind.TheVariants.{JetStream}
-use Rattle.js_consumer_calls.specs.Kinds.{consumer_failure}
+use Rattle.js_consumer_calls.specs.Kinds.{consumer_failure, failed, held}
 use Rattle.js_consumer_calls.specs.Refusals.{delete_refusal}
 use Rattle.js_consumer_calls.specs.Subjects.{of_consumer}
 
 -- what was deleted, or the API's error
 abbrev pub deleted : Response DeleteStatus → Result DeleteStatus (Error ConsumerErrorKind)
 deleted (response.Ok status) = Ok status
-deleted (response.Err error) = Err (plain (JetStream error))
+deleted (response.Err error) = Err (held JetStream error)
 
 -- the row of `delete_consumer_from_stream`
 abbrev pub delete_row : Table DeletingConsumer (Response DeleteStatus) (Result DeleteStatus (Error ConsumerErrorKind))
@@ -31,7 +31,7 @@ delete_row = record {
   refused = λ s. refused_by (option_map plain (delete_refusal s.consumer s.stream));
   reads = reads_as (response_of (float_free delete_status_fields));
   means = λ s reply. deleted reply;
-  fails = λ s kind. Err (plain (consumer_failure kind));
+  fails = λ s failure source. Err (failed consumer_failure failure source);
 }
 
 -- the call, which is not sent

@@ -1,5 +1,5 @@
 -- Getting a consumer: a row of the table of calls.
-use Rattle.std.specs.Prelude.{ℕ, Option, option_map, List, codes, Result, Ok, Err}
+use Rattle.std.specs.Prelude.{ℕ, option_map, List, codes, Result, Err}
 use Rattle.js_base.specs.Errors.{plain}
 use Rattle.js_base.specs.declared.error.Error.{Error}
 use Rattle.js_fields.specs.Reading.{float_free}
@@ -18,7 +18,7 @@ use Rattle.js_consumer_calls.specs.declared.error.ConsumerErrorKind.{ConsumerErr
 use Rattle.js_consumer_calls.specs.declared.error.ConsumerErrorKind.TheVariants.{JetStream, InvalidConsumerType}
 use Rattle.js_consumer_calls.specs.declared.get.GettingConsumer.{GettingConsumer}
 use Rattle.js_consumer_calls.specs.declared.told.Told.{Told}
-use Rattle.js_consumer_calls.specs.Kinds.{consumer_failure}
+use Rattle.js_consumer_calls.specs.Kinds.{consumer_failure, failed, held}
 use Rattle.js_consumer_calls.specs.Refusals.{get_refusal}
 use Rattle.js_consumer_calls.specs.Subjects.{of_consumer}
 use Rattle.js_consumer_calls.specs.Tells.{told_fields, converted}
@@ -26,7 +26,7 @@ use Rattle.js_consumer_calls.specs.Tells.{told_fields, converted}
 -- the consumer, or why it was not got
 abbrev pub got : {C : Type 0} → GettingConsumer C → Response (Told C) → Result (Consumer C) (Error ConsumerErrorKind)
 got s (response.Ok told) = converted InvalidConsumerType s.scope told.info told.config
-got s (response.Err error) = Err (plain (JetStream error))
+got s (response.Err error) = Err (held JetStream error)
 
 -- the row of `get_consumer_from_stream`, for a kind of consumer
 abbrev pub get_row : {C : Type 0} → (Config → Result C ConfigError) → Table (GettingConsumer C) (Response (Told C)) (Result (Consumer C) (Error ConsumerErrorKind))
@@ -34,7 +34,7 @@ get_row of_config = record {
   refused = λ s. refused_by (option_map plain (get_refusal s.consumer s.stream));
   reads = reads_as (response_of (float_free (told_fields of_config)));
   means = got;
-  fails = λ s kind. Err (plain (consumer_failure kind));
+  fails = λ s failure source. Err (failed consumer_failure failure source);
 }
 
 -- the call, which is not sent

@@ -1,7 +1,8 @@
 -- Asking what the server knows of a consumer: a row of the table of calls.
-use Rattle.std.specs.Prelude.{ℕ, ◌==◌, None, List, codes, Result, Ok, Err, if◌then◌else◌}
-use Rattle.js_base.specs.Errors.{plain}
+use Rattle.std.specs.Prelude.{◌==◌, None, codes, Result, Ok, Err, if◌then◌else◌}
+use Rattle.js_base.specs.Errors.{caused}
 use Rattle.js_base.specs.declared.error.Error.{Error}
+use Rattle.js_codes.specs.Error.{api_source}
 use Rattle.js_codes.specs.declared.errors.Error as api
 use Rattle.js_fields.specs.Reading.{float_free}
 use Rattle.js_json.specs.ConsumerInfo.{info_fields}
@@ -20,14 +21,15 @@ use Rattle.js_call.specs.Table.{Table, reads_as}
 use Rattle.js_consumer_calls.specs.declared.error.ConsumerInfoErrorKind.{ConsumerInfoErrorKind}
 use Rattle.js_consumer_calls.specs.declared.error.ConsumerInfoErrorKind.TheVariants as infos
 use Rattle.js_consumer_calls.specs.declared.info.AskingInfo.{AskingInfo}
+use Rattle.js_consumer_calls.specs.Kinds.{failed, held}
 use Rattle.js_consumer_calls.specs.Subjects.{of_consumer}
 
--- what an error of the API means: no such consumer, no such stream, or a consumer that is offline
-abbrev pub info_refusal : api.Error → ConsumerInfoErrorKind
+-- an error of the API as the error of the call: no such consumer, no such stream, or a consumer that is offline, with it as the source
+abbrev pub info_refusal : api.Error → Error ConsumerInfoErrorKind
 info_refusal error =
-    if error.err_code.0 == 10014 then infos.NotFound
-    else (if error.err_code.0 == 10059 then infos.StreamNotFound
-    else (if error.err_code.0 == 10119 then infos.Offline else infos.JetStream error))
+    if error.err_code.0 == 10014 then caused infos.NotFound (api_source error)
+    else (if error.err_code.0 == 10059 then caused infos.StreamNotFound (api_source error)
+    else (if error.err_code.0 == 10119 then caused infos.Offline (api_source error) else held infos.JetStream error))
 
 -- what a request without a reply means
 abbrev pub info_failure : RequestErrorKind → ConsumerInfoErrorKind
@@ -39,7 +41,7 @@ info_failure request.Other = infos.Request
 -- the info, or why it was not got
 abbrev pub info_in : Response Info → Result Info (Error ConsumerInfoErrorKind)
 info_in (response.Ok info) = Ok info
-info_in (response.Err error) = Err (plain (info_refusal error))
+info_in (response.Err error) = Err (info_refusal error)
 
 -- the row of `get_info`
 abbrev pub info_row : Table AskingInfo (Response Info) (Result Info (Error ConsumerInfoErrorKind))
@@ -47,7 +49,7 @@ info_row = record {
   refused = λ s. None;
   reads = reads_as (response_of (float_free info_fields));
   means = λ s reply. info_in reply;
-  fails = λ s kind. Err (plain (info_failure kind));
+  fails = λ s failure source. Err (failed info_failure failure source);
 }
 
 -- the request on the consumer of an info, which is not sent

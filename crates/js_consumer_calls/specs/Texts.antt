@@ -1,6 +1,7 @@
--- How refusals of calls on consumers are printed.
-use Rattle.std.specs.Prelude.{ℕ, List, ◌++◌, codes}
+-- How refusals of calls on consumers are printed, and the errors of the API that they hold.
+use Rattle.std.specs.Prelude.{ℕ, Option, Some, None, List, ◌++◌, codes}
 use Rattle.js_codes.specs.Error.{error_text}
+use Rattle.js_codes.specs.declared.errors.Error.{Error}
 use Rattle.js_consumer_calls.specs.declared.error.ConsumerInfoErrorKind.{ConsumerInfoErrorKind}
 use Rattle.js_consumer_calls.specs.declared.error.ConsumerInfoErrorKind.TheVariants as infos
 use Rattle.js_consumer_calls.specs.declared.error.ConsumerErrorKind.{ConsumerErrorKind}
@@ -49,3 +50,20 @@ update_text updates.InvalidConsumerType = codes "invalid consumer type"
 update_text (updates.JetStream error) = codes "JetStream error: " ++ error_text error
 update_text updates.Other = codes "consumer error"
 update_text updates.DoesNotExist = codes "consumer does not exist"
+
+-- the API's error that a kind holds
+abbrev pub info_held : ConsumerInfoErrorKind → Option Error
+info_held (infos.JetStream error) = Some error
+info_held kind = None
+
+abbrev pub consumer_held : ConsumerErrorKind → Option Error
+consumer_held (plainly.JetStream error) = Some error
+consumer_held kind = None
+
+abbrev pub strict_held : ConsumerCreateStrictErrorKind → Option Error
+strict_held (strictly.JetStream error) = Some error
+strict_held kind = None
+
+abbrev pub update_held : ConsumerUpdateErrorKind → Option Error
+update_held (updates.JetStream error) = Some error
+update_held kind = None

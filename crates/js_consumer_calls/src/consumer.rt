@@ -49,7 +49,7 @@ impl<T> Consumer<T> {
     }
 
     /// Asks the server what it knows of the consumer; what was told last stays as it is. The one refusal here is want of memory;
-    /// others come from the poll.
+    /// others come from the poll. A consumer that is gone is `NotFound`, or `TimedOut` where no server answers for it any more.
     pub fn get_info(&self, alloc: Global) -> Result<GetInfo, OutOfMemory>
         ensures { IfOk result (λ call. call ≡ asking_info self.now.scope self.now.info) }
     {

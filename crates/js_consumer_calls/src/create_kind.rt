@@ -3,6 +3,7 @@ ghost use Rattle.std.specs.Prelude.{◌≡◌};
 ghost use Rattle.js_consumer_calls.specs.Kinds.{Kinds, consumer_kinds, strict_kinds, update_kinds, consumer_failure};
 
 use crate::error::{ConsumerCreateStrictErrorKind, ConsumerErrorKind, ConsumerUpdateErrorKind};
+use js_base::Error;
 use js_call::RequestErrorKind;
 use js_codes::{ErrorCode, errors};
 use js_json::consumer::Action;
@@ -19,8 +20,8 @@ pub trait CreateKind: Drop {
     fn of_request(kind: RequestErrorKind) -> Self
         ensures { result ≡ kinds.of_request kind };
 
-    /// What an error of the API means.
-    fn of_api(error: errors::Error) -> Self
+    /// An error of the API as the error of the call.
+    fn of_api(error: errors::Error) -> Error<Self>
         ensures { result ≡ kinds.of_api error };
 
     /// The consumer that was made is of another kind.
@@ -49,8 +50,8 @@ impl CreateKind for ConsumerErrorKind {
         consumer_failure(kind)
     }
 
-    fn of_api(error: errors::Error) -> Self {
-        ConsumerErrorKind::JetStream(error)
+    fn of_api(error: errors::Error) -> Error<Self> {
+        Error::new(ConsumerErrorKind::JetStream(error))
     }
 
     fn other() -> Self {
@@ -72,11 +73,12 @@ impl CreateKind for ConsumerCreateStrictErrorKind {
         }
     }
 
-    fn of_api(error: errors::Error) -> Self {
+    fn of_api(error: errors::Error) -> Error<Self> {
         if error.err_code == ErrorCode::CONSUMER_ALREADY_EXISTS {
-            ConsumerCreateStrictErrorKind::AlreadyExists
+            let kind = ConsumerCreateStrictErrorKind::AlreadyExists;
+            Error::with_source(kind, error.into_source())
         } else {
-            ConsumerCreateStrictErrorKind::JetStream(error)
+            Error::new(ConsumerCreateStrictErrorKind::JetStream(error))
         }
     }
 
@@ -99,11 +101,12 @@ impl CreateKind for ConsumerUpdateErrorKind {
         }
     }
 
-    fn of_api(error: errors::Error) -> Self {
+    fn of_api(error: errors::Error) -> Error<Self> {
         if error.err_code == ErrorCode::CONSUMER_DOES_NOT_EXIST {
-            ConsumerUpdateErrorKind::DoesNotExist
+            let kind = ConsumerUpdateErrorKind::DoesNotExist;
+            Error::with_source(kind, error.into_source())
         } else {
-            ConsumerUpdateErrorKind::JetStream(error)
+            Error::new(ConsumerUpdateErrorKind::JetStream(error))
         }
     }
 

@@ -6,8 +6,8 @@ use crate::ask::ask_consumer;
 use crate::create_kind::consumer_failure;
 use crate::error::{ConsumerError, ConsumerErrorKind};
 use crate::refusal::delete_refusal;
-use js_base::{Error, OutOfMemory, Text};
-use js_call::{ApiScope, Call, Meaning, RequestErrorKind};
+use js_base::{Error, OutOfMemory, Source, Text};
+use js_call::{ApiScope, Call, Failure, Meaning};
 use js_fields::ReadError;
 use js_json::{Response, response_as};
 use js_stream::DeleteStatus;
@@ -21,7 +21,7 @@ pub struct DeletingConsumer {
 }
 
 /// The state of `delete_consumer_from_stream`.
-pub type DeleteConsumer = Call<DeletingConsumer>;
+pub type DeleteConsumerFromStream = Call<DeletingConsumer>;
 
 impl Meaning for DeletingConsumer {
     type Reply = Response<DeleteStatus>;
@@ -48,18 +48,21 @@ impl Meaning for DeletingConsumer {
         }
     }
 
-    fn failure(self, kind: RequestErrorKind) -> Result<DeleteStatus, ConsumerError> {
-        Err(Error::new(consumer_failure(kind)))
+    fn failure(self, failure: Failure, source: Source) -> Result<DeleteStatus, ConsumerError> {
+        Err(Error::with_source(consumer_failure(failure.kind()), source))
     }
 }
 
 /// Deletes a consumer of a stream. The one refusal here is want of memory; others come from the first poll.
+///
+/// Those that read the consumer are told by the server, or by nobody: an acknowledgement of one of its messages is taken still, and a
+/// pull request meets silence.
 pub fn delete_consumer_from_stream(
     alloc: Global,
     scope: &ApiScope,
     consumer: &str,
     stream: &str,
-) -> Result<DeleteConsumer, OutOfMemory>
+) -> Result<DeleteConsumerFromStream, OutOfMemory>
     ensures { IfOk result (λ call. call ≡ deleting scope.now consumer.now stream.now) }
 {
     let asked = ask_consumer(alloc, scope, "CONSUMER.DELETE", stream, consumer)?;

@@ -1,6 +1,6 @@
 //! Why a call on a consumer was refused.
-ghost use Rattle.std.specs.Prelude.{◌≡◌, Some};
-ghost use Rattle.js_consumer_calls.specs.Texts.{info_text, consumer_text, strict_text, update_text};
+ghost use Rattle.std.specs.Prelude.{◌≡◌, Some, option_copied};
+ghost use Rattle.js_consumer_calls.specs.Texts.{info_text, info_held, consumer_text, consumer_held, strict_text, strict_held, update_text, update_held};
 
 use js_base::Error;
 use js_codes::errors;
@@ -27,8 +27,21 @@ pub enum ConsumerInfoErrorKind {
     NoResponders,
 }
 
-/// Why the info of a consumer was not got, as an error.
+/// Why the info of a consumer was not got, as an error. Its source is the request's or the reply's error as a text, or the server's
+/// error where the kind does not hold it.
 pub type ConsumerInfoError = Error<ConsumerInfoErrorKind>;
+
+impl ConsumerInfoErrorKind {
+    /// The server's error, which `JetStream` holds. It stands here and not in the source.
+    pub fn api_error(&self) -> Option<&errors::Error>
+        ensures { option_copied result ≡ info_held self.now }
+    {
+        match self {
+            ConsumerInfoErrorKind::JetStream(error) => Some(error),
+            _ => None,
+        }
+    }
+}
 
 impl fmt::Display for ConsumerInfoErrorKind {
     ghost output = { λ kind. Some (info_text kind) };
@@ -54,7 +67,7 @@ pub enum ConsumerErrorKind {
     InvalidName,
     /// The timeout is due, and no answer had come.
     TimedOut,
-    /// The request has no reply for another reason, or its reply does not read.
+    /// The request has no reply for another reason, or its reply does not read; or the configuration has no text, and nothing was sent.
     Request,
     /// The consumer that was got is of another kind.
     InvalidConsumerType,
@@ -64,8 +77,21 @@ pub enum ConsumerErrorKind {
     Other,
 }
 
-/// Why a consumer was not got, made or deleted, as an error.
+/// Why a consumer was not got, made or deleted, as an error. Its source is the request's or the reply's error as a text, or why the
+/// configuration is of another kind or has no text.
 pub type ConsumerError = Error<ConsumerErrorKind>;
+
+impl ConsumerErrorKind {
+    /// The server's error, which `JetStream` holds. It stands here and not in the source.
+    pub fn api_error(&self) -> Option<&errors::Error>
+        ensures { option_copied result ≡ consumer_held self.now }
+    {
+        match self {
+            ConsumerErrorKind::JetStream(error) => Some(error),
+            _ => None,
+        }
+    }
+}
 
 impl fmt::Display for ConsumerErrorKind {
     ghost output = { λ kind. Some (consumer_text kind) };
@@ -89,7 +115,7 @@ pub enum ConsumerCreateStrictErrorKind {
     InvalidName,
     /// The timeout is due, and no answer had come.
     TimedOut,
-    /// The request has no reply for another reason, or its reply does not read.
+    /// The request has no reply for another reason, or its reply does not read; or the configuration has no text, and nothing was sent.
     Request,
     /// Never given.
     InvalidConsumerType,
@@ -101,8 +127,21 @@ pub enum ConsumerCreateStrictErrorKind {
     AlreadyExists,
 }
 
-/// Why a consumer was not made where none may be there, as an error.
+/// Why a consumer was not made where none may be there, as an error. Its source is that of a `ConsumerError`, or the server's error at
+/// `AlreadyExists`.
 pub type ConsumerCreateStrictError = Error<ConsumerCreateStrictErrorKind>;
+
+impl ConsumerCreateStrictErrorKind {
+    /// The server's error, which `JetStream` holds. It stands here and not in the source.
+    pub fn api_error(&self) -> Option<&errors::Error>
+        ensures { option_copied result ≡ strict_held self.now }
+    {
+        match self {
+            ConsumerCreateStrictErrorKind::JetStream(error) => Some(error),
+            _ => None,
+        }
+    }
+}
 
 impl fmt::Display for ConsumerCreateStrictErrorKind {
     ghost output = { λ kind. Some (strict_text kind) };
@@ -131,7 +170,7 @@ pub enum ConsumerUpdateErrorKind {
     InvalidName,
     /// The timeout is due, and no answer had come.
     TimedOut,
-    /// The request has no reply for another reason, or its reply does not read.
+    /// The request has no reply for another reason, or its reply does not read; or the configuration has no text, and nothing was sent.
     Request,
     /// Never given.
     InvalidConsumerType,
@@ -143,8 +182,20 @@ pub enum ConsumerUpdateErrorKind {
     DoesNotExist,
 }
 
-/// Why a consumer was not changed, as an error.
+/// Why a consumer was not changed, as an error. Its source is that of a `ConsumerError`, or the server's error at `DoesNotExist`.
 pub type ConsumerUpdateError = Error<ConsumerUpdateErrorKind>;
+
+impl ConsumerUpdateErrorKind {
+    /// The server's error, which `JetStream` holds. It stands here and not in the source.
+    pub fn api_error(&self) -> Option<&errors::Error>
+        ensures { option_copied result ≡ update_held self.now }
+    {
+        match self {
+            ConsumerUpdateErrorKind::JetStream(error) => Some(error),
+            _ => None,
+        }
+    }
+}
 
 impl fmt::Display for ConsumerUpdateErrorKind {
     ghost output = { λ kind. Some (update_text kind) };

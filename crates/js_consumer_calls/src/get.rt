@@ -8,8 +8,8 @@ use crate::create_kind::consumer_failure;
 use crate::error::{ConsumerError, ConsumerErrorKind};
 use crate::refusal::get_refusal;
 use crate::told::Told;
-use js_base::{Error, OutOfMemory, Text, TryClone};
-use js_call::{ApiScope, Call, Meaning, RequestErrorKind};
+use js_base::{Error, OutOfMemory, Source, Text, TryClone};
+use js_call::{ApiScope, Call, Failure, Meaning};
 use js_fields::ReadError;
 use js_json::consumer::FromConsumer;
 use js_json::{Response, response_as};
@@ -26,7 +26,7 @@ pub struct GettingConsumer<T> {
 }
 
 /// The state of `get_consumer_from_stream`.
-pub type GetConsumer<T> = Call<GettingConsumer<T>>;
+pub type GetConsumerFromStream<T> = Call<GettingConsumer<T>>;
 
 impl<T: FromConsumer> Meaning for GettingConsumer<T> {
     type Reply = Response<Told<T>>;
@@ -57,18 +57,19 @@ impl<T: FromConsumer> Meaning for GettingConsumer<T> {
         }
     }
 
-    fn failure(self, kind: RequestErrorKind) -> Result<Consumer<T>, ConsumerError> {
-        Err(Error::new(consumer_failure(kind)))
+    fn failure(self, failure: Failure, source: Source) -> Result<Consumer<T>, ConsumerError> {
+        Err(Error::with_source(consumer_failure(failure.kind()), source))
     }
 }
 
-/// Gets a consumer of a stream as one of that kind. The one refusal here is want of memory; others come from the first poll.
+/// Gets a consumer of a stream as one of that kind. The one refusal here is want of memory; others come from the first poll: a name
+/// that none may have is `InvalidName`, and a consumer of another kind `InvalidConsumerType`.
 pub fn get_consumer_from_stream<T: FromConsumer>(
     alloc: Global,
     scope: &ApiScope,
     consumer: &str,
     stream: &str,
-) -> Result<GetConsumer<T>, OutOfMemory>
+) -> Result<GetConsumerFromStream<T>, OutOfMemory>
     ensures { IfOk result (λ call. call ≡ getting scope.now consumer.now stream.now) }
 {
     let asked = ask_consumer(alloc, scope, "CONSUMER.INFO", stream, consumer)?;

@@ -4,8 +4,8 @@ ghost use Rattle.js_consumer_calls.specs.Infos.{info_row, info_refusal, info_fai
 
 use crate::ask::ask_consumer;
 use crate::error::{ConsumerInfoError, ConsumerInfoErrorKind};
-use js_base::{Error, OutOfMemory};
-use js_call::{ApiScope, Call, Meaning, RawCall, RequestErrorKind};
+use js_base::{Error, OutOfMemory, Source};
+use js_call::{ApiScope, Call, Failure, Meaning, RawCall, RequestErrorKind};
 use js_codes::{ErrorCode, errors};
 use js_fields::ReadError;
 use js_json::consumer::Info;
@@ -19,19 +19,20 @@ pub struct AskingInfo;
 /// The state of `get_info`.
 pub type GetInfo = Call<AskingInfo>;
 
-/// What an error of the API means where an info is asked for.
-pub(crate) fn info_refusal(error: errors::Error) -> ConsumerInfoErrorKind
+/// An error of the API as the error of the call that asks for an info.
+pub(crate) fn info_refusal(error: errors::Error) -> ConsumerInfoError
     ensures { result ≡ info_refusal error }
 {
-    if error.err_code == ErrorCode::CONSUMER_NOT_FOUND {
+    let kind = if error.err_code == ErrorCode::CONSUMER_NOT_FOUND {
         ConsumerInfoErrorKind::NotFound
     } else if error.err_code == ErrorCode::STREAM_NOT_FOUND {
         ConsumerInfoErrorKind::StreamNotFound
     } else if error.err_code == ErrorCode::CONSUMER_OFFLINE {
         ConsumerInfoErrorKind::Offline
     } else {
-        ConsumerInfoErrorKind::JetStream(error)
-    }
+        return Error::new(ConsumerInfoErrorKind::JetStream(error));
+    };
+    Error::with_source(kind, error.into_source())
 }
 
 /// What a request without a reply means there.
@@ -72,11 +73,11 @@ impl Meaning for AskingInfo {
     fn answer(self, reply: Response<Info>) -> Result<Info, ConsumerInfoError> {
         match reply {
             Response::Ok(info) => Ok(info),
-            Response::Err { error } => Err(Error::new(info_refusal(error))),
+            Response::Err { error } => Err(info_refusal(error)),
         }
     }
 
-    fn failure(self, kind: RequestErrorKind) -> Result<Info, ConsumerInfoError> {
-        Err(Error::new(info_failure(kind)))
+    fn failure(self, failure: Failure, source: Source) -> Result<Info, ConsumerInfoError> {
+        Err(Error::with_source(info_failure(failure.kind()), source))
     }
 }

@@ -7,7 +7,9 @@
 mod ask;
 mod consumer;
 mod create;
+mod create_call;
 mod create_kind;
+mod create_subject;
 mod delete;
 mod error;
 mod get;
@@ -19,20 +21,18 @@ mod written;
 pub use consumer::{
     Consumer, OrderedPullConsumer, OrderedPushConsumer, PullConsumer, PushConsumer,
 };
-pub use create::{
-    CreateConsumer, CreateConsumerStrict, CreatingConsumer, UpdateConsumer,
+pub use create::CreatingConsumer;
+pub use create_call::{
+    CreateCall, CreateConsumerOnStream, CreateConsumerStrictOnStream, UpdateConsumerOnStream,
     create_consumer_on_stream, create_consumer_strict_on_stream, update_consumer_on_stream,
 };
 pub use create_kind::CreateKind;
-pub use delete::{DeleteConsumer, DeletingConsumer, delete_consumer_from_stream};
+pub use delete::{DeleteConsumerFromStream, DeletingConsumer, delete_consumer_from_stream};
 pub use error::{
     ConsumerCreateStrictError, ConsumerCreateStrictErrorKind, ConsumerError, ConsumerErrorKind,
     ConsumerInfoError, ConsumerInfoErrorKind, ConsumerUpdateError, ConsumerUpdateErrorKind,
 };
-pub use get::{GetConsumer, GettingConsumer, get_consumer_from_stream};
+pub use get::{GetConsumerFromStream, GettingConsumer, get_consumer_from_stream};
 pub use info::{AskingInfo, GetInfo};
 pub use told::Told;
 pub use written::instants_alone_are_refused;
-
-#[cfg(test)]
-mod tests;

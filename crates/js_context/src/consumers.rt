@@ -11,46 +11,49 @@ ghost use Rattle.js_consumer_calls.specs.Kinds.{consumer_kinds, strict_kinds, up
 use crate::context::Context;
 use js_base::OutOfMemory;
 use js_consumer_calls::{
-    CreateConsumer, CreateConsumerStrict, DeleteConsumer, GetConsumer, UpdateConsumer,
-    create_consumer_on_stream, create_consumer_strict_on_stream, delete_consumer_from_stream,
-    get_consumer_from_stream, update_consumer_on_stream,
+    CreateConsumerOnStream, CreateConsumerStrictOnStream, DeleteConsumerFromStream,
+    GetConsumerFromStream, UpdateConsumerOnStream, create_consumer_on_stream,
+    create_consumer_strict_on_stream, delete_consumer_from_stream, get_consumer_from_stream,
+    update_consumer_on_stream,
 };
 use js_json::consumer::FromConsumer;
 use std::alloc::Global;
 
 impl Context {
-    /// Makes a consumer on a stream, or finds the one of that name with that configuration.
+    /// Makes a consumer on a stream. Where one of that name is there, the server changes it to that configuration as far as it can be
+    /// changed, and else answers an error. A configuration with an instant outside the years 0 to 9999 has no text: that is `Request`,
+    /// and nothing is sent.
     pub fn create_consumer_on_stream<C: FromConsumer>(
         &self,
         alloc: Global,
         config: C,
         stream: &str,
-    ) -> Result<CreateConsumer<C>, OutOfMemory>
-        ensures { IfOk result (λ call. Makes self.now.scope (request_of consumer_kinds.action (C.config config) stream.now) call) }
+    ) -> Result<CreateConsumerOnStream<C>, OutOfMemory>
+        ensures { IfOk result (λ call. Makes consumer_kinds self.now.scope (request_of consumer_kinds.action (C.config config) stream.now) call) }
     {
         create_consumer_on_stream(alloc, self.scope(), config, stream)
     }
 
-    /// Makes a consumer on a stream on which none of that name with another configuration is.
+    /// Makes a consumer on a stream, and is refused with `AlreadyExists` where one of that name with another configuration is there.
     pub fn create_consumer_strict_on_stream<C: FromConsumer>(
         &self,
         alloc: Global,
         config: C,
         stream: &str,
-    ) -> Result<CreateConsumerStrict<C>, OutOfMemory>
-        ensures { IfOk result (λ call. Makes self.now.scope (request_of strict_kinds.action (C.config config) stream.now) call) }
+    ) -> Result<CreateConsumerStrictOnStream<C>, OutOfMemory>
+        ensures { IfOk result (λ call. Makes strict_kinds self.now.scope (request_of strict_kinds.action (C.config config) stream.now) call) }
     {
         create_consumer_strict_on_stream(alloc, self.scope(), config, stream)
     }
 
-    /// Changes the consumer of that name that is on the stream.
+    /// Changes the consumer of that name that is on the stream, and is refused with `DoesNotExist` where none is.
     pub fn update_consumer_on_stream<C: FromConsumer>(
         &self,
         alloc: Global,
         config: C,
         stream: &str,
-    ) -> Result<UpdateConsumer<C>, OutOfMemory>
-        ensures { IfOk result (λ call. Makes self.now.scope (request_of update_kinds.action (C.config config) stream.now) call) }
+    ) -> Result<UpdateConsumerOnStream<C>, OutOfMemory>
+        ensures { IfOk result (λ call. Makes update_kinds self.now.scope (request_of update_kinds.action (C.config config) stream.now) call) }
     {
         update_consumer_on_stream(alloc, self.scope(), config, stream)
     }
@@ -61,7 +64,7 @@ impl Context {
         alloc: Global,
         consumer: &str,
         stream: &str,
-    ) -> Result<GetConsumer<T>, OutOfMemory>
+    ) -> Result<GetConsumerFromStream<T>, OutOfMemory>
         ensures { IfOk result (λ call. call ≡ getting self.now.scope consumer.now stream.now) }
     {
         get_consumer_from_stream(alloc, self.scope(), consumer, stream)
@@ -73,7 +76,7 @@ impl Context {
         alloc: Global,
         consumer: &str,
         stream: &str,
-    ) -> Result<DeleteConsumer, OutOfMemory>
+    ) -> Result<DeleteConsumerFromStream, OutOfMemory>
         ensures { IfOk result (λ call. call ≡ deleting self.now.scope consumer.now stream.now) }
     {
         delete_consumer_from_stream(alloc, self.scope(), consumer, stream)

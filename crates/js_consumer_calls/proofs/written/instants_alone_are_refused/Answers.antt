@@ -1,5 +1,5 @@
-use Rattle.js_consumer_calls.proofs.Rows.{written}
+use Rattle.js_consumer_calls.proofs.Rows.{request_written}
 use Rattle.js_consumer_calls.proofs.written.instants_alone_are_refused.Goals as goal
 
 pub returns : goal.returns
-returns c = written
+returns c = request_written
