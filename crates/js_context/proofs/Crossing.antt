@@ -7,7 +7,7 @@ use Rattle.std.proofs.MapsCrossing.{crosses as maps_cross}
 use Rattle.atomic_table.proofs.shared.Seat.TheSendSync as seat
 use Rattle.atomic_table.proofs.shared.Shared.TheSendSync as shared
 use Rattle.atomic_table.proofs.send_lease.SendLease.TheSendSync as lease
-use Rattle.std.specs.contracts.vec.Vec as Vec
+use Rattle.std.specs.contracts.collections.VecDeque as VecDeque
 use Rattle.std.specs.contracts.sync.Arc as Arc
 use Rattle.std.specs.contracts.alloc.Global as Global
 use Rattle.std.specs.contracts.impls.GlobalAllocator.TheImpl as GlobalAllocator
@@ -35,9 +35,9 @@ window_shared_send : IsSend (Arc.the_row Window.the_row Global.the_row GlobalAll
 window_shared_send = search (sendable, crosses, window_send, window_sync) depth 20
 
 detached_send : IsSend Detached.the_row
-detached_send = search rules
+detached_send = search (rules, sendable, crosses) depth 20
 
-list_send : IsSend (Vec.the_row Detached.the_row Global.the_row GlobalAllocator.ghosts)
+list_send : IsSend (VecDeque.the_row Detached.the_row Global.the_row GlobalAllocator.ghosts)
 list_send = search (sendable, crosses, detached_send) depth 20
 
 settings_send : IsSend Settings.the_field.row

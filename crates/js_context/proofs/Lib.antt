@@ -1,3 +1,3 @@
 pub mod Looking
-pub mod Splits
+pub mod Ring
 pub mod Crossing

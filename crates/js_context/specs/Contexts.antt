@@ -1,8 +1,9 @@
 -- A client's end of JetStream, and what becomes of its permits.
-use Rattle.std.specs.Prelude.{ℕ, ◌≡◌, ◌+◌, ◌≤◌, true, Option, Some, None, List, [], All, vec_len, vec_capacity}
+use Rattle.std.specs.Prelude.{ℕ, ◌≡◌, ◌+◌, ◌≤◌, true, Option, Some, None, List, [], All}
 use Rattle.std.specs.Arc.{arc_value}
 use Rattle.std.specs.declared.sync.Arc.{Arc}
-use Rattle.std.specs.declared.vec.Vec.{Vec}
+use Rattle.std.specs.VecDeque.{deque_len, deque_capacity}
+use Rattle.std.specs.declared.collections.VecDeque.{VecDeque}
 use Rattle.std.specs.declared.alloc.Global.{Global}
 use Rattle.js_call.specs.declared.scope.ApiScope.{ApiScope}
 use Rattle.js_window.specs.Caller.{Caller, held, Makes, Splits}
@@ -19,12 +20,14 @@ pub record ContextView : Type 0 where
   pub detached : List Detached  -- the acks that nobody awaits
   pub settings : Settings
 
--- the pass is one of its window; each permit that it holds is awaited or detached; and each that is awaited has room to be detached
-pub record IsContext (window : Arc Window Global) (pass : Caller) (awaited : ℕ) (detached : Vec Detached Global) : Type 0 where
+-- The pass is one of its window. Each permit that it holds is awaited or detached, and each that is awaited has room to be detached.
+-- Each detached ack bears a permit that its pass took, of its window and of no other.
+pub record IsContext (window : Arc Window Global) (pass : Caller) (awaited : ℕ) (detached : VecDeque Detached Global) : Type 0 where
   pub own : pass.window ≡ arc_value window
-  pub counted : held pass ≡ awaited + vec_len detached
-  pub room : awaited + vec_len detached ≤ vec_capacity detached
+  pub counted : held pass ≡ awaited + deque_len detached
+  pub room : awaited + deque_len detached ≤ deque_capacity detached
   pub bear : All (λ d. d.permit ≡ pass.number) detached.items
+  pub given : All (λ d. d.window.value ≡ pass.window) detached.items
 
 -- a context that holds no permit
 abbrev pub fresh : ApiScope → Caller → Settings → ContextView

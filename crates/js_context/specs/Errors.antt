@@ -2,7 +2,7 @@
 use Rattle.std.specs.Prelude.{ℕ, ◌==◌, ◌||◌, List, codes, if◌then◌else◌}
 use Rattle.js_base.specs.Errors.{caused}
 use Rattle.js_base.specs.declared.error.Error.{Error}
-use Rattle.js_base.specs.declared.error.Source.TheVariants.{Api}
+use Rattle.js_codes.specs.Error.{api_source}
 use Rattle.js_codes.specs.declared.errors.Error.{Error as ApiError}
 use Rattle.js_context.specs.declared.publish_error.PublishErrorKind.{PublishErrorKind}
 use Rattle.js_context.specs.declared.publish_error.PublishErrorKind.TheVariants.{StreamNotFound, TimedOut, Other, BrokenPipe, WrongLastMessageId, WrongLastSequence, MaxAckPending, MaxPayloadExceeded}
@@ -25,5 +25,4 @@ kind_of number =
 
 -- the server's error, as that of a publish
 abbrev pub refusal_by : ApiError → Error PublishErrorKind
-refusal_by error =
-    caused (kind_of error.err_code.0) (Api error.code error.err_code.0 error.description)
+refusal_by error = caused (kind_of error.err_code.0) (api_source error)

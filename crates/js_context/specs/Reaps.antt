@@ -11,11 +11,6 @@ use Rattle.js_context.specs.declared.context.Detached.{Detached}
 use Rattle.js_context.specs.Clocks.{begun, clocked}
 use Rattle.js_context.specs.Contexts.{ContextView}
 
--- the list is these, with the ack at that place
-pub record IsSplit (acks : List Detached) (place : ℕ) (before : List Detached) (ack : Detached) (after : List Detached) : Type 0 where
-  pub whole : acks ≡ before ++ ack ∷ after
-  pub at : length before ≡ place
-
 -- the request of an ack, with its clock
 abbrev pub clocked_ack : Detached → ℕ → ℕ → OpenRequest
 clocked_ack ack now wait = clocked ack.request ack.since now wait
@@ -27,21 +22,26 @@ is_settled Gone = true
 is_settled Due = true
 is_settled Still = false
 
--- what stays of it, before the acks that follow: where it is not settled, its clock has begun
-abbrev pub kept_before : Bool → ℕ → Detached → List Detached → List Detached
-kept_before true now ack after = after
-kept_before false now ack after = record ack { since = Some (begun ack.since now) } ∷ after
+-- what stays of it where its clock began then: itself with that clock, where it is not settled
+abbrev pub stays : Bool → ℕ → Detached → List Detached
+stays true since ack = []
+stays false since ack = record ack { since = Some since } ∷ []
 
 -- a settled ack gives its permit back
 abbrev pub GivesIf : Bool → Caller → Caller → Type 0
 GivesIf true p q = Makes Give p q
 GivesIf false p q = q ≡ p
 
--- one look at a detached ack
-pub record LooksAt (now : ℕ) (before after : List Detached) (ack : Detached) (shown : Shown) (c d : ContextView) (old new : LinkView) : Type 0 where
+-- one look at an ack that is followed by others: it goes behind them where it stays
+pub record LooksAt (now : ℕ) (ack : Detached) (after : List Detached) (shown : Shown) (c d : ContextView) (old new : LinkView) : Type 0 where
   pub shows : Shows (clocked_ack ack now c.settings.ack_timeout) now shown old new
   pub gives : GivesIf (is_settled shown) c.pass d.pass
-  pub same : d ≡ record c { pass = d.pass; detached = before ++ kept_before (is_settled shown) now ack after }
+  pub same : d ≡ record c { pass = d.pass; detached = after ++ stays (is_settled shown) (begun ack.since now) ack }
+
+-- one look at the first detached ack
+abbrev pub LooksFirst : ℕ → Bool → ContextView → ContextView → LinkView → LinkView → Type 0
+LooksFirst now gone c d old new =
+    (ack : Detached) (after : List Detached) → c.detached ≡ ack ∷ after → (shown : Shown) × (gone ≡ is_settled shown) × LooksAt now ack after shown c d old new
 
 -- a detached ack that is looked at, and what its request shows
 pub record Look : Type 0 where
@@ -66,7 +66,7 @@ Passes now wait s (look ∷ more) t = (u : Between) × Looks now wait s look u �
 -- the acks that stay
 abbrev pub kept : ℕ → List Look → List Detached
 kept now [] = []
-kept now (look ∷ more) = kept_before (is_settled look.shown) now look.ack (kept now more)
+kept now (look ∷ more) = stays (is_settled look.shown) (begun look.ack.since now) look.ack ++ kept now more
 
 -- how many acks that makes settled, or kept
 abbrev pub one_if : Bool → ℕ
@@ -78,7 +78,15 @@ abbrev pub settled : List Look → ℕ
 settled [] = 0
 settled (look ∷ more) = one_if (is_settled look.shown) + settled more
 
--- The first n detached acks were looked at, one after another. The others follow those that stay.
+-- The first n detached acks were looked at, one after another. Those that stay are behind the others.
+pub record GoesRound (n now : ℕ) (c d : ContextView) (old new : LinkView) (gone : ℕ) : Type 0 where
+  pub looks : List Look
+  pub looked : map (λ (look : Look). look.ack) looks ≡ take n c.detached
+  pub passes : Passes now c.settings.ack_timeout (record { pass = c.pass; link = old }) looks (record { pass = d.pass; link = new })
+  pub same : d ≡ record c { pass = d.pass; detached = drop n c.detached ++ kept now looks }
+  pub number : gone ≡ settled looks
+
+-- The first n detached acks were looked at, one after another. The others follow those that stay, and all are in their order.
 pub record Reaps (n now : ℕ) (c d : ContextView) (old new : LinkView) (gone : ℕ) : Type 0 where
   pub looks : List Look
   pub looked : map (λ (look : Look). look.ack) looks ≡ take n c.detached

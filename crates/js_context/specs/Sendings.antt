@@ -43,13 +43,14 @@ pub record TakesAndGives (c d : ContextView) : Type 0 where
   pub gives : Makes call.Give between d.pass
   pub same : d ≡ record c { pass = d.pass }
 
--- a permit was taken and the message was sent: the ack bears the permit, and its clock has not begun
+-- a permit of the window was taken and the message was sent: the ack bears the permit, and its clock has not begun
 pub record SendsUnder (m : OutboundMessage) (future : PublishAckFuture) (c d : ContextView) (old new : LinkView) : Type 0 where
   pub takes : Makes call.Got c.pass d.pass
   pub one_more : d ≡ record c { pass = d.pass; awaited = c.awaited + 1 }
   pub asks : Asks future.request.0 m.subject m.headers m.payload old new
   pub bears : future.permit ≡ d.pass.number
-  pub since : future.since ≡ None
+  pub of : future.window.value ≡ d.pass.window
+  pub clock : future.clock ≡ None
   pub reply : future.reply ≡ None
 
 -- what a try to send does

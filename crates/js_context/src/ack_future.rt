@@ -1,29 +1,42 @@
 //! The ack of a message that was sent.
-ghost use Rattle.std.specs.Prelude.{◌≡◌, ◌+◌, ◌++◌, ◌∷◌, [], Some};
+ghost use Rattle.std.specs.Prelude.{◌≡◌, ◌+◌, ◌++◌, ◌∷◌, [], IfOk, Some, None};
 ghost use Rattle.js_link.specs.LinkView.{LinkView};
 ghost use Rattle.js_base.specs.Errors.{plain};
 ghost use Rattle.js_fields.specs.Reading.{Gives};
-ghost use Rattle.js_context.specs.Contexts.{ContextView, GivesBack};
-ghost use Rattle.js_context.specs.Acks.{ack_in, meaning_of, AckPolled, AckReads, AckTurns, Ends, IsAwaitedBy, PermitAfter};
+ghost use Rattle.js_context.specs.Contexts.{ContextView};
+ghost use Rattle.js_context.specs.Clocks.{started};
+ghost use Rattle.js_context.specs.Acks.{ack_in, meaning_of, meaning_read, unreadable, AckPolled, AckReads, AckTurns, Ends, IsAwaitedBy, PermitAfter};
 
-use crate::context::Context;
+use crate::context::{Context, Detached};
 use crate::publish_error::{PublishError, PublishErrorKind, refusal_by};
-use js_base::{Error, Message, Moment, StatusCode, Turn};
-use js_call::{OpenRequest, Shown};
+use js_base::{Error, Message, Moment, Nanos, OutOfMemory, Turn};
+use js_call::{Failure, OpenRequest, Shown, has_no_responders};
 use js_fields::ReadError;
 use js_json::{PublishAck, Response, response_as};
 use js_link::{Link, RequestId};
-use js_window::Permit;
+use js_window::{Permit, Window};
 use std::alloc::Global;
+use std::snapshot::Snapshot;
 use std::sync::Wait;
 
-/// The ack of a message that was sent, which is awaited. It bears the message's permit.
+/// When the clock of an ack began, and how long it runs.
+#[derive(Clone, Copy, Debug, PartialEq, Eq)]
+pub(crate) struct Clock {
+    pub(crate) since: Moment,
+    pub(crate) wait: Nanos,
+}
+
+/// The ack of a message that was sent, which is awaited. It bears the message's permit, and belongs to the context that sent the
+/// message: no other can poll or detach it.
 ///
 /// It is spent: polled until it is ready, or given to `detach`.
 pub struct PublishAckFuture {
     pub(crate) request: RequestId,
     pub(crate) permit: Permit,
-    pub(crate) since: Option<Moment>,
+    /// The window that gave the permit, for contracts alone.
+    pub(crate) window: Snapshot<Window>,
+    /// Its clock, from its first poll on.
+    pub(crate) clock: Option<Clock>,
     /// A reply that has come, and found no memory.
     pub(crate) reply: Option<Message>,
 }
@@ -47,13 +60,34 @@ fn meaning_of(response: Response<PublishAck>) -> Result<PublishAck, PublishError
     }
 }
 
+/// Why the body of a reply says nothing of the message.
+fn unreadable(alloc: Global, fault: ReadError) -> Result<PublishError, OutOfMemory>
+    ensures { IfOk result (λ error. error ≡ unreadable fault) }
+{
+    let source = Failure::Read(fault).to_source(alloc)?;
+    Ok(Error::with_source(PublishErrorKind::Other, source))
+}
+
+/// What a reply means that does not say that nobody answers.
+fn answer_in(alloc: Global, payload: &[u8]) -> Result<Result<PublishAck, PublishError>, OutOfMemory>
+    ensures { IfOk result (λ answer. answer ≡ meaning_read (ack_in payload.now)) }
+{
+    match read_ack(alloc, payload) {
+        Ok(response) => Ok(meaning_of(response)),
+        Err(ReadError::OutOfMemory) => Err(OutOfMemory),
+        Err(fault) => Ok(Err(unreadable(alloc, fault)?)),
+    }
+}
+
 impl PublishAckFuture {
-    /// Looks at the answer, and then at the clock, which begins at the first poll and runs for the caller's `timeout`. The
-    /// caller is the one that sent the message. Each answer gives the permit back.
+    /// Looks at the answer, and then at the clock. The clock begins at the first poll and runs for the caller's `timeout` of that
+    /// moment, in nanoseconds; what is set later changes it no more. The caller is the context that sent the message. Each answer
+    /// gives the permit back.
     ///
     /// `StreamNotFound` comes where the reply has status 503; `WrongLastMessageId` at error code 10070, `WrongLastSequence`
     /// at 10071 and 10164; `Other` at another error code, or where the reply does not read; `BrokenPipe` where the replier is
-    /// gone; `TimedOut` where no answer had come and the clock is due. A reply that finds no memory is kept for the next poll.
+    /// gone; `TimedOut` where no answer had come and the clock is due. The source is the server's error, or why the reply does not
+    /// read. A reply that finds no memory is kept for the next poll.
     pub fn poll<R: Wait, L: Link>(
         mut self,
         rt: &R,
@@ -69,32 +103,46 @@ impl PublishAckFuture {
         match self.reply.take() {
             Some(message) => self.read(rt, alloc, context, message),
             None => {
-                let since = self.since.unwrap_or(now);
+                let clock = self.started(now, context.timeout());
                 let sent = OpenRequest {
                     request: self.request,
-                    since,
-                    timeout: Some(context.timeout()),
+                    since: clock.since,
+                    timeout: Some(clock.wait),
                 };
                 let shown = sent.look(link, now);
-                self.since = Some(since);
+                self.clock = Some(clock);
                 self.turn(rt, alloc, context, shown)
             }
         }
     }
 
-    /// From here on nobody awaits the ack: `reap` looks after it. It takes no memory. A reply that was kept is dropped.
+    /// From here on nobody awaits the ack: `reap` looks after it, and its clock begins anew at the first `reap` that looks at it. It
+    /// takes no memory. A reply that was kept is dropped: the ack is then settled when it is due.
     pub fn detach(self, context: &mut Context)
         requires { IsAwaitedBy self context.old }
         ensures awaited { context.new.awaited + 1 ≡ context.old.awaited }
-        ensures list { context.new ≡ record context.old { awaited = context.new.awaited; detached = context.old.detached ++ record { request = self.request; permit = self.permit; since = self.since } ∷ [] } }
+        ensures list { context.new ≡ record context.old { awaited = context.new.awaited; detached = context.old.detached ++ record { request = self.request; permit = self.permit; window = self.window; since = None } ∷ [] } }
     {
         let PublishAckFuture {
             request,
             permit,
-            since,
+            window,
+            clock: _, // `reap` begins another one.
             reply: _,
         } = self;
-        context.detach(request, permit, since);
+        context.detach(Detached {
+            request,
+            permit,
+            window,
+            since: None,
+        });
+    }
+
+    /// Its clock, which begins now and runs for that wait where it has not begun.
+    fn started(&self, now: Moment, wait: Nanos) -> Clock
+        ensures { result ≡ started self.now.clock now wait }
+    {
+        self.clock.unwrap_or(Clock { since: now, wait })
     }
 
     /// What is made of what the request shows.
@@ -117,16 +165,12 @@ impl PublishAckFuture {
         ensures reads { AckReads self message result context.old context.new }
         ensures permit { PermitAfter result self context.old context.new }
     {
-        if message.status == Some(StatusCode::NO_RESPONDERS) {
+        if has_no_responders(message.status) {
             return self.fail(rt, context, PublishErrorKind::StreamNotFound);
         }
-        match read_ack(alloc, message.payload.as_slice()) {
-            Ok(response) => {
-                self.spend(rt, context);
-                Turn::Ready(meaning_of(response))
-            }
-            Err(ReadError::OutOfMemory) => Turn::OutOfMemory(self.keep(message)),
-            Err(_) => self.fail(rt, context, PublishErrorKind::Other),
+        match answer_in(alloc, message.payload.as_slice()) {
+            Ok(answer) => self.end(rt, context, answer),
+            Err(OutOfMemory) => Turn::OutOfMemory(self.keep(message)),
         }
     }
 
@@ -135,22 +179,28 @@ impl PublishAckFuture {
         requires { IsAwaitedBy self context.old }
         ensures { Ends (Err (plain kind)) result context.old context.new }
     {
-        self.spend(rt, context);
-        Turn::Ready(Err(Error::new(kind)))
+        self.end(rt, context, Err(Error::new(kind)))
     }
 
-    /// Gives the permit back.
-    fn spend<R: Wait>(self, rt: &R, context: &mut Context)
+    /// Ends with that answer, and gives the permit back.
+    fn end<R: Wait>(
+        self,
+        rt: &R,
+        context: &mut Context,
+        answer: Result<PublishAck, PublishError>,
+    ) -> Polled
         requires { IsAwaitedBy self context.old }
-        ensures { GivesBack context.old context.new }
+        ensures { Ends answer result context.old context.new }
     {
         let PublishAckFuture {
             request: _,
             permit,
-            since: _,
+            window: _,
+            clock: _,
             reply: _,
         } = self;
         context.give(rt, permit);
+        Turn::Ready(answer)
     }
 
     /// Keeps the reply for a later poll.
@@ -160,13 +210,15 @@ impl PublishAckFuture {
         let PublishAckFuture {
             request,
             permit,
-            since,
+            window,
+            clock,
             reply: _,
         } = self;
         PublishAckFuture {
             request,
             permit,
-            since,
+            window,
+            clock,
             reply: Some(message),
         }
     }

@@ -15,12 +15,13 @@ use std::sync::Wait;
 /// Whether a builder may still be given its prefix: `Yes` or `No`.
 pub trait ToAssign: Drop {}
 
-/// The prefix may still be given.
-#[derive(Clone, Copy, Debug, PartialEq, Eq, Drop)]
+/// The prefix may be given: `new` answers such a builder, and so do `timeout`, `ack_timeout`, `max_ack_inflight`,
+/// `backpressure_on_inflight` and `concurrency_limit`, also after the prefix was given; a second one takes the place of the first.
+#[derive(Clone, Copy, Debug, Default, PartialEq, Eq, Drop)]
 pub struct Yes;
 
-/// The prefix was given.
-#[derive(Clone, Copy, Debug, PartialEq, Eq, Drop)]
+/// The prefix was given just now: `api_prefix` and `domain` answer such a builder, on which neither can be called.
+#[derive(Clone, Copy, Debug, Default, PartialEq, Eq, Drop)]
 pub struct No;
 
 impl ToAssign for Yes {}

@@ -1,10 +1,10 @@
 //! A client's end of JetStream: where its requests go, its pass to the window of its permits, and the acks that nobody awaits.
-ghost use Rattle.std.specs.Prelude.{◌≡◌, ◌+◌, ◌<◌, ◌^◌, OnErr, IfOk, List, Some, codes, length, [], ◌∷◌, ◌++◌};
+ghost use Rattle.std.specs.Prelude.{◌≡◌, ◌+◌, ◌<◌, ◌≤◌, ◌^◌, OnErr, IfOk, List, Some, IsSome, ◌↔◌, codes, length, take, drop, [], ◌∷◌, ◌++◌};
 ghost use Rattle.js_window.specs.Caller.{Makes, held};
 ghost use Rattle.js_window.specs.declared.history.Call.TheVariants.{AllFree, Give};
 ghost use Rattle.js_stream_calls.specs.Places.{domain_prefix};
 ghost use Rattle.js_context.specs.Contexts.{GivesBack, IsNew, IsUsual, SplitsOff, Takes, timeout_of};
-ghost use Rattle.js_context.specs.Reaps.{IsSplit, clocked_ack};
+ghost use Rattle.js_context.specs.Reaps.{GivesIf, clocked_ack, stays};
 ghost use Rattle.js_context.specs.Waits.{Settles};
 ghost use Rattle.js_context.specs.declared.context.Detached.{Detached};
 
@@ -15,7 +15,9 @@ use js_call::{ApiScope, OpenRequest};
 use js_link::RequestId;
 use js_window::{Pass, Permit, Take, Window};
 use std::alloc::Global;
+use std::collections::VecDeque;
 use std::marker::Model;
+use std::snapshot::Snapshot;
 use std::sync::{Arc, Wait};
 use std::thread::yield_now;
 
@@ -35,6 +37,9 @@ pub(crate) struct Settings {
 pub(crate) struct Detached {
     pub(crate) request: RequestId,
     pub(crate) permit: Permit,
+    /// The window that gave the permit, for contracts alone.
+    pub(crate) window: Snapshot<Window>,
+    /// When its clock began: at the first `reap` that looked at it.
     pub(crate) since: Option<Moment>,
 }
 
@@ -42,14 +47,14 @@ pub(crate) struct Detached {
 /// publishes and which other contexts may share in any thread.
 ///
 /// Each permit that it took is borne by an ack that is awaited, stands in the list of its detached acks, or was given back. Where it
-/// is dropped, the permits of its detached acks are never free again.
+/// is dropped, the permits of its detached acks are never free again, and the acks that are awaited can't be polled or detached any more.
 #[derive(Drop)]
 pub struct Context {
     scope: ApiScope,
     window: Arc<Window, Global>,
     pass: Pass,
     awaited: usize,
-    detached: Vec<Detached>,
+    detached: VecDeque<Detached, Global>,
     settings: Settings,
 }
 
@@ -122,7 +127,7 @@ impl Context {
             window,
             pass,
             awaited: 0,
-            detached: Vec::new(alloc),
+            detached: VecDeque::new(alloc),
             settings,
         })
     }
@@ -141,7 +146,7 @@ impl Context {
             window,
             pass,
             awaited: 0,
-            detached: Vec::new(alloc),
+            detached: VecDeque::new(alloc),
             settings: self.settings,
         })
     }
@@ -153,8 +158,8 @@ impl Context {
         &self.scope
     }
 
-    /// Sets how long an answer is waited for, in nanoseconds: that of a request that is made from here on, and the ack of a
-    /// message that is awaited, also where it was sent already.
+    /// Sets how long an answer is waited for, in nanoseconds: that of a request that is made from here on, and an ack that is first
+    /// polled from here on. An ack that was polled keeps the wait of its first poll.
     pub fn set_timeout(&mut self, timeout: Nanos)
         ensures { self.new ≡ record self.old { scope = record self.old.scope { timeout = Some timeout } } }
     {
@@ -236,6 +241,13 @@ impl Context {
         }
     }
 
+    /// The window of its permits, for contracts alone.
+    pub(crate) fn window(&self) -> Snapshot<Window>
+        ensures { result.value ≡ self.now.pass.window }
+    {
+        Snapshot::of(&self.window)
+    }
+
     /// Gives back the permit of an ack that was awaited.
     pub(crate) fn give<R: Wait>(&mut self, rt: &R, permit: Permit)
         requires permit { permit ≡ self.old.pass.number }
@@ -247,48 +259,70 @@ impl Context {
     }
 
     /// From here on nobody awaits that ack.
-    pub(crate) fn detach(&mut self, request: RequestId, permit: Permit, since: Option<Moment>)
-        requires permit { permit ≡ self.old.pass.number }
+    pub(crate) fn detach(&mut self, ack: Detached)
+        requires window { ack.window.value ≡ self.old.pass.window }
+        requires permit { ack.permit ≡ self.old.pass.number }
         requires awaited { 0 < self.old.awaited }
         ensures awaited { self.new.awaited + 1 ≡ self.old.awaited }
-        ensures list { self.new ≡ record self.old { awaited = self.new.awaited; detached = self.old.detached ++ record { request = request; permit = permit; since = since } ∷ [] } }
+        ensures list { self.new ≡ record self.old { awaited = self.new.awaited; detached = self.old.detached ++ ack ∷ [] } }
     {
         self.awaited -= 1;
-        self.detached.push_reserved(Detached {
-            request,
-            permit,
-            since,
-        });
+        self.detached.push_back_reserved(ack);
     }
 
-    /// The request of a detached ack, with its clock, which begins now where it has not begun.
-    pub(crate) fn detached_at(&self, place: usize, now: Moment) -> OpenRequest
-        requires { place < length self.now.detached }
-        ensures { (before after : List Detached) (ack : Detached) → IsSplit self.now.detached place before ack after → result ≡ clocked_ack ack now self.now.settings.ack_timeout }
+    /// The request of the first detached ack, with its clock, which begins now where it has not begun.
+    pub(crate) fn first_detached(&self, now: Moment) -> Option<OpenRequest>
+        ensures some { IsSome result ↔ (0 < length self.now.detached) }
+        ensures first { (ack : Detached) (after : List Detached) → self.now.detached ≡ ack ∷ after → result ≡ Some (clocked_ack ack now self.now.settings.ack_timeout) }
     {
-        let ack = &self.detached[place];
-        OpenRequest {
+        let ack = self.detached.front()?;
+        Some(OpenRequest {
             request: ack.request,
             since: ack.since.unwrap_or(now),
             timeout: Some(self.settings.ack_timeout),
+        })
+    }
+
+    /// The clock of the first detached ack has begun. It goes behind the others.
+    fn keep_first(&mut self, since: Moment)
+        ensures pass { self.new.pass ≡ self.old.pass }
+        ensures list { (ack : Detached) (after : List Detached) → self.old.detached ≡ ack ∷ after → self.new ≡ record self.old { detached = after ++ record ack { since = Some since } ∷ [] } }
+    {
+        if let Some(mut first) = self.detached.pop_front() {
+            first.since = Some(since);
+            self.detached.push_back_reserved(first);
         }
     }
 
-    /// The clock of a detached ack has begun.
-    pub(crate) fn begin_at(&mut self, place: usize, since: Moment)
-        requires { place < length self.old.detached }
-        ensures { (before after : List Detached) (ack : Detached) → IsSplit self.old.detached place before ack after → self.new ≡ record self.old { detached = before ++ record ack { since = Some since } ∷ after } }
+    /// The first detached ack is no more, and its permit is given back.
+    fn settle_first<R: Wait>(&mut self, rt: &R)
+        requires { 0 < length self.old.detached }
+        ensures makes { Makes Give self.old.pass self.new.pass }
+        ensures list { (ack : Detached) (after : List Detached) → self.old.detached ≡ ack ∷ after → self.new ≡ record self.old { pass = self.new.pass; detached = after } }
     {
-        self.detached[place].since = Some(since);
+        if let Some(ack) = self.detached.pop_front() {
+            self.window.give(rt, &mut self.pass, ack.permit);
+        }
     }
 
-    /// A detached ack is no more, and its permit is given back.
-    pub(crate) fn settle_at<R: Wait>(&mut self, rt: &R, place: usize)
-        requires { place < length self.old.detached }
-        ensures makes { Makes Give self.old.pass self.new.pass }
-        ensures list { (before after : List Detached) (ack : Detached) → IsSplit self.old.detached place before ack after → self.new ≡ record self.old { pass = self.new.pass; detached = before ++ after } }
+    /// What becomes of the first detached ack, whose clock began then: it is settled, or goes behind the others.
+    pub(crate) fn settle_or_keep<R: Wait>(&mut self, rt: &R, settled: bool, since: Moment)
+        requires { 0 < length self.old.detached }
+        ensures gives { GivesIf settled self.old.pass self.new.pass }
+        ensures list { (ack : Detached) (after : List Detached) → self.old.detached ≡ ack ∷ after → self.new ≡ record self.old { pass = self.new.pass; detached = after ++ stays settled since ack } }
     {
-        let ack = self.detached.remove(place);
-        self.window.give(rt, &mut self.pass, ack.permit);
+        if settled {
+            self.settle_first(rt);
+        } else {
+            self.keep_first(since);
+        }
+    }
+
+    /// So many detached acks go behind the others, in their order.
+    pub(crate) fn turn_detached(&mut self, count: usize)
+        requires { count ≤ length self.old.detached }
+        ensures { self.new ≡ record self.old { detached = drop count self.old.detached ++ take count self.old.detached } }
+    {
+        self.detached.rotate_left(count);
     }
 }

@@ -29,6 +29,3 @@ pub use context::Context;
 pub use provider::{ClientProvider, Publisher, RequestSender, Requester, TimeoutProvider};
 pub use publish_error::{PublishError, PublishErrorKind};
 pub use sending::Sending;
-
-#[cfg(test)]
-mod tests;

@@ -2,7 +2,7 @@
 ghost use Rattle.std.specs.Prelude.{◌≡◌, Some};
 ghost use Rattle.js_context.specs.Errors.{kind_of, publish_text, refusal_by};
 
-use js_base::{Error, Source};
+use js_base::Error;
 use js_codes::{ErrorCode, errors};
 use std::fmt;
 
@@ -66,11 +66,5 @@ fn kind_of(code: ErrorCode) -> PublishErrorKind
 pub(crate) fn refusal_by(error: errors::Error) -> PublishError
     ensures { result ≡ refusal_by error }
 {
-    let kind = kind_of(error.err_code);
-    let source = Source::Api {
-        code: error.code,
-        err_code: error.err_code.0,
-        description: error.description,
-    };
-    Error::with_source(kind, source)
+    Error::with_source(kind_of(error.err_code), error.into_source())
 }

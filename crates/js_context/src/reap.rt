@@ -1,10 +1,8 @@
 //! Looking after the acks that nobody awaits.
-ghost use Rattle.std.specs.Prelude.{◌≡◌, ◌<◌, List, length};
+ghost use Rattle.std.specs.Prelude.{◌≡◌, ◌<◌, ◌≤◌, length};
 ghost use Rattle.js_link.specs.LinkView.{LinkView};
-ghost use Rattle.js_call.specs.declared.open_request.Shown.{Shown};
 ghost use Rattle.js_context.specs.Contexts.{ContextView};
-ghost use Rattle.js_context.specs.Reaps.{IsSplit, LooksAt, Reaps, looked_at, is_settled};
-ghost use Rattle.js_context.specs.declared.context.Detached.{Detached};
+ghost use Rattle.js_context.specs.Reaps.{GoesRound, LooksFirst, Reaps, is_settled, looked_at};
 
 use crate::context::Context;
 use js_base::Moment;
@@ -12,42 +10,65 @@ use js_call::Shown;
 use js_link::Link;
 use std::sync::Wait;
 
+/// Whether an ack is settled whose request shows this.
+fn is_settled(shown: Shown) -> bool
+    ensures { result ≡ is_settled shown }
+{
+    match shown {
+        Shown::Came(_) | Shown::Gone | Shown::Due => true,
+        Shown::Still => false,
+    }
+}
+
 impl Context {
     /// Looks at the first `concurrency_limit` detached acks, or at all where the limit is none or 0, and answers how many of them
     /// are no more: those that were answered, whatever the answer, whose replier is gone, or whose ack timeout is due. Their
-    /// permits are given back. An ack's clock begins at the first look.
+    /// permits are given back, and the others stay in their order. An ack's clock begins at the first look.
+    ///
+    /// With a limit the same first acks are looked at again and again until they are settled. It takes no memory, and a time that
+    /// grows with the list.
     pub fn reap<R: Wait, L: Link>(&mut self, rt: &R, link: &mut L, now: Moment) -> u64
         ensures { Reaps (looked_at self.old.settings.concurrency_limit (length self.old.detached)) now self.old self.new (L.view link.old) (L.view link.new) result }
     {
         let count = self.reaped_len();
-        let mut place = 0;
+        let others = self.detached_len() - count;
+        let settled = self.reap_first(rt, link, now, count);
+        self.turn_detached(others);
+        settled
+    }
+
+    /// Looks at so many of the first detached acks. Those that stay go behind the others, in their order.
+    fn reap_first<R: Wait, L: Link>(
+        &mut self,
+        rt: &R,
+        link: &mut L,
+        now: Moment,
+        count: usize,
+    ) -> u64
+        requires { count ≤ length self.old.detached }
+        ensures { GoesRound count now self.old self.new (L.view link.old) (L.view link.new) result }
+    {
         let mut settled = 0;
         for look in 0..count {
-            if self.reap_at(rt, link, now, place) {
+            if self.reap_one(rt, link, now) {
                 settled += 1;
-            } else {
-                place += 1;
             }
         }
         settled
     }
 
-    /// Looks at the detached ack at that place. Whether it was settled.
-    fn reap_at<R: Wait, L: Link>(&mut self, rt: &R, link: &mut L, now: Moment, place: usize) -> bool
-        requires { place < length self.old.detached }
-        ensures { (before after : List Detached) (ack : Detached) → IsSplit self.old.detached place before ack after → (shown : Shown) × (result ≡ is_settled shown) × LooksAt now before after ack shown self.old self.new (L.view link.old) (L.view link.new) }
+    /// Looks at the first detached ack, which goes behind the others where it stays. Whether it was settled.
+    fn reap_one<R: Wait, L: Link>(&mut self, rt: &R, link: &mut L, now: Moment) -> bool
+        requires { 0 < length self.old.detached }
+        ensures { LooksFirst now result self.old self.new (L.view link.old) (L.view link.new) }
     {
-        let sent = self.detached_at(place, now);
-        match sent.look(link, now) {
-            Shown::Still => {
-                self.begin_at(place, sent.since);
-                false
-            }
-            Shown::Came(_) | Shown::Gone | Shown::Due => {
-                self.settle_at(rt, place);
-                true
-            }
-        }
+        let sent = match self.first_detached(now) {
+            Some(sent) => sent,
+            None => unreachable!(),
+        };
+        let settled = is_settled(sent.look(link, now));
+        self.settle_or_keep(rt, settled, sent.since);
+        settled
     }
 
     /// How many detached acks are looked at.

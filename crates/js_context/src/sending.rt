@@ -78,7 +78,8 @@ fn try_to_send<R: Wait, L: Link>(
             Ok(request) => Attempt::Went(PublishAckFuture {
                 request,
                 permit,
-                since: None,
+                window: context.window(),
+                clock: None,
                 reply: None,
             }),
             Err(error) => {

@@ -18,7 +18,8 @@ use js_stream_calls::{
 use std::alloc::Global;
 
 impl Context {
-    /// Makes a stream. A mirror or source that has a domain alone gets the domain's API as its external.
+    /// Makes a stream. A mirror or source that has a domain alone gets the domain's API as its external. The server answers a stream
+    /// that has that name and configuration already, and refuses another configuration.
     pub fn create_stream(&self, alloc: Global, config: Config) -> Result<CreateStream, OutOfMemory>
         ensures { IfOk result (λ call. Creates self.now.scope config call) }
     {
@@ -55,14 +56,16 @@ impl Context {
         get_or_create_stream(alloc, self.scope(), config)
     }
 
-    /// Changes a stream to that configuration.
+    /// Changes a stream to that configuration as a whole: what `Config` does not name is reset to the server's default, also where
+    /// it was read from the server before, as `no_ack` and `duplicate_window`. `js_stream_calls::update_stream` lists it.
     pub fn update_stream(&self, alloc: Global, config: &Config) -> Result<UpdateStream, OutOfMemory>
         ensures { IfOk result (λ call. Updates self.now.scope config.now call) }
     {
         update_stream(alloc, self.scope(), config)
     }
 
-    /// Changes a stream, and makes it as `create_stream` does where the API answers that it is not there.
+    /// Changes a stream, and makes it as `create_stream` does where the API answers that it is not there. Where it is there, what
+    /// `Config` does not name is reset, as by `update_stream`.
     pub fn create_or_update_stream(
         &self,
         alloc: Global,

@@ -1,5 +1,0 @@
-use Rattle.js_context.proofs.Looking.{Reaping}
-use Rattle.js_context.proofs.context.Context.reap.Given as goal
-
-abbrev pub invariant-loop-look : goal.invariant-loop-look
-invariant-loop-look g l = Reaping l.look l.now l.fn.self l.self (g.L.Link.view l.fn.link) (g.L.Link.view l.link) l.settled l.place

@@ -1,5 +1,0 @@
-//! Contexts over a link in memory.
-
-mod building;
-mod calls;
-mod publishing;
