@@ -1,3 +1,4 @@
 mod Back
 mod Parts
 mod Written
+mod KeptBodies

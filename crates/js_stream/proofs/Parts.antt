@@ -25,10 +25,10 @@ use Rattle.js_stream.specs.RetentionPolicy.{retention_policy_named, retention_po
 use Rattle.js_stream.specs.StorageType.{storage_type_named, storage_type_data}
 use Rattle.js_stream.specs.DiscardPolicy.{discard_policy_named, discard_policy_data}
 use Rattle.js_stream.specs.Compression.{compression_named, compression_data}
-use Rattle.js_stream.specs.Republish.{republish_fields, republish_value, republish_data}
-use Rattle.js_stream.specs.External.{external_fields, external_rows, external_value, external_data}
+use Rattle.js_stream.specs.Republish.{republish_fields, republish_members, republish_value, republish_data}
+use Rattle.js_stream.specs.External.{external_fields, external_members, external_rows, external_value, external_data}
 use Rattle.js_stream.specs.Source.{source_fields, source_rows, source_value, source_data}
-use Rattle.js_stream.specs.Placement.{placement_fields, placement_rows, placement_value, placement_data}
+use Rattle.js_stream.specs.Placement.{placement_fields, placement_members, placement_rows, placement_value, placement_data}
 use Rattle.js_stream.specs.WrittenBack.{without_domain}
 
 pub retention_back : (k : Key) (p : RetentionPolicy)
@@ -57,12 +57,12 @@ pub texts_back : (k : Key) (xs : List (List ℕ)) → ComesBack (list_data text_
 texts_back k xs = rw (map-id xs) at (list_back text_data text (λ x. x) k (text_back k) xs)
 
 pub republish_back : (k : Key) (r : Republish) → ComesBack republish_data (nested republish_fields) k r r
-unfolding reading_on_literals writing_on_literals republish_fields republish_value
+unfolding reading_on_literals writing_on_literals republish_fields republish_members republish_value
 republish_back k r = (object _, refl, refl, refl)
 
 external_read : (e : External) (ms : Members) → with_rows (Ok no_members) (external_rows e) ≡ Ok ms
     → external_fields (object ms) ≡ Ok e
-unfolding external_fields
+unfolding external_fields external_members nested
 external_read e ms is =
     rw (
       kept_back text_data text key.Api e.api_prefix e.api_prefix [] ms (text_back key.Api e.api_prefix)
@@ -106,7 +106,7 @@ source_back k s =
 
 placement_read : (p : Placement) (ms : Members) → with_rows (Ok no_members) (placement_rows p) ≡ Ok ms
     → placement_fields (object ms) ≡ Ok p
-unfolding placement_fields
+unfolding placement_fields placement_members nested
 placement_read p ms is =
     rw (
       optional_same text_data text key.Cluster p.cluster ms (text_back key.Cluster)

@@ -12,3 +12,4 @@ pub mod StreamInfo
 pub mod DeleteStatus
 pub mod Page
 pub mod WrittenBack
+pub mod Keeping

@@ -3,17 +3,21 @@ use Rattle.std.specs.Prelude.{List, [], ◌∷◌, Result, Ok}
 use Rattle.serde_json.specs.Data.{Data, no_members}
 use Rattle.js_fields.specs.declared.key.Key.TheVariants as key
 use Rattle.js_fields.specs.declared.error.ReadError.{ReadError}
-use Rattle.js_fields.specs.Reading.{◌>>=◌, optional, defaulted, text, list_of}
+use Rattle.js_fields.specs.Reading.{◌>>=◌, optional, defaulted, text, list_of, nested}
 use Rattle.js_fields.specs.Rows.{Writes, Row, row, with_rows, object_of, unless, where_some, text_data, list_data}
 use Rattle.js_fields.specs.Rows.{is_empty}
 use Rattle.js_stream.specs.declared.stream.placement.Placement.{Placement}
 
 -- from its members
-unfoldable pub placement_fields : Data → Result Placement ReadError
-placement_fields d = do
+unfoldable pub placement_members : Data → Result Placement ReadError
+placement_members d = do
   cluster ← optional text key.Cluster d
   tags ← defaulted (list_of text) key.Tags [] d
   Ok (record { cluster = cluster; tags = tags })
+
+-- the same, of an object alone: each member may be absent
+unfoldable pub placement_fields : Data → Result Placement ReadError
+placement_fields = nested placement_members key.Cluster
 
 -- the members that are written
 abbrev pub placement_rows : Placement → List Row

@@ -3,17 +3,21 @@ use Rattle.std.specs.Prelude.{List, [], ◌∷◌, false, Result, Ok}
 use Rattle.serde_json.specs.Data.{Data, no_members}
 use Rattle.js_fields.specs.declared.key.Key.TheVariants as key
 use Rattle.js_fields.specs.declared.error.ReadError.{ReadError}
-use Rattle.js_fields.specs.Reading.{◌>>=◌, defaulted, text, truth}
+use Rattle.js_fields.specs.Reading.{◌>>=◌, defaulted, text, truth, nested}
 use Rattle.js_fields.specs.Rows.{Writes, Row, row, with_rows, object_of, always, text_data, truth_data}
 use Rattle.js_stream.specs.declared.stream.republish.Republish.{Republish}
 
 -- from its members
-unfoldable pub republish_fields : Data → Result Republish ReadError
-republish_fields d = do
+unfoldable pub republish_members : Data → Result Republish ReadError
+republish_members d = do
   source ← defaulted text key.Src [] d
   destination ← defaulted text key.Dest [] d
   headers_only ← defaulted truth key.HeadersOnly false d
   Ok (record { source = source; destination = destination; headers_only = headers_only })
+
+-- the same, of an object alone: each member may be absent
+unfoldable pub republish_fields : Data → Result Republish ReadError
+republish_fields = nested republish_members key.Src
 
 -- the members that are written
 abbrev pub republish_rows : Republish → List Row

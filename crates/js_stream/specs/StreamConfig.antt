@@ -9,10 +9,10 @@ use Rattle.js_fields.specs.Rows.{Writes, Row, row, with_rows, object_of, always,
 use Rattle.js_fields.specs.Rows.{text_data, natural_data, integer_data, truth_data, list_data}
 use Rattle.js_fields.specs.Rows.{is_empty, is_zero, is_zero_integer}
 use Rattle.js_stream.specs.declared.stream.config.Config.{Config}
-use Rattle.js_stream.specs.declared.stream.config.Basics.{Basics}
-use Rattle.js_stream.specs.declared.stream.config.Limits.{Limits}
-use Rattle.js_stream.specs.declared.stream.config.Rights.{Rights}
-use Rattle.js_stream.specs.declared.stream.config.Origins.{Origins}
+use Rattle.js_stream.specs.declared.stream.config.reading.Basics.{Basics}
+use Rattle.js_stream.specs.declared.stream.config.reading.Limits.{Limits}
+use Rattle.js_stream.specs.declared.stream.config.reading.Rights.{Rights}
+use Rattle.js_stream.specs.declared.stream.config.reading.Origins.{Origins}
 use Rattle.js_stream.specs.declared.stream.policies.DiscardPolicy.TheVariants as discard_policy
 use Rattle.js_stream.specs.declared.stream.policies.RetentionPolicy.TheVariants as retention_policy
 use Rattle.js_stream.specs.declared.stream.policies.StorageType.TheVariants as storage_type

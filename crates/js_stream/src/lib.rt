@@ -5,6 +5,3 @@
 pub mod stream;
 
 pub use stream::DeleteStatus;
-
-#[cfg(test)]
-mod tests;

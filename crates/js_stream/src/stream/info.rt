@@ -14,8 +14,11 @@ use std::alloc::Global;
 /// What the server knows of a stream.
 #[derive(Debug, PartialEq, Eq, Drop)]
 pub struct Info {
+    /// How it is configured, with what the server chose.
     pub config: Config,
+    /// When it was made.
     pub created: Timestamp,
+    /// What is stored in it.
     pub state: State,
 }
 
@@ -55,6 +58,7 @@ impl Member for Info {
 pub struct State {
     /// How many messages.
     pub messages: u64,
+    /// How many bytes they take.
     pub bytes: u64,
     /// The sequence of the first message that is there.
     pub first_sequence: u64,

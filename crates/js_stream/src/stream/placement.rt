@@ -32,8 +32,11 @@ impl TryClone for Placement {
 impl FromValue for Placement {
     ghost fields = { placement_fields };
 
-    #[tactic(auto, unfolding(crate::specs::Placement::placement_fields))]
+    #[tactic(auto, unfolding(crate::specs::Placement::placement_fields, crate::specs::Placement::placement_members, js_fields::specs::Reading::nested))]
     fn from_fields(alloc: Global, object: &Value) -> Result<Placement, ReadError> {
+        if !object.is_object() {
+            return Err(ReadError::WrongKind { key: Key::Cluster });
+        }
         Ok(Placement {
             cluster: optional(alloc, object, Key::Cluster)?,
             tags: defaulted(alloc, object, Key::Tags)?,

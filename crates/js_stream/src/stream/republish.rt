@@ -33,8 +33,11 @@ impl TryClone for Republish {
 impl FromValue for Republish {
     ghost fields = { republish_fields };
 
-    #[tactic(auto, unfolding(crate::specs::Republish::republish_fields))]
+    #[tactic(auto, unfolding(crate::specs::Republish::republish_fields, crate::specs::Republish::republish_members, js_fields::specs::Reading::nested))]
     fn from_fields(alloc: Global, object: &Value) -> Result<Republish, ReadError> {
+        if !object.is_object() {
+            return Err(ReadError::WrongKind { key: Key::Src });
+        }
         Ok(Republish {
             source: defaulted(alloc, object, Key::Src)?,
             destination: defaulted(alloc, object, Key::Dest)?,

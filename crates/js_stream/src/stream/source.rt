@@ -16,6 +16,7 @@ use std::alloc::Global;
 /// A stream that is copied, as a mirror or as one of several sources.
 #[derive(Debug, PartialEq, Eq, Drop)]
 pub struct Source {
+    /// The name of that stream.
     pub name: Text,
     /// The sequence that copying begins with.
     pub start_sequence: Option<u64>,
@@ -111,8 +112,11 @@ impl TryClone for External {
 impl FromValue for External {
     ghost fields = { external_fields };
 
-    #[tactic(auto, unfolding(crate::specs::External::external_fields))]
+    #[tactic(auto, unfolding(crate::specs::External::external_fields, crate::specs::External::external_members, js_fields::specs::Reading::nested))]
     fn from_fields(alloc: Global, object: &Value) -> Result<External, ReadError> {
+        if !object.is_object() {
+            return Err(ReadError::WrongKind { key: Key::Api });
+        }
         Ok(External {
             api_prefix: defaulted(alloc, object, Key::Api)?,
             delivery_prefix: optional(alloc, object, Key::Deliver)?,
