@@ -1,5 +1,5 @@
 -- The ring of detached acks.
-use Rattle.std.proofs.Common.{◌≡◌, ℕ, List, ◌∷◌, drop, sym, ◌∙◌, subst}
+use Rattle.std.proofs.Common.{◌≡◌, List, drop, sym, ◌∙◌, subst}
 use Rattle.std.specs.Prelude.{All}
 use Rattle.std.proofs.lemmas.List.Elements.{All-drop}
 

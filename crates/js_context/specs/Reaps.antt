@@ -1,5 +1,5 @@
 -- Looking after the acks that nobody awaits.
-use Rattle.std.specs.Prelude.{ℕ, ◌≡◌, ◌+◌, ◌&&◌, nat_lt, if◌then◌else◌, Bool, true, false, Option, Some, None, List, [], ◌∷◌, ◌++◌, length, map, take, drop}
+use Rattle.std.specs.Prelude.{ℕ, ◌≡◌, ◌+◌, ◌&&◌, nat_lt, if◌then◌else◌, Bool, true, false, Option, Some, None, List, [], ◌∷◌, ◌++◌, map, take, drop}
 use Rattle.js_link.specs.LinkView.{LinkView}
 use Rattle.js_call.specs.Raw.{Shows}
 use Rattle.js_call.specs.declared.open_request.OpenRequest.{OpenRequest}

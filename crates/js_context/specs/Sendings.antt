@@ -1,5 +1,5 @@
 -- Sending a message under a permit.
-use Rattle.std.specs.Prelude.{ℕ, ◌≡◌, ◌+◌, ◌≤◌, ◌<◌, Bool, true, false, Option, Some, None, Result, Ok, Err, if◌then◌else◌}
+use Rattle.std.specs.Prelude.{◌≡◌, ◌+◌, ◌≤◌, ◌<◌, Bool, true, false, None, Result, Ok, Err, if◌then◌else◌}
 use Rattle.js_base.specs.Errors.{plain}
 use Rattle.js_base.specs.Match.{is_valid_subject}
 use Rattle.js_base.specs.declared.error.Error.{Error}

@@ -1,5 +1,5 @@
 -- Waiting until no permit is out.
-use Rattle.std.specs.Prelude.{ℕ, ◌≡◌, true}
+use Rattle.std.specs.Prelude.{◌≡◌, true}
 use mathlib.Core.List.{IsPrefix}
 use Rattle.js_window.specs.Caller.{Caller, Makes, held}
 use Rattle.js_window.specs.declared.history.Call.TheVariants.{AllFree}

@@ -1,4 +1,4 @@
-use Rattle.std.proofs.Common.{◌≡◌, ◌<◌, ◌+◌, length, arith, refl, sym, ap, true, false, subst}
+use Rattle.std.proofs.Common.{◌≡◌, ◌<◌, length, arith, ap, subst}
 use Rattle.js_context.specs.Reaps.{GoesRound, one_if}
 use Rattle.js_context.proofs.Looking.{none_looked, some_left, next_look}
 use Rattle.js_context.proofs.context.Context.reap_first.Goals as goal

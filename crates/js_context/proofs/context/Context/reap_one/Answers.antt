@@ -1,4 +1,3 @@
-use Rattle.std.proofs.Common.{◌≡◌, ap, refl}
 use Rattle.js_context.proofs.Looking.{looks_at, some_is}
 use Rattle.js_context.proofs.context.Context.reap_one.Goals as goal
 

@@ -1,4 +1,4 @@
-use Rattle.std.proofs.Common.{◌≡◌, ◌∙◌, arith}
+use Rattle.std.proofs.Common.{◌∙◌, arith}
 use Rattle.js_context.specs.declared.context.Detached.{Detached}
 use Rattle.js_context.proofs.Ring.{rest_alike}
 use Rattle.js_context.proofs.context.Context.settle_first.Goals as goal
