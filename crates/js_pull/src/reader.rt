@@ -1,3 +1,4 @@
+//! A pull reader: whom it asks, what is pending, and when it asks again.
 ghost use Rattle.std.specs.Prelude.{◌≡◌};
 ghost use Rattle.js_base.specs.Clock as clock;
 ghost use Rattle.js_pull.specs.Passes.{asks_if};
@@ -137,6 +138,7 @@ pub struct Reader {
     pub ended: bool,
 }
 
+/// Whether an info is open: its answer is waited for, or its next try.
 pub fn is_asking(inquiry: &Inquiry) -> bool
     ensures { result ≡ rows.is_asking inquiry.now }
 {

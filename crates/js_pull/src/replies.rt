@@ -1,5 +1,5 @@
 //! What a reader makes of the messages that it is sent.
-ghost use Rattle.std.specs.Prelude.{◌≡◌, IfOk, OnOk, option_map};
+ghost use Rattle.std.specs.Prelude.{◌≡◌, IfOk, OnErr, OnOk, option_map};
 ghost use Rattle.std.specs.Option.{option_copied};
 ghost use Rattle.js_base.specs.Headers.{all_headers, last_value};
 ghost use Rattle.js_pull.specs.Reader as rows;
@@ -64,40 +64,44 @@ fn named_pin(alloc: Global, headers: &Option<HeaderMap>) -> Result<Option<Text>,
     }
 }
 
-fn newer(new: Option<Text>, old: Option<Text>) -> Option<Text>
-    ensures { result ≡ rows.newer new old }
+/// The newer of two pins.
+fn keep_newer(pin: &mut Option<Text>, named: Option<Text>)
+    ensures { pin.new ≡ rows.newer named pin.old }
 {
-    match new {
-        None => old,
-        Some(new) => Some(new),
+    match named {
+        None => {}
+        Some(named) => *pin = Some(named),
     }
 }
 
 /// The pin after an arrival. Status 423 says that another client is pinned.
-fn pin_after(
-    alloc: Global,
-    message: &Message,
-    pin: Option<Text>,
-) -> Result<Option<Text>, OutOfMemory>
-    ensures { IfOk result (λ new. new ≡ rows.pin_after message.now message.now.status pin) }
+fn note_named(pin: &mut Option<Text>, alloc: Global, message: &Message) -> Result<(), OutOfMemory>
+    ensures noted { OnOk result (pin.new ≡ rows.pin_after message.now message.now.status pin.old) }
+    ensures kept { OnErr result (pin.new ≡ pin.old) }
 {
     match message.status {
-        None => Ok(newer(named_pin(alloc, &message.headers)?, pin)),
-        Some(StatusCode(200)) => Ok(newer(named_pin(alloc, &message.headers)?, pin)),
-        Some(StatusCode(423)) => Ok(None),
-        Some(_) => Ok(pin),
+        None => keep_newer(pin, named_pin(alloc, &message.headers)?),
+        Some(StatusCode(200)) => keep_newer(pin, named_pin(alloc, &message.headers)?),
+        Some(StatusCode(423)) => *pin = None,
+        Some(_) => {}
     }
+    Ok(())
 }
 
 impl Reader {
-    /// Keeps the pin that an arrival names, if clients are pinned at all. After a refusal the pin is gone.
+    /// Keeps the pin that an arrival names in its header `Nats-Pin-Id`, if clients are pinned at all; status 423 lets it go.
+    ///
+    /// # Errors
+    ///
+    /// Want of memory, which leaves the reader as it was.
     pub fn note_pin(&mut self, alloc: Global, message: &Message) -> Result<(), OutOfMemory>
-        ensures { OnOk result (self.new ≡ rows.with_pin message.now self.old) }
+        ensures noted { OnOk result (self.new ≡ rows.with_pin message.now self.old) }
+        ensures kept { OnErr result (self.new ≡ self.old) }
     {
-        let pin = self.pin.take();
         if self.source.pinned {
-            self.pin = pin_after(alloc, message, pin)?;
+            return note_named(&mut self.pin, alloc, message);
         }
+        self.pin = None;
         Ok(())
     }
 }
