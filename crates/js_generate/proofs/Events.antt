@@ -22,23 +22,23 @@ use Rattle.js_pull.specs.declared.reader.Reason.TheVariants.{Low, Expired}
 use Rattle.js_pull.specs.declared.reader.Inquiry.TheVariants.{NoInquiry}
 use Rattle.js_pull.specs.declared.reader.MessagesErrorKind.TheVariants as error
 use Rattle.js_pull.specs.declared.reader.Row.TheVariants as read
-use Rattle.js_ordered.specs.declared.setup.Settings.{Settings}
-use Rattle.js_ordered.specs.declared.setup.OrderedSetup.TheVariants.{Pull}
-use Rattle.js_ordered.specs.declared.consumer.Given.{Given}
-use Rattle.js_ordered.specs.declared.consumer.Phase.{Phase}
-use Rattle.js_ordered.specs.declared.consumer.Phase.TheVariants.{Pulls, Recreates}
-use Rattle.js_ordered.specs.declared.consumer.Stage.{Stage}
-use Rattle.js_ordered.specs.declared.consumer.Stage.TheVariants.{Deleting, Creating}
-use Rattle.js_ordered.specs.declared.event.What.TheVariants as what
-use Rattle.js_ordered.specs.declared.row.Row.TheVariants.{Event, Read}
-use Rattle.js_ordered.specs.declared.run.Output.{Output}
-use Rattle.js_ordered.specs.declared.run.Start.{Start}
-use Rattle.js_ordered.specs.declared.run.Start.TheVariants as start
-use Rattle.js_ordered.specs.Texts.{consumer_name, inbox_subject, recreation_timeout, source_of}
-use Rattle.js_ordered.specs.declared.world.World.{World}
-use Rattle.js_ordered.specs.State.{Matter}
-use Rattle.js_ordered.specs.Reading.{read_row}
-use Rattle.js_ordered.specs.Fold.{Ran, after, stays, and_then, pass_each, pass_to, rank, tick, opening, matter_of, event}
+use Rattle.js_table.specs.declared.setup.Settings.{Settings}
+use Rattle.js_table.specs.declared.setup.OrderedSetup.TheVariants.{Pull}
+use Rattle.js_table.specs.declared.consumer.Given.{Given}
+use Rattle.js_table.specs.declared.consumer.Phase.{Phase}
+use Rattle.js_table.specs.declared.consumer.Phase.TheVariants.{Pulls, Recreates}
+use Rattle.js_table.specs.declared.consumer.Stage.{Stage}
+use Rattle.js_table.specs.declared.consumer.Stage.TheVariants.{Deleting, Creating}
+use Rattle.js_table.specs.declared.event.What.TheVariants as what
+use Rattle.js_table.specs.declared.row.Row.TheVariants.{Event, Read}
+use Rattle.js_table.specs.declared.run.Output.{Output}
+use Rattle.js_table.specs.declared.run.Start.{Start}
+use Rattle.js_table.specs.declared.run.Start.TheVariants as start
+use Rattle.js_table.specs.Texts.{consumer_name, inbox_subject, recreation_timeout, source_of}
+use Rattle.js_table.specs.declared.world.World.{World}
+use Rattle.js_table.specs.State.{Matter}
+use Rattle.js_table.specs.Reading.{read_row}
+use Rattle.js_table.specs.Fold.{Ran, after, stays, and_then, pass_each, pass_to, rank, tick, opening, matter_of, event}
 use Rattle.js_generate.proofs.Lists.{if_both}
 use Rattle.js_generate.proofs.Follows.{Follows, follows_append}
 

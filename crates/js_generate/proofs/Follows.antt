@@ -2,9 +2,9 @@
 use Rattle.std.proofs.Common.{◌≡◌, ℕ, ◌+◌, List, [], ◌∷◌, ◌++◌, count_by, refl, sym, subst, arith}
 use Rattle.std.specs.Prelude.{cond}
 use Rattle.std.proofs.lemmas.List.Sums.{sum_by-cons}
-use Rattle.js_ordered.specs.declared.run.Output.{Output}
-use Rattle.js_ordered.specs.declared.run.Output.TheVariants as out
-use Rattle.js_ordered.specs.Gapless.{FollowsStarts, start_sequence}
+use Rattle.js_table.specs.declared.run.Output.{Output}
+use Rattle.js_table.specs.declared.run.Output.TheVariants as out
+use Rattle.js_table.specs.Gapless.{FollowsStarts, start_sequence}
 use Rattle.js_generate.specs.Counts.{is_yield, last_yielded}
 
 -- from the last sequence so far and the start of the last recreation to those after the outputs

@@ -6,10 +6,10 @@ use Rattle.std.specs.List.{AllByRecursion}
 use Rattle.std.proofs.lemmas.Grind.{get_or_default_zero}
 use Rattle.js_message.specs.Ack.{Place, readable_as}
 use Rattle.js_pull.specs.Reader.{u64_max}
-use Rattle.js_ordered.specs.declared.event.Event as events
-use Rattle.js_ordered.specs.declared.event.What.{What}
-use Rattle.js_ordered.specs.Gapless.{Logged, entry_at, IsMatching, IsWhole, IsDelivery, IsHonestEvent, entry_of}
-use Rattle.js_ordered.specs.Valid.{IsEventBelowEnd}
+use Rattle.js_table.specs.declared.event.Event as events
+use Rattle.js_table.specs.declared.event.What.{What}
+use Rattle.js_table.specs.Gapless.{Logged, entry_at, IsMatching, IsWhole, IsDelivery, IsHonestEvent, entry_of}
+use Rattle.js_table.specs.Valid.{IsEventBelowEnd}
 use Rattle.js_generate.specs.Episodes.{delivered, before, reply, plain, delivery, deliveries, answer, recovery, happens, episodes}
 use Rattle.js_generate.specs.Transcript.{given, at_places, generated}
 use Rattle.js_generate.specs.Honesty.{upwards, log, server}

@@ -1,8 +1,8 @@
 -- Events that are added one after another.
 use Rattle.std.proofs.Common.{◌≡◌, ℕ, zero, suc, ◌+◌, ◌-◌, ◌*◌, ◌%◌, ◌<◌, ◌≤◌, List, [], ◌∷◌, ◌++◌, length, take, codes, Result, Ok, Err, OnOk, refl, sym, ap, ap₂, ◌∙◌, arith, append_assoc, append-nil, length-append, add-one}
 use Rattle.std.proofs.lemmas.List.{take-append-le}
-use Rattle.js_ordered.specs.declared.event.Event.{Event}
-use Rattle.js_ordered.specs.declared.event.What.{What}
+use Rattle.js_table.specs.declared.event.Event.{Event}
+use Rattle.js_table.specs.declared.event.What.{What}
 use Rattle.js_generate.specs.declared.episode.Episode.{Episode}
 use Rattle.js_generate.specs.Episodes.{draw, delivered, before, info_text, name_of, delivery, deliveries, answer, recovery, happens, episodes}
 use Rattle.js_generate.specs.Transcript.{at_places, generated}

@@ -7,11 +7,11 @@ use Rattle.js_json.specs.declared.pull.OrderedConfig.{OrderedConfig}
 use Rattle.js_message.specs.Ack.{Place}
 use Rattle.js_pull.specs.Reader.{u64_max}
 use Rattle.js_pull.specs.declared.reader.Source.{Source}
-use Rattle.js_ordered.specs.declared.setup.Settings.{Settings}
-use Rattle.js_ordered.specs.declared.consumer.Given.{Given}
-use Rattle.js_ordered.specs.declared.world.World.{World}
-use Rattle.js_ordered.specs.declared.consumer.Stage.TheVariants.{Deleting, Creating}
-use Rattle.js_ordered.specs.Fold.{Ran, event}
+use Rattle.js_table.specs.declared.setup.Settings.{Settings}
+use Rattle.js_table.specs.declared.consumer.Given.{Given}
+use Rattle.js_table.specs.declared.world.World.{World}
+use Rattle.js_table.specs.declared.consumer.Stage.TheVariants.{Deleting, Creating}
+use Rattle.js_table.specs.Fold.{Ran, event}
 use Rattle.js_generate.specs.Episodes.{delivered, before, reply, info_text, name_of, delivery, deliveries, answer, recovery, happens, episodes}
 use Rattle.js_generate.specs.Transcript as transcript
 use Rattle.js_generate.proofs.Numbers.{few, before_bound}

@@ -1,12 +1,12 @@
 -- Lists of events, one after another.
 use Rattle.std.proofs.Common.{◌≡◌, ℕ, ◌+◌, ◌*◌, List, [], ◌∷◌, ◌++◌, length, map, refl, sym, ap, ◌∙◌, arith, append_assoc}
-use Rattle.js_ordered.specs.declared.consumer.Given.{Given}
-use Rattle.js_ordered.specs.declared.event.Event as events
-use Rattle.js_ordered.specs.declared.event.What.{What}
-use Rattle.js_ordered.specs.declared.run.Output.{Output}
-use Rattle.js_ordered.specs.declared.world.World.{World}
-use Rattle.js_ordered.specs.Fold.{Ran, stays, and_then, event, run_events, step_of}
-use Rattle.js_ordered.specs.Gapless.{joined}
+use Rattle.js_table.specs.declared.consumer.Given.{Given}
+use Rattle.js_table.specs.declared.event.Event as events
+use Rattle.js_table.specs.declared.event.What.{What}
+use Rattle.js_table.specs.declared.run.Output.{Output}
+use Rattle.js_table.specs.declared.world.World.{World}
+use Rattle.js_table.specs.Fold.{Ran, stays, and_then, event, run_events, step_of}
+use Rattle.js_table.specs.Gapless.{joined}
 use Rattle.js_generate.specs.Transcript.{at_places}
 
 -- what happens from a place on

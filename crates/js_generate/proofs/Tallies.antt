@@ -4,11 +4,11 @@ use Rattle.std.proofs.Math.Seq.{take-suc}
 use Rattle.std.proofs.lemmas.List.{take_all}
 use Rattle.std.specs.Prelude.{cond}
 use Rattle.std.proofs.lemmas.List.Sums.{sum_by_push}
-use Rattle.js_ordered.specs.declared.run.Output.{Output}
-use Rattle.js_ordered.specs.declared.run.Step.{Step}
-use Rattle.js_ordered.specs.declared.run.Output.TheVariants as out
-use Rattle.js_ordered.specs.Fold.{is_request, is_subscribe}
-use Rattle.js_ordered.specs.Gapless.{joined}
+use Rattle.js_table.specs.declared.run.Output.{Output}
+use Rattle.js_table.specs.declared.run.Step.{Step}
+use Rattle.js_table.specs.declared.run.Output.TheVariants as out
+use Rattle.js_table.specs.Fold.{is_request, is_subscribe}
+use Rattle.js_table.specs.Gapless.{joined}
 use Rattle.js_generate.specs.declared.summary.Summary.{Summary}
 use Rattle.js_generate.specs.Counts.{is_yield, is_item, is_recreation, is_publish, last_yielded, counts}
 

@@ -4,16 +4,16 @@ use Rattle.std.specs.Prelude.{nat_lt}
 use Rattle.std.proofs.lemmas.List.{take-append-drop}
 use Rattle.std.proofs.lemmas.Bool.Decides.{nat_tests}
 use Rattle.js_json.specs.PullConfig.{new_ordered_pull_config}
-use Rattle.js_ordered.specs.declared.consumer.Given.{Given}
-use Rattle.js_ordered.specs.declared.event.Event as events
-use Rattle.js_ordered.specs.declared.event.What.{What}
-use Rattle.js_ordered.specs.declared.run.Output.{Output}
-use Rattle.js_ordered.specs.declared.run.Run.{Run}
-use Rattle.js_ordered.specs.declared.world.World.{World}
-use Rattle.js_ordered.specs.Fold.{opening, run_events, fold}
-use Rattle.js_ordered.specs.Refusal.{first_early}
-use Rattle.js_ordered.specs.Gapless.{IsHonest, all_outputs}
-use Rattle.js_ordered.specs.Valid.{IsValid, IsReplay}
+use Rattle.js_table.specs.declared.consumer.Given.{Given}
+use Rattle.js_table.specs.declared.event.Event as events
+use Rattle.js_table.specs.declared.event.What.{What}
+use Rattle.js_table.specs.declared.run.Output.{Output}
+use Rattle.js_table.specs.declared.run.Run.{Run}
+use Rattle.js_table.specs.declared.world.World.{World}
+use Rattle.js_table.specs.Fold.{opening, run_events, fold}
+use Rattle.js_table.specs.Refusal.{first_early}
+use Rattle.js_table.specs.Gapless.{IsHonest, all_outputs}
+use Rattle.js_table.specs.Valid.{IsValid, IsReplay}
 use Rattle.js_generate.specs.Episodes.{before, episodes}
 use Rattle.js_generate.specs.Transcript.{settings, info, given, at_places, generated}
 use Rattle.js_generate.specs.Honesty.{server, IsServed}

@@ -1,12 +1,12 @@
 -- How much a run puts out.
 use Rattle.std.specs.Prelude.{◌≡◌, ℕ, Bool, true, false, List, [], ◌∷◌, length, count_by}
-use Rattle.js_ordered.specs.declared.event.Event.{Event}
-use Rattle.js_ordered.specs.declared.run.Run.{Run}
-use Rattle.js_ordered.specs.declared.run.Output.{Output}
-use Rattle.js_ordered.specs.declared.run.Output.TheVariants as out
-use Rattle.js_ordered.specs.Fold.{is_request, is_subscribe}
-use Rattle.js_ordered.specs.Gapless.{all_outputs}
-use Rattle.js_ordered.specs.Valid.{IsReplay}
+use Rattle.js_table.specs.declared.event.Event.{Event}
+use Rattle.js_table.specs.declared.run.Run.{Run}
+use Rattle.js_table.specs.declared.run.Output.{Output}
+use Rattle.js_table.specs.declared.run.Output.TheVariants as out
+use Rattle.js_table.specs.Fold.{is_request, is_subscribe}
+use Rattle.js_table.specs.Gapless.{all_outputs}
+use Rattle.js_table.specs.Valid.{IsReplay}
 use Rattle.js_generate.specs.declared.summary.Summary.{Summary}
 use Rattle.js_generate.specs.Transcript.{given}
 

@@ -1,8 +1,8 @@
 -- The events of a generated transcript, episode after episode: some messages in order, a gap, and the recreation that it brings.
 use Rattle.std.specs.Prelude.{ℕ, zero, suc, ◌+◌, ◌*◌, ◌%◌, List, [], ◌∷◌, ◌++◌, length, Some, None, codes, decimal}
 use Rattle.js_base.specs.declared.message.Message.{Message}
-use Rattle.js_ordered.specs.declared.event.What.{What}
-use Rattle.js_ordered.specs.declared.event.What.TheVariants as what
+use Rattle.js_table.specs.declared.event.What.{What}
+use Rattle.js_table.specs.declared.event.What.TheVariants as what
 
 -- ---- the numbers
 

@@ -1,9 +1,9 @@
 -- The server of a generated transcript.
 use Rattle.std.specs.Prelude.{ℕ, zero, suc, ◌+◌, ◌-◌, List, [], ◌∷◌, decimal, map}
-use Rattle.js_ordered.specs.declared.event.Event.{Event}
-use Rattle.js_ordered.specs.declared.run.Run.{Run}
-use Rattle.js_ordered.specs.Gapless.{Logged, Server, IsHonest}
-use Rattle.js_ordered.specs.Valid.{IsReplay}
+use Rattle.js_table.specs.declared.event.Event.{Event}
+use Rattle.js_table.specs.declared.run.Run.{Run}
+use Rattle.js_table.specs.Gapless.{Logged, Server, IsHonest}
+use Rattle.js_table.specs.Valid.{IsReplay}
 use Rattle.js_generate.specs.Transcript.{given}
 use Rattle.js_generate.specs.Episodes.{before}
 

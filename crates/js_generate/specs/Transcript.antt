@@ -5,11 +5,11 @@ use Rattle.js_json.specs.declared.consumer.info.Info.{Info}
 use Rattle.js_json.specs.declared.consumer.info.SequenceInfo.{SequenceInfo}
 use Rattle.js_json.specs.ConsumerConfig.{new_config}
 use Rattle.js_json.specs.PullConfig.{new_ordered_pull_config}
-use Rattle.js_ordered.specs.declared.setup.Settings.{Settings}
-use Rattle.js_ordered.specs.declared.setup.OrderedSetup.TheVariants.{Pull}
-use Rattle.js_ordered.specs.declared.consumer.Given.{Given}
-use Rattle.js_ordered.specs.declared.event.Event.{Event}
-use Rattle.js_ordered.specs.declared.event.What.{What}
+use Rattle.js_table.specs.declared.setup.Settings.{Settings}
+use Rattle.js_table.specs.declared.setup.OrderedSetup.TheVariants.{Pull}
+use Rattle.js_table.specs.declared.consumer.Given.{Given}
+use Rattle.js_table.specs.declared.event.Event.{Event}
+use Rattle.js_table.specs.declared.event.What.{What}
 use Rattle.js_generate.specs.Episodes.{episodes}
 
 -- ---- the setup

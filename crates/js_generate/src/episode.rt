@@ -6,7 +6,7 @@ ghost use Rattle.js_generate.specs.Transcript as transcript;
 use crate::texts;
 use bytes::Bytes;
 use js_base::{Boxed, Message, OutOfMemory, Subject};
-use js_ordered::{Event, What};
+use js_table::{Event, What};
 use std::alloc::Global;
 
 /// Some messages in order, a gap, and the recreation that it brings.

@@ -8,5 +8,5 @@ mod texts;
 mod transcript;
 
 pub use setup::given;
-pub use summary::{Summary, generate};
+pub use summary::{Summary, summary_of};
 pub use transcript::generated;

@@ -6,7 +6,7 @@ use crate::texts;
 use js_base::{OutOfMemory, Text};
 use js_json::consumer::Info;
 use js_json::{Response, pull, response_as};
-use js_ordered::{Given, OrderedSetup, Settings};
+use js_table::{Given, OrderedSetup, Settings};
 use std::alloc::Global;
 
 /// All at their defaults.

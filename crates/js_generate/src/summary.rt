@@ -1,16 +1,10 @@
 //! How much the replay of a generated transcript puts out.
-ghost use Rattle.std.specs.Prelude.{◌≡◌, ◌≤◌, ◌+◌, ◌++◌, ◌∷◌, [], ℕ, List, IfOk, OnOk};
-ghost use Rattle.js_ordered.specs.declared.run.Output as outputs;
-ghost use Rattle.js_ordered.specs.Fold.{fold};
-ghost use Rattle.js_ordered.specs.Valid.{IsReplay, IsValid};
+ghost use Rattle.std.specs.Prelude.{◌≡◌, ◌+◌, ◌++◌, ◌∷◌, [], ℕ, List, IfOk, OnOk};
+ghost use Rattle.js_table.specs.declared.run.Output as outputs;
 ghost use Rattle.js_generate.specs.Counts as counts;
-ghost use Rattle.js_generate.specs.Transcript as transcript;
 
-use crate::setup::given;
-use crate::transcript::generated;
 use js_base::OutOfMemory;
-use js_ordered::{Event, Given, Output, ReplayError, Run, replay_ordered};
-use std::alloc::Global;
+use js_table::{Output, Run};
 
 /// How much a run puts out, over its opening and all of its steps.
 #[derive(Clone, Copy, Debug, PartialEq, Eq)]
@@ -108,41 +102,4 @@ pub fn summary_of(run: &Run) -> Result<Summary, OutOfMemory>
         summary.count_all(step.outputs.as_slice())?;
     }
     Ok(summary)
-}
-
-/// The run of valid events.
-fn replay(alloc: Global, given: &Given, events: &[Event]) -> Result<Run, OutOfMemory>
-    requires { IsValid given.now 0 events.now }
-    ensures { IfOk result (λ run. IsReplay given.now 0 events.now run) }
-{
-    match replay_ordered(
-        alloc,
-        &given.settings,
-        &given.setup,
-        &given.first,
-        0,
-        events,
-    ) {
-        Ok(run) => Ok(run),
-        Err(ReplayError::OutOfMemory) => Err(OutOfMemory),
-        Err(_) => unreachable!(),
-    }
-}
-
-/// The counts of the replay of the first `events` events that a seed gives.
-///
-/// # Errors
-///
-/// Want of memory.
-pub fn generate(alloc: Global, seed: u64, events: u64) -> Result<Summary, OutOfMemory>
-    requires { events ≤ 200_000 }
-    ensures counts { IfOk result (λ summary. summary ≡ counts.summary (fold transcript.given 0 (transcript.generated seed events))) }
-
-    // No message is missing among those that are yielded.
-    ensures whole { IfOk result (λ summary. summary.yields ≡ summary.last) }
-{
-    let given = given(alloc)?;
-    let events = generated(alloc, seed, events)?;
-    let run = replay(alloc, &given, events.as_slice())?;
-    summary_of(&run)
 }

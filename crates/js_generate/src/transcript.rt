@@ -1,13 +1,13 @@
 //! The events of a generated transcript.
 ghost use Rattle.std.specs.Prelude.{◌≡◌, ◌≤◌, IfOk, take};
-ghost use Rattle.js_ordered.specs.Valid.{IsValid};
+ghost use Rattle.js_table.specs.Valid.{IsValid};
 ghost use Rattle.js_generate.specs.Counts.{YieldsItsLast};
 ghost use Rattle.js_generate.specs.Honesty.{IsServed};
 ghost use Rattle.js_generate.specs.Transcript as transcript;
 
 use crate::episode::Episode;
 use js_base::OutOfMemory;
-use js_ordered::Event;
+use js_table::Event;
 use std::alloc::Global;
 
 /// The events of so many episodes that there are enough of them.

@@ -1,10 +1,10 @@
 -- How what a function comes to joins what its callees come to.
 use Rattle.std.proofs.Common.{◌≡◌, List, ◌++◌, sym, ap, subst, ◌∙◌, append_assoc}
 use Rattle.std.specs.Prelude.{Result, Ok, Err, OnOk}
-use Rattle.js_ordered.specs.Fold.{Ran, and_then}
-use Rattle.js_ordered.specs.Passes.{Comes}
-use Rattle.js_ordered.specs.declared.run.Output.{Output}
-use Rattle.js_ordered.specs.declared.world.World.{World}
+use Rattle.js_table.specs.Fold.{Ran, and_then}
+use Rattle.js_table.specs.Passes.{Comes}
+use Rattle.js_table.specs.declared.run.Output.{Output}
+use Rattle.js_table.specs.declared.world.World.{World}
 
 came_after : (r s : Ran) (outputs before after : List Output) (new : World) → r ≡ and_then outputs s → Comes s new (before ++ outputs) after → Comes r new before after
 came_after r s outputs before after new is comes =

@@ -1,15 +1,15 @@
 -- One event more: what a course has come to, and its end.
 use Rattle.std.proofs.Common.{◌≡◌, ℕ, suc, ◌+◌, ◌∙◌, Bool, true, false, List, [], ◌∷◌, ◌++◌, Option, Some, None, refl, sym, ap, map, length, length-append, arith, nat_lt}
 use Rattle.std.specs.Prelude.{Ok, option_map, if◌then◌else◌, not}
-use Rattle.js_ordered.specs.declared.consumer.Given.{Given}
-use Rattle.js_ordered.specs.declared.event.Event as events
-use Rattle.js_ordered.specs.declared.world.World.{World}
-use Rattle.js_ordered.specs.declared.run.Step.{Step}
-use Rattle.js_ordered.specs.declared.run.ReplayError.{ReplayError}
-use Rattle.js_ordered.specs.declared.run.ReplayError.TheVariants as error
+use Rattle.js_table.specs.declared.consumer.Given.{Given}
+use Rattle.js_table.specs.declared.event.Event as events
+use Rattle.js_table.specs.declared.world.World.{World}
+use Rattle.js_table.specs.declared.run.Step.{Step}
+use Rattle.js_table.specs.declared.run.ReplayError.{ReplayError}
+use Rattle.js_table.specs.declared.run.ReplayError.TheVariants as error
 use Rattle.js_ordered.specs.declared.course.Course.{Course}
-use Rattle.js_ordered.specs.Fold.{Ran, event, run_events, opening, is_over, last_world, step_of, fold}
-use Rattle.js_ordered.specs.Refusal.{first_of, unless, bad_field, lacks_subject, is_exhausted, first_early, first_exhausted, refuse_input, refuse}
+use Rattle.js_table.specs.Fold.{Ran, event, run_events, opening, is_over, last_world, step_of, fold}
+use Rattle.js_table.specs.Refusal.{first_of, unless, bad_field, lacks_subject, is_exhausted, first_early, first_exhausted, refuse_input, refuse}
 use Rattle.js_ordered.specs.Course.{course_given, last_moment, last_ran, last, HasCome, IsEnd}
 
 -- ---- lists of events
@@ -98,19 +98,19 @@ length_on es e = simp length-append (omega arith)
 
 -- with no events
 pub comes_first : (g : Given) (start : ℕ) (c : Course) → course_given c ≡ g → c.count ≡ 0 → c.moment ≡ start → c.early ≡ None → c.exhausted ≡ None
-    → c.world ≡ (opening g start).world → c.outputs ≡ (opening g start).outputs → HasCome g start [] c
+    → c.world ≡ (opening g start).world → c.outputs ≡ (opening g start).outputs → c.has_failed ≡ false → HasCome g start [] c
 unfolding last run_events
-comes_first g start c given count moment early exhausted world outputs =
-    record { given = given; count = count; moment = moment; early = early; exhausted = exhausted; world = world; outputs = outputs }
+comes_first g start c given count moment early exhausted world outputs sound =
+    record { given = given; count = count; moment = moment; early = early; exhausted = exhausted; world = world; outputs = outputs; sound = sound }
 
 -- with one event more
 pub comes_on : (g : Given) (start : ℕ) (es : List events.Event) (e : events.Event) (c next : Course) → HasCome g start es c
     → course_given next ≡ course_given c → next.count ≡ c.count + 1 → next.moment ≡ e.at
     → next.early ≡ first_of c.early (if nat_lt e.at c.moment then Some c.count else None)
     → next.exhausted ≡ first_of c.exhausted (if is_exhausted next.world.consumer.phase then Some c.count else None)
-    → next.world ≡ (event (course_given c) e c.world).world → next.outputs ≡ (event (course_given c) e c.world).outputs
+    → next.world ≡ (event (course_given c) e c.world).world → next.outputs ≡ (event (course_given c) e c.world).outputs → next.has_failed ≡ false
     → HasCome g start (es ++ e ∷ []) next
-comes_on g start es e c next come given count moment early exhausted world outputs =
+comes_on g start es e c next come given count moment early exhausted world outputs sound =
     let first : Ran = opening g start in
     let rans : List Ran = run_events g es first.world in
     let ran : Ran = event (course_given c) e c.world in
@@ -133,6 +133,7 @@ comes_on g start es e c next come given count moment early exhausted world outpu
           ∙ sym (exhausted_on 0 rans last_one) ∙ ap (λ (all : List Ran). first_exhausted 0 all) (sym (run_on g es e first.world));
       world = world ∙ ap (λ (r : Ran). r.world) same;
       outputs = outputs ∙ ap (λ (r : Ran). r.outputs) same;
+      sound = sound;
     }
 
 -- ---- its end

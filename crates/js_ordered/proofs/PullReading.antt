@@ -23,19 +23,19 @@ use Rattle.js_pull.specs.declared.reader.Reason.TheVariants.{Low, Expired, Infor
 use Rattle.js_pull.specs.declared.reader.Row.{Row as PullRow}
 use Rattle.js_pull.specs.declared.reader.Row.TheVariants as read
 use Rattle.js_pull.specs.declared.reader.MessagesErrorKind.TheVariants as error
-use Rattle.js_ordered.specs.State.{Matter, Passed, quietly, at_phase}
-use Rattle.js_ordered.specs.Recreation.{message_on, start_row}
-use Rattle.js_ordered.specs.Reading.{read_row, with_sent, message_row, accepted, end_with, restart}
-use Rattle.js_ordered.specs.Fold.{passing, stays, and_then}
-use Rattle.js_ordered.specs.Passes.{ran, from, at, then_row, informed_by, accepting, heard}
-use Rattle.js_ordered.specs.declared.consumer.Given.{Given}
-use Rattle.js_ordered.specs.declared.consumer.Phase.{Phase}
-use Rattle.js_ordered.specs.declared.consumer.Phase.TheVariants.{Pulls, Ended}
-use Rattle.js_ordered.specs.declared.row.Row.TheVariants.{Start, Read}
-use Rattle.js_ordered.specs.declared.run.ItemKind.TheVariants as item
-use Rattle.js_ordered.specs.declared.run.Output.{Output}
-use Rattle.js_ordered.specs.declared.run.Output.TheVariants as out
-use Rattle.js_ordered.specs.declared.world.World.{World}
+use Rattle.js_table.specs.State.{Matter, Passed, quietly, at_phase}
+use Rattle.js_table.specs.Recreation.{message_on, start_row}
+use Rattle.js_table.specs.Reading.{read_row, with_sent, message_row, accepted, end_with, restart}
+use Rattle.js_table.specs.Fold.{passing, stays, and_then}
+use Rattle.js_table.specs.Passes.{ran, from, at, then_row, informed_by, accepting, heard}
+use Rattle.js_table.specs.declared.consumer.Given.{Given}
+use Rattle.js_table.specs.declared.consumer.Phase.{Phase}
+use Rattle.js_table.specs.declared.consumer.Phase.TheVariants.{Pulls, Ended}
+use Rattle.js_table.specs.declared.row.Row.TheVariants.{Start, Read}
+use Rattle.js_table.specs.declared.run.ItemKind.TheVariants as item
+use Rattle.js_table.specs.declared.run.Output.{Output}
+use Rattle.js_table.specs.declared.run.Output.TheVariants as out
+use Rattle.js_table.specs.declared.world.World.{World}
 use Rattle.js_ordered.proofs.Rans.{ran_from, from_rest, from_step, from_two, from_output, from_output_step, from_request}
 
 eqb_same : (n : ℕ) → (n == n) ≡ true

@@ -9,24 +9,24 @@ use Rattle.js_base.specs.declared.clock.Timer.{Timer}
 use Rattle.js_base.specs.Clock.{is_due}
 use Rattle.js_message.specs.Ack.{Place, readable_as}
 use Rattle.js_link.specs.Passing.{Passing}
-use Rattle.js_ordered.specs.State.{Matter, quietly, at_phase}
-use Rattle.js_ordered.specs.Recreation.{message_on}
-use Rattle.js_ordered.specs.Reading.{push_kind, hear_kind, message_row, accepted, beat_answer, beat_rows, armed}
-use Rattle.js_ordered.specs.Fold.{Ran, passing, stays, and_then, pass_each, is_request, is_subscribe}
-use Rattle.js_ordered.specs.Turn.{row_at, push_rows}
-use Rattle.js_ordered.specs.Passes.{ran, from, at, accepting, listens_to, hearings, starts_if, Comes}
-use Rattle.js_ordered.specs.declared.kind.PushKind.{PushKind}
-use Rattle.js_ordered.specs.declared.kind.PushKind.TheVariants as kind
-use Rattle.js_ordered.specs.declared.consumer.Given.{Given}
-use Rattle.js_ordered.specs.declared.consumer.Consumer.{Consumer}
-use Rattle.js_ordered.specs.declared.consumer.Phase.{Phase}
-use Rattle.js_ordered.specs.declared.consumer.Phase.TheVariants.{Pulls, Pushes, Recreates, Idle, Ended, Exhausted}
-use Rattle.js_ordered.specs.declared.row.Row.{Row}
-use Rattle.js_ordered.specs.declared.row.Row.TheVariants.{Start, CheckArrival, Hear, CheckSilence, Arm}
-use Rattle.js_ordered.specs.declared.run.ItemKind.TheVariants as item
-use Rattle.js_ordered.specs.declared.run.Output.{Output}
-use Rattle.js_ordered.specs.declared.run.Output.TheVariants as out
-use Rattle.js_ordered.specs.declared.world.World.{World}
+use Rattle.js_table.specs.State.{Matter, quietly, at_phase}
+use Rattle.js_table.specs.Recreation.{message_on}
+use Rattle.js_table.specs.Reading.{push_kind, hear_kind, message_row, accepted, beat_answer, beat_rows, armed}
+use Rattle.js_table.specs.Fold.{Ran, passing, stays, and_then, pass_each, is_request, is_subscribe}
+use Rattle.js_table.specs.Turn.{row_at, push_rows}
+use Rattle.js_table.specs.Passes.{ran, from, at, accepting, listens_to, hearings, starts_if, Comes}
+use Rattle.js_table.specs.declared.kind.PushKind.{PushKind}
+use Rattle.js_table.specs.declared.kind.PushKind.TheVariants as kind
+use Rattle.js_table.specs.declared.consumer.Given.{Given}
+use Rattle.js_table.specs.declared.consumer.Consumer.{Consumer}
+use Rattle.js_table.specs.declared.consumer.Phase.{Phase}
+use Rattle.js_table.specs.declared.consumer.Phase.TheVariants.{Pulls, Pushes, Recreates, Idle, Ended, Exhausted}
+use Rattle.js_table.specs.declared.row.Row.{Row}
+use Rattle.js_table.specs.declared.row.Row.TheVariants.{Start, CheckArrival, Hear, CheckSilence, Arm}
+use Rattle.js_table.specs.declared.run.ItemKind.TheVariants as item
+use Rattle.js_table.specs.declared.run.Output.{Output}
+use Rattle.js_table.specs.declared.run.Output.TheVariants as out
+use Rattle.js_table.specs.declared.world.World.{World}
 use Rattle.js_ordered.proofs.Rans.{ran_from, from_rest, from_step, from_output, from_output_step, no_more}
 use Rattle.js_ordered.proofs.PullReading.{start_anywhere}
 

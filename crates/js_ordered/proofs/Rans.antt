@@ -1,16 +1,16 @@
 -- What a row and the rows that follow it at once come to, step by step.
 use Rattle.std.proofs.Common.{◌≡◌, ℕ, zero, suc, ◌+◌, ◌-◌, ◌<◌, List, [], ◌∷◌, refl, sym, ap, ◌∙◌, arith, append-nil, count_by}
-use Rattle.js_ordered.specs.State.{Matter, Passed, quietly}
-use Rattle.js_ordered.specs.declared.row.Row.{Row}
-use Rattle.js_ordered.specs.declared.consumer.Given.{Given}
-use Rattle.js_ordered.specs.declared.world.World.{World}
-use Rattle.js_ordered.specs.Passes.{ran, from, then_row}
-use Rattle.js_ordered.specs.declared.consumer.Consumer.{Consumer}
-use Rattle.js_ordered.specs.Fold.{Ran, passing, after, stays, and_then, rank, pass_each, pass_to, is_request, is_subscribe}
-use Rattle.js_ordered.specs.Turn.{pass}
-use Rattle.js_ordered.specs.declared.run.Output.{Output}
-use Rattle.js_ordered.specs.declared.run.Output.TheVariants as out
-use Rattle.js_ordered.proofs.Ranks.{settled, row_falls, each_same}
+use Rattle.js_table.specs.State.{Matter, Passed, quietly}
+use Rattle.js_table.specs.declared.row.Row.{Row}
+use Rattle.js_table.specs.declared.consumer.Given.{Given}
+use Rattle.js_table.specs.declared.world.World.{World}
+use Rattle.js_table.specs.Passes.{ran, from, then_row}
+use Rattle.js_table.specs.declared.consumer.Consumer.{Consumer}
+use Rattle.js_table.specs.Fold.{Ran, passing, after, stays, and_then, rank, pass_each, pass_to, is_request, is_subscribe}
+use Rattle.js_table.specs.Turn.{pass}
+use Rattle.js_table.specs.declared.run.Output.{Output}
+use Rattle.js_table.specs.declared.run.Output.TheVariants as out
+use Rattle.js_table.proofs.Ranks.{settled, row_falls, each_same}
 
 same_depth : (g : Given) (now : ℕ) (m : Matter) (depth other : ℕ) (row : Row) (w : World) → depth ≡ other → pass_to g now m depth row w ≡ pass_to g now m other row w
 same_depth g now m depth other row w is = ap (λ (d : ℕ). pass_to g now m d row w) is

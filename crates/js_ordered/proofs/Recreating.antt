@@ -11,31 +11,31 @@ use Rattle.js_json.specs.declared.pull.OrderedConfig as pull_config
 use Rattle.js_pull.specs.Reader as pull
 use Rattle.js_pull.specs.Reader.{new_reader}
 use Rattle.js_pull.specs.declared.reader.Row.TheVariants as read
-use Rattle.js_ordered.specs.State.{Matter, Passed, quietly, at_phase}
-use Rattle.js_ordered.specs.Texts.{configured_start, delete_subject, create_subject, create_body, inbox_subject}
+use Rattle.js_table.specs.State.{Matter, Passed, quietly, at_phase}
+use Rattle.js_table.specs.Texts.{configured_start, delete_subject, create_subject, create_body, inbox_subject}
 use Rattle.js_link.specs.Passing.{Passing}
 use Rattle.js_pull.specs.Reader.{reply_to}
-use Rattle.js_ordered.specs.Kept.{IsPull, IsPush}
-use Rattle.js_ordered.specs.Reading.{armed}
-use Rattle.js_ordered.specs.declared.consumer.Phase.{Phase}
-use Rattle.js_ordered.specs.declared.setup.OrderedSetup.{OrderedSetup}
-use Rattle.js_ordered.specs.Recreation.{create_row, succeed_row, succeed_pull, succeed_push, opened_by, start_after, at_stage, answered, stage_rows, has_subject}
-use Rattle.js_ordered.specs.Fold.{passing, stays, and_then, pass_each}
-use Rattle.js_ordered.specs.Turn.{row_at}
-use Rattle.js_ordered.specs.Passes.{ran, at, then_row, timeout_at, restarted, opened_as, waiting, reader_of, hearings, holding}
-use Rattle.js_ordered.specs.declared.consumer.Given.{Given}
-use Rattle.js_ordered.specs.declared.consumer.Consumer.{Consumer}
-use Rattle.js_ordered.specs.declared.consumer.Opened.{Opened}
-use Rattle.js_ordered.specs.declared.consumer.Recreation.{Recreation}
-use Rattle.js_ordered.specs.declared.consumer.Phase.TheVariants.{Pulls, Pushes, Recreates, Idle, Ended, Exhausted}
-use Rattle.js_ordered.specs.declared.consumer.Stage.TheVariants.{Between, Deleting, Creating, Waiting}
-use Rattle.js_ordered.specs.declared.row.Row.{Row}
-use Rattle.js_ordered.specs.declared.row.Row.TheVariants.{Start, Try, Create, Ask, Await, Answered, Hold, Succeed, Fail, Arm, Read}
-use Rattle.js_ordered.specs.declared.run.ItemKind.TheVariants as item
-use Rattle.js_ordered.specs.declared.run.Output.{Output}
-use Rattle.js_ordered.specs.declared.run.Output.TheVariants as out
-use Rattle.js_ordered.specs.declared.setup.OrderedSetup.TheVariants.{Pull, Push}
-use Rattle.js_ordered.specs.declared.world.World.{World}
+use Rattle.js_table.specs.Kept.{IsPull, IsPush}
+use Rattle.js_table.specs.Reading.{armed}
+use Rattle.js_table.specs.declared.consumer.Phase.{Phase}
+use Rattle.js_table.specs.declared.setup.OrderedSetup.{OrderedSetup}
+use Rattle.js_table.specs.Recreation.{create_row, succeed_row, succeed_pull, succeed_push, opened_by, start_after, at_stage, answered, stage_rows, has_subject}
+use Rattle.js_table.specs.Fold.{passing, stays, and_then, pass_each}
+use Rattle.js_table.specs.Turn.{row_at}
+use Rattle.js_table.specs.Passes.{ran, at, then_row, timeout_at, restarted, opened_as, waiting, reader_of, hearings, holding}
+use Rattle.js_table.specs.declared.consumer.Given.{Given}
+use Rattle.js_table.specs.declared.consumer.Consumer.{Consumer}
+use Rattle.js_table.specs.declared.consumer.Opened.{Opened}
+use Rattle.js_table.specs.declared.consumer.Recreation.{Recreation}
+use Rattle.js_table.specs.declared.consumer.Phase.TheVariants.{Pulls, Pushes, Recreates, Idle, Ended, Exhausted}
+use Rattle.js_table.specs.declared.consumer.Stage.TheVariants.{Between, Deleting, Creating, Waiting}
+use Rattle.js_table.specs.declared.row.Row.{Row}
+use Rattle.js_table.specs.declared.row.Row.TheVariants.{Start, Try, Create, Ask, Await, Answered, Hold, Succeed, Fail, Arm, Read}
+use Rattle.js_table.specs.declared.run.ItemKind.TheVariants as item
+use Rattle.js_table.specs.declared.run.Output.{Output}
+use Rattle.js_table.specs.declared.run.Output.TheVariants as out
+use Rattle.js_table.specs.declared.setup.OrderedSetup.TheVariants.{Pull, Push}
+use Rattle.js_table.specs.declared.world.World.{World}
 use Rattle.js_ordered.proofs.Rans.{ran_from, from_rest, from_step, from_rows, from_output, from_output_step, from_request, from_inbox_step, from_inbox_two}
 
 -- ---- Start

@@ -2,25 +2,25 @@
 use Rattle.std.proofs.Common.{◌≡◌, ◌≢◌, ℕ, ◌+◌, ◌<◌, ◌≤◌, Bool, true, false, List, [], ◌∷◌, ◌++◌, Option, Some, None, refl, sym, ap, ◌∙◌, map, drop, length, get_or, append_assoc, append-nil}
 use Rattle.std.proofs.lemmas.List.{drop_more, drop_all}
 use Rattle.std.specs.Prelude.{Ok, Err, option_map}
-use Rattle.js_ordered.specs.declared.consumer.Given.{Given}
-use Rattle.js_ordered.specs.declared.event.Event as events
+use Rattle.js_table.specs.declared.consumer.Given.{Given}
+use Rattle.js_table.specs.declared.event.Event as events
 use Rattle.js_pull.specs.declared.reader.Row.TheVariants as read
-use Rattle.js_ordered.specs.declared.consumer.Phase.TheVariants.{Pulls, Pushes, Idle}
-use Rattle.js_ordered.specs.declared.setup.OrderedSetup.{OrderedSetup}
-use Rattle.js_ordered.specs.declared.setup.OrderedSetup.TheVariants.{Pull, Push}
-use Rattle.js_ordered.specs.Kept.{IsPull, IsPush}
-use Rattle.js_ordered.specs.Reading.{armed}
-use Rattle.js_ordered.specs.declared.row.Row.TheVariants.{Event, Read}
-use Rattle.js_ordered.specs.declared.world.World.{World}
-use Rattle.js_ordered.specs.declared.run.Output.{Output}
-use Rattle.js_ordered.specs.declared.run.Run.{Run}
-use Rattle.js_ordered.specs.declared.run.Step.{Step}
-use Rattle.js_ordered.specs.declared.run.ReplayError.{ReplayError}
-use Rattle.js_ordered.specs.declared.run.ReplayError.TheVariants as error
-use Rattle.js_ordered.specs.Fold.{Ran, stays, first_phase, pass_each, tick, matter_of, link_after, event, run_events, opening_rows, first_world, opening, is_over, last_world, step_of, fold}
-use Rattle.js_ordered.specs.Passes.{ran, at, then_row, first_reader_of}
-use Rattle.js_ordered.specs.Refusal.{is_exhausted, first_exhausted, refuse_input, refuse_end, refuse}
-use Rattle.js_ordered.specs.Valid.{IsFolded}
+use Rattle.js_table.specs.declared.consumer.Phase.TheVariants.{Pulls, Pushes, Idle}
+use Rattle.js_table.specs.declared.setup.OrderedSetup.{OrderedSetup}
+use Rattle.js_table.specs.declared.setup.OrderedSetup.TheVariants.{Pull, Push}
+use Rattle.js_table.specs.Kept.{IsPull, IsPush}
+use Rattle.js_table.specs.Reading.{armed}
+use Rattle.js_table.specs.declared.row.Row.TheVariants.{Event, Read}
+use Rattle.js_table.specs.declared.world.World.{World}
+use Rattle.js_table.specs.declared.run.Output.{Output}
+use Rattle.js_table.specs.declared.run.Run.{Run}
+use Rattle.js_table.specs.declared.run.Step.{Step}
+use Rattle.js_table.specs.declared.run.ReplayError.{ReplayError}
+use Rattle.js_table.specs.declared.run.ReplayError.TheVariants as error
+use Rattle.js_table.specs.Fold.{Ran, stays, first_phase, pass_each, tick, matter_of, link_after, event, run_events, opening_rows, first_world, opening, is_over, last_world, step_of, fold}
+use Rattle.js_table.specs.Passes.{ran, at, then_row, first_reader_of}
+use Rattle.js_table.specs.Refusal.{is_exhausted, first_exhausted, refuse_input, refuse_end, refuse}
+use Rattle.js_table.specs.Valid.{IsFolded}
 use Rattle.js_ordered.proofs.Rans.{no_more, two_rows}
 
 -- ---- the opening

@@ -6,24 +6,24 @@ use Rattle.js_base.specs.declared.message.State.{State}
 use Rattle.js_link.specs.Passing.{Passing}
 use Rattle.js_pull.specs.declared.reader.Reader.{Reader}
 use Rattle.js_pull.specs.declared.reader.Row.TheVariants as read
-use Rattle.js_ordered.specs.State.{Matter, Change, Unchanged, Becomes, WatcherEnds, Passed, quietly, at_phase}
-use Rattle.js_ordered.specs.Recreation.{recreation_rows}
-use Rattle.js_ordered.specs.Reading.{end_with, restart}
-use Rattle.js_ordered.specs.Turn.{event_row, event_change, changed, go_on, watcher_ended, same_state, is_connected, reader_row}
-use Rattle.js_ordered.specs.Fold.{Ran, passing, stays, pass_each, is_over}
-use Rattle.js_ordered.specs.Kept.{IsPull, IsPush}
-use Rattle.js_ordered.specs.Passes.{ran, from, at}
-use Rattle.js_ordered.specs.declared.consumer.Given.{Given}
-use Rattle.js_ordered.specs.declared.consumer.Consumer.{Consumer}
-use Rattle.js_ordered.specs.declared.consumer.Recreation.{Recreation}
-use Rattle.js_ordered.specs.declared.consumer.Phase.{Phase}
-use Rattle.js_ordered.specs.declared.consumer.Phase.TheVariants.{Pulls, Pushes, Recreates, Idle, Ended, Exhausted}
-use Rattle.js_ordered.specs.declared.row.Row.TheVariants.{Event, Start, CheckArrival, Read}
-use Rattle.js_ordered.specs.declared.run.ItemKind.TheVariants as item
-use Rattle.js_ordered.specs.declared.run.Output.TheVariants as out
-use Rattle.js_ordered.specs.declared.setup.OrderedSetup.{OrderedSetup}
-use Rattle.js_ordered.specs.declared.setup.OrderedSetup.TheVariants.{Pull, Push}
-use Rattle.js_ordered.specs.declared.world.World.{World}
+use Rattle.js_table.specs.State.{Matter, Change, Unchanged, Becomes, WatcherEnds, Passed, quietly, at_phase}
+use Rattle.js_table.specs.Recreation.{recreation_rows}
+use Rattle.js_table.specs.Reading.{end_with, restart}
+use Rattle.js_table.specs.Turn.{event_row, event_change, changed, go_on, watcher_ended, same_state, is_connected, reader_row}
+use Rattle.js_table.specs.Fold.{Ran, passing, stays, pass_each, is_over}
+use Rattle.js_table.specs.Kept.{IsPull, IsPush}
+use Rattle.js_table.specs.Passes.{ran, from, at}
+use Rattle.js_table.specs.declared.consumer.Given.{Given}
+use Rattle.js_table.specs.declared.consumer.Consumer.{Consumer}
+use Rattle.js_table.specs.declared.consumer.Recreation.{Recreation}
+use Rattle.js_table.specs.declared.consumer.Phase.{Phase}
+use Rattle.js_table.specs.declared.consumer.Phase.TheVariants.{Pulls, Pushes, Recreates, Idle, Ended, Exhausted}
+use Rattle.js_table.specs.declared.row.Row.TheVariants.{Event, Start, CheckArrival, Read}
+use Rattle.js_table.specs.declared.run.ItemKind.TheVariants as item
+use Rattle.js_table.specs.declared.run.Output.TheVariants as out
+use Rattle.js_table.specs.declared.setup.OrderedSetup.{OrderedSetup}
+use Rattle.js_table.specs.declared.setup.OrderedSetup.TheVariants.{Pull, Push}
+use Rattle.js_table.specs.declared.world.World.{World}
 use Rattle.js_ordered.proofs.Rans.{ran_from, from_rest, from_step, from_rows, from_output}
 use Rattle.js_ordered.proofs.PullReading.{start_anywhere}
 

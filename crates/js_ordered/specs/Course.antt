@@ -1,11 +1,11 @@
 -- A replay that is told its events one by one.
-use Rattle.std.specs.Prelude.{◌≡◌, ℕ, Bool, List, [], ◌∷◌, length, Some, None, Result, Ok, Err}
-use Rattle.js_ordered.specs.declared.consumer.Given.{Given}
+use Rattle.std.specs.Prelude.{◌≡◌, ℕ, Bool, false, List, [], ◌∷◌, length, Some, None, Result, Ok, Err}
+use Rattle.js_table.specs.declared.consumer.Given.{Given}
 use Rattle.js_ordered.specs.declared.course.Course.{Course}
-use Rattle.js_ordered.specs.declared.event.Event as events
-use Rattle.js_ordered.specs.declared.run.ReplayError.{ReplayError}
-use Rattle.js_ordered.specs.Fold.{Ran, opening, run_events, fold}
-use Rattle.js_ordered.specs.Refusal.{first_early, first_exhausted, refuse}
+use Rattle.js_table.specs.declared.event.Event as events
+use Rattle.js_table.specs.declared.run.ReplayError.{ReplayError}
+use Rattle.js_table.specs.Fold.{Ran, opening, run_events, fold}
+use Rattle.js_table.specs.Refusal.{first_early, first_exhausted, refuse}
 
 -- what a course goes by
 abbrev pub course_given : Course → Given
@@ -34,6 +34,7 @@ pub record HasCome (g : Given) (start : ℕ) (es : List events.Event) (c : Cours
   pub exhausted : c.exhausted ≡ first_exhausted 0 (run_events g es (opening g start).world)
   pub world : c.world ≡ (last g start es).world
   pub outputs : c.outputs ≡ (last g start es).outputs
+  pub sound : c.has_failed ≡ false
 
 -- what the end of a course answers: whether the run has ended, or the refusal that applies
 abbrev pub IsEnd : Given → ℕ → List events.Event → Result Bool ReplayError → Type 0

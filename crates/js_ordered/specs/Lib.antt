@@ -1,14 +1,1 @@
-pub mod State
-pub mod Texts
-pub mod Recreation
-pub mod Reading
-pub mod Turn
-pub mod Fold
-pub mod Refusal
-pub mod Gapless
-pub mod Kept
-pub mod Valid
 pub mod Course
-pub mod Wishes
-pub mod Turns
-pub mod Passes

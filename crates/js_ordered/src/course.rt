@@ -1,21 +1,19 @@
 //! A replay that is told its events one by one.
-ghost use Rattle.std.specs.Prelude.{◌≡◌, ◌+◌, ◌∷◌, ◌++◌, [], ℕ, List, Some, None, IfOk, OnOk, if◌then◌else◌};
+ghost use Rattle.std.specs.Prelude.{◌≡◌, ◌+◌, ◌∷◌, ◌++◌, [], ℕ, List, Some, None, IfOk, OnOk, OnErr, IsErr, Err, true, if◌then◌else◌};
 ghost use Rattle.js_ordered.specs.Course.{HasCome, IsEnd, course_given};
-ghost use Rattle.js_ordered.specs.Fold.{event as ran_by};
-ghost use Rattle.js_ordered.specs.Refusal.{first_of};
-ghost use Rattle.js_ordered.specs.declared.consumer.Given.{Given};
-ghost use Rattle.js_ordered.specs.declared.event.Event as events;
+ghost use Rattle.js_table.specs.Fold.{event as ran_by};
+ghost use Rattle.js_table.specs.Refusal.{first_of};
+ghost use Rattle.js_table.specs.declared.consumer.Given.{Given};
+ghost use Rattle.js_table.specs.declared.event.Event as events;
 
-use crate::event::{Event, What};
 use crate::passing::is_over;
-use crate::refusal::refuse_input;
 use crate::replay::{is_exhausted, open, pass};
-use crate::run::{Output, ReplayError};
-use crate::setup::{OrderedSetup, Settings};
-use crate::turn::Turn;
-use crate::world::{World, next};
 use js_base::{Items, Moment, OutOfMemory};
 use js_json::consumer::Info;
+use js_table::{
+    Event, OrderedSetup, Output, ReplayError, Settings, Turn, What, World, next_number,
+    refuse_input,
+};
 use std::alloc::Global;
 use std::mem;
 
@@ -34,6 +32,7 @@ pub struct Course<'a> {
     exhausted: Option<u64>,
     world: World,
     outputs: Items<Output>,
+    has_failed: bool,
 }
 
 /// A place that was found before, or this one.
@@ -86,6 +85,7 @@ impl<'a> Course<'a> {
             exhausted: None,
             world,
             outputs,
+            has_failed: false,
         })
     }
 
@@ -105,16 +105,25 @@ impl<'a> Course<'a> {
         pass(alloc, &turn, event, &mut self.world, &mut self.outputs)
     }
 
-    /// Passes the next event. After an error the course is of no further use.
+    /// Passes the next event.
     ///
-    /// Events are counted. Where their number would go past a `u64`, that is answered as want of memory.
+    /// # Errors
+    ///
+    /// Want of memory, also where the number of events would go past a `u64`. Once an event was refused, so is each later one, and so is the
+    /// [`end`](Course::end): part of that event may have been passed.
     pub fn advance(&mut self, alloc: Global, event: &Event) -> Result<(), OutOfMemory>
         ensures passed { (g : Given) → (start : ℕ) → (es : List events.Event) → HasCome g start es self.old
             → OnOk result (HasCome g start (es ++ event.now ∷ []) self.new) }
         ensures counted { OnOk result (self.new.count ≡ self.old.count + 1) }
+        ensures failed { OnErr result (self.new.has_failed ≡ true) }
+        ensures fails { self.old.has_failed ≡ true → IsErr result }
     {
+        if self.has_failed {
+            return Err(OutOfMemory);
+        }
+        self.has_failed = true;
         let place = self.count;
-        let count = next(place)?;
+        let count = next_number(place)?;
         let is_early = event.at < self.moment;
         self.pass(alloc, event)?;
         self.early = first_place(self.early, is_early, place);
@@ -122,6 +131,7 @@ impl<'a> Course<'a> {
         self.exhausted = first_place(self.exhausted, is_last, place);
         self.moment = event.at;
         self.count = count;
+        self.has_failed = false;
         Ok(())
     }
 
@@ -143,10 +153,14 @@ impl<'a> Course<'a> {
     ///
     /// # Errors
     ///
-    /// The refusal that applies, by the order of `replay_ordered`.
+    /// The refusal that applies, by the order of `replay_ordered`. After an event was refused for want of memory it is that.
     pub fn end(&self) -> Result<bool, ReplayError>
-        ensures { (g : Given) → (start : ℕ) → (es : List events.Event) → HasCome g start es self.now → IsEnd g start es result }
+        ensures ended { (g : Given) → (start : ℕ) → (es : List events.Event) → HasCome g start es self.now → IsEnd g start es result }
+        ensures failed { self.now.has_failed ≡ true → result ≡ Err ReplayError.OutOfMemory }
     {
+        if self.has_failed {
+            return Err(ReplayError::OutOfMemory);
+        }
         let tick = What::Tick;
         let turn = Turn {
             settings: self.settings,

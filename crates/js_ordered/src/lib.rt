@@ -1,30 +1,16 @@
-//! Ordered consumers: their events, their outputs, and the replay of a list of events.
+//! The replay of an ordered consumer over a list of events, or over one event after another.
 #![tactic(auto)]
 
-mod answer;
-mod consumer;
 mod course;
-mod event;
-mod kind;
 mod passing;
-mod place;
 mod reading;
 mod recreation;
-mod refusal;
 mod replay;
-mod row;
-mod run;
-mod setup;
-mod texts;
-mod turn;
-mod world;
 
-pub use consumer::{Consumer, Given, Opened, Phase, Recreation, Stage};
 pub use course::Course;
-pub use event::{Event, What};
-pub use kind::{PushKind, push_kind};
+pub use js_table::{
+    Arrival, Consumer, Event, Field, Given, ItemKind, Opened, OrderedSetup, Output, Phase,
+    PushKind, Recreation, ReplayError, Row, Run, Settings, Stage, Start, Step, What, World,
+    push_kind,
+};
 pub use replay::replay_ordered;
-pub use row::{Arrival, Row};
-pub use run::{Field, ItemKind, Output, ReplayError, Run, Start, Step};
-pub use setup::{OrderedSetup, Settings};
-pub use world::World;

@@ -1,43 +1,18 @@
 //! One event, row after row: the connection, then a recreation that starts or goes on, or the reader's part.
 ghost use Rattle.std.specs.Prelude.{◌≡◌, OnOk, false};
-ghost use Rattle.js_ordered.specs.Fold.{matter_of, is_over as has_ended};
-ghost use Rattle.js_ordered.specs.Kept.{IsPush};
-ghost use Rattle.js_ordered.specs.Passes.{Changes, GoesOn, Passes, at, change_shown, matter_now};
-ghost use Rattle.js_ordered.specs.State.{WatcherEnds};
-ghost use Rattle.js_ordered.specs.Turn as turns;
-ghost use Rattle.js_ordered.specs.declared.row.Row.TheVariants as row;
+ghost use Rattle.js_table.specs.Fold.{is_over as has_ended};
+ghost use Rattle.js_table.specs.Kept.{IsPush};
+ghost use Rattle.js_table.specs.Passes.{Changes, GoesOn, Passes, at, matter_now};
+ghost use Rattle.js_table.specs.State.{WatcherEnds};
+ghost use Rattle.js_table.specs.Turn as turns;
+ghost use Rattle.js_table.specs.declared.row.Row.TheVariants as row;
 
-use crate::consumer::Phase;
-use crate::event::What;
 use crate::reading::{pull, push};
 use crate::recreation;
-use crate::run::{ItemKind, Output};
-use crate::setup::OrderedSetup;
-use crate::turn::Turn;
-use crate::world::World;
 use js_base::{Items, OutOfMemory, State, Timer};
+use js_table::{Change, ItemKind, OrderedSetup, Output, Phase, Turn, What, World, change_of};
 use std::alloc::Global;
 use std::mem;
-
-/// What an event says of the connection.
-pub(crate) enum Change {
-    Unchanged,
-    Becomes(State),
-    WatcherEnds,
-}
-
-fn change_of(what: &What) -> Change
-    ensures { change_shown result ≡ (matter_of what.now).change }
-{
-    match what {
-        What::Connection { state } => Change::Becomes(*state),
-        What::WatcherEnded => Change::WatcherEnds,
-        What::Tick => Change::Unchanged,
-        What::Arrival { .. } => Change::Unchanged,
-        What::Answer { .. } => Change::Unchanged,
-        What::Link { .. } => Change::Unchanged,
-    }
-}
 
 fn is_connected(state: State) -> bool
     ensures { result ≡ turns.is_connected state }
@@ -95,7 +70,7 @@ fn go_on(
     match phase {
         Phase::Idle => recreation::start(alloc, turn, world, outputs),
         Phase::Recreates(recreation) => {
-            recreation::go_on(alloc, turn, world, recreation, outputs)
+            recreation::progress::go_on(alloc, turn, world, recreation, outputs)
         }
         Phase::Pulls(reader) => pull::begin(alloc, turn, world, reader, None, outputs),
         Phase::Pushes { inbox, silence } => {

@@ -1,24 +1,20 @@
 //! The replay of an ordered consumer over a list of events.
 ghost use Rattle.std.specs.Prelude.{◌≡◌, ◌≢◌, [], map, IfOk, OnOk, IfErr, Some, None};
-ghost use Rattle.js_ordered.specs.Fold as fold;
-ghost use Rattle.js_ordered.specs.Passes.{Comes, at, first_reader_of, given_of};
-ghost use Rattle.js_ordered.specs.Refusal.{is_exhausted, refuse_end, refuse_input};
-ghost use Rattle.js_ordered.specs.Valid.{IsAnswer, IsFolded, IsValid};
-ghost use Rattle.js_ordered.specs.declared.event.What.TheVariants.{Tick};
+ghost use Rattle.js_table.specs.Fold as fold;
+ghost use Rattle.js_table.specs.Passes.{Comes, at, first_reader_of, given_of};
+ghost use Rattle.js_table.specs.Refusal.{is_exhausted, refuse_end, refuse_input};
+ghost use Rattle.js_table.specs.Valid.{IsAnswer, IsFolded, IsValid};
+ghost use Rattle.js_table.specs.declared.event.What.TheVariants.{Tick};
 
-use crate::consumer::{Consumer, Phase};
-use crate::event::{Event, What};
 use crate::passing::{is_over, pass_event};
 use crate::reading::{pull, push};
-use crate::refusal::refuse_input;
-use crate::run::{Output, ReplayError, Run, Step};
-use crate::setup::{OrderedSetup, Settings};
-use crate::texts;
-use crate::turn::Turn;
-use crate::world::World;
 use js_base::{Items, Moment, OutOfMemory, State, TryClone};
 use js_json::consumer::Info;
 use js_pull::Reader;
+use js_table::{
+    Consumer, Event, OrderedSetup, Output, Phase, ReplayError, Run, Settings, Step, Turn, What,
+    World, refuse_input, texts,
+};
 use std::alloc::Global;
 use std::mem;
 
@@ -69,7 +65,7 @@ pub(crate) fn open(
     match turn.setup {
         OrderedSetup::Pull(_) => {
             let reader = first_reader(alloc, turn)?;
-            pull::open(alloc, turn, &mut world, reader, outputs)?;
+            pull::requests::open(alloc, turn, &mut world, reader, outputs)?;
             Ok(world)
         }
         OrderedSetup::Push(_) => {
@@ -228,8 +224,9 @@ fn replay(alloc: Global, turn: &Turn<'_>, events: &[Event]) -> Result<Run, Repla
 /// The run has one step for each event, in their order, and no step begins more than one recreation. An event after the
 /// end of the consumer is passed over and puts out nothing; its moment still has to be in order.
 ///
-/// Where the server is honest, the yields leave no gap: they are messages of the stream that the filter selects, in
-/// rising order, and every such message between two of them, or from a configured start up to the first, was removed.
+/// On one inbox the consumer numbers of the yields are 1, 2, 3 and so on. Where the server is honest, the yields leave no gap: they are messages of
+/// the stream that the filter selects, in rising order, and every such message between two of them, or from a configured start up to the first, was
+/// removed.
 ///
 /// # Errors
 ///
@@ -244,7 +241,7 @@ fn replay(alloc: Global, turn: &Turn<'_>, events: &[Event]) -> Result<Run, Repla
 ///   sequences was yielded.
 ///
 /// `OutOfMemory` may come in place of a run or of any of them.
-#[tactic(auto, using(crate::proofs::Promises::folded_answers, crate::proofs::Promises::folded_valid))]
+#[tactic(auto, using(js_table::proofs::Promises::folded_answers, js_table::proofs::Promises::folded_valid))]
 pub fn replay_ordered(
     alloc: Global,
     settings: &Settings,

@@ -1,7 +1,7 @@
 -- The status that an input calls for, by what it says.
 use Rattle.std.proofs.Common.{◌≡◌, ℕ, ◌<◌, ◌≤◌, List, length, true, false, nat_lt, Option, Some, None, IfSome, Ok, refl, subst, arith}
 use Rattle.std.proofs.lemmas.Bool.Decides.{nat_tests}
-use Rattle.js_ordered.proofs.Accepted.{valid_accepted}
+use Rattle.js_table.proofs.Accepted.{valid_accepted}
 use Rattle.js_tool.specs.declared.status.Status.{Status}
 use Rattle.js_tool.specs.declared.status.Status.TheVariants as status
 use Rattle.js_tool.specs.declared.program.Reply.{Reply}
@@ -10,10 +10,10 @@ use Rattle.js_tool.specs.Program.{given, IsReply, Replays, IsRefused, IsValidTra
 use Rattle.js_tool.specs.Texts.{run_text, refusal_text}
 use Rattle.js_tool.specs.Transcripts.{transcript}
 use Rattle.js_tool.specs.declared.transcript.Transcript.{Transcript}
-use Rattle.js_ordered.specs.declared.run.Run.{Run}
-use Rattle.js_ordered.specs.declared.run.ReplayError.{ReplayError}
-use Rattle.js_ordered.specs.Refusal.{refuse}
-use Rattle.js_ordered.specs.Valid.{IsReplay}
+use Rattle.js_table.specs.declared.run.Run.{Run}
+use Rattle.js_table.specs.declared.run.ReplayError.{ReplayError}
+use Rattle.js_table.specs.Refusal.{refuse}
+use Rattle.js_table.specs.Valid.{IsReplay}
 
 -- what holds of the bytes that were read holds of those that the source told
 pub told : (left : Option (List ℕ)) (read : List ℕ) (P : List ℕ → Type 0) → IfSome left (λ bytes. read ≡ bytes) → P read → IfSome left P

@@ -1,15 +1,15 @@
 -- Line after line: what was passed, its text, and what the lines that are left say.
 use Rattle.std.proofs.Common.{◌≡◌, ℕ, suc, ◌+◌, ◌≤◌, Bool, List, [], ◌∷◌, ◌++◌, length, flat_map, refl, sym, ap, subst, ◌∙◌, append_assoc, append-nil, length-append, arith}
 use Rattle.std.specs.Prelude.{Result, Ok, Err, IfOk}
-use Rattle.js_ordered.specs.declared.consumer.Given.{Given}
+use Rattle.js_table.specs.declared.consumer.Given.{Given}
 use Rattle.js_ordered.specs.declared.course.Course.{Course}
-use Rattle.js_ordered.specs.declared.event.Event.{Event}
-use Rattle.js_ordered.specs.declared.run.Output.{Output}
-use Rattle.js_ordered.specs.declared.run.Step.{Step}
+use Rattle.js_table.specs.declared.event.Event.{Event}
+use Rattle.js_table.specs.declared.run.Output.{Output}
+use Rattle.js_table.specs.declared.run.Step.{Step}
 use Rattle.js_ordered.specs.Course.{HasCome, last}
-use Rattle.js_ordered.specs.Fold.{fold, step_of}
+use Rattle.js_table.specs.Fold.{fold, step_of}
 use Rattle.js_ordered.proofs.Coursing.{no_steps, steps_on, opening_is, steps_count}
-use Rattle.js_ordered.proofs.Promises.{fold_replays}
+use Rattle.js_table.proofs.Promises.{fold_replays}
 use Rattle.js_tool.specs.declared.program.Reply.{Reply}
 use Rattle.js_tool.specs.declared.program.Reply.TheVariants as reply
 use Rattle.js_tool.specs.declared.progress.Progress.{Progress}

@@ -1,7 +1,7 @@
 -- Lines in their shortest form.
 use Rattle.std.specs.Prelude.{◌≡◌, ℕ, List, [], ◌∷◌, ◌++◌, codes, decimal, length, Some, None, Ok}
 use Rattle.js_base.specs.declared.message.Message.{Message}
-use Rattle.js_ordered.specs.declared.event.What.{What}
+use Rattle.js_table.specs.declared.event.What.{What}
 use Rattle.js_tool.specs.Events.{event_line}
 
 -- a bare tick

@@ -9,9 +9,9 @@ use Rattle.js_fields.specs.Keys.{key_name}
 use Rattle.js_fields.specs.declared.error.ReadError.{ReadError}
 use Rattle.js_fields.specs.declared.error.ReadError.TheVariants.{WrongKind, OutOfRange}
 use Rattle.js_fields.specs.Reading.{◌>>=◌, Reads, required, given, truth, natural, named, value_of}
-use Rattle.js_ordered.specs.declared.event.Event.{Event}
-use Rattle.js_ordered.specs.declared.event.What.{What}
-use Rattle.js_ordered.specs.declared.event.What.TheVariants as what
+use Rattle.js_table.specs.declared.event.Event.{Event}
+use Rattle.js_table.specs.declared.event.What.{What}
+use Rattle.js_table.specs.declared.event.What.TheVariants as what
 use Rattle.js_tool.specs.Members.{only, line_as}
 use Rattle.js_tool.specs.Messages.{message_keys, message_fields}
 

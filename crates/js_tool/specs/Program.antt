@@ -7,12 +7,12 @@ use Rattle.js_generate.specs.Counts.{summary}
 use Rattle.js_generate.specs.Transcript as generated
 use Rattle.js_message.specs.Ack.{Info, ack}
 use Rattle.js_message.specs.declared.info_error.InfoError.{InfoError}
-use Rattle.js_ordered.specs.declared.consumer.Given.{Given}
-use Rattle.js_ordered.specs.declared.run.Run.{Run}
-use Rattle.js_ordered.specs.declared.run.ReplayError.{ReplayError}
-use Rattle.js_ordered.specs.Fold.{fold}
-use Rattle.js_ordered.specs.Refusal.{refuse}
-use Rattle.js_ordered.specs.Valid.{IsReplay, IsValid}
+use Rattle.js_table.specs.declared.consumer.Given.{Given}
+use Rattle.js_table.specs.declared.run.Run.{Run}
+use Rattle.js_table.specs.declared.run.ReplayError.{ReplayError}
+use Rattle.js_table.specs.Fold.{fold}
+use Rattle.js_table.specs.Refusal.{refuse}
+use Rattle.js_table.specs.Valid.{IsReplay, IsValid}
 use Rattle.js_workers.specs.declared.workers.WindowCounts.{WindowCounts}
 use Rattle.js_workers.specs.WindowCounts.{CountsOfRun}
 use Rattle.js_tool.specs.declared.status.Status.{Status}

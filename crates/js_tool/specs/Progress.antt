@@ -1,12 +1,12 @@
 -- How far a replay has come as its lines are read, and the text of what it has put out.
 use Rattle.std.specs.Prelude.{◌≡◌, ℕ, ◌+◌, List, [], ◌++◌, length, Some, None, Result, Ok, Err, ⊤}
-use Rattle.js_ordered.specs.declared.consumer.Given.{Given}
-use Rattle.js_ordered.specs.declared.event.Event.{Event}
-use Rattle.js_ordered.specs.declared.run.Run.{Run}
-use Rattle.js_ordered.specs.declared.run.ReplayError.{ReplayError}
+use Rattle.js_table.specs.declared.consumer.Given.{Given}
+use Rattle.js_table.specs.declared.event.Event.{Event}
+use Rattle.js_table.specs.declared.run.Run.{Run}
+use Rattle.js_table.specs.declared.run.ReplayError.{ReplayError}
 use Rattle.js_ordered.specs.Course.{HasCome}
-use Rattle.js_ordered.specs.Fold.{fold}
-use Rattle.js_ordered.specs.Refusal.{refuse}
+use Rattle.js_table.specs.Fold.{fold}
+use Rattle.js_table.specs.Refusal.{refuse}
 use Rattle.js_tool.specs.declared.program.Reply.{Reply}
 use Rattle.js_tool.specs.declared.program.Reply.TheVariants as reply
 use Rattle.js_tool.specs.declared.progress.Progress.{Progress}

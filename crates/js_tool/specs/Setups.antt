@@ -12,9 +12,9 @@ use Rattle.js_json.specs.declared.consumer.config.Config.{Config}
 use Rattle.js_json.specs.declared.consumer.info.Info.{Info}
 use Rattle.js_json.specs.declared.consumer.conversion.ConfigError.{ConfigError}
 use Rattle.js_json.specs.Conversions.{as_ordered_pull_config, as_ordered_push_config}
-use Rattle.js_ordered.specs.declared.setup.Settings.{Settings}
-use Rattle.js_ordered.specs.declared.setup.OrderedSetup.{OrderedSetup}
-use Rattle.js_ordered.specs.declared.setup.OrderedSetup.TheVariants as setup
+use Rattle.js_table.specs.declared.setup.Settings.{Settings}
+use Rattle.js_table.specs.declared.setup.OrderedSetup.{OrderedSetup}
+use Rattle.js_table.specs.declared.setup.OrderedSetup.TheVariants as setup
 use Rattle.js_tool.specs.declared.transcript.setup.Mode.{Mode}
 use Rattle.js_tool.specs.declared.transcript.setup.Mode.TheVariants as mode
 use Rattle.js_tool.specs.declared.transcript.setup.Setup.{Setup}

@@ -4,18 +4,18 @@ use Rattle.std.specs.Fmt.{signed_decimal}
 use Rattle.serde_json.specs.Data.{Data, null, boolean, number, string, array, unsigned, negative}
 use Rattle.serde_json.specs.View.{items_of}
 use Rattle.serde_json.specs.Written.{compact_text}
-use Rattle.js_ordered.specs.declared.run.Start.{Start}
-use Rattle.js_ordered.specs.declared.run.Start.TheVariants.{All, From}
-use Rattle.js_ordered.specs.declared.run.ItemKind.{ItemKind}
-use Rattle.js_ordered.specs.declared.run.ItemKind.TheVariants as kind
-use Rattle.js_ordered.specs.declared.run.Output.{Output}
-use Rattle.js_ordered.specs.declared.run.Output.TheVariants as out
-use Rattle.js_ordered.specs.declared.run.Step.{Step}
-use Rattle.js_ordered.specs.declared.run.Run.{Run}
-use Rattle.js_ordered.specs.declared.run.Field.{Field}
-use Rattle.js_ordered.specs.declared.run.Field.TheVariants as field
-use Rattle.js_ordered.specs.declared.run.ReplayError.{ReplayError}
-use Rattle.js_ordered.specs.declared.run.ReplayError.TheVariants as error
+use Rattle.js_table.specs.declared.run.Start.{Start}
+use Rattle.js_table.specs.declared.run.Start.TheVariants.{All, From}
+use Rattle.js_table.specs.declared.run.ItemKind.{ItemKind}
+use Rattle.js_table.specs.declared.run.ItemKind.TheVariants as kind
+use Rattle.js_table.specs.declared.run.Output.{Output}
+use Rattle.js_table.specs.declared.run.Output.TheVariants as out
+use Rattle.js_table.specs.declared.run.Step.{Step}
+use Rattle.js_table.specs.declared.run.Run.{Run}
+use Rattle.js_table.specs.declared.run.Field.{Field}
+use Rattle.js_table.specs.declared.run.Field.TheVariants as field
+use Rattle.js_table.specs.declared.run.ReplayError.{ReplayError}
+use Rattle.js_table.specs.declared.run.ReplayError.TheVariants as error
 use Rattle.js_tool.specs.declared.text.line.Cell.{Cell}
 use Rattle.js_tool.specs.declared.text.line.Cell.TheVariants as cell
 

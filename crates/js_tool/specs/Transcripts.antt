@@ -1,7 +1,7 @@
 -- What a transcript says, and which of its lines is the first that does not read.
 use Rattle.std.specs.Prelude.{◌≡◌, ℕ, ◌+◌, List, [], ◌∷◌, ◌++◌, Result, Ok, Err, ⊤}
 use Rattle.js_fields.specs.declared.error.ReadError.{ReadError}
-use Rattle.js_ordered.specs.declared.event.Event.{Event}
+use Rattle.js_table.specs.declared.event.Event.{Event}
 use Rattle.js_tool.specs.declared.transcript.setup.Setup.{Setup}
 use Rattle.js_tool.specs.declared.transcript.Transcript.{Transcript}
 use Rattle.js_tool.specs.declared.transcript.Unread.{Unread}

@@ -3,6 +3,7 @@
 ghost use Rattle.std.specs.Prelude.{◌≡◌, ◌≤◌, IfOk};
 ghost use Rattle.std.specs.Io.KnownBytes.{Keeps};
 ghost use Rattle.js_ends.specs.Causes.{Rose};
+ghost use Rattle.js_table.specs.Valid.{IsReplay, IsValid};
 ghost use Rattle.js_tool.specs.Answers.{summary_text};
 ghost use Rattle.js_tool.specs.Program.{AnswersGenerate, IsGenerated, SaysNothing};
 
@@ -10,7 +11,8 @@ use crate::status::Status;
 use crate::text::{Cell, push_line};
 use js_base::OutOfMemory;
 use js_ends::{Sink, write_all};
-use js_generate::{Summary, generate};
+use js_generate::{Summary, generated, given, summary_of};
+use js_ordered::{Event, Given, ReplayError, Run, replay_ordered};
 use std::alloc::{AllocError, Global};
 
 /// Replays the first so many events that a seed gives, and writes the line of how much their run puts out.
@@ -25,7 +27,7 @@ pub(crate) fn tell_generate<K: Sink>(
     ensures write_fault { result ≡ Status.WriteFault → Rose (K.faults output.old) (K.faults output.new) }
     ensures silent { SaysNothing result → Keeps (K.taken output.old) (K.taken output.new) }
 {
-    let summary = match generated(alloc, seed, events) {
+    let summary = match counted(alloc, seed, events) {
         Ok(summary) => summary,
         Err(OutOfMemory) => return Status::OutOfMemory,
     };
@@ -38,11 +40,34 @@ pub(crate) fn tell_generate<K: Sink>(
     }
 }
 
-fn generated(alloc: Global, seed: u64, events: u64) -> Result<Summary, OutOfMemory>
+/// The run of valid events.
+fn replayed(alloc: Global, given: &Given, events: &[Event]) -> Result<Run, OutOfMemory>
+    requires { IsValid given.now 0 events.now }
+    ensures { IfOk result (λ run. IsReplay given.now 0 events.now run) }
+{
+    match replay_ordered(
+        alloc,
+        &given.settings,
+        &given.setup,
+        &given.first,
+        0,
+        events,
+    ) {
+        Ok(run) => Ok(run),
+        Err(ReplayError::OutOfMemory) => Err(OutOfMemory),
+        Err(_) => unreachable!(),
+    }
+}
+
+/// The counts of the replay of the first so many events that a seed gives.
+fn counted(alloc: Global, seed: u64, events: u64) -> Result<Summary, OutOfMemory>
     requires { events ≤ 200_000 }
     ensures { IfOk result (IsGenerated seed events) }
 {
-    generate(alloc, seed, events)
+    let given = given(alloc)?;
+    let events = generated(alloc, seed, events)?;
+    let run = replayed(alloc, &given, events.as_slice())?;
+    summary_of(&run)
 }
 
 /// The line of how much the replay of a generated transcript puts out.

@@ -1,8 +1,8 @@
 //! A replay that goes on as its lines are read. Their text is made at once, so that neither events nor steps are kept.
 
 ghost use Rattle.std.specs.Prelude.{◌≡◌, ◌≤◌, ◌+◌, ◌++◌, ◌∷◌, [], ℕ, List, length, IfOk, OnOk};
-ghost use Rattle.js_ordered.specs.declared.consumer.Given.{Given};
-ghost use Rattle.js_ordered.specs.declared.event.Event as events;
+ghost use Rattle.js_table.specs.declared.consumer.Given.{Given};
+ghost use Rattle.js_table.specs.declared.event.Event as events;
 ghost use Rattle.js_tool.specs.Lines.{lines_of};
 ghost use Rattle.js_tool.specs.Program.{given, IsReply};
 ghost use Rattle.js_tool.specs.Progress.{HasPassed, PassesLines, IsReplyOn, IsReplyTo};

@@ -1,19 +1,16 @@
 //! Push: the server sends on an inbox, and its arrivals are yielded, told, or show that the consumer must be made anew.
 ghost use Rattle.std.specs.Prelude.{◌≡◌, ◌+◌, [], ◌∷◌, ◌++◌, OnOk, None, Some, true};
 ghost use Rattle.js_message.specs.Ack.{readable_as};
-ghost use Rattle.js_ordered.specs.Passes.{Passes, PassesEach, at, hearings, listens_to, place_shown, starts_if};
-ghost use Rattle.js_ordered.specs.Reading as reading;
-ghost use Rattle.js_ordered.specs.declared.row.Row.TheVariants as row;
+ghost use Rattle.js_table.specs.Passes.{Passes, PassesEach, at, hearings, listens_to, place_shown, starts_if};
+ghost use Rattle.js_table.specs.Reading as reading;
+ghost use Rattle.js_table.specs.declared.row.Row.TheVariants as row;
 
-use crate::consumer::Phase;
-use crate::kind::{PushKind, push_kind};
-use crate::place::{Place, place_of, yield_of};
 use crate::recreation;
-use crate::run::{ItemKind, Output};
-use crate::turn::Turn;
-use crate::world::World;
 use bytes::Bytes;
 use js_base::{Items, Message, Moment, Nanos, OutOfMemory, Timer, TryClone};
+use js_table::{
+    ItemKind, Output, Phase, Place, PushKind, Turn, World, place_of, push_kind, yield_of,
+};
 use std::alloc::Global;
 
 /// The server is heard at least this often.
@@ -68,9 +65,10 @@ fn check_silence(
         world.enter(Phase::Pushes { inbox, silence });
         return Ok(());
     }
-    outputs.push(Output::Item {
+    let missing = Output::Item {
         kind: ItemKind::MissingHeartbeat,
-    })?;
+    };
+    outputs.push(missing)?;
     recreation::start(alloc, turn, world, outputs)
 }
 

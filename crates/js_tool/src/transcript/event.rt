@@ -4,8 +4,8 @@ ghost use Rattle.std.specs.Prelude.{◌≡◌, Option, Some, None, Ok};
 ghost use Rattle.serde_json.specs.View.{view};
 ghost use Rattle.js_fields.specs.Reading.{Gives, named, given as given_in};
 ghost use Rattle.js_fields.specs.declared.key.Key.TheVariants as key;
-ghost use Rattle.js_ordered.specs.declared.event.What.{What};
-ghost use Rattle.js_ordered.specs.declared.event.What.TheVariants.{Arrival};
+ghost use Rattle.js_table.specs.declared.event.What.{What};
+ghost use Rattle.js_table.specs.declared.event.What.TheVariants.{Arrival};
 ghost use Rattle.js_tool.specs.Compact.{plain_message};
 ghost use Rattle.js_tool.specs.Events.{arrival_fields as arrival_fields_in, arrival as arrival_in, reply_fields as reply_fields_in, gone_fields as gone_fields_in, answer as answer_in, link_named, connection_named, watcher_named, alone as alone_in, with_key, what_fields as what_in, event_fields as event_in, event_line as line_in};
 

@@ -1,5 +1,5 @@
 use Rattle.std.proofs.Common.{◌≡◌, ◌++◌, length, take}
-use Rattle.js_ordered.specs.Gapless.{joined}
+use Rattle.js_table.specs.Gapless.{joined}
 use Rattle.js_generate.specs.Counts.{counts}
 use Rattle.js_generate.proofs.summary.summary_of.Given as goal
 

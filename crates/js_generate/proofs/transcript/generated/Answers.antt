@@ -1,6 +1,6 @@
 use Rattle.std.proofs.Common.{◌∙◌, sym, subst, List}
-use Rattle.js_ordered.specs.declared.event.Event.{Event}
-use Rattle.js_ordered.specs.Valid.{IsValid}
+use Rattle.js_table.specs.declared.event.Event.{Event}
+use Rattle.js_table.specs.Valid.{IsValid}
 use Rattle.js_generate.specs.Transcript.{given}
 use Rattle.js_generate.specs.Counts.{YieldsItsLast}
 use Rattle.js_generate.specs.Honesty.{IsServed}

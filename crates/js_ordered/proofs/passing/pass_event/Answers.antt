@@ -1,11 +1,11 @@
 use Rattle.std.proofs.Common.{◌≡◌, false, sym, ◌∙◌, ap}
-use Rattle.js_ordered.specs.Fold.{is_over}
-use Rattle.js_ordered.specs.Passes.{given_of, matter_now, ran}
-use Rattle.js_ordered.specs.State.{Becomes}
-use Rattle.js_ordered.specs.Turn.{same_state}
-use Rattle.js_ordered.specs.declared.consumer.Phase.{Phase}
-use Rattle.js_ordered.specs.declared.row.Row.TheVariants.{Event}
-use Rattle.js_ordered.specs.declared.world.World.{World}
+use Rattle.js_table.specs.Fold.{is_over}
+use Rattle.js_table.specs.Passes.{given_of, matter_now, ran}
+use Rattle.js_table.specs.State.{Becomes}
+use Rattle.js_table.specs.Turn.{same_state}
+use Rattle.js_table.specs.declared.consumer.Phase.{Phase}
+use Rattle.js_table.specs.declared.row.Row.TheVariants.{Event}
+use Rattle.js_table.specs.declared.world.World.{World}
 use Rattle.js_ordered.proofs.Comings.{on_same}
 use Rattle.js_ordered.proofs.Turning.{changing, event_changes}
 use Rattle.js_ordered.proofs.passing.pass_event.Goals as goal

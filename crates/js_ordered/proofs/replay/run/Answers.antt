@@ -1,5 +1,5 @@
 use Rattle.std.proofs.Common.{◌∙◌}
-use Rattle.js_ordered.specs.Passes.{given_of}
+use Rattle.js_table.specs.Passes.{given_of}
 use Rattle.js_ordered.proofs.Replaying.{run_folded}
 use Rattle.js_ordered.proofs.replay.run.Goals as goal
 

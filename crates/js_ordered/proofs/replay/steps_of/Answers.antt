@@ -1,5 +1,5 @@
 use Rattle.std.proofs.Common.{arith, sym, ◌∙◌}
-use Rattle.js_ordered.specs.Passes.{given_of}
+use Rattle.js_table.specs.Passes.{given_of}
 use Rattle.js_ordered.proofs.Replaying.{goes_on}
 use Rattle.js_ordered.proofs.replay.steps_of.Goals as goal
 

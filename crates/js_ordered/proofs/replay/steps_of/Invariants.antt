@@ -1,5 +1,5 @@
 use Rattle.std.proofs.Common.{◌≡◌, []}
-use Rattle.js_ordered.specs.Passes.{given_of}
+use Rattle.js_table.specs.Passes.{given_of}
 use Rattle.js_ordered.proofs.Replaying.{Goes}
 use Rattle.js_ordered.proofs.replay.steps_of.Given as goal
 

@@ -1,5 +1,5 @@
 use Rattle.std.proofs.Common.{◌≡◌, ◌++◌, ℕ, List, take}
-use Rattle.js_ordered.specs.declared.run.Output.{Output}
+use Rattle.js_table.specs.declared.run.Output.{Output}
 use Rattle.js_generate.specs.Counts.{counts}
 use Rattle.js_generate.proofs.summary.Summary.count_all.Given as goal
 

@@ -2,7 +2,7 @@ use Rattle.std.proofs.Common.{◌∙◌, refl, ap}
 use Rattle.std.specs.Prelude.{Bool, Some, None, if◌then◌else◌, nat_lt}
 use Rattle.js_ordered.specs.declared.course.Course.{Course}
 use Rattle.js_ordered.specs.Course.{course_given}
-use Rattle.js_ordered.specs.Refusal.{first_of, is_exhausted}
+use Rattle.js_table.specs.Refusal.{first_of, is_exhausted}
 use Rattle.js_ordered.proofs.Coursing.{comes_on}
 use Rattle.js_ordered.proofs.course.Course.advance.Goals as goal
 
@@ -17,4 +17,4 @@ returns-clause-passed c = λ g start es come.
     (c.first_place-self-2.ensures
     ∙ ap (λ (b : Bool). first_of passed.exhausted (if b then Some old.count else None)) c.is_exhausted-is_last.ensures
     ∙ ap (λ (s : Course). first_of s.exhausted (if is_last then Some old.count else None)) c.in_ok-pass.ensures)
-    (ap (λ (s : Course). s.world) c.in_ok-pass.ensures) (ap (λ (s : Course). s.outputs) c.in_ok-pass.ensures)
+    (ap (λ (s : Course). s.world) c.in_ok-pass.ensures) (ap (λ (s : Course). s.outputs) c.in_ok-pass.ensures) refl

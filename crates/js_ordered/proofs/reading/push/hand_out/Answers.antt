@@ -1,11 +1,11 @@
 use Rattle.std.proofs.Common.{◌≡◌, [], ◌∷◌, ◌++◌, sym, ap, ◌∙◌}
-use Rattle.js_ordered.specs.Fold.{Ran}
-use Rattle.js_ordered.specs.Reading.{armed}
-use Rattle.js_ordered.specs.Passes.{given_of, matter_now, ran, at, place_shown, accepting}
-use Rattle.js_ordered.specs.declared.consumer.Phase.TheVariants.{Pushes}
-use Rattle.js_ordered.specs.declared.run.Output.{Output}
-use Rattle.js_ordered.specs.declared.run.Output.TheVariants.{Yield}
-use Rattle.js_ordered.specs.declared.world.World.{World}
+use Rattle.js_table.specs.Fold.{Ran}
+use Rattle.js_table.specs.Reading.{armed}
+use Rattle.js_table.specs.Passes.{given_of, matter_now, ran, at, place_shown, accepting}
+use Rattle.js_table.specs.declared.consumer.Phase.TheVariants.{Pushes}
+use Rattle.js_table.specs.declared.run.Output.{Output}
+use Rattle.js_table.specs.declared.run.Output.TheVariants.{Yield}
+use Rattle.js_table.specs.declared.world.World.{World}
 use Rattle.js_ordered.proofs.PushReading.{hearing, message_is_next}
 use Rattle.js_ordered.proofs.reading.push.hand_out.Goals as goal
 

@@ -1,8 +1,8 @@
 use Rattle.std.proofs.Common.{◌≡◌, true, ◌∙◌, ap, sym}
 use Rattle.std.specs.Prelude.{Bool}
-use Rattle.js_ordered.specs.Reading.{beat_answer, beat_rows}
-use Rattle.js_ordered.specs.Passes.{given_of, matter_now, ran, starts_if}
-use Rattle.js_ordered.specs.declared.row.Row.TheVariants.{Start}
+use Rattle.js_table.specs.Reading.{beat_answer, beat_rows}
+use Rattle.js_table.specs.Passes.{given_of, matter_now, ran, starts_if}
+use Rattle.js_table.specs.declared.row.Row.TheVariants.{Start}
 use Rattle.js_ordered.proofs.Comings.{on_after}
 use Rattle.js_ordered.proofs.PushReading.{hearing, beat_shows_a_gap}
 use Rattle.js_ordered.proofs.reading.push.hear_beat.Goals as goal

@@ -1,5 +1,5 @@
 use Rattle.std.proofs.Common.{◌<◌, length, arith}
-use Rattle.js_ordered.specs.Passes.{given_of, matter_now}
+use Rattle.js_table.specs.Passes.{given_of, matter_now}
 use Rattle.js_ordered.proofs.PushReading.{hear_more}
 use Rattle.js_ordered.proofs.reading.push.hear_each.Goals as goal
 

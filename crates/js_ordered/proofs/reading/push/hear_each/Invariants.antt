@@ -1,7 +1,7 @@
 use Rattle.std.proofs.Common.{List, drop}
-use Rattle.js_ordered.specs.Passes.{PassesEach, hearings}
-use Rattle.js_ordered.specs.declared.run.Output.{Output}
-use Rattle.js_ordered.specs.declared.world.World.{World}
+use Rattle.js_table.specs.Passes.{PassesEach, hearings}
+use Rattle.js_table.specs.declared.run.Output.{Output}
+use Rattle.js_table.specs.declared.world.World.{World}
 use Rattle.js_ordered.proofs.reading.push.hear_each.Given as goal
 
 abbrev pub invariant-loop-message : goal.invariant-loop-message

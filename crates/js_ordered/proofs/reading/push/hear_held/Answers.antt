@@ -1,7 +1,7 @@
 use Rattle.std.proofs.Common.{List, subst}
 use Rattle.js_base.specs.declared.message.Message.{Message}
-use Rattle.js_ordered.specs.Passes.{given_of, matter_now, ran, hearings, PassesEach}
-use Rattle.js_ordered.specs.declared.row.Row.TheVariants.{Arm}
+use Rattle.js_table.specs.Passes.{given_of, matter_now, ran, hearings, PassesEach}
+use Rattle.js_table.specs.declared.row.Row.TheVariants.{Arm}
 use Rattle.js_ordered.proofs.PushReading.{each_last}
 use Rattle.js_ordered.proofs.reading.push.hear_held.Goals as goal
 

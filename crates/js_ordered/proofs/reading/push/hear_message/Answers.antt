@@ -1,8 +1,8 @@
 use Rattle.std.proofs.Common.{◌≡◌, ◌+◌, Some, OnOk, true, sym, subst}
 use Rattle.js_message.specs.Ack as plain
 use Rattle.js_message.specs.Ack.{readable_as}
-use Rattle.js_ordered.specs.Fold.{Ran}
-use Rattle.js_ordered.specs.Passes.{given_of, matter_now, Comes, place_shown}
+use Rattle.js_table.specs.Fold.{Ran}
+use Rattle.js_table.specs.Passes.{given_of, matter_now, Comes, place_shown}
 use Rattle.js_ordered.proofs.PushReading.{message_shows_a_gap}
 use Rattle.js_ordered.proofs.reading.push.hear_message.Goals as goal
 

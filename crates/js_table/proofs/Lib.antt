@@ -1,0 +1,15 @@
+pub mod Central
+pub mod Rewritten
+pub mod Keeps
+pub mod Asks
+pub mod Chains
+pub mod Ranks
+pub mod Headline
+pub mod Open
+pub mod Accepted
+pub mod Once
+pub mod OnLiterals
+pub mod Rows
+pub mod Honest
+pub mod Numbers
+pub mod Promises

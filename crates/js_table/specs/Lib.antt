@@ -1,0 +1,12 @@
+pub mod State
+pub mod Texts
+pub mod Recreation
+pub mod Reading
+pub mod Turn
+pub mod Fold
+pub mod Refusal
+pub mod Gapless
+pub mod Kept
+pub mod Valid
+pub mod Passes
+pub mod Worked

@@ -1,0 +1,188 @@
+-- What passing rows comes to in a replay, as the functions that pass them say it.
+use Rattle.std.specs.Prelude.{◌≡◌, ℕ, suc, ◌+◌, min, Bool, true, List, [], ◌∷◌, ◌++◌, map, Option, Some, None, option_map, ◌==◌, false}
+use Rattle.js_base.specs.declared.clock.Timer.{Timer}
+use Rattle.js_table.specs.Texts.{recreation_timeout, consumer_name, inbox_subject, source_of}
+use Rattle.js_table.specs.Recreation.{recreation, held_in}
+use Rattle.js_base.specs.declared.message.Message.{Message}
+use Rattle.js_pull.specs.Reader.{new_reader, u64_max, retry_wait, info_of_reply, with_pin, with_silence}
+use Rattle.js_json.specs.declared.consumer.info.Info.{Info}
+use Rattle.js_pull.specs.declared.reader.Reason.{Reason}
+use Rattle.js_pull.specs.declared.reader.Reason.TheVariants.{Informed}
+use Rattle.js_table.specs.declared.consumer.Consumer.{Consumer}
+use Rattle.js_table.specs.declared.consumer.Opened.{Opened}
+use Rattle.js_table.specs.declared.consumer.Recreation.{Recreation}
+use Rattle.js_pull.specs.declared.reader.Reader.{Reader}
+use Rattle.js_pull.specs.declared.reader.Row.{Row as PullRow}
+use Rattle.js_table.specs.declared.row.Row.TheVariants.{Start, Read, Hear}
+use Rattle.js_table.specs.declared.row.Arrival.{Arrival}
+use Rattle.js_table.specs.declared.consumer.Phase.TheVariants.{Pulls, Pushes, Recreates, Idle, Ended, Exhausted}
+use Rattle.js_table.specs.declared.consumer.Stage.TheVariants.{Waiting}
+use Rattle.js_table.specs.State.{Matter, Passed, at_phase}
+use Rattle.js_table.specs.Fold.{Ran, rank, and_then, pass_each, pass_to, passing, after, matter_of}
+use Rattle.js_table.specs.Turn.{go_on, changed}
+use Rattle.js_base.specs.declared.message.State.{State}
+use Rattle.js_table.specs.State as state
+use Rattle.js_table.specs.declared.answer.Change.{Change}
+use Rattle.js_table.specs.declared.answer.Change.TheVariants as change
+use Rattle.js_table.specs.declared.consumer.Given.{Given}
+use Rattle.js_table.specs.declared.consumer.Phase.{Phase}
+use Rattle.js_table.specs.declared.row.Row.{Row}
+use Rattle.js_table.specs.declared.run.Output.{Output}
+use Rattle.js_message.specs.Ack as ack
+use Rattle.js_table.specs.declared.place.Place.{Place}
+use Rattle.js_table.specs.declared.answer.Reply.{Reply}
+use Rattle.js_table.specs.declared.answer.Reply.TheVariants as reply
+use Rattle.js_table.specs.declared.turn.Turn.{Turn}
+use Rattle.js_table.specs.declared.world.World.{World}
+
+-- what a consumer is made with
+abbrev pub given_of : Turn → Given
+given_of turn = record { settings = turn.settings.now; setup = turn.setup.now; first = turn.first.now }
+
+-- what happens to it now
+abbrev pub matter_now : Turn → Matter
+matter_now turn = matter_of turn.what.now
+
+-- what a row and the rows that follow it at once come to
+unfoldable pub ran : Given → ℕ → Matter → Row → World → Ran
+ran g now m row w = pass_to g now m (suc (rank row)) row w
+
+-- what comes of a row that was passed: the rows that follow it
+unfoldable pub from : Given → ℕ → Matter → Passed → World → Ran
+from g now m passed w = and_then passed.outputs (pass_each (ran g now m) passed.next (after w passed))
+
+-- the world with its consumer at another phase
+abbrev pub at : Phase → World → World
+at phase w = record w { consumer = at_phase phase w.consumer }
+
+-- this came of it: the world after it, and what was put out
+abbrev pub Comes : Ran → World → List Output → List Output → Type 0
+Comes r new before after = (new ≡ r.world) × (after ≡ before ++ r.outputs)
+
+-- a row was passed, with the rows that follow it at once
+abbrev pub Passes : Turn → Row → World → World → List Output → List Output → Type 0
+Passes turn row old new before after = Comes (ran (given_of turn) turn.moment (matter_now turn) row old) new before after
+
+-- the bound on an answer that is waited for from a moment on
+abbrev pub timeout_at : Given → ℕ → Timer
+timeout_at g now = record { set = now; wait = recreation_timeout g.settings }
+
+-- one row after what another came to
+abbrev pub then_row : Given → ℕ → Matter → Row → Ran → Ran
+then_row g now m row first = and_then first.outputs (ran g now m row first.world)
+
+-- one row was passed after the other
+abbrev pub PassesBoth : Turn → Row → Row → World → World → List Output → List Output → Type 0
+PassesBoth turn first second old new before after =
+    Comes (then_row (given_of turn) turn.moment (matter_now turn) second (ran (given_of turn) turn.moment (matter_now turn) first old)) new before after
+
+-- rows were passed in order
+abbrev pub PassesEach : Turn → List Row → World → World → List Output → List Output → Type 0
+PassesEach turn rows old new before after = Comes (pass_each (ran (given_of turn) turn.moment (matter_now turn)) rows old) new before after
+
+-- a row of a pull reader was passed, which goes on reading
+abbrev pub Reads : Turn → PullRow → Reader → Reader → World → World → List Output → List Output → Type 0
+Reads turn row reader reader' old new before after = Passes turn (Read row) (at (Pulls reader) old) (at (Pulls reader') new) before after
+
+-- why messages are asked for after an answer that holds an info: with a reset where no request waits
+abbrev pub informed_by : Option Message → Option Reason
+informed_by reply = option_map (λ info. Informed (info.num_waiting == 0)) (info_of_reply reply)
+
+-- ---- what a recreation makes of a consumer
+
+-- the consumer whose recreation begins
+abbrev pub restarted : Given → Consumer → Consumer
+restarted g c =
+    let serial = min (c.serial + 1) u64_max in
+    record c { phase = Recreates (recreation g c); num = 0; serial = serial; name = consumer_name g serial }
+
+-- an inbox that holds nothing yet
+abbrev pub opened_as : ℕ → List ℕ → Opened
+opened_as inbox subject = record { inbox = inbox; subject = subject; held = [] }
+
+-- the recreation waits for its next try
+abbrev pub waiting : ℕ → Recreation → Recreation
+waiting now r = record r {
+  failures = r.failures + 1;
+  opened = None;
+  stage = Waiting (record { set = now; wait = retry_wait (r.failures + 1) });
+}
+
+-- what became of a request, as the replay's code tells it
+abbrev pub reply_shown : Reply → Option (Option Message)
+reply_shown reply.Waiting = None
+reply_shown reply.Gone = Some None
+reply_shown (reply.Got message) = Some (Some message.now)
+
+-- ---- a message
+
+-- its place, as the replay's code tells it
+abbrev pub place_shown : Place → ack.Place
+place_shown place = record { sequence = place.sequence; number = place.number }
+
+-- the world whose consumer has yielded the message at this place
+abbrev pub accepting : ack.Place → World → World
+accepting place w = record w { consumer = record w.consumer { num = place.number; last = place.sequence; limited = false } }
+
+-- the reader that has heard a message
+abbrev pub heard : ℕ → Message → Reader → Reader
+heard now message r = with_pin message (with_silence now r)
+
+-- the reader that a recreation opens
+abbrev pub reader_of : Given → Info → World → Reader
+reader_of g info w = new_reader (source_of g w.consumer.serial w.made (inbox_subject g w.made) info)
+
+-- the reader of the first inbox
+abbrev pub first_reader_of : Given → Reader
+first_reader_of g = new_reader (source_of g 0 0 (inbox_subject g 0) g.first)
+
+-- ---- what an open recreation holds
+
+-- the phase after an arrival was held, where a recreation holds arrivals
+abbrev pub holding : Option Arrival → Phase → Phase
+holding arrival (Recreates r) = Recreates (record r { opened = held_in arrival r.opened })
+holding arrival (Pulls reader) = Pulls reader
+holding arrival (Pushes inbox silence) = Pushes inbox silence
+holding arrival Idle = Idle
+holding arrival Ended = Ended
+holding arrival Exhausted = Exhausted
+
+-- ---- push
+
+-- push listens to this inbox now
+abbrev pub listens_to : ℕ → Phase → Bool
+listens_to inbox (Pushes current silence) = inbox == current
+listens_to inbox _ = false
+
+-- the rows that hear these messages in order
+abbrev pub hearings : ℕ → List Message → List Row
+hearings inbox messages = map (λ message. Hear (record { inbox = inbox; message = message })) messages
+
+-- a recreation follows or not
+abbrev pub starts_if : Bool → List Row
+starts_if true = Start ∷ []
+starts_if false = []
+
+-- ---- an event
+
+-- what it says of the connection, as the replay's code tells it
+abbrev pub change_shown : Change → state.Change
+change_shown change.Unchanged = state.Unchanged
+change_shown (change.Becomes now) = state.Becomes now
+change_shown change.WatcherEnds = state.WatcherEnds
+
+-- this came of a row that was passed
+abbrev pub Follows : Turn → Passed → World → World → List Output → List Output → Type 0
+Follows turn passed old new before after = Comes (from (given_of turn) turn.moment (matter_now turn) passed old) new before after
+
+-- an event went on from this phase
+abbrev pub GoesOn : Turn → Phase → World → World → List Output → List Output → Type 0
+GoesOn turn phase old new before after =
+    let w = at phase old in
+    Follows turn (go_on (given_of turn) (passing (given_of turn) turn.moment w) (matter_now turn) phase w.consumer) w new before after
+
+-- the connection was another one from then on
+abbrev pub Changes : Turn → State → Phase → World → World → List Output → List Output → Type 0
+Changes turn state phase old new before after =
+    let w = at phase old in
+    Follows turn (changed (given_of turn) (passing (given_of turn) turn.moment w) (matter_now turn) w.consumer.connection state phase w.consumer) w new before after

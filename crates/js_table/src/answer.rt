@@ -1,0 +1,64 @@
+//! What an event brings to those who wait.
+ghost use Rattle.std.specs.Prelude.{◌≡◌, option_map};
+ghost use Rattle.std.specs.Option.{option_copied};
+ghost use Rattle.js_table.specs.Fold.{matter_of};
+ghost use Rattle.js_table.specs.Passes.{change_shown, reply_shown};
+ghost use Rattle.js_table.specs.Recreation.{message_on};
+ghost use Rattle.js_pull.specs.Reader.{reply_to};
+
+use crate::event::What;
+use js_base::{Message, State};
+
+/// What became of a request in an event.
+pub enum Reply<'a> {
+    Waiting,
+    /// The replier is gone.
+    Gone,
+    Got(&'a Message),
+}
+
+impl What {
+    /// What became of this request in the event.
+    pub fn reply_to(&self, number: u64) -> Reply<'_>
+        ensures { reply_shown result ≡ reply_to number (matter_of self.now).answer }
+    {
+        match self {
+            What::Answer { request, reply } if *request == number => match reply {
+                None => Reply::Gone,
+                Some(message) => Reply::Got(message.get()),
+            },
+            _ => Reply::Waiting,
+        }
+    }
+
+    /// The message that arrives on this inbox in the event.
+    pub fn message_on(&self, number: u64) -> Option<&Message>
+        ensures { option_copied result ≡ message_on number (matter_of self.now).arrival }
+    {
+        match self {
+            What::Arrival { inbox, message } if *inbox == number => Some(message.get()),
+            _ => None,
+        }
+    }
+}
+
+/// What an event says of the connection.
+pub enum Change {
+    Unchanged,
+    Becomes(State),
+    WatcherEnds,
+}
+
+/// What an event says of the connection.
+pub fn change_of(what: &What) -> Change
+    ensures { change_shown result ≡ (matter_of what.now).change }
+{
+    match what {
+        What::Connection { state } => Change::Becomes(*state),
+        What::WatcherEnded => Change::WatcherEnds,
+        What::Tick => Change::Unchanged,
+        What::Arrival { .. } => Change::Unchanged,
+        What::Answer { .. } => Change::Unchanged,
+        What::Link { .. } => Change::Unchanged,
+    }
+}

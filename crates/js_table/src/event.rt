@@ -1,0 +1,35 @@
+//! What happens to an ordered consumer, and when.
+use js_base::{Boxed, Message, Moment, State};
+
+/// Something that happens at a moment. The message lies in a box, since most events of a long transcript carry none.
+#[derive(Debug, PartialEq, Eq, Drop)]
+pub struct Event {
+    pub at: Moment,
+    pub what: What,
+}
+
+#[derive(Debug, PartialEq, Eq, Drop)]
+pub enum What {
+    /// Only time passes.
+    Tick,
+    /// A message arrives on the inbox with this number, from 0 in the order of subscribing.
+    Arrival {
+        inbox: u64,
+        message: Boxed<Message>,
+    },
+    /// The request with this number, from 1 in the order of sending, is answered. None: its replier is gone.
+    Answer {
+        request: u64,
+        reply: Option<Boxed<Message>>,
+    },
+    /// From now on sends go through, or they fail.
+    Link {
+        up: bool,
+    },
+    /// The connection is in this state from now on.
+    Connection {
+        state: State,
+    },
+    /// The connection's state is watched no longer.
+    WatcherEnded,
+}

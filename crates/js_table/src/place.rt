@@ -1,0 +1,64 @@
+//! Where a message stands: in its stream, and among what its consumer was sent.
+ghost use Rattle.std.specs.Prelude.{◌≡◌, ◌+◌, ◌↔◌, IfOk, IsTrue, option_map};
+ghost use Rattle.js_message.specs.Ack.{readable_as};
+ghost use Rattle.js_table.specs.Passes.{accepting, place_shown};
+
+use crate::run::Output;
+use crate::world::World;
+use js_base::{Message, OutOfMemory, TryClone};
+use js_message::parse_info;
+
+/// The stream sequence of a message, and its number among what its consumer was sent.
+#[derive(Clone, Copy, Debug, PartialEq, Eq)]
+pub struct Place {
+    pub sequence: u64,
+    pub number: u64,
+}
+
+impl Place {
+    /// The message is the next one after the one with this number.
+    pub fn is_after(self, number: u64) -> bool
+        ensures { IsTrue result ↔ (self.number ≡ number + 1) }
+    {
+        self.number > 0 && self.number - 1 == number
+    }
+}
+
+/// The place that the reply of a message tells, where it tells one.
+pub fn place_of(message: &Message) -> Option<Place>
+    ensures { option_map place_shown result ≡ readable_as message.now.reply }
+{
+    match &message.reply {
+        None => None,
+        Some(reply) => match parse_info(reply.as_str()) {
+            Err(_) => None,
+            Ok(info) => Some(Place {
+                sequence: info.stream_sequence,
+                number: info.consumer_sequence,
+            }),
+        },
+    }
+}
+
+/// The yield of a message.
+pub fn yield_of(message: &Message, place: Place) -> Result<Output, OutOfMemory>
+    ensures { IfOk result (λ output. output ≡ Output.Yield place.sequence place.number message.now.subject message.now.payload) }
+{
+    Ok(Output::Yield {
+        stream_sequence: place.sequence,
+        consumer_sequence: place.number,
+        subject: message.subject.try_clone()?,
+        payload: message.payload.clone()?,
+    })
+}
+
+impl World {
+    /// The consumer has yielded the message at this place.
+    pub fn accept(&mut self, place: Place)
+        ensures { self.new ≡ accepting (place_shown place) self.old }
+    {
+        self.consumer.num = place.number;
+        self.consumer.last = place.sequence;
+        self.consumer.limited = false;
+    }
+}

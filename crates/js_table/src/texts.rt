@@ -1,0 +1,258 @@
+//! Names, subjects, bodies and timeouts of an ordered consumer.
+ghost use Rattle.std.specs.Prelude.{◌≡◌, IfOk, codes, decimal, string_bytes, ◌++◌};
+ghost use Rattle.js_table.specs.Passes.{given_of};
+ghost use Rattle.js_table.specs.Texts as texts;
+
+use crate::consumer::{Opened, Recreation};
+use crate::run::Start;
+use crate::setup::{OrderedSetup, Settings};
+use crate::turn::Turn;
+use bytes::Bytes;
+use js_base::{Nanos, OutOfMemory, Subject, Text, TryClone};
+use js_fields::ToValue;
+use js_json::consumer::{Action, Config, CreateRequest, DeliverPolicy, Info, IntoConsumerConfig};
+use js_pull::{Source, ordered_batch_config};
+use std::alloc::{AllocError, Global};
+
+// ---- timeouts
+
+/// How long an API request is waited for: as the context says, else as the connection says.
+fn timeout(settings: &Settings) -> Option<Nanos>
+    ensures { result ≡ texts.timeout settings.now }
+{
+    match settings.context_timeout {
+        Some(own) => Some(own),
+        None => settings.request_timeout,
+    }
+}
+
+/// How long the requests of a recreation are waited for: ten seconds where nobody says.
+pub fn recreation_timeout(settings: &Settings) -> Nanos
+    ensures { result ≡ texts.recreation_timeout settings.now }
+{
+    match timeout(settings) {
+        Some(wait) => wait,
+        None => 10_000_000_000,
+    }
+}
+
+/// How long a pull reader waits for its consumer's info. The first reader's wait has no bound of its own.
+fn info_timeout(serial: u64, settings: &Settings) -> Option<Nanos>
+    ensures { result ≡ texts.info_timeout serial settings.now }
+{
+    if serial == 0 {
+        timeout(settings)
+    } else {
+        Some(recreation_timeout(settings))
+    }
+}
+
+// ---- setups
+
+impl OrderedSetup {
+    /// What the setup asks the server for.
+    fn to_config(&self, alloc: Global) -> Result<Config, OutOfMemory>
+        ensures { IfOk result (λ config. config ≡ texts.config_of self.now) }
+    {
+        match self {
+            OrderedSetup::Pull(config) => Ok(config.try_clone()?.into_consumer_config(alloc)),
+            OrderedSetup::Push(config) => Ok(config.try_clone()?.into_consumer_config(alloc)),
+        }
+    }
+
+    /// The one filter, which may be empty.
+    pub fn filter_subject(&self) -> &str
+        ensures { result.now ≡ (texts.config_of self.now).filter_subject }
+    {
+        match self {
+            OrderedSetup::Pull(config) => config.filter_subject.as_str(),
+            OrderedSetup::Push(config) => config.filter_subject.as_str(),
+        }
+    }
+
+    fn deliver_policy(&self) -> DeliverPolicy
+        ensures { result ≡ (texts.config_of self.now).deliver_policy }
+    {
+        match self {
+            OrderedSetup::Pull(config) => config.deliver_policy,
+            OrderedSetup::Push(config) => config.deliver_policy,
+        }
+    }
+
+    /// The sequence from which the setup starts, where it names one above 0.
+    pub fn configured_start(&self) -> Option<u64>
+        ensures { result ≡ texts.configured_start self.now }
+    {
+        match self.deliver_policy() {
+            DeliverPolicy::ByStartSequence { start_sequence: 0 } => None,
+            DeliverPolicy::ByStartSequence { start_sequence } => Some(start_sequence),
+            _ => None,
+        }
+    }
+}
+
+// ---- names and subjects
+
+/// `base` and a number, with a mark between.
+fn numbered(alloc: Global, base: &str, mark: &str, number: u64) -> Result<String, AllocError>
+    ensures { IfOk result (λ text. string_bytes text ≡ base.now ++ mark.now ++ decimal number) }
+{
+    format!(in alloc; "{base}{mark}{number}")
+}
+
+/// The name of the consumer that the recreation with this serial makes.
+pub fn consumer_name(alloc: Global, turn: &Turn<'_>, serial: u64) -> Result<Text, OutOfMemory>
+    ensures { IfOk result (λ name. name ≡ texts.consumer_name (given_of turn.now) serial) }
+{
+    Ok(Text::from(numbered(alloc, turn.first.name.as_str(), "_", serial)?))
+}
+
+/// The subject of the inbox with this number.
+pub fn inbox_subject(alloc: Global, turn: &Turn<'_>, inbox: u64) -> Result<Subject, OutOfMemory>
+    ensures { IfOk result (λ subject. subject ≡ texts.inbox_subject (given_of turn.now) inbox) }
+{
+    Ok(Subject::from(numbered(alloc, turn.settings.inbox_prefix.as_str(), ".", inbox)?))
+}
+
+fn api_text(
+    alloc: Global,
+    prefix: &str,
+    verb: &str,
+    stream: &str,
+    name: &str,
+) -> Result<String, AllocError>
+    ensures { IfOk result (λ text. string_bytes text ≡ prefix.now ++ verb.now ++ stream.now ++ codes "." ++ name.now) }
+{
+    let mut text = String::new(alloc);
+    text.push_str(prefix)?;
+    text.push_str(verb)?;
+    text.push_str(stream)?;
+    text.push_str(".")?;
+    text.push_str(name)?;
+    Ok(text)
+}
+
+/// The text, and after a dot the other one, unless it is empty.
+fn with_filter(text: String, filter: &str) -> Result<String, AllocError>
+    ensures { IfOk result (λ whole. string_bytes whole ≡ string_bytes text ++ texts.dotted filter.now) }
+{
+    let mut text = text;
+    if filter.is_empty() {
+        return Ok(text);
+    }
+    text.push_str(".")?;
+    text.push_str(filter)?;
+    Ok(text)
+}
+
+/// The subject of the request that deletes the old consumer.
+pub fn delete_subject(
+    alloc: Global,
+    turn: &Turn<'_>,
+    recreation: &Recreation,
+) -> Result<Subject, OutOfMemory>
+    ensures { IfOk result (λ subject. subject ≡ texts.delete_subject (given_of turn.now) recreation.now) }
+{
+    Ok(Subject::from(api_text(
+        alloc,
+        turn.settings.api_prefix.as_str(),
+        ".CONSUMER.DELETE.",
+        turn.first.stream_name.as_str(),
+        recreation.old_name.as_str(),
+    )?))
+}
+
+/// The subject of the request that makes the new one.
+pub fn create_subject(
+    alloc: Global,
+    turn: &Turn<'_>,
+    recreation: &Recreation,
+) -> Result<Subject, OutOfMemory>
+    ensures { IfOk result (λ subject. subject ≡ texts.create_subject (given_of turn.now) recreation.now) }
+{
+    let text = api_text(
+        alloc,
+        turn.settings.api_prefix.as_str(),
+        ".CONSUMER.CREATE.",
+        turn.first.stream_name.as_str(),
+        recreation.new_name.as_str(),
+    )?;
+    Ok(Subject::from(with_filter(text, turn.setup.filter_subject())?))
+}
+
+// ---- bodies
+
+fn policy_of(start: Start) -> DeliverPolicy
+    ensures { result ≡ texts.policy_of start }
+{
+    match start {
+        Start::All => DeliverPolicy::All,
+        Start::From(start_sequence) => DeliverPolicy::ByStartSequence { start_sequence },
+    }
+}
+
+fn opened_subject(alloc: Global, opened: &Option<Opened>) -> Result<Option<Text>, OutOfMemory>
+    ensures { IfOk result (λ subject. subject ≡ texts.opened_subject opened.now) }
+{
+    match opened {
+        None => Ok(None),
+        Some(opened) => Ok(Some(Text::from_str(alloc, opened.subject.as_str())?)),
+    }
+}
+
+fn asked_config(
+    alloc: Global,
+    turn: &Turn<'_>,
+    recreation: &Recreation,
+) -> Result<Config, OutOfMemory>
+    ensures { IfOk result (λ config. config ≡ texts.asked_config (given_of turn.now) recreation.now) }
+{
+    let mut config = turn.setup.to_config(alloc)?;
+    config.name = Some(recreation.new_name.try_clone()?);
+    config.deliver_policy = policy_of(recreation.start);
+    config.deliver_subject = opened_subject(alloc, &recreation.opened)?;
+    Ok(config)
+}
+
+/// The body of the request that makes the new consumer.
+pub fn create_body(
+    alloc: Global,
+    turn: &Turn<'_>,
+    recreation: &Recreation,
+) -> Result<Bytes, OutOfMemory>
+    ensures { IfOk result (λ body. body ≡ texts.create_body (given_of turn.now) recreation.now) }
+{
+    let request = CreateRequest {
+        action: Action::CreateOrUpdate,
+        config: asked_config(alloc, turn, recreation)?,
+        stream_name: turn.first.stream_name.try_clone()?,
+    };
+    match request.to_text(alloc) {
+        Ok(text) => Ok(Bytes::from_string(text)?),
+        Err(_) => Err(OutOfMemory),
+    }
+}
+
+// ---- readers
+
+/// Whom the reader of a consumer with this info asks.
+pub fn source_of(
+    turn: &Turn<'_>,
+    serial: u64,
+    inbox: u64,
+    subject: Subject,
+    info: &Info,
+) -> Result<Source, OutOfMemory>
+    ensures { IfOk result (λ source. source ≡ texts.source_of (given_of turn.now) serial inbox subject info.now) }
+{
+    Ok(Source {
+        api: turn.settings.api_prefix.try_clone()?,
+        stream: info.stream_name.try_clone()?,
+        name: info.name.try_clone()?,
+        inbox,
+        subject,
+        patience: info_timeout(serial, turn.settings),
+        config: ordered_batch_config(info),
+        pinned: false,
+    })
+}

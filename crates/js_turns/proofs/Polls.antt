@@ -1,0 +1,57 @@
+-- A poll of a consumer with an honest server keeps what is known, and the yield that it hands out joins the last one.
+use Rattle.std.proofs.Common.{◌≡◌, ℕ, Bool, true, false, List, [], ◌∷◌, subst, sym}
+use Rattle.std.specs.Prelude.{⊤}
+use Rattle.js_table.specs.declared.consumer.Given.{Given}
+use Rattle.js_turns.specs.Turns.{Position, Stride, Moved, Answer, Hands, HandsEnd, Waits, Ends, Lacks, walk, handed, handed_by, closed_at, IsHonestWalk, IsKeptPosition, JoinsAnswer, KeepsPoll, HasWholeLists}
+use Rattle.js_table.specs.declared.setup.OrderedSetup.{OrderedSetup}
+use Rattle.js_table.specs.declared.run.Output.{Output}
+use Rattle.js_table.specs.declared.run.Output.TheVariants as out
+use Rattle.js_table.specs.Gapless.{Server}
+use Rattle.js_table.specs.Kept.{Joins, Extends}
+use Rattle.js_turns.proofs.Walks.{KeepsAlong, walk_keeps}
+
+-- the first that is handed out, if it is a yield, joins
+abbrev JoinsFirst : OrderedSetup → Server → ℕ → List Output → Type 0
+JoinsFirst setup s last [] = ⊤
+JoinsFirst setup s last (out.Yield sequence number subject payload ∷ outputs) = Joins setup s last (record { subject = subject; sequence = sequence; payload = payload })
+JoinsFirst setup s last (_ ∷ outputs) = ⊤
+
+first_joins : (setup : OrderedSetup) (s : Server) (last after : ℕ) (outputs : List Output) → Extends setup s last outputs after → JoinsFirst setup s last (handed outputs)
+first_joins setup s last after [] e = tt
+first_joins setup s last after (out.Yield sequence number subject payload ∷ outputs) e = e.0
+first_joins setup s last after (out.Item kind ∷ outputs) e = tt
+first_joins setup s last after (out.Recreate serial start ∷ outputs) e = first_joins setup s last after outputs e
+first_joins setup s last after (out.Request number subject payload ∷ outputs) e = first_joins setup s last after outputs e
+first_joins setup s last after (out.Publish subject reply payload ∷ outputs) e = first_joins setup s last after outputs e
+first_joins setup s last after (out.Subscribe inbox subject ∷ outputs) e = first_joins setup s last after outputs e
+
+answer_joins : (setup : OrderedSetup) (s : Server) (last : ℕ) (answer : Answer) → JoinsFirst setup s last (handed_by answer) → JoinsAnswer setup s last answer
+answer_joins setup s last (Hands (out.Yield sequence number subject payload)) j = j
+answer_joins setup s last (Hands (out.Item kind)) j = tt
+answer_joins setup s last (Hands (out.Recreate serial start)) j = tt
+answer_joins setup s last (Hands (out.Request number subject payload)) j = tt
+answer_joins setup s last (Hands (out.Publish subject reply payload)) j = tt
+answer_joins setup s last (Hands (out.Subscribe inbox subject)) j = tt
+answer_joins setup s last HandsEnd j = tt
+answer_joins setup s last Waits j = tt
+answer_joins setup s last Ends j = tt
+answer_joins setup s last Lacks j = tt
+
+closed_kept : (setup : OrderedSetup) (s : Server) (closed : Bool) (at : Position) → IsKeptPosition setup s at → IsKeptPosition setup s (closed_at closed at)
+closed_kept setup s true at k = record { consumer = tt; todo = tt }
+closed_kept setup s false at k = k
+
+-- what a poll's contract says of honest servers follows from the rows that it passed
+pub poll_gapless : (g : Given) (strides : List Stride) (closed : Bool) (old new : Position) (answer : Answer)
+    → new ≡ closed_at closed (walk g strides old).position → handed (walk g strides old).outputs ≡ handed_by answer
+    → (s : Server) → HasWholeLists g.setup s → IsKeptPosition g.setup s old → IsHonestWalk g s strides old
+    → KeepsPoll g.setup s old.consumer.last new answer
+poll_gapless g strides closed old new answer leads handed_is s whole k honest =
+    let moved : Moved = walk g strides old in
+    let along : KeepsAlong g s old.consumer.last moved = walk_keeps g s whole strides old k honest in
+    record {
+      kept = subst (λ (at : Position). IsKeptPosition g.setup s at) (sym leads) (closed_kept g.setup s closed moved.position along.kept);
+      joins = answer_joins g.setup s old.consumer.last answer
+          (subst (λ (outputs : List Output). JoinsFirst g.setup s old.consumer.last outputs) handed_is
+          (first_joins g.setup s old.consumer.last moved.position.consumer.last moved.outputs along.extends));
+    }
