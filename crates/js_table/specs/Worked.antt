@@ -26,6 +26,7 @@ use Rattle.js_table.specs.Texts.{inbox_subject}
 use Rattle.js_table.specs.Fold.{fold}
 use Rattle.js_table.specs.Gapless.{Logged, Server, IsHonest, IsGapless, sequences, yields, all_outputs}
 
+-- all at their defaults
 abbrev pub settings : Settings
 settings = record { api_prefix = codes "$JS.API"; inbox_prefix = codes "_INBOX.t"; context_timeout = None; request_timeout = Some 10_000_000_000; retries = 4_294_967_295 }
 
@@ -48,6 +49,7 @@ pull_config deliver = record {
   max_expires = 0;
 }
 
+-- the same for push, which is delivered to `d.in`
 abbrev pub push_config : pushes.OrderedConfig
 push_config = record {
   deliver_subject = codes "d.in";
@@ -68,6 +70,7 @@ push_config = record {
 abbrev new_year : Timestamp
 new_year = record { nanosecond = pos 1_767_225_600_000_000_000; in_range = (record { le = tt }, record { le = tt }) }
 
+-- nothing was delivered
 abbrev nowhere : SequenceInfo
 nowhere = record { consumer_sequence = 0; stream_sequence = 0; last_active = None }
 
@@ -91,12 +94,15 @@ info_with name config = record {
   priority_groups = [];
 }
 
+-- what the server tells of the pull consumer `c1`
 abbrev pub pull_info : Info
 pull_info = info_with (codes "c1") (ordered_pull_config (pull_config policy.All))
 
+-- the pull setup, of all messages
 abbrev pub by_pull : Given
 by_pull = record { settings = settings; setup = Pull (pull_config policy.All); first = pull_info }
 
+-- the push setup, of all messages
 abbrev pub by_push : Given
 by_push = record { settings = settings; setup = Push push_config; first = info_with (codes "c1") (ordered_push_config push_config) }
 
@@ -104,6 +110,7 @@ by_push = record { settings = settings; setup = Push push_config; first = info_w
 abbrev pub pull_from : ℕ → Given
 pull_from sequence = record by_pull { setup = Pull (pull_config (policy.ByStartSequence sequence)) }
 
+-- a message with nothing but this payload
 abbrev pub plain : List ℕ → Message
 plain payload = record { subject = []; reply = None; payload = payload; headers = None; status = None; description = None; length = 0 }
 
@@ -129,27 +136,35 @@ arrives_on heap subject t i n s payload = record { at = t; what = what.Arrival i
 abbrev pub with_status : Global → ℕ → ℕ → ℕ → List ℕ → Event
 with_status heap t i status description = record { at = t; what = what.Arrival i (boxed heap (record (plain []) { status = Some (record { 0 = status }); description = Some description })) }
 
+-- the answer to a request at t
 abbrev pub answers : Global → ℕ → ℕ → List ℕ → Event
 answers heap t request payload = record { at = t; what = what.Answer request (Some (boxed heap (plain payload))) }
 
+-- time passes up to t
 abbrev pub tick : ℕ → Event
 tick t = record { at = t; what = what.Tick }
 
+-- from t on sends go through, or they fail
 abbrev pub link : ℕ → Bool → Event
 link t up = record { at = t; what = what.Link up }
 
+-- from t on the connection is in this state
 abbrev pub connection : ℕ → State → Event
 connection t state = record { at = t; what = what.Connection state }
 
+-- the body of a pull request that nothing caps
 abbrev pub whole_body : List ℕ
 whole_body = codes "{\"batch\":500,\"expires\":30000000000,\"group\":null,\"idle_heartbeat\":15000000000,\"max_bytes\":0,\"min_ack_pending\":null,\"min_pending\":null,\"priority\":null}"
 
+-- the answer to a deletion
 abbrev pub ok : List ℕ
 ok = codes "{\"success\":true}"
 
+-- the answer to the create of a pull consumer with this name
 abbrev pub info_text : List ℕ → List ℕ
 info_text name = codes "{\"stream_name\":\"events\",\"name\":\"" ++ name ++ codes "\",\"created\":\"2026-01-01T00:00:00Z\",\"config\":{\"deliver_policy\":\"all\"},\"delivered\":{\"consumer_seq\":0,\"stream_seq\":0},\"ack_floor\":{\"consumer_seq\":0,\"stream_seq\":0},\"num_ack_pending\":0,\"num_redelivered\":0,\"num_waiting\":0,\"num_pending\":0}"
 
+-- and of a push consumer
 abbrev pub push_text : List ℕ → List ℕ
 push_text name = codes "{\"stream_name\":\"events\",\"name\":\"" ++ name ++ codes "\",\"created\":\"2026-01-01T00:00:00Z\",\"config\":{\"deliver_policy\":\"all\",\"deliver_subject\":\"d.in\"},\"delivered\":{\"consumer_seq\":0,\"stream_seq\":0},\"ack_floor\":{\"consumer_seq\":0,\"stream_seq\":0},\"num_ack_pending\":0,\"num_redelivered\":0,\"num_waiting\":0,\"num_pending\":0}"
 
@@ -167,6 +182,7 @@ run_of opening steps ended = record {
 abbrev pub asks : List ℕ → ℕ → Output
 asks name i = out.Publish (codes "$JS.API.CONSUMER.MSG.NEXT.events." ++ name) (Some (inbox_subject by_pull i)) whole_body
 
+-- the request that deletes a consumer
 abbrev pub deletes : ℕ → List ℕ → Output
 deletes number name = out.Request number (codes "$JS.API.CONSUMER.DELETE.events." ++ name) (codes "{}")
 
@@ -198,6 +214,7 @@ server payloads first later = record { log = log_of payloads; removed = []; star
 abbrev pub in_order : Global → List Event
 in_order heap = arrives heap 1 0 1 1 (codes "a") ∷ arrives heap 2 0 2 2 (codes "b") ∷ []
 
+-- its server
 abbrev pub server_in_order : Server
 server_in_order = server (codes "a" ∷ codes "b" ∷ []) 1 2
 
@@ -205,6 +222,7 @@ server_in_order = server (codes "a" ∷ codes "b" ∷ []) 1 2
 abbrev pub gap : Global → List Event
 gap heap = arrives heap 1 0 1 1 (codes "a") ∷ arrives heap 2 0 2 2 (codes "b") ∷ arrives heap 3 0 4 4 (codes "d") ∷ answers heap 4 1 ok ∷ answers heap 5 2 (info_text (codes "c1_1")) ∷ []
 
+-- its server, which sends 3 and 4 again
 abbrev pub server_gap : Server
 server_gap = server (codes "a" ∷ codes "b" ∷ codes "c" ∷ codes "d" ∷ []) 3 2
 
@@ -212,6 +230,7 @@ server_gap = server (codes "a" ∷ codes "b" ∷ codes "c" ∷ codes "d" ∷ [])
 abbrev pub held : Global → List Event
 held heap = arrives heap 1 0 1 1 (codes "a") ∷ arrives heap 2 0 3 3 (codes "c") ∷ answers heap 3 1 ok ∷ arrives heap 4 1 1 2 (codes "b") ∷ answers heap 5 2 (push_text (codes "c1_1")) ∷ []
 
+-- its server, which sends 2 and 3 again
 abbrev pub server_held : Server
 server_held = server (codes "a" ∷ codes "b" ∷ codes "c" ∷ []) 2 2
 
@@ -223,6 +242,7 @@ removed heap = arrives heap 1 0 1 1 (codes "a") ∷ arrives heap 2 0 2 2 (codes 
 abbrev pub left : List ℕ
 left = 4 ∷ []
 
+-- its server, which has removed 3
 abbrev pub server_removed : Server
 server_removed = record server_gap { removed = 3 ∷ []; lists = lists }
   where
@@ -234,6 +254,7 @@ server_removed = record server_gap { removed = 3 ∷ []; lists = lists }
 abbrev pub filtered_setup : OrderedSetup
 filtered_setup = Pull (record (pull_config (policy.ByStartSequence 2)) { filter_subject = codes "orders.*" })
 
+-- a consumer of that setup
 abbrev pub by_filter : Given
 by_filter = record by_pull { setup = filtered_setup }
 
@@ -245,6 +266,7 @@ filtered heap = arrives_on heap (codes "orders.b") 1 0 1 3 (codes "b") ∷ arriv
 abbrev pub chosen : List ℕ
 chosen = 3 ∷ 5 ∷ []
 
+-- its server, of whose five messages the filter matches three
 abbrev pub server_filtered : Server
 server_filtered = record {
   log = record { subject = codes "orders.a"; payload = codes "a" }

@@ -11,9 +11,11 @@ use js_base::{Message, State};
 
 /// What became of a request in an event.
 pub enum Reply<'a> {
+    /// It was not answered in this event.
     Waiting,
     /// The replier is gone.
     Gone,
+    /// It was answered with this message.
     Got(&'a Message),
 }
 
@@ -44,8 +46,11 @@ impl What {
 
 /// What an event says of the connection.
 pub enum Change {
+    /// Nothing.
     Unchanged,
+    /// It is in this state from now on, which may be the one in which it was.
     Becomes(State),
+    /// Its state is watched no longer.
     WatcherEnds,
 }
 

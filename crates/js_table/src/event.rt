@@ -8,6 +8,7 @@ pub struct Event {
     pub what: What,
 }
 
+/// What happens.
 #[derive(Debug, PartialEq, Eq, Drop)]
 pub enum What {
     /// Only time passes.
