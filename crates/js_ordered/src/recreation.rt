@@ -1,5 +1,5 @@
 //! A recreation: the old consumer is deleted, and a new one is made that goes on after the last yield.
-ghost use Rattle.std.specs.Prelude.{◌≡◌, ◌+◌, IfOk, OnOk, Some};
+ghost use Rattle.std.specs.Prelude.{◌≡◌, ◌<◌, ◌+◌, IfOk, OnOk, Some};
 ghost use Rattle.js_table.specs.Kept.{IsPush};
 ghost use Rattle.js_table.specs.Passes.{Passes, at, given_of, opened_as, restarted, timeout_at, waiting};
 ghost use Rattle.js_table.specs.Recreation as rows;
