@@ -91,8 +91,9 @@ impl<'a> Course<'a> {
 
     // The event is passed, whether or not the replay is refused.
     fn pass(&mut self, alloc: Global, event: &Event) -> Result<(), OutOfMemory>
-        ensures { let passed = ran_by (course_given self.old) event.now self.old.world in
+        ensures passed { let passed = ran_by (course_given self.old) event.now self.old.world in
             OnOk result (self.new ≡ record self.old { world = passed.world; outputs = passed.outputs }) }
+        ensures kept { self.new.has_failed ≡ self.old.has_failed }
     {
         let turn = Turn {
             settings: self.settings,

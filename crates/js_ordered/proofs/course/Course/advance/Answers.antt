@@ -11,10 +11,10 @@ returns-clause-passed c = λ g start es come.
     let old : Course = c.args.self.now in
     let passed : Course = c.pass.new.self in
     let is_last : Bool = is_exhausted passed.world.consumer.phase in
-    comes_on g start es c.args.event.now old _ come (ap course_given c.in_ok-pass.ensures) c.in_ok-count.ensures refl
+    comes_on g start es c.args.event.now old _ come (ap course_given c.in_ok-pass.ensures.passed) c.in_ok-count.ensures refl
     (c.first_place-self.ensures
-    ∙ ap (λ (s : Course). first_of s.early (if nat_lt c.args.event.now.at old.moment then Some old.count else None)) c.in_ok-pass.ensures)
+    ∙ ap (λ (s : Course). first_of s.early (if nat_lt c.args.event.now.at old.moment then Some old.count else None)) c.in_ok-pass.ensures.passed)
     (c.first_place-self-2.ensures
     ∙ ap (λ (b : Bool). first_of passed.exhausted (if b then Some old.count else None)) c.is_exhausted-is_last.ensures
-    ∙ ap (λ (s : Course). first_of s.exhausted (if is_last then Some old.count else None)) c.in_ok-pass.ensures)
-    (ap (λ (s : Course). s.world) c.in_ok-pass.ensures) (ap (λ (s : Course). s.outputs) c.in_ok-pass.ensures) refl
+    ∙ ap (λ (s : Course). first_of s.exhausted (if is_last then Some old.count else None)) c.in_ok-pass.ensures.passed)
+    (ap (λ (s : Course). s.world) c.in_ok-pass.ensures.passed) (ap (λ (s : Course). s.outputs) c.in_ok-pass.ensures.passed) refl
