@@ -208,9 +208,11 @@ events_up g [] w = (w.consumer.num, refl)
 events_up g (e ∷ es) w =
     let ran : Ran = event g e w in
     let rest : List Output = joined (map step_of (run_events g es ran.world)) in
-    let more : (after : ℕ) × Counts ran.world.consumer.num rest after = events_up g es ran.world in
-    (more.0, counts_append w.consumer.num ran.world.consumer.num more.0 ran.outputs rest
-        (all_up g e.at (matter_of e.what) (Event ∷ []) (record w { up = link_after e.what w.up })) more.1)
+    let more : (after : ℕ) × Counts ran.world.consumer.num rest after = events_up g es ran.world in (
+      more.0,
+      counts_append w.consumer.num ran.world.consumer.num more.0 ran.outputs rest
+          (all_up g e.at (matter_of e.what) (Event ∷ []) (record w { up = link_after e.what w.up })) more.1,
+    )
 
 pub fold_counts_up : (g : Given) (start : ℕ) (es : List events.Event) → CountsUp 0 (all_outputs (fold g start es))
 unfolding opening fold
