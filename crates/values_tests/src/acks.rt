@@ -1,0 +1,267 @@
+//! Acks and double acks over the link in memory.
+
+use bytes::Bytes;
+use js_base::{Message as Received, Moment, OutOfMemory, Subject, Turn};
+use js_link::{InboxId, Link, MemoryLink, Sent};
+use js_message::{AckError, AckKind, Acker, DoubleAck, Message};
+use std::alloc::Global;
+
+const REPLY: &str = "$JS.ACK.events.c1.1.4.3.1790230470084404000.0";
+
+const START: Moment = 1_790_000_000_000_000_000;
+
+/// How long a double ack waits, in nanoseconds.
+const WAIT: u64 = 5_000_000_000;
+
+fn received(alloc: Global, reply: Option<Subject>) -> Result<Received, OutOfMemory> {
+    Ok(Received {
+        subject: Subject::new(alloc, "events.a")?,
+        reply,
+        payload: Bytes::copy_from_slice(alloc, b"a")?,
+        headers: None,
+        status: None,
+        description: None,
+        length: 0,
+    })
+}
+
+fn reply_subject(alloc: Global) -> Result<Option<Subject>, OutOfMemory> {
+    Ok(Some(Subject::new(alloc, REPLY)?))
+}
+
+fn delivered(alloc: Global) -> Result<Message, OutOfMemory> {
+    Ok(Message {
+        message: received(alloc, reply_subject(alloc)?)?,
+        timeout: WAIT,
+    })
+}
+
+fn acker(alloc: Global) -> Result<Acker, OutOfMemory> {
+    Ok(Acker::new(WAIT, reply_subject(alloc)?))
+}
+
+/// What acknowledges.
+#[derive(Clone, Copy)]
+enum By {
+    Message,
+    Acker,
+    /// An acker of a message without a reply subject.
+    Nobody,
+}
+
+/// Acknowledges with a kind, or plainly.
+fn ack<L: Link>(alloc: Global, link: &mut L, by: By, kind: Option<AckKind>) -> Acked {
+    match by {
+        By::Message => message_acks(alloc, link, kind),
+        By::Acker => acker_acks(alloc, link, &acker(alloc)?, kind),
+        By::Nobody => acker_acks(alloc, link, &Acker::new(WAIT, None), kind),
+    }
+}
+
+/// What has become of a call, in a word.
+type Acked = Result<String, OutOfMemory>;
+
+fn word(alloc: Global, text: &str) -> Acked {
+    Ok(String::from_str(alloc, text)?)
+}
+
+fn message_acks<L: Link>(alloc: Global, link: &mut L, kind: Option<AckKind>) -> Acked {
+    let message = delivered(alloc)?;
+    match kind {
+        None => ended(alloc, message.ack(alloc, link)),
+        Some(kind) => ended(alloc, message.ack_with(alloc, link, kind)),
+    }
+}
+
+fn acker_acks<L: Link>(alloc: Global, link: &mut L, acker: &Acker, kind: Option<AckKind>) -> Acked {
+    match kind {
+        None => ended(alloc, acker.ack(alloc, link)),
+        Some(kind) => ended(alloc, acker.ack_with(alloc, link, kind)),
+    }
+}
+
+fn ended(alloc: Global, found: Result<(), AckError>) -> Acked {
+    match found {
+        Ok(()) => word(alloc, "done"),
+        Err(error) => Ok(error.to_string(alloc)?),
+    }
+}
+
+/// A double ack with a kind, or a plain one.
+fn double_ack(alloc: Global, by: By, kind: Option<AckKind>) -> Result<DoubleAck, OutOfMemory> {
+    match by {
+        By::Message => message_asks(alloc, kind),
+        By::Acker => acker_asks(alloc, &acker(alloc)?, kind),
+        By::Nobody => acker_asks(alloc, &Acker::new(WAIT, None), kind),
+    }
+}
+
+fn message_asks(alloc: Global, kind: Option<AckKind>) -> Result<DoubleAck, OutOfMemory> {
+    let message = delivered(alloc)?;
+    match kind {
+        None => message.double_ack(alloc),
+        Some(kind) => message.double_ack_with(alloc, kind),
+    }
+}
+
+fn acker_asks(
+    alloc: Global,
+    acker: &Acker,
+    kind: Option<AckKind>,
+) -> Result<DoubleAck, OutOfMemory> {
+    match kind {
+        None => acker.double_ack(alloc),
+        Some(kind) => acker.double_ack_with(alloc, kind),
+    }
+}
+
+/// Polls a call, which is put back while it is pending.
+fn poll<L: Link>(alloc: Global, link: &mut L, call: &mut Option<DoubleAck>, after: u64) -> Acked {
+    let Some(state) = call.take() else {
+        return word(alloc, "none");
+    };
+    match state.poll(alloc, link, START.saturating_add(after)) {
+        Turn::Pending(state) => {
+            *call = Some(state);
+            word(alloc, "pending")
+        }
+        Turn::Ready(found) => ended(alloc, found),
+        Turn::OutOfMemory(_) => Err(OutOfMemory),
+    }
+}
+
+/// What befalls a link and the one double ack over it.
+#[derive(Clone, Copy)]
+enum Event {
+    Ack(By, Option<AckKind>),
+    Begin(By, Option<AckKind>),
+    /// A poll so long after the start.
+    Poll(u64),
+    Deliver(u64),
+    Close(u64),
+    Up(bool),
+    /// Whether the last thing that was sent is this body, to the reply subject.
+    Sent(&'static str),
+}
+
+fn is_sent(sent: Option<&Sent>, body: &str) -> bool {
+    match sent {
+        Some(
+            Sent::Publish {
+                subject,
+                payload,
+                ..
+            },
+        ) => subject.as_str() == REPLY && payload.as_slice() == body.as_bytes(),
+        _ => false,
+    }
+}
+
+/// What befalls a link, and what has become of it.
+fn befalls(alloc: Global, link: &mut MemoryLink, event: Event) -> Acked {
+    match event {
+        Event::Ack(by, kind) => ack(alloc, link, by, kind),
+        Event::Deliver(inbox) => {
+            link.deliver(InboxId(inbox), received(alloc, None)?)?;
+            word(alloc, "")
+        }
+        Event::Close(inbox) => {
+            link.unsubscribe(InboxId(inbox));
+            word(alloc, "")
+        }
+        Event::Up(up) => {
+            link.set_up(up);
+            word(alloc, "")
+        }
+        Event::Sent(body) if is_sent(link.sent().last(), body) => word(alloc, "yes"),
+        _ => word(alloc, "no"),
+    }
+}
+
+fn told(alloc: Global, link: &mut MemoryLink, call: &mut Option<DoubleAck>, event: Event) -> Acked {
+    match event {
+        Event::Begin(by, kind) => {
+            *call = Some(double_ack(alloc, by, kind)?);
+            word(alloc, "")
+        }
+        Event::Poll(after) => poll(alloc, link, call, after),
+        event => befalls(alloc, link, event),
+    }
+}
+
+const NAK: Option<AckKind> = Some(AckKind::Nak(None));
+
+const TERM: Option<AckKind> = Some(AckKind::Term);
+
+const NEXT: Option<AckKind> = Some(AckKind::Next);
+
+const EVENTS: [(Event, &str); 43] = [
+    // An ack sends its body once.
+    (Event::Ack(By::Acker, None), "done"),
+    (Event::Sent(""), "yes"),
+    (Event::Ack(By::Acker, TERM), "done"),
+    (Event::Sent("+TERM"), "yes"),
+    (Event::Ack(By::Message, None), "done"),
+    (Event::Sent(""), "yes"),
+    (Event::Ack(By::Message, NAK), "done"),
+    (Event::Sent("-NAK"), "yes"),
+    (Event::Ack(By::Nobody, None), "no reply subject"),
+    (Event::Ack(By::Nobody, NEXT), "no reply subject"),
+    (Event::Up(false), ""),
+    (Event::Ack(By::Acker, None), "link failed"),
+    (Event::Ack(By::Message, TERM), "link failed"),
+    (Event::Sent("-NAK"), "yes"),
+    (Event::Up(true), ""),
+    // Whatever arrives is the answer, also where the wait is over.
+    (Event::Begin(By::Acker, None), ""),
+    (Event::Poll(0), "pending"),
+    (Event::Sent("+ACK"), "yes"),
+    (Event::Deliver(0), ""),
+    (Event::Poll(WAIT), "done"),
+    // No answer comes.
+    (Event::Begin(By::Message, None), ""),
+    (Event::Poll(0), "pending"),
+    (Event::Poll(4_999_999_999), "pending"),
+    (Event::Poll(WAIT), "timed out"),
+    // Its inbox is closed.
+    (Event::Begin(By::Message, NEXT), ""),
+    (Event::Poll(0), "pending"),
+    (Event::Sent("+NXT"), "yes"),
+    (Event::Close(2), ""),
+    (Event::Poll(0), "subscription dropped"),
+    // It can't be sent.
+    (Event::Begin(By::Nobody, NEXT), ""),
+    (Event::Poll(0), "no reply subject"),
+    (Event::Up(false), ""),
+    (Event::Begin(By::Acker, TERM), ""),
+    (Event::Poll(0), "link failed"),
+    (Event::Up(true), ""),
+    (Event::Sent("+NXT"), "yes"),
+    (Event::Poll(0), "none"),
+    // The clock begins at the poll that sends.
+    (Event::Begin(By::Acker, TERM), ""),
+    (Event::Poll(WAIT), "pending"),
+    (Event::Sent("+TERM"), "yes"),
+    (Event::Poll(9_999_999_999), "pending"),
+    (Event::Poll(10_000_000_000), "timed out"),
+    (Event::Poll(10_000_000_000), "none"),
+];
+
+#[test]
+fn acks_follow_what_befalls(rt: HostRuntime) {
+    let mut link = MemoryLink::new(rt.alloc(), "_INBOX.t").expect(&rt, "a link");
+    let mut call = None;
+    for (place, (event, wanted)) in EVENTS.iter().enumerate() {
+        let found = told(rt.alloc(), &mut link, &mut call, *event).expect(&rt, wanted);
+        assert_eq!(rt; found.as_str(), *wanted, "at {place}");
+    }
+}
+
+#[test]
+fn a_message_asks_as_its_acker_does(rt: HostRuntime) {
+    let alloc = rt.alloc();
+    assert_eq!(rt;
+        double_ack(alloc, By::Message, TERM),
+        double_ack(alloc, By::Acker, TERM)
+    );
+}

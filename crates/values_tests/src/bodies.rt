@@ -1,0 +1,280 @@
+//! Bodies of the API as JSON texts: what is read of them, and what is written.
+
+use crate::{answer_rows, consumer_rows, stream_rows};
+use js_base::{Text, TryClone};
+use js_codes::errors::Error;
+use js_codes::is_valid_name;
+use js_fields::{FromValue, ReadError, ToValue, value_of};
+use js_json::account::{Account, Limits};
+use js_json::{PublishAck, Response, consumer, response_as};
+use js_stream::{DeleteStatus, stream};
+use std::alloc::Global;
+
+/// What a text is read as.
+#[derive(Clone, Copy)]
+pub(crate) enum Body {
+    ConsumerInfo,
+    StreamInfo,
+    Names,
+    Streams,
+    Deletion,
+    /// An answer to a publish.
+    Answer,
+    /// The same, from a value that was read before.
+    AnswerValue,
+    /// The error of an answer, as it is printed.
+    Printed,
+    /// The error of an answer, as it is written.
+    Written,
+    /// When the reader of a priority group was pinned.
+    Pin,
+    Placement,
+    Republish,
+    External,
+    /// The name and the leader of a consumer's cluster.
+    Cluster,
+}
+
+type Words = Result<String, ReadError>;
+
+fn read<T: FromValue>(alloc: Global, text: &str) -> Result<T, ReadError> {
+    let value = value_of(alloc, text.as_bytes())?;
+    T::from_value(alloc, &value)
+}
+
+/// What is written for what is read.
+fn rewritten<T: FromValue + ToValue>(alloc: Global, text: &str) -> Words {
+    read::<T>(alloc, text)?.to_text(alloc)
+}
+
+/// Whether a copy of what is read, and what is read of the text that is written for it, are equal to it.
+fn is_kept<T: FromValue + ToValue + TryClone + PartialEq>(
+    alloc: Global,
+    text: &str,
+) -> Result<bool, ReadError> {
+    let value: T = read(alloc, text)?;
+    let written = value.to_text(alloc)?;
+    let again: T = read(alloc, written.as_str())?;
+    Ok(again == value && value.try_clone()? == value)
+}
+
+/// What is written, or what is printed of the fault.
+fn word(alloc: Global, written: Words) -> Words {
+    match written {
+        Ok(text) => Ok(text),
+        Err(ReadError::OutOfMemory) => Err(ReadError::OutOfMemory),
+        Err(fault) => Ok(fault.to_string(alloc)?),
+    }
+}
+
+fn consumer_word(alloc: Global, text: &str) -> Words {
+    word(alloc, rewritten::<consumer::Config>(alloc, text))
+}
+
+fn stream_word(alloc: Global, text: &str) -> Words {
+    word(alloc, rewritten::<stream::Config>(alloc, text))
+}
+
+#[test]
+fn configurations_are_read_and_written(rt: HostRuntime) {
+    for (text, wanted) in consumer_rows::FAULTS {
+        let found = consumer_word(rt.alloc(), text).expect(&rt, text);
+        assert_eq!(rt; found.as_str(), wanted, "{text}");
+    }
+    for (text, wanted) in consumer_rows::CONFIGS {
+        let found = consumer_word(rt.alloc(), text).expect(&rt, text);
+        assert_eq!(rt; found.as_str(), wanted);
+        assert_eq!(rt;
+            is_kept::<consumer::Config>(rt.alloc(), text),
+            Ok(true),
+            "{text}"
+        );
+    }
+    for (text, wanted) in stream_rows::FAULTS {
+        let found = stream_word(rt.alloc(), text).expect(&rt, text);
+        assert_eq!(rt; found.as_str(), wanted, "{text}");
+    }
+    for (text, wanted) in stream_rows::CONFIGS {
+        let found = stream_word(rt.alloc(), text).expect(&rt, text);
+        assert_eq!(rt; found.as_str(), wanted);
+        assert_eq!(rt;
+            is_kept::<stream::Config>(rt.alloc(), text),
+            Ok(true),
+            "{text}"
+        );
+    }
+}
+
+/// How many messages the consumer has got and has to get, and its configuration.
+fn consumer_info(alloc: Global, info: consumer::Info) -> Words {
+    let config = info.config.to_text(alloc)?;
+    let delivered = info.delivered.stream_sequence;
+    let pending = info.num_pending;
+    Ok(format!(in alloc; "{delivered} {pending} {config}")?)
+}
+
+fn in_answer(alloc: Global, text: &str) -> Words {
+    match response_as::<consumer::Info>(alloc, text.as_bytes())? {
+        Response::Ok(info) => consumer_info(alloc, info.try_clone()?),
+        Response::Err { error } => error.to_text(alloc),
+    }
+}
+
+/// Messages, bytes, first and last sequence.
+fn state_text(alloc: Global, state: &stream::State) -> Words {
+    let messages = state.messages;
+    let bytes = state.bytes;
+    let first = state.first_sequence;
+    let last = state.last_sequence;
+    Ok(format!(in alloc; "{messages} {bytes} {first} {last}")?)
+}
+
+/// The state, when the stream was made, in nanoseconds, and its configuration.
+fn stream_info(alloc: Global, info: &stream::Info) -> Words {
+    let state = state_text(alloc, &info.state.try_clone()?)?;
+    let created = info.created.as_nanosecond();
+    let config = info.config.to_text(alloc)?;
+    Ok(format!(in alloc; "{state} {created} {config}")?)
+}
+
+/// How many a list has in all, and how many stand in this page.
+fn page_text(alloc: Global, total: u64, here: Option<usize>) -> Words {
+    match here {
+        None => Ok(format!(in alloc; "{total} none")?),
+        Some(count) => Ok(format!(in alloc; "{total} {count}")?),
+    }
+}
+
+fn names(alloc: Global, text: &str) -> Words {
+    let page: stream::Page<Text> = read(alloc, text)?;
+    let here = page.streams.map(|names| names.as_slice().len());
+    page_text(alloc, page.total, here)
+}
+
+fn streams(alloc: Global, text: &str) -> Words {
+    let page: stream::Page<stream::Info> = read(alloc, text)?;
+    let here = page.streams.map(|infos| infos.as_slice().len());
+    page_text(alloc, page.total, here)
+}
+
+fn deletion(alloc: Global, text: &str) -> Words {
+    let status: DeleteStatus = read(alloc, text)?;
+    let success = status.success;
+    Ok(format!(in alloc; "{success}")?)
+}
+
+/// The sequence, or the code of the error.
+fn stored(alloc: Global, response: Response<PublishAck>) -> Words {
+    match response {
+        Response::Ok(ack) => {
+            let sequence = ack.sequence;
+            Ok(format!(in alloc; "stored {sequence}")?)
+        }
+        Response::Err { error } => {
+            let code = error.err_code.0;
+            Ok(format!(in alloc; "refused {code}")?)
+        }
+    }
+}
+
+fn answer_value(alloc: Global, text: &str) -> Words {
+    stored(alloc, read(alloc, text)?)
+}
+
+fn printed(alloc: Global, text: &str) -> Words {
+    Ok(read::<Error>(alloc, text)?.to_string(alloc)?)
+}
+
+/// When a reader was pinned, in nanoseconds.
+fn pin(alloc: Global, text: &str) -> Words {
+    match read::<consumer::PriorityGroupState>(alloc, text)?.pinned_ts {
+        None => Ok(String::from_str(alloc, "none")?),
+        Some(instant) => {
+            let since = instant.as_nanosecond();
+            Ok(format!(in alloc; "{since}")?)
+        }
+    }
+}
+
+fn text_or_none(text: &Option<Text>) -> &str {
+    match text {
+        None => "none",
+        Some(text) => text.as_str(),
+    }
+}
+
+fn cluster(alloc: Global, text: &str) -> Words {
+    let cluster: consumer::ClusterInfo = read(alloc, text)?;
+    let name = text_or_none(&cluster.name);
+    let leader = text_or_none(&cluster.leader);
+    Ok(format!(in alloc; "{name} {leader}")?)
+}
+
+fn told(alloc: Global, body: Body, text: &str) -> Words {
+    match body {
+        Body::ConsumerInfo => in_answer(alloc, text),
+        Body::StreamInfo => stream_info(alloc, &read::<stream::Info>(alloc, text)?.try_clone()?),
+        Body::Names => names(alloc, text),
+        Body::Streams => streams(alloc, text),
+        Body::Deletion => deletion(alloc, text),
+        Body::Answer => stored(alloc, response_as(alloc, text.as_bytes())?),
+        Body::AnswerValue => answer_value(alloc, text),
+        Body::Printed => printed(alloc, text),
+        Body::Written => rewritten::<Error>(alloc, text),
+        Body::Pin => pin(alloc, text),
+        Body::Placement => rewritten::<stream::Placement>(alloc, text),
+        Body::Republish => rewritten::<stream::Republish>(alloc, text),
+        Body::External => rewritten::<stream::External>(alloc, text),
+        Body::Cluster => cluster(alloc, text),
+    }
+}
+
+#[test]
+fn answers_are_read(rt: HostRuntime) {
+    for (body, text, wanted) in answer_rows::ANSWERS {
+        let found = word(rt.alloc(), told(rt.alloc(), body, text)).expect(&rt, text);
+        assert_eq!(rt; found.as_str(), wanted, "{text}");
+    }
+}
+
+/// The limits of an account, how many requests it has made, and whether it has no tiers.
+fn limits_of(alloc: Global, text: &str) -> Result<(Limits, u64, bool), ReadError> {
+    let account = read::<Account>(alloc, text)?.try_clone()?;
+    Ok((
+        account.limits,
+        account.requests.total,
+        account.tiers.is_empty(),
+    ))
+}
+
+/// A name, and whether a stream or a consumer may have it.
+const NAMES: [(&str, bool); 9] = [
+    ("stream", true),
+    ("str>eam", false),
+    ("str*eam", false),
+    ("name.name", false),
+    ("name name", false),
+    (">", false),
+    ("", false),
+    ("a\tb", false),
+    ("\u{e4}-1", true),
+];
+
+#[test]
+fn an_account_and_names_are_told(rt: HostRuntime) {
+    let limits = Limits {
+        max_storage: Some(10),
+        max_streams: Some(0),
+        max_ack_pending: -1,
+        storage_max_stream_bytes: Some(-1),
+        max_bytes_required: true,
+        ..Limits::default()
+    };
+    assert_eq!(rt;
+        limits_of(rt.alloc(), answer_rows::ACCOUNT),
+        Ok((limits, 7, false))
+    );
+    for (name, valid) in NAMES {
+        assert_eq!(rt; is_valid_name(name), valid, "{name}");
+    }
+}

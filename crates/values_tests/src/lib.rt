@@ -1,0 +1,21 @@
+//! Tests of the crates of values: subjects, headers, JSON bodies, the link in memory, messages and their acks.
+#![tactic(auto)]
+
+#[cfg(test)]
+mod acks;
+#[cfg(test)]
+mod answer_rows;
+#[cfg(test)]
+mod base;
+#[cfg(test)]
+mod bodies;
+#[cfg(test)]
+mod consumer_rows;
+#[cfg(test)]
+mod link;
+#[cfg(test)]
+mod message;
+#[cfg(test)]
+mod requests;
+#[cfg(test)]
+mod stream_rows;

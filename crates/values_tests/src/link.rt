@@ -1,0 +1,332 @@
+//! The link in memory, and the server that answers from its script.
+
+use bytes::Bytes;
+use js_base::{HeaderMap, Message, OutOfMemory, Subject};
+use js_link::{
+    Answer, InboxId, Link, LinkError, MemoryLink, RequestId, ScriptedServer, Sent, Taken, Watch,
+};
+use std::alloc::Global;
+
+/// A call of a link.
+#[derive(Clone, Copy)]
+enum Step {
+    OpenInbox,
+    FreshSubject,
+    Subscribe(Option<&'static str>),
+    Close(u64),
+    Publish(&'static str),
+    Request(&'static str),
+    Take(u64),
+    Answer(u64),
+    State,
+}
+
+fn refusal(alloc: Global, error: LinkError) -> Result<String, OutOfMemory> {
+    Ok(error.to_string(alloc)?)
+}
+
+fn word(alloc: Global, text: &str) -> Result<String, OutOfMemory> {
+    Ok(String::from_str(alloc, text)?)
+}
+
+/// The body of a message.
+fn body(alloc: Global, message: &Message) -> Result<String, OutOfMemory> {
+    Ok(String::from_utf8_lossy(alloc, message.payload.as_slice())?)
+}
+
+fn open_inbox<L: Link>(alloc: Global, link: &mut L) -> Result<String, OutOfMemory> {
+    match link.open_inbox(alloc) {
+        Ok((inbox, subject)) => {
+            let number = inbox.0;
+            let subject = subject.as_str();
+            Ok(format!(in alloc; "{number} {subject}")?)
+        }
+        Err(error) => refusal(alloc, error),
+    }
+}
+
+fn fresh_subject<L: Link>(alloc: Global, link: &mut L) -> Result<String, OutOfMemory> {
+    match link.fresh_subject(alloc) {
+        Ok(subject) => word(alloc, subject.as_str()),
+        Err(error) => refusal(alloc, error),
+    }
+}
+
+/// A number, or a refusal.
+fn number(alloc: Global, found: Result<u64, LinkError>) -> Result<String, OutOfMemory> {
+    match found {
+        Ok(number) => Ok(format!(in alloc; "{number}")?),
+        Err(error) => refusal(alloc, error),
+    }
+}
+
+fn publish<L: Link>(alloc: Global, link: &mut L, subject: &str) -> Result<String, OutOfMemory> {
+    match link.publish(alloc, subject, Some("reply"), None, b"1") {
+        Ok(()) => word(alloc, "sent"),
+        Err(error) => refusal(alloc, error),
+    }
+}
+
+fn take<L: Link>(alloc: Global, link: &mut L, inbox: u64) -> Result<String, OutOfMemory> {
+    match link.take(InboxId(inbox)) {
+        Taken::Message(message) => body(alloc, &message),
+        Taken::Empty => word(alloc, "empty"),
+        Taken::Closed => word(alloc, "closed"),
+    }
+}
+
+fn answer<L: Link>(alloc: Global, link: &mut L, request: u64) -> Result<String, OutOfMemory> {
+    match link.answer(RequestId(request)) {
+        Answer::Got(message) => body(alloc, &message),
+        Answer::Waiting => word(alloc, "waiting"),
+        Answer::Gone => word(alloc, "gone"),
+    }
+}
+
+fn state<L: Link>(alloc: Global, link: &mut L) -> Result<String, OutOfMemory> {
+    match link.state() {
+        Watch::State(state) => Ok(state.to_string(alloc)?),
+        Watch::Ended => word(alloc, "ended"),
+    }
+}
+
+/// What one call answers.
+fn called<L: Link>(alloc: Global, link: &mut L, step: Step) -> Result<String, OutOfMemory> {
+    match step {
+        Step::OpenInbox => open_inbox(alloc, link),
+        Step::FreshSubject => fresh_subject(alloc, link),
+        Step::Subscribe(group) => number(
+            alloc,
+            link.subscribe(alloc, "events.>", group)
+                .map(|inbox: InboxId| inbox.0),
+        ),
+        Step::Close(inbox) => {
+            link.unsubscribe(InboxId(inbox));
+            word(alloc, "")
+        }
+        Step::Publish(subject) => publish(alloc, link, subject),
+        Step::Request(subject) => number(
+            alloc,
+            link.request(alloc, subject, None, b"{}")
+                .map(|request: RequestId| request.0),
+        ),
+        Step::Take(inbox) => take(alloc, link, inbox),
+        Step::Answer(request) => answer(alloc, link, request),
+        Step::State => state(alloc, link),
+    }
+}
+
+/// What befalls a link.
+#[derive(Clone, Copy)]
+enum Event {
+    Call(Step),
+    Deliver(u64, &'static str),
+    Respond(u64, &'static str),
+    Lose(u64),
+    Up(bool),
+    End,
+}
+
+fn message(alloc: Global, text: &str) -> Result<Message, OutOfMemory> {
+    Ok(Message {
+        subject: Subject::new(alloc, "events.a")?,
+        reply: None,
+        payload: Bytes::copy_from_slice(alloc, text.as_bytes())?,
+        headers: None,
+        status: None,
+        description: None,
+        length: 0,
+    })
+}
+
+fn deliver(
+    alloc: Global,
+    link: &mut MemoryLink,
+    inbox: u64,
+    text: &str,
+) -> Result<(), OutOfMemory> {
+    link.deliver(InboxId(inbox), message(alloc, text)?)
+}
+
+fn respond(
+    alloc: Global,
+    link: &mut MemoryLink,
+    request: u64,
+    text: &str,
+) -> Result<(), OutOfMemory> {
+    link.respond(RequestId(request), Some(message(alloc, text)?))
+}
+
+/// What befalls a link, and nothing is told of it.
+fn befalls(alloc: Global, link: &mut MemoryLink, event: Event) -> Result<(), OutOfMemory> {
+    match event {
+        Event::Call(_) => Ok(()),
+        Event::Deliver(inbox, text) => deliver(alloc, link, inbox, text),
+        Event::Respond(request, text) => respond(alloc, link, request, text),
+        Event::Lose(request) => link.respond(RequestId(request), None),
+        Event::Up(up) => {
+            link.set_up(up);
+            Ok(())
+        }
+        Event::End => {
+            link.set_watch(Watch::Ended);
+            Ok(())
+        }
+    }
+}
+
+fn told(alloc: Global, link: &mut MemoryLink, event: Event) -> Result<String, OutOfMemory> {
+    if let Event::Call(call) = event {
+        return called(alloc, link, call);
+    }
+    befalls(alloc, link, event)?;
+    word(alloc, "")
+}
+
+/// What befalls one link after another, and what each call answers.
+const EVENTS: [(Event, &str); 44] = [
+    // An inbox gives each message once, in order, until it is closed.
+    (Event::Call(Step::OpenInbox), "0 _INBOX.t.0"),
+    (Event::Deliver(0, "a"), ""),
+    (Event::Deliver(0, "b"), ""),
+    (Event::Call(Step::Take(0)), "a"),
+    (Event::Call(Step::Take(0)), "b"),
+    (Event::Call(Step::Take(0)), "empty"),
+    (Event::Call(Step::Close(0)), ""),
+    (Event::Deliver(0, "c"), ""),
+    (Event::Call(Step::Take(0)), "closed"),
+    (Event::Call(Step::Take(1)), "closed"),
+    // A link that is down sends nothing, and no number is used up.
+    (Event::Call(Step::Publish("a")), "sent"),
+    (Event::Up(false), ""),
+    (Event::Call(Step::Publish("a")), "link failed"),
+    (Event::Call(Step::Request("a")), "link failed"),
+    (Event::Call(Step::Subscribe(None)), "link failed"),
+    (Event::Up(true), ""),
+    (Event::Call(Step::Subscribe(Some("g"))), "1"),
+    (Event::Call(Step::OpenInbox), "2 _INBOX.t.2"),
+    (Event::Deliver(1, "d"), ""),
+    (Event::Call(Step::Take(2)), "empty"),
+    (Event::Call(Step::Take(1)), "d"),
+    // A request has one answer.
+    (Event::Call(Step::Request("a")), "1"),
+    (Event::Call(Step::Request("b")), "2"),
+    (Event::Call(Step::Answer(1)), "waiting"),
+    (Event::Respond(1, "x"), ""),
+    (Event::Respond(1, "y"), ""),
+    (Event::Lose(2), ""),
+    (Event::Call(Step::Answer(1)), "x"),
+    (Event::Call(Step::Answer(1)), "gone"),
+    (Event::Call(Step::Answer(2)), "gone"),
+    (Event::Call(Step::Answer(0)), "gone"),
+    // Its subjects are its own, and it tells what it was set to.
+    (Event::Call(Step::FreshSubject), "_INBOX.t.r0"),
+    (Event::Call(Step::FreshSubject), "_INBOX.t.r1"),
+    (Event::Call(Step::State), "connected"),
+    (Event::End, ""),
+    (Event::Call(Step::State), "ended"),
+    (Event::Call(Step::Publish("b")), "sent"),
+    (Event::Call(Step::Request("c")), "3"),
+    (Event::Call(Step::Answer(3)), "waiting"),
+    (Event::Lose(3), ""),
+    (Event::Call(Step::Answer(3)), "gone"),
+    (Event::Call(Step::Subscribe(None)), "3"),
+    (Event::Call(Step::Close(3)), ""),
+    (Event::Call(Step::Take(3)), "closed"),
+];
+
+#[test]
+fn a_link_does_what_it_is_told(rt: HostRuntime) {
+    let mut link = MemoryLink::new(rt.alloc(), "_INBOX.t").expect(&rt, "a link");
+    for (place, (event, wanted)) in EVENTS.iter().enumerate() {
+        let found = told(rt.alloc(), &mut link, *event).expect(&rt, wanted);
+        assert_eq!(rt; found.as_str(), *wanted, "at {place}");
+    }
+}
+
+/// Whether the first thing that a link sent is a message to `a` with this reply, and with these headers.
+fn is_kept(link: &MemoryLink, wanted: &HeaderMap) -> bool {
+    match link.sent().first() {
+        Some(
+            Sent::Publish {
+                subject,
+                reply: Some(reply),
+                headers: Some(headers),
+                payload,
+            },
+        ) => {
+            subject.as_str() == "a"
+                && reply.as_str() == "b"
+                && *headers == *wanted
+                && payload.as_slice() == b"1".as_slice()
+        }
+        _ => false,
+    }
+}
+
+/// Whether a message is kept as it was handed in.
+fn keeps(alloc: Global, link: &mut MemoryLink) -> Result<bool, LinkError> {
+    let mut headers = HeaderMap::new(alloc);
+    headers.append(alloc, "A", "1")?;
+    link.publish(alloc, "a", Some("b"), Some(&headers), b"1")?;
+    Ok(is_kept(link, &headers))
+}
+
+#[test]
+fn a_link_keeps_what_it_sends(rt: HostRuntime) {
+    let mut link = MemoryLink::new(rt.alloc(), "_INBOX.t").expect(&rt, "a link");
+    assert_eq!(rt; keeps(rt.alloc(), &mut link), Ok(true));
+    assert_eq!(rt; link.sent().len(), 1);
+    assert_eq!(rt; link.max_payload(), u64::MAX);
+    assert_eq!(rt; link.request_timeout(), Some(10_000_000_000));
+    link.set_limits(5, None);
+    assert_eq!(rt; link.max_payload(), 5);
+    assert_eq!(rt; link.request_timeout(), None);
+}
+
+/// The replies of a script, each with its subject.
+const SCRIPT: [(&str, &str); 3] = [("a", "1"), ("b", "2"), ("a", "3")];
+
+fn scripted(
+    alloc: Global,
+    server: &mut ScriptedServer,
+    subject: &str,
+    reply: &str,
+) -> Result<(), OutOfMemory> {
+    server.script(alloc, subject, message(alloc, reply)?)
+}
+
+/// Whether the server is up, a call, and what it answers.
+const SERVED: [(bool, Step, &str); 16] = [
+    (true, Step::Request("a"), "1"),
+    (true, Step::Answer(1), "1"),
+    (true, Step::Request("a"), "2"),
+    (true, Step::Answer(2), "3"),
+    (false, Step::Request("b"), "link failed"),
+    (true, Step::Request("b"), "3"),
+    (true, Step::Answer(3), "2"),
+    (true, Step::Request("a"), "4"),
+    (true, Step::Answer(4), "waiting"),
+    (true, Step::OpenInbox, "0 _INBOX.t.0"),
+    (true, Step::FreshSubject, "_INBOX.t.r0"),
+    (true, Step::Subscribe(None), "1"),
+    (true, Step::Publish("a"), "sent"),
+    (true, Step::Take(1), "empty"),
+    (true, Step::Close(1), ""),
+    (true, Step::State, "connected"),
+];
+
+#[test]
+fn a_server_answers_from_its_script(rt: HostRuntime) {
+    let link = MemoryLink::new(rt.alloc(), "_INBOX.t").expect(&rt, "a link");
+    let mut server = ScriptedServer::new(rt.alloc(), link);
+    for (subject, reply) in SCRIPT {
+        scripted(rt.alloc(), &mut server, subject, reply).expect(&rt, reply);
+    }
+    for (place, (up, call, wanted)) in SERVED.iter().enumerate() {
+        server.link().set_up(*up);
+        let found = called(rt.alloc(), &mut server, *call).expect(&rt, wanted);
+        assert_eq!(rt; found.as_str(), *wanted, "at {place}");
+    }
+    assert_eq!(rt; server.link().sent().len(), 7);
+}

@@ -1,0 +1,382 @@
+//! Messages of a stream: their acknowledgement subjects, their acks, and how they are published and stored.
+
+use bytes::Bytes;
+use js_base::{HeaderMap, OutOfMemory, Subject};
+use js_message::{
+    AckKind, Acker, Info, InfoError, Message, OutboundMessage, PublishMessage, StreamMessage,
+    StreamMessageErrorKind, parse_info, read_u64,
+};
+use std::alloc::Global;
+use std::fmt::Display;
+
+const REPLY: &str = "$JS.ACK.events.c1.1.4.3.1790230470084404000.0";
+
+/// A subject, and its numbers: deliveries, the stream's sequence, the consumer's, the time and what is pending.
+const NUMBERS: [(&str, (i64, u64, u64, i128, u64)); 3] = [
+    (
+        "$JS.ACK.events.c1.1.4.3.1790230470084404000.5",
+        (1, 4, 3, 1790230470084404000, 5),
+    ),
+    (
+        "$JS.ACK.hub.szMpdrwD.events.durable.2.50.9.1790230470084404000.0.rand.future.more",
+        (2, 50, 9, 1790230470084404000, 0),
+    ),
+    (
+        "$JS.ACK._.szMpdrwD.events.4z6UI6IG.1.1.+7.1790230470084404000.1",
+        (1, 1, 7, 1790230470084404000, 1),
+    ),
+];
+
+/// The texts of the same subjects: the domain, the account's hash, the stream, the consumer and the tenth token.
+const TEXTS: [[&str; 5]; 3] = [
+    ["none", "none", "events", "c1", "none"],
+    ["hub", "szMpdrwD", "events", "durable", "rand"],
+    ["none", "szMpdrwD", "events", "4z6UI6IG", "none"],
+];
+
+/// Subjects that are none, why, and what is printed of it.
+const REFUSED: [(&str, InfoError, &str); 10] = [
+    (
+        "$JS.FC.events.x",
+        InfoError::Prefix,
+        "the subject does not begin with $JS.ACK.",
+    ),
+    (
+        "$JS.ACK",
+        InfoError::Prefix,
+        "the subject does not begin with $JS.ACK.",
+    ),
+    (
+        "$JS.ACK.",
+        InfoError::TokenCount { n: 1 },
+        "the subject has 1 tokens after its prefix",
+    ),
+    (
+        "$JS.ACK.hub.szMpdrwD.events.durable.2.50.9.1790230470084404000",
+        InfoError::TokenCount { n: 8 },
+        "the subject has 8 tokens after its prefix",
+    ),
+    (
+        "$JS.ACK.events.durable.3.abc.7.1790230470084404000.42",
+        InfoError::Number { place: 3 },
+        "token 3 is no number in range",
+    ),
+    (
+        "$JS.ACK.events.durable..1.x.1.1",
+        InfoError::Number { place: 2 },
+        "token 2 is no number in range",
+    ),
+    (
+        "$JS.ACK.events.durable.3.-1.7.1.42",
+        InfoError::Number { place: 3 },
+        "token 3 is no number in range",
+    ),
+    (
+        "$JS.ACK.e.d.3.1.7.1.18446744073709551616",
+        InfoError::Number { place: 6 },
+        "token 6 is no number in range",
+    ),
+    (
+        "$JS.ACK.e.d.3.1.7.253402207201000000000.x",
+        InfoError::Instant,
+        "the time is out of range",
+    ),
+    (
+        "$JS.ACK._.h.e.d.3.1.7.170141183460469231731687303715884105728.1",
+        InfoError::Number { place: 7 },
+        "token 7 is no number in range",
+    ),
+];
+
+fn printed<E: Display + Drop>(alloc: Global, error: E) -> Result<String, OutOfMemory> {
+    Ok(error.to_string(alloc)?)
+}
+
+fn numbers(subject: &str) -> Result<(i64, u64, u64, i128, u64), InfoError> {
+    match parse_info(subject) {
+        Ok(info) => Ok((
+            info.delivered,
+            info.stream_sequence,
+            info.consumer_sequence,
+            info.published.as_nanosecond(),
+            info.pending,
+        )),
+        Err(error) => Err(error),
+    }
+}
+
+fn texts_are(info: &Info<'_>, texts: [&str; 5]) -> bool {
+    info.domain.unwrap_or("none") == texts[0]
+        && info.acc_hash.unwrap_or("none") == texts[1]
+        && info.stream == texts[2]
+        && info.consumer == texts[3]
+        && info.token.unwrap_or("none") == texts[4]
+}
+
+fn has_texts(subject: &str, texts: [&str; 5]) -> bool {
+    match parse_info(subject) {
+        Ok(info) => texts_are(&info, texts),
+        Err(_) => false,
+    }
+}
+
+#[test]
+fn acknowledgement_subjects_are_read(rt: HostRuntime) {
+    for (subject, wanted) in NUMBERS {
+        assert_eq!(rt; numbers(subject), Ok(wanted), "{subject}");
+    }
+    for ((subject, _), texts) in NUMBERS.iter().zip(TEXTS) {
+        assert!(rt; has_texts(subject, texts), "{subject}");
+    }
+    for (subject, error, text) in REFUSED {
+        assert_eq!(rt; numbers(subject), Err(error), "{subject}");
+        let found = printed(rt.alloc(), error).expect(&rt, subject);
+        assert_eq!(rt; found.as_str(), text, "{subject}");
+    }
+    assert_eq!(rt; read_u64("+7"), Some(7));
+}
+
+fn message(alloc: Global, headers: Option<HeaderMap>) -> Result<js_base::Message, OutOfMemory> {
+    Ok(js_base::Message {
+        subject: Subject::new(alloc, "events.a")?,
+        reply: None,
+        payload: Bytes::copy_from_slice(alloc, b"a")?,
+        headers,
+        status: None,
+        description: None,
+        length: 0,
+    })
+}
+
+fn reply_of(alloc: Global, reply: Option<&str>) -> Result<Option<Subject>, OutOfMemory> {
+    match reply {
+        None => Ok(None),
+        Some(text) => Ok(Some(Subject::new(alloc, text)?)),
+    }
+}
+
+fn delivered(alloc: Global, reply: Option<&str>) -> Result<Message, OutOfMemory> {
+    let reply = reply_of(alloc, reply)?;
+    let message = message(alloc, None)?;
+    Ok(Message {
+        message: js_base::Message { reply, ..message },
+        timeout: 5_000_000_000,
+    })
+}
+
+/// The sequence that a message tells, or what is printed of the refusal.
+fn place_of(alloc: Global, message: &Message) -> Result<String, OutOfMemory> {
+    match message.info() {
+        Ok(info) => {
+            let sequence = info.stream_sequence;
+            Ok(format!(in alloc; "{sequence}")?)
+        }
+        Err(error) => printed(alloc, error),
+    }
+}
+
+fn place(alloc: Global, reply: Option<&str>) -> Result<String, OutOfMemory> {
+    place_of(alloc, &delivered(alloc, reply)?)
+}
+
+/// A reply subject, and the sequence that its message tells, or why it tells none.
+const PLACES: [(Option<&str>, &str); 3] = [
+    (Some(REPLY), "4"),
+    (None, "no reply subject"),
+    (
+        Some("a"),
+        "no acknowledgement subject: the subject does not begin with $JS.ACK.",
+    ),
+];
+
+/// Whether a message is split into one without its reply subject and what acknowledges to that.
+fn is_split(alloc: Global) -> Result<bool, OutOfMemory> {
+    let (message, acker) = delivered(alloc, Some(REPLY))?.split();
+    let reply = reply_of(alloc, Some(REPLY))?;
+    Ok(message.reply.is_none() && acker == Acker::new(5_000_000_000, reply))
+}
+
+#[test]
+fn a_message_tells_its_place(rt: HostRuntime) {
+    for (reply, wanted) in PLACES {
+        let found = place(rt.alloc(), reply).expect(&rt, wanted);
+        assert_eq!(rt; found.as_str(), wanted);
+    }
+    assert_eq!(rt; is_split(rt.alloc()), Ok(true));
+}
+
+/// What a consumer says, and the body that says so.
+const BODIES: [(AckKind, &str); 6] = [
+    (AckKind::Ack, "+ACK"),
+    (AckKind::Nak(None), "-NAK"),
+    (
+        AckKind::Nak(Some(1_000_000_000)),
+        "-NAK {\"delay\":1000000000}",
+    ),
+    (AckKind::Progress, "+WPI"),
+    (AckKind::Next, "+NXT"),
+    (AckKind::Term, "+TERM"),
+];
+
+/// A setter, and its value.
+#[derive(Clone, Copy)]
+enum Setter {
+    Id(&'static str),
+    LastId(&'static str),
+    LastSequence(u64),
+    LastSubjectSequence(u64),
+    Stream(&'static str),
+    Ttl(u64),
+    Header(&'static str, &'static str),
+}
+
+fn set(
+    alloc: Global,
+    message: PublishMessage,
+    setter: Setter,
+) -> Result<PublishMessage, OutOfMemory> {
+    match setter {
+        Setter::Id(id) => message.message_id(alloc, id),
+        Setter::LastId(id) => message.expected_last_message_id(alloc, id),
+        Setter::LastSequence(n) => message.expected_last_sequence(alloc, n),
+        Setter::LastSubjectSequence(n) => message.expected_last_subject_sequence(alloc, n),
+        Setter::Stream(name) => message.expected_stream(alloc, name),
+        Setter::Ttl(ttl) => message.ttl(alloc, ttl),
+        Setter::Header(name, value) => message.header(alloc, name, value),
+    }
+}
+
+/// Setters that are called one after another, each with the header that it sets.
+const SETTERS: [(Setter, (&str, &str)); 7] = [
+    (Setter::Id("id"), ("Nats-Msg-Id", "id")),
+    (
+        Setter::LastId("before"),
+        ("Nats-Expected-Last-Msg-Id", "before"),
+    ),
+    (
+        Setter::LastSequence(7),
+        ("Nats-Expected-Last-Sequence", "7"),
+    ),
+    (
+        Setter::LastSubjectSequence(8),
+        ("Nats-Expected-Last-Subject-Sequence", "8"),
+    ),
+    (Setter::Stream("events"), ("Nats-Expected-Stream", "events")),
+    (Setter::Ttl(1_500_000_000), ("Nats-TTL", "1")),
+    (Setter::Header("A", "1"), ("A", "1")),
+];
+
+/// A message whose name was set before, with all setters called.
+fn with_all(alloc: Global) -> Result<OutboundMessage, OutOfMemory> {
+    let mut message = PublishMessage::build()
+        .headers(HeaderMap::new(alloc))
+        .payload(Bytes::from_static(b"a"))
+        .message_id(alloc, "x")?;
+    for (setter, _) in SETTERS {
+        message = set(alloc, message, setter)?;
+    }
+    message.outbound_message(alloc, "events.a")
+}
+
+fn has_all(message: &OutboundMessage) -> bool {
+    match &message.headers {
+        Some(headers) => headers
+            .iter()
+            .eq(SETTERS.map(|(_, pair)| pair).iter().copied()),
+        None => false,
+    }
+}
+
+#[test]
+fn bodies_and_headers_are_those_of_the_protocol(rt: HostRuntime) {
+    for (kind, wanted) in BODIES {
+        let body = kind.to_bytes(rt.alloc()).expect(&rt, wanted);
+        assert_eq!(rt; body.as_slice(), wanted.as_bytes());
+    }
+    let message = with_all(rt.alloc()).expect(&rt, "a message");
+    assert_eq!(rt; message.subject.as_str(), "events.a");
+    assert_eq!(rt; message.payload.as_slice(), b"a".as_slice());
+    assert!(rt; has_all(&message));
+}
+
+/// Headers of a stored message. Of equal names the last counts.
+type Headers = &'static [(&'static str, &'static str)];
+
+/// What a message with some headers is read as: its sequence, its time in nanoseconds and its subject, or what is printed of the
+/// refusal, which names the header.
+const STORED: [(Headers, &str); 6] = [
+    (
+        &[
+            ("Nats-Sequence", "x"),
+            ("Nats-Sequence", "7"),
+            ("Nats-Time-Stamp", "2026-01-01T00:00:00Z"),
+            ("Nats-Subject", "events"),
+        ],
+        "7 1767225600000000000 events",
+    ),
+    (
+        &[
+            ("Nats-Sequence", "x"),
+            ("Nats-Sequence", "y"),
+            ("Nats-Time-Stamp", "2026-01-01T00:00:00Z"),
+            ("Nats-Subject", "events"),
+        ],
+        "parse error: Nats-Sequence",
+    ),
+    (
+        &[
+            ("Nats-Sequence", "7"),
+            ("Nats-Time-Stamp", "yesterday"),
+            ("Nats-Subject", "events"),
+        ],
+        "parse error: Nats-Time-Stamp",
+    ),
+    (
+        &[
+            ("Nats-Sequence", "7"),
+            ("Nats-Time-Stamp", "2026-01-01T00:00:00Z"),
+        ],
+        "missing message header: Nats-Subject",
+    ),
+    (
+        &[("Nats-Subject", "events"), ("Nats-Sequence", "7")],
+        "missing message header: Nats-Time-Stamp",
+    ),
+    (&[], "missing message header: Nats-Sequence"),
+];
+
+fn headers_of(alloc: Global, pairs: Headers) -> Result<Option<HeaderMap>, OutOfMemory> {
+    if pairs.is_empty() {
+        return Ok(None);
+    }
+    let mut headers = HeaderMap::new(alloc);
+    for (name, value) in pairs {
+        headers.append(alloc, name, value)?;
+    }
+    Ok(Some(headers))
+}
+
+fn read_word(alloc: Global, read: &StreamMessage) -> Result<String, OutOfMemory> {
+    let sequence = read.sequence;
+    let time = read.time.as_nanosecond();
+    let subject = read.subject.as_str();
+    Ok(format!(in alloc; "{sequence} {time} {subject}")?)
+}
+
+fn stored(alloc: Global, pairs: Headers) -> Result<String, OutOfMemory> {
+    let message = message(alloc, headers_of(alloc, pairs)?)?;
+    match StreamMessage::try_from_message(alloc, message) {
+        Ok(read) => read_word(alloc, &read),
+        Err(error) => printed(alloc, error),
+    }
+}
+
+#[test]
+fn headers_tell_how_a_message_is_stored(rt: HostRuntime) {
+    for (pairs, wanted) in STORED {
+        let found = stored(rt.alloc(), pairs).expect(&rt, wanted);
+        assert_eq!(rt; found.as_str(), wanted);
+    }
+    let memory = printed(rt.alloc(), StreamMessageErrorKind::OutOfMemory).expect(&rt, "printed");
+    assert_eq!(rt; memory.as_str(), "out of memory");
+}
