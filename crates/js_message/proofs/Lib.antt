@@ -1,2 +1,6 @@
 pub mod ReadNumbers
 pub mod HeldInstants
+pub mod Cuts
+pub mod Digits
+pub mod Forms
+mod Worked

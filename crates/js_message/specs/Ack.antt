@@ -1,5 +1,5 @@
 -- Acknowledgement subjects.
-use Rattle.std.specs.Prelude.{ℕ, ℤ, pos, ◌^◌, ◌-◌, ◌+◌, Bool, ◌&&◌, List, [], ◌∷◌, length, drop, Option, Some, None, Result, Ok, Err, codes, nat_eq, neg_ℤ, int_le, if◌then◌else◌}
+use Rattle.std.specs.Prelude.{ℕ, ℤ, pos, ◌^◌, ◌-◌, ◌+◌, Bool, ◌&&◌, List, [], ◌∷◌, length, drop, Option, Some, None, Result, Ok, Err, codes, nat_eq, slice_get, slice_index_or, neg_ℤ, int_le, if◌then◌else◌}
 use Rattle.std.specs.List.{starts_with}
 use Rattle.std.specs.Str.{bytes_eq}
 use Rattle.js_base.specs.Match.{tokens}
@@ -59,6 +59,15 @@ seven place domain acc_hash token stream consumer delivered stream_sequence cons
       token = token;
     }))
     else Err Instant))))
+
+-- the token of a number, counted from 0
+abbrev pub token_at : ℕ → List (List ℕ) → List ℕ
+token_at k tokens = slice_index_or tokens k []
+
+-- what follows the seven tokens of which the first is at the place
+abbrev pub seven_at : ℕ → Option (List ℕ) → Option (List ℕ) → List (List ℕ) → Result Info InfoError
+seven_at place domain acc_hash tokens =
+    seven place domain acc_hash (slice_get tokens (place + 7)) (token_at place tokens) (token_at (place + 1) tokens) (token_at (place + 2) tokens) (token_at (place + 3) tokens) (token_at (place + 4) tokens) (token_at (place + 5) tokens) (token_at (place + 6) tokens)
 
 -- `_` is no domain
 abbrev pub domain_of : List ℕ → Option (List ℕ)

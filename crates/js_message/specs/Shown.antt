@@ -1,12 +1,11 @@
 -- What the code's values show of the plain ones of `Ack`.
-use Rattle.std.specs.Prelude.{◌≡◌, ℕ, ℤ, List, ◌∷◌, Result, Ok, Err, if◌then◌else◌}
+use Rattle.std.specs.Prelude.{◌≡◌, ℕ, ℤ, List, Result, Ok, Err, if◌then◌else◌}
 use Rattle.std.specs.Option.{option_copied}
 use Rattle.std.specs.Result.{result_map_both}
 use Rattle.js_message.specs.Ack as plain
 use Rattle.js_message.specs.declared.info.Info.{Info}
 use Rattle.js_message.specs.declared.info_error.InfoError.{InfoError}
 use Rattle.js_message.specs.declared.info_error.InfoError.TheVariants.{Instant}
-use Rattle.js_message.specs.declared.parse.Seven.{Seven}
 
 -- what was read, with its texts and its time as plain values
 abbrev pub shown : Info → plain.Info
@@ -30,10 +29,3 @@ shown_result result = result_map_both shown (λ error. error) result
 -- the time, or the refusal of one that no instant holds
 abbrev pub instant_of : ℤ → Result ℤ InfoError
 instant_of nanoseconds = if plain.is_instant nanoseconds then Ok nanoseconds else Err Instant
-
--- the list begins with the seven tokens, of which the next follows
-abbrev pub BeginsWith : List (List ℕ) → Seven → Type 0
-BeginsWith tokens s =
-    (rest : List (List ℕ))
-    × (tokens ≡ s.stream.now ∷ s.consumer.now ∷ s.delivered.now ∷ s.stream_sequence.now ∷ s.consumer_sequence.now ∷ s.published.now ∷ s.pending.now ∷ rest)
-    × (option_copied s.next ≡ plain.first_of_rest rest)

@@ -3,6 +3,7 @@
 
 mod ack_kind;
 mod acker;
+mod dots;
 mod double_ack;
 mod info;
 mod info_error;

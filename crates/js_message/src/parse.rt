@@ -1,52 +1,17 @@
 //! Acknowledgement subjects, read by their whole grammar.
-ghost use Rattle.std.specs.Prelude.{◌≡◌, ℕ, ◌<◌, ◌≤◌, length, None};
+ghost use Rattle.std.specs.Prelude.{◌≡◌, ℕ, ◌+◌, ◌<◌, ◌≤◌, length};
 ghost use Rattle.std.specs.Option.{option_copied};
 ghost use Rattle.std.specs.Result.{result_map_both};
-ghost use Rattle.js_message.specs.Ack.{ack, seven, domain_of, of_tokens};
-ghost use Rattle.js_message.specs.Shown.{shown_result, instant_of, BeginsWith};
+ghost use Rattle.js_base.specs.Match.{tokens};
+ghost use Rattle.js_message.specs.Ack.{ack, seven_at, domain_of, of_tokens};
+ghost use Rattle.js_message.specs.Dots.{IsScanned};
+ghost use Rattle.js_message.specs.Shown.{shown_result, instant_of};
 
+use crate::dots::Dots;
 use crate::info::Info;
 use crate::info_error::InfoError;
 use crate::numbers::{read_i64, read_i128, read_u64};
 use jiff::Timestamp;
-use js_base::{Tokens, token_count};
-
-/// The seven tokens that both forms have, and what follows them.
-#[derive(Clone, Copy)]
-pub(crate) struct Seven<'a> {
-    stream: &'a str,
-    consumer: &'a str,
-    delivered: &'a str,
-    stream_sequence: &'a str,
-    consumer_sequence: &'a str,
-    published: &'a str,
-    pending: &'a str,
-    next: Option<&'a str>,
-}
-
-fn take_seven<'a>(mut tokens: Tokens<'a>) -> Seven<'a>
-    requires { 7 ≤ length tokens }
-    ensures { BeginsWith tokens.entry result }
-{
-    let stream = tokens.take();
-    let consumer = tokens.take();
-    let delivered = tokens.take();
-    let stream_sequence = tokens.take();
-    let consumer_sequence = tokens.take();
-    let published = tokens.take();
-    let pending = tokens.take();
-    let next = tokens.next();
-    Seven {
-        stream,
-        consumer,
-        delivered,
-        stream_sequence,
-        consumer_sequence,
-        published,
-        pending,
-        next,
-    }
-}
 
 fn instant(nanoseconds: i128) -> Result<Timestamp, InfoError>
     ensures { result_map_both (λ t. t.nanosecond) (λ e. e) result ≡ instant_of nanoseconds }
@@ -57,39 +22,46 @@ fn instant(nanoseconds: i128) -> Result<Timestamp, InfoError>
     }
 }
 
-/// Reads the seven tokens, of which the first is at the place, from left to right.
+/// Reads the seven tokens, of which the first is at the place, from left to right. The other texts are cut once all numbers
+/// have been read.
 fn read_seven<'a>(
-    tokens: Seven<'a>,
-    place: u64,
+    text: &'a str,
+    dots: &Dots,
+    place: usize,
     domain: Option<&'a str>,
     acc_hash: Option<&'a str>,
 ) -> Result<Info<'a>, InfoError>
-    requires { place < 8 }
-    ensures { let t = tokens.entry in
-        shown_result result ≡ seven place (option_copied domain.entry) (option_copied acc_hash.entry) (option_copied t.next) t.stream.now t.consumer.now t.delivered.now t.stream_sequence.now t.consumer_sequence.now t.published.now t.pending.now }
+    requires dots { IsScanned text.now dots.now }
+    requires within { place + 6 ≤ dots.now.count }
+    requires kept { place < 3 }
+    ensures { shown_result result ≡ seven_at place (option_copied domain.entry) (option_copied acc_hash.entry) (tokens text.now) }
 {
-    let delivered = read_i64(tokens.delivered).ok_or(InfoError::Number { place: place + 2 })?;
-    let stream_sequence = read_u64(tokens.stream_sequence).ok_or(InfoError::Number {
-        place: place + 3,
-    })?;
-    let consumer_sequence = read_u64(tokens.consumer_sequence).ok_or(InfoError::Number {
-        place: place + 4,
-    })?;
-    let nanoseconds = read_i128(tokens.published).ok_or(InfoError::Number { place: place + 5 })?;
+    let delivered = read_i64(dots.token(text, place + 2)).ok_or(not_a_number(place + 2))?;
+    let stream_sequence = read_u64(dots.token(text, place + 3)).ok_or(not_a_number(place + 3))?;
+    let consumer_sequence = read_u64(dots.token(text, place + 4)).ok_or(not_a_number(place + 4))?;
+    let nanoseconds = read_i128(dots.token(text, place + 5)).ok_or(not_a_number(place + 5))?;
     let published = instant(nanoseconds)?;
-    let pending = read_u64(tokens.pending).ok_or(InfoError::Number { place: place + 6 })?;
+    let pending = read_u64(dots.token(text, place + 6)).ok_or(not_a_number(place + 6))?;
     Ok(Info {
         domain,
         acc_hash,
-        stream: tokens.stream,
-        consumer: tokens.consumer,
+        stream: dots.token(text, place),
+        consumer: dots.token(text, place + 1),
         stream_sequence,
         consumer_sequence,
         delivered,
         pending,
         published,
-        token: tokens.next,
+        token: dots.get(text, place + 7),
     })
+}
+
+fn not_a_number(place: usize) -> InfoError
+    ensures { result ≡ InfoError.Number place }
+{
+    InfoError::Number {
+        place: place as u64,
+    }
 }
 
 /// `_` is no domain.
@@ -100,21 +72,35 @@ fn domain(token: &str) -> Option<&str>
 }
 
 /// Reads the short form.
-fn read_short<'a>(tokens: Tokens<'a>) -> Result<Info<'a>, InfoError>
-    requires { length tokens ≡ 7 }
-    ensures { shown_result result ≡ of_tokens tokens.entry }
+fn read_short<'a>(text: &'a str, dots: &Dots) -> Result<Info<'a>, InfoError>
+    requires dots { IsScanned text.now dots.now }
+    requires short { dots.now.count ≡ 6 }
+    ensures { shown_result result ≡ of_tokens (tokens text.now) }
 {
-    read_seven(take_seven(tokens), 0, None, None)
+    read_seven(text, dots, 0, None, None)
 }
 
 /// Reads the long form.
-fn read_long<'a>(mut tokens: Tokens<'a>) -> Result<Info<'a>, InfoError>
-    requires { 9 ≤ length tokens }
-    ensures { shown_result result ≡ of_tokens tokens.entry }
+fn read_long<'a>(text: &'a str, dots: &Dots) -> Result<Info<'a>, InfoError>
+    requires dots { IsScanned text.now dots.now }
+    requires long { 8 ≤ dots.now.count }
+    ensures { shown_result result ≡ of_tokens (tokens text.now) }
 {
-    let domain = domain(tokens.take());
-    let acc_hash = tokens.take();
-    read_seven(take_seven(tokens), 2, domain, Some(acc_hash))
+    let domain = domain(dots.token(text, 0));
+    let acc_hash = dots.token(text, 1);
+    read_seven(text, dots, 2, domain, Some(acc_hash))
+}
+
+/// Reads the tokens that follow the prefix.
+fn read_tokens(text: &str) -> Result<Info<'_>, InfoError>
+    ensures { shown_result result ≡ of_tokens (tokens text.now) }
+{
+    let dots = Dots::of(text);
+    match dots.count() {
+        6 => read_short(text, &dots),
+        n if n >= 8 => read_long(text, &dots),
+        n => Err(InfoError::TokenCount { n: n as u64 + 1 }),
+    }
 }
 
 /// What a text says as the acknowledgement subject of a message (ADR-15).
@@ -127,13 +113,8 @@ fn read_long<'a>(mut tokens: Tokens<'a>) -> Result<Info<'a>, InfoError>
 pub fn parse_info(reply: &str) -> Result<Info<'_>, InfoError>
     ensures { shown_result result ≡ ack reply.now }
 {
-    let Some(text) = reply.strip_prefix("$JS.ACK.") else {
-        return Err(InfoError::Prefix);
-    };
-    let tokens = Tokens::new(text);
-    match token_count(text) {
-        7 => read_short(tokens),
-        n if n >= 9 => read_long(tokens),
-        n => Err(InfoError::TokenCount { n }),
+    match reply.strip_prefix("$JS.ACK.") {
+        Some(text) => read_tokens(text),
+        None => Err(InfoError::Prefix),
     }
 }

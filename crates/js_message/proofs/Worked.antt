@@ -1,0 +1,36 @@
+-- Worked examples, which the definitions compute.
+use Rattle.std.specs.Prelude.{◌≡◌, refl, [], ◌∷◌, Err, codes}
+use Rattle.js_base.specs.Match.{tokens}
+use Rattle.js_message.specs.Ack.{token_at}
+use Rattle.js_message.specs.Dots.{dots_of, token_start, token_end}
+use Rattle.js_message.specs.StreamMessage.{is_missing, is_unreadable, told_in}
+use Rattle.js_message.specs.declared.stream_message.StreamHeader.TheVariants.{Sequence, TimeStamp}
+use Rattle.js_message.specs.declared.info_error.InfoError.TheVariants.{Prefix}
+use Rattle.js_message.specs.declared.message.MessageInfoError.TheVariants.{Unreadable}
+use Rattle.js_message.specs.Texts.{message_info_text}
+
+-- dots that stand together have an empty token between them
+places : dots_of (codes "a.bc..") ≡ 1 ∷ 4 ∷ 5 ∷ []
+places = refl
+
+second_start : token_start (dots_of (codes "a.bc..")) 1 ≡ 2
+second_start = refl
+
+last_end : token_end (dots_of (codes "a.bc..")) 6 3 ≡ 6
+last_end = refl
+
+second_token : token_at 1 (tokens (codes "a.bc..")) ≡ codes "bc"
+second_token = refl
+
+-- headers that lack the first, and some whose first is no number
+no_headers : told_in [] ≡ Err (is_missing Sequence)
+no_headers = refl
+
+bad_sequence : told_in (record { name = codes "Nats-Sequence"; value = codes "x" } ∷ []) ≡ Err (is_unreadable Sequence)
+bad_sequence = refl
+
+no_time : told_in (record { name = codes "Nats-Sequence"; value = codes "7" } ∷ []) ≡ Err (is_missing TimeStamp)
+no_time = refl
+
+other_prefix : message_info_text (Unreadable Prefix) ≡ codes "no acknowledgement subject: the subject does not begin with $JS.ACK."
+other_prefix = refl
