@@ -3,7 +3,7 @@
 use bytes::Bytes;
 use js_base::{
     Boxed, ByName, Entry, Error, Header, HeaderMap, Items, Message, OutOfMemory, Source, State,
-    StatusCode, Subject, Text, TryClone, is_valid_subject, subject_matches,
+    StatusCode, Subject, Text, TextMap, TryClone, is_valid_subject, subject_matches,
 };
 use std::alloc::Global;
 use std::fmt::Display;
@@ -283,6 +283,14 @@ fn is_map_copied(alloc: Global) -> Result<bool, OutOfMemory> {
     is_copied(ByName::from(names.into_map()))
 }
 
+/// Whether texts by name are equal to what is made of the plain map of strings that is made of them.
+fn are_strings_copied(alloc: Global) -> Result<bool, OutOfMemory> {
+    let mut texts = TextMap::new(alloc);
+    texts.insert(Text::from_str(alloc, "n")?, Text::from_str(alloc, "v")?)?;
+    let strings = texts.to_strings(alloc)?;
+    Ok(TextMap::from_strings(alloc, &strings)? == texts)
+}
+
 fn is_entry_copied(alloc: Global) -> Result<bool, OutOfMemory> {
     is_copied(Entry {
         subject: Subject::new(alloc, "events.a")?,
@@ -313,6 +321,7 @@ fn values_are_copied(rt: HostRuntime) {
     assert_eq!(rt; is_message_copied(alloc), Ok(true));
     assert_eq!(rt; is_box_copied(alloc), Ok(true));
     assert_eq!(rt; is_map_copied(alloc), Ok(true));
+    assert_eq!(rt; are_strings_copied(alloc), Ok(true));
     assert_eq!(rt; is_entry_copied(alloc), Ok(true));
     assert_eq!(rt; are_items_copied(alloc), Ok(true));
     assert_eq!(rt; kept(alloc), Ok(2));

@@ -76,32 +76,38 @@ fn stream_word(alloc: Global, text: &str) -> Words {
 }
 
 #[test]
-fn configurations_are_read_and_written(rt: HostRuntime) {
+fn faults_of_consumers_are_told(rt: HostRuntime) {
     for (text, wanted) in consumer_rows::FAULTS {
         let found = consumer_word(rt.alloc(), text).expect(&rt, text);
         assert_eq!(rt; found.as_str(), wanted, "{text}");
     }
-    for (text, wanted) in consumer_rows::CONFIGS {
-        let found = consumer_word(rt.alloc(), text).expect(&rt, text);
-        assert_eq!(rt; found.as_str(), wanted);
-        assert_eq!(rt;
-            is_kept::<consumer::Config>(rt.alloc(), text),
-            Ok(true),
-            "{text}"
-        );
-    }
+}
+
+#[test]
+fn faults_of_streams_are_told(rt: HostRuntime) {
     for (text, wanted) in stream_rows::FAULTS {
         let found = stream_word(rt.alloc(), text).expect(&rt, text);
         assert_eq!(rt; found.as_str(), wanted, "{text}");
     }
+}
+
+#[test]
+fn consumers_are_written(rt: HostRuntime) {
+    for (text, wanted) in consumer_rows::CONFIGS {
+        let found = consumer_word(rt.alloc(), text).expect(&rt, text);
+        assert_eq!(rt; found.as_str(), wanted);
+        let kept = is_kept::<consumer::Config>(rt.alloc(), text);
+        assert_eq!(rt; kept, Ok(true), "{text}");
+    }
+}
+
+#[test]
+fn streams_are_written(rt: HostRuntime) {
     for (text, wanted) in stream_rows::CONFIGS {
         let found = stream_word(rt.alloc(), text).expect(&rt, text);
         assert_eq!(rt; found.as_str(), wanted);
-        assert_eq!(rt;
-            is_kept::<stream::Config>(rt.alloc(), text),
-            Ok(true),
-            "{text}"
-        );
+        let kept = is_kept::<stream::Config>(rt.alloc(), text);
+        assert_eq!(rt; kept, Ok(true), "{text}");
     }
 }
 
