@@ -1,0 +1,16 @@
+//! Tests over the public calls of the upper crates: what no clause says of them and no stored command line shows, and
+//! each call that takes memory once. It has no calls of its own.
+#![tactic(auto)]
+
+#[cfg(test)]
+mod ends;
+#[cfg(test)]
+mod lines;
+#[cfg(test)]
+mod ordered;
+#[cfg(test)]
+mod pull;
+#[cfg(test)]
+mod steps;
+#[cfg(test)]
+mod threads;
