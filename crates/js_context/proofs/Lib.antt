@@ -1,3 +1,4 @@
 pub mod Looking
 pub mod Ring
 pub mod Crossing
+pub mod Waiting
