@@ -5,15 +5,16 @@
 ghost use Rattle.std.specs.Prelude.{◌≡◌, IfOk};
 ghost use Rattle.js_stream_calls.specs.Creates.{Creates, FindsOrCreates};
 ghost use Rattle.js_stream_calls.specs.Gets.{deleting, getting, GivesHandle};
+ghost use Rattle.js_stream_calls.specs.Keeping.{SendsBack, UpdatesKeeping};
 ghost use Rattle.js_stream_calls.specs.Updates.{Updates, UpdatesOrCreates};
 
 use crate::context::Context;
 use js_base::OutOfMemory;
-use js_stream::stream::Config;
+use js_stream::stream::{Config, Info};
 use js_stream_calls::{
     CreateOrUpdateStream, CreateStream, DeleteStream, GetOrCreateStream, GetStream, GetStreamError,
     StreamHandle, UpdateStream, create_or_update_stream, create_stream, delete_stream,
-    get_or_create_stream, get_stream, get_stream_no_info, update_stream,
+    get_or_create_stream, get_stream, get_stream_no_info, update_stream, update_stream_keeping,
 };
 use std::alloc::Global;
 
@@ -57,11 +58,27 @@ impl Context {
     }
 
     /// Changes a stream to that configuration as a whole: what `Config` does not name is reset to the server's default, also where
-    /// it was read from the server before, as `no_ack` and `duplicate_window`. `js_stream_calls::update_stream` lists it.
+    /// it was read from the server before, as `no_ack` and `duplicate_window`. `js_stream_calls::update_stream` lists it, and `update_stream_keeping` keeps it.
     pub fn update_stream(&self, alloc: Global, config: &Config) -> Result<UpdateStream, OutOfMemory>
         ensures { IfOk result (λ call. Updates self.now.scope config.now call) }
     {
         update_stream(alloc, self.scope(), config)
+    }
+
+    /// Changes a stream to that configuration, and keeps what the server had sent besides to the handle that `get_stream` gave, also inside a
+    /// mirror, an external, a placement and a republish: where nothing was changed, what was read goes back with each of its members.
+    /// `js_stream_calls::update_stream_keeping` says what is written.
+    pub fn update_stream_keeping(
+        &self,
+        alloc: Global,
+        handle: &StreamHandle<Info>,
+        config: &Config,
+    ) -> Result<UpdateStream, OutOfMemory>
+        ensures written { IfOk result (λ call. UpdatesKeeping self.now.scope handle.now config.now call) }
+        ensures unchanged { handle.now.info.config ≡ config.now
+            → IfOk result (λ call. SendsBack self.now.scope handle.now config.now call) }
+    {
+        update_stream_keeping(alloc, self.scope(), handle, config)
     }
 
     /// Changes a stream, and makes it as `create_stream` does where the API answers that it is not there. Where it is there, what

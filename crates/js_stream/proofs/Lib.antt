@@ -1,4 +1,3 @@
 mod Back
 mod Parts
 mod Written
-mod KeptBodies

@@ -12,4 +12,3 @@ pub mod StreamInfo
 pub mod DeleteStatus
 pub mod Page
 pub mod WrittenBack
-pub mod Keeping

@@ -3,7 +3,6 @@
 pub(crate) mod config;
 mod delete_status;
 mod info;
-mod keeping;
 mod page;
 mod placement;
 mod policies;
@@ -13,7 +12,6 @@ mod source;
 pub use config::{Config, there_and_back};
 pub use delete_status::DeleteStatus;
 pub use info::{Info, State};
-pub use keeping::{KeptInfo, kept_body};
 pub use page::{ListRequest, NamesRequest, Page};
 pub use placement::Placement;
 pub use policies::{Compression, DiscardPolicy, RetentionPolicy, StorageType};

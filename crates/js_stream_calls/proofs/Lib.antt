@@ -1,0 +1,2 @@
+pub mod KeptAsRead
+mod WorkedOver

@@ -1,5 +1,5 @@
 -- Making streams: rows of the table of calls.
-use Rattle.std.specs.Prelude.{ℕ, ◌≡◌, ◌==◌, Bool, Option, Some, None, option_map, List, codes, if◌then◌else◌, Result, Ok, Err}
+use Rattle.std.specs.Prelude.{ℕ, ◌≡◌, ◌==◌, Option, Some, None, option_map, List, codes, if◌then◌else◌, Result, Ok, Err}
 use Rattle.js_base.specs.Errors.{plain}
 use Rattle.js_base.specs.declared.error.Error.{Error}
 use Rattle.js_fields.specs.Reading.{float_free}
@@ -40,7 +40,7 @@ AsksWith scope words config asked = (body : List ℕ) × IsTextOf config body ×
 
 -- the stream, or the API's error
 abbrev pub created : CreatingStream → Response Info → Result (StreamHandle Info) (Error CreateStreamErrorKind)
-created s (response.Ok info) = Ok (record { scope = s.scope; name = s.name; info = info })
+created s (response.Ok info) = Ok (record { scope = s.scope; name = s.name; info = info; kept = None })
 created s (response.Err error) = Err (api_error error)
 
 -- the row of `create_stream`
@@ -69,7 +69,7 @@ Creates scope config call =
 
 -- the stream, or nothing where the API says 404, or its error
 abbrev pub found : FindingStream → Response Info → Result (Option (StreamHandle Info)) (Error CreateStreamErrorKind)
-found s (response.Ok info) = Ok (Some (record { scope = s.scope; name = s.name; info = info }))
+found s (response.Ok info) = Ok (Some (record { scope = s.scope; name = s.name; info = info; kept = None }))
 found s (response.Err error) = if error.code == 404 then Ok None else Err (api_error error)
 
 -- the row of the first of its two calls

@@ -7,7 +7,6 @@ use Rattle.js_json.specs.Response.{response_of}
 use Rattle.js_json.specs.declared.response.Response.{Response}
 use Rattle.js_json.specs.declared.response.Response.TheVariants as response
 use Rattle.js_stream.specs.DeleteStatus.{delete_status_fields}
-use Rattle.js_stream.specs.StreamInfo.{info_fields}
 use Rattle.js_stream.specs.declared.stream.delete_status.DeleteStatus.{DeleteStatus}
 use Rattle.js_stream.specs.declared.stream.info.Info.{Info}
 use Rattle.js_call.specs.declared.call.Call.{Call}
@@ -19,20 +18,22 @@ use Rattle.js_stream_calls.specs.declared.error.GetStreamErrorKind.{GetStreamErr
 use Rattle.js_stream_calls.specs.declared.error.GetStreamErrorKind.TheVariants.{JetStream, OutOfMemory}
 use Rattle.js_stream_calls.specs.declared.handle.StreamHandle.{StreamHandle}
 use Rattle.js_stream_calls.specs.declared.get.GettingStream.{GettingStream}
+use Rattle.js_stream_calls.specs.declared.kept.KeptInfo.{KeptInfo}
 use Rattle.js_stream_calls.specs.declared.delete.DeletingStream.{DeletingStream}
 use Rattle.js_stream_calls.specs.Errors.{get_failure}
+use Rattle.js_stream_calls.specs.KeptInfos.{kept_info_fields}
 use Rattle.js_stream_calls.specs.Refusals.{get_refusal}
 
--- the stream, or the API's error
-abbrev pub got : GettingStream → Response Info → Result (StreamHandle Info) (Error GetStreamErrorKind)
-got s (response.Ok info) = Ok (record { scope = s.scope; name = s.name; info = info })
+-- the stream, with its configuration as it was sent, or the API's error
+abbrev pub got : GettingStream → Response KeptInfo → Result (StreamHandle Info) (Error GetStreamErrorKind)
+got s (response.Ok read) = Ok (record { scope = s.scope; name = s.name; info = read.info; kept = Some read.config })
 got s (response.Err error) = Err (plain (JetStream error))
 
 -- the row of `get_stream`
-abbrev pub get_row : Table GettingStream (Response Info) (Result (StreamHandle Info) (Error GetStreamErrorKind))
+abbrev pub get_row : Table GettingStream (Response KeptInfo) (Result (StreamHandle Info) (Error GetStreamErrorKind))
 get_row = record {
   refused = λ s. refused_by (option_map plain (get_refusal s.name));
-  reads = reads_as (response_of (float_free info_fields));
+  reads = reads_as (response_of (float_free kept_info_fields));
   means = got;
   fails = λ s failure source. Err (get_failure source);
 }
@@ -43,7 +44,7 @@ getting scope name = calling (record { scope = scope; name = name }) (asking sco
 
 -- a handle of a stream of which nothing is known but its name
 abbrev pub handle : ApiScope → List ℕ → StreamHandle (Unit {0})
-handle scope name = record { scope = scope; name = name; info = tt }
+handle scope name = record { scope = scope; name = name; info = tt; kept = None }
 
 -- the handle, unless its name is refused or memory ran out
 abbrev pub GivesHandleUnless : Option GetStreamErrorKind → Result (StreamHandle (Unit {0})) (Error GetStreamErrorKind) → ApiScope → List ℕ → Type 0

@@ -1,6 +1,9 @@
 pub mod Errors
 pub mod Refusals
 pub mod Places
+pub mod KeptInfos
+pub mod Over
+pub mod Keeping
 pub mod Gets
 pub mod Creates
 pub mod Updates

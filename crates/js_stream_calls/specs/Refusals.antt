@@ -1,9 +1,6 @@
 -- What arguments are refused with, before anything is sent.
-use Rattle.std.specs.Prelude.{ℕ, Bool, true, false, ◌&&◌, ◌||◌, Option, Some, None, List, [], ◌∷◌, if◌then◌else◌}
-use Rattle.std.specs.List.{list_any}
+use Rattle.std.specs.Prelude.{ℕ, Bool, true, false, Option, Some, None, List, [], ◌∷◌, if◌then◌else◌}
 use Rattle.js_codes.specs.Names.{is_name}
-use Rattle.js_stream.specs.declared.stream.source.Source.{Source}
-use Rattle.js_stream.specs.declared.stream.config.Config.{Config}
 use Rattle.js_stream_calls.specs.declared.error.GetStreamErrorKind.{GetStreamErrorKind}
 use Rattle.js_stream_calls.specs.declared.error.GetStreamErrorKind.TheVariants as gets
 use Rattle.js_stream_calls.specs.declared.error.CreateStreamErrorKind.{CreateStreamErrorKind}

@@ -1,5 +1,5 @@
 -- Changing streams: rows of the table of calls.
-use Rattle.std.specs.Prelude.{ℕ, ◌≡◌, Option, Some, None, option_map, List, codes, Result, Ok, Err}
+use Rattle.std.specs.Prelude.{◌≡◌, Option, Some, None, option_map, codes, Result, Ok, Err}
 use Rattle.js_base.specs.Errors.{plain, kind_of}
 use Rattle.js_base.specs.declared.error.Error.{Error}
 use Rattle.js_fields.specs.Reading.{float_free}
@@ -42,10 +42,14 @@ update_row = record {
   fails = λ s failure source. Err (create_failure failure source);
 }
 
+-- the call that asks this
+abbrev pub updating : Config → RawCall → Call UpdatingStream
+updating config asked = calling (record { name = config.name }) asked
+
 -- the call, which is not sent: it asks with the configuration as it is
 abbrev pub Updates : ApiScope → Config → Call UpdatingStream → Type 0
 Updates scope config call =
-    (asked : RawCall) × AsksWith scope (codes "STREAM.UPDATE") config asked × (call ≡ calling (record { name = config.name }) asked)
+    (asked : RawCall) × AsksWith scope (codes "STREAM.UPDATE") config asked × (call ≡ updating config asked)
 
 -- ---- create_or_update_stream
 

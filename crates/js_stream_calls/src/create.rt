@@ -50,6 +50,7 @@ impl Meaning for CreatingStream {
                 scope: self.scope,
                 name: self.name,
                 info,
+                kept: None,
             }),
             Response::Err { error } => Err(api_error(error)),
         }
@@ -65,7 +66,7 @@ impl Meaning for CreatingStream {
 }
 
 /// The text of a configuration. Each one has a text, so what is refused here is want of memory.
-fn body_of(alloc: Global, config: &Config) -> Result<Bytes, OutOfMemory>
+pub(crate) fn body_of(alloc: Global, config: &Config) -> Result<Bytes, OutOfMemory>
     ensures { IfOk result (λ body. IsTextOf config.now body) }
 {
     match config.to_text(alloc) {

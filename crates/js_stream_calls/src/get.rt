@@ -4,6 +4,7 @@ ghost use Rattle.js_stream_calls.specs.Gets.{get_row, getting, got, GivesHandle,
 
 use crate::error::{GetStreamError, GetStreamErrorKind};
 use crate::handle::StreamHandle;
+use crate::kept::KeptInfo;
 use crate::name::get_refusal;
 use bytes::Bytes;
 use js_base::{Error, OutOfMemory, Source, Text, TryClone};
@@ -24,7 +25,7 @@ pub struct GettingStream {
 pub type GetStream = Call<GettingStream>;
 
 impl Meaning for GettingStream {
-    type Reply = Response<Info>;
+    type Reply = Response<KeptInfo>;
 
     type Answer = Result<StreamHandle<Info>, GetStreamError>;
 
@@ -37,16 +38,17 @@ impl Meaning for GettingStream {
         }
     }
 
-    fn read(alloc: Global, payload: &[u8]) -> Result<Response<Info>, ReadError> {
+    fn read(alloc: Global, payload: &[u8]) -> Result<Response<KeptInfo>, ReadError> {
         response_as(alloc, payload)
     }
 
-    fn answer(self, reply: Response<Info>) -> Result<StreamHandle<Info>, GetStreamError> {
+    fn answer(self, reply: Response<KeptInfo>) -> Result<StreamHandle<Info>, GetStreamError> {
         match reply {
-            Response::Ok(info) => Ok(StreamHandle {
+            Response::Ok(KeptInfo { info, config }) => Ok(StreamHandle {
                 scope: self.scope,
                 name: self.name,
                 info,
+                kept: Some(config),
             }),
             Response::Err { error } => Err(Error::new(GetStreamErrorKind::JetStream(error))),
         }
@@ -61,7 +63,7 @@ impl Meaning for GettingStream {
     }
 }
 
-/// Gets a stream with what the server knows of it.
+/// Gets a stream with what the server knows of it. The handle keeps the configuration as it was sent, every member of it.
 ///
 /// The one refusal here is want of memory; others come from the polls. `EmptyName` and `InvalidStreamName` come from the first, and
 /// nothing is sent. `JetStream` holds the server's error. `Request` comes where the request has no reply or its reply does not read, and
@@ -84,6 +86,7 @@ fn bare_handle(alloc: Global, scope: &ApiScope, name: &str) -> Result<StreamHand
         scope: scope.try_clone()?,
         name: Text::from_str(alloc, name)?,
         info: (),
+        kept: None,
     })
 }
 

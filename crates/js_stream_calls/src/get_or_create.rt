@@ -52,6 +52,7 @@ impl Meaning for FindingStream {
                 scope: self.scope,
                 name: self.name,
                 info,
+                kept: None,
             })),
             Response::Err { error } => {
                 if error.code == 404 {

@@ -1,4 +1,5 @@
 //! A stream of the server.
+use crate::kept::Kept;
 use js_base::Text;
 use js_call::ApiScope;
 
@@ -11,4 +12,6 @@ pub struct StreamHandle<T> {
     pub name: Text,
     /// What the server knew of it when the handle was made, or `()` where it was not asked.
     pub info: T,
+    /// The configuration as `get_stream` read it, which `update_stream_keeping` keeps. Handles of other calls have none.
+    pub kept: Option<Kept>,
 }

@@ -1,12 +1,12 @@
 //! The call that changes a stream.
 ghost use Rattle.std.specs.Prelude.{◌≡◌, IfOk};
-ghost use Rattle.js_stream_calls.specs.Updates.{told as told_in, update_row, Updates};
+ghost use Rattle.js_stream_calls.specs.Updates.{told as told_in, update_row, updating, Updates};
 
 use crate::create::ask_with;
 use crate::error::{CreateStreamError, UpdateStreamError, api_error, create_failure};
 use crate::name::name_refusal;
-use js_base::{Error, OutOfMemory, Source, Text, TryClone};
-use js_call::{ApiScope, Call, Failure, Meaning};
+use js_base::{Error, OutOfMemory, Source, Text};
+use js_call::{ApiScope, Call, Failure, Meaning, RawCall};
 use js_fields::ReadError;
 use js_json::{Response, response_as};
 use js_stream::stream::{Config, Info};
@@ -63,8 +63,8 @@ impl Meaning for UpdatingStream {
 /// The server takes the configuration as a whole. What `Config` does not name is reset to the server's default, also where it was
 /// read from the server before: `max_consumers`, `no_ack`, `duplicate_window`, `discard_new_per_subject`, `first_seq`, `sealed`,
 /// `subject_transform`, `consumer_limits`, `metadata` and whatever newer servers add, and `opt_start_time` and
-/// `subject_transforms` of a mirror or a source. A change that the server does not allow, as of a mirror that had a start time, is
-/// refused by it.
+/// `subject_transforms` of a mirror or a source. `update_stream_keeping` keeps them. A change that the server does not allow, as of a
+/// mirror that had a start time, is refused by it.
 ///
 /// The one refusal here is want of memory; others come from the polls. `EmptyStreamName` and `InvalidStreamName` come from the first,
 /// and nothing is sent. `NotFound` comes where the server does not know the stream, and has its error as the source; another
@@ -78,8 +78,19 @@ pub fn update_stream(
     ensures { IfOk result (λ call. Updates scope.now config.now call) }
 {
     let asked = ask_with(alloc, scope, "STREAM.UPDATE", config)?;
+    updating(alloc, config, asked)
+}
+
+/// The call that asks this to change a stream to that configuration.
+pub(crate) fn updating(
+    alloc: Global,
+    config: &Config,
+    asked: RawCall,
+) -> Result<UpdateStream, OutOfMemory>
+    ensures { IfOk result (λ call. call ≡ updating config.now asked) }
+{
     let meaning = UpdatingStream {
-        name: config.name.try_clone()?,
+        name: Text::from_str(alloc, config.name.as_str())?,
     };
     Ok(Call::new(meaning, asked))
 }

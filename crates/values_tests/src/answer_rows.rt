@@ -3,7 +3,7 @@
 use crate::bodies::Body;
 
 /// Texts, what each is read as, and what it says.
-pub(crate) const ANSWERS: [(Body, &str, &str); 43] = [
+pub(crate) const ANSWERS: [(Body, &str, &str); 40] = [
     (
         Body::ConsumerInfo,
         r#"{"type":"io.nats.jetstream.api.v1.consumer_create_response","stream_name":"events","name":"c1_1","created":"2026-11-26T23:40:12.214345459Z","config":{"name":"c1_1","deliver_policy":"by_start_sequence","opt_start_seq":301,"ack_policy":"none","max_deliver":1,"replay_policy":"instant","idle_heartbeat":5000000000,"flow_control":true,"deliver_subject":"_INBOX.live.1","inactive_threshold":30000000000,"num_replicas":1,"mem_storage":true},"delivered":{"consumer_seq":0,"stream_seq":300},"ack_floor":{"consumer_seq":0,"stream_seq":0},"num_ack_pending":0,"num_redelivered":0,"num_waiting":0,"num_pending":300,"push_bound":true}"#,
@@ -132,21 +132,6 @@ pub(crate) const ANSWERS: [(Body, &str, &str); 43] = [
     (Body::Cluster, "5", "name: of the wrong kind"),
     (Body::Cluster, "{}", "none none"),
     (Body::Cluster, r#"{"name":"c","leader":null}"#, "c none"),
-    (
-        Body::Kept,
-        r#"{"config":{"discard":"old","duplicate_window":600000000000,"name":"events","no_ack":true,"retention":"limits","storage":"file"},"created":"2026-01-01T00:00:00Z","state":{"messages":0,"bytes":0,"first_seq":0,"last_seq":0}}"#,
-        r#"{"discard":"old","duplicate_window":600000000000,"name":"events","no_ack":true,"retention":"limits","storage":"file"}"#,
-    ),
-    (
-        Body::KeptWithAge(0),
-        r#"{"config":{"discard":"old","duplicate_window":600000000000,"name":"events","no_ack":true,"retention":"limits","storage":"file"},"created":"2026-01-01T00:00:00Z","state":{"messages":0,"bytes":0,"first_seq":0,"last_seq":0}}"#,
-        r#"{"discard":"old","duplicate_window":600000000000,"name":"events","no_ack":true,"retention":"limits","storage":"file"}"#,
-    ),
-    (
-        Body::KeptWithAge(5),
-        r#"{"config":{"discard":"old","duplicate_window":600000000000,"name":"events","no_ack":true,"retention":"limits","storage":"file"},"created":"2026-01-01T00:00:00Z","state":{"messages":0,"bytes":0,"first_seq":0,"last_seq":0}}"#,
-        r#"{"discard":"old","duplicate_window":600000000000,"max_age":5,"name":"events","no_ack":true,"retention":"limits","storage":"file"}"#,
-    ),
 ];
 
 /// An account with one tier.

@@ -1,7 +1,7 @@
 //! Bodies of the API as JSON texts: what is read of them, and what is written.
 
 use crate::{answer_rows, consumer_rows, stream_rows};
-use js_base::{OutOfMemory, Text, TryClone};
+use js_base::{Text, TryClone};
 use js_codes::errors::Error;
 use js_codes::is_valid_name;
 use js_fields::{FromValue, ReadError, ToValue, value_of};
@@ -33,10 +33,6 @@ pub(crate) enum Body {
     External,
     /// The name and the leader of a consumer's cluster.
     Cluster,
-    /// The body of an update that changes nothing of what was read of a stream.
-    Kept,
-    /// The body of one that sets how long messages are kept.
-    KeptWithAge(u64),
 }
 
 type Words = Result<String, ReadError>;
@@ -220,22 +216,6 @@ fn cluster(alloc: Global, text: &str) -> Words {
     Ok(format!(in alloc; "{name} {leader}")?)
 }
 
-fn with_age(config: &stream::Config, max_age: u64) -> Result<stream::Config, OutOfMemory> {
-    let mut changed = config.try_clone()?;
-    changed.max_age = max_age;
-    Ok(changed)
-}
-
-fn kept_with_age(alloc: Global, kept: &stream::KeptInfo, max_age: u64) -> Words {
-    let changed = with_age(&kept.info.config, max_age)?;
-    stream::kept_body(alloc, &kept.config, &kept.info.config, &changed)
-}
-
-fn kept(alloc: Global, text: &str) -> Words {
-    let kept: stream::KeptInfo = read(alloc, text)?;
-    stream::kept_body(alloc, &kept.config, &kept.info.config, &kept.info.config)
-}
-
 fn told(alloc: Global, body: Body, text: &str) -> Words {
     match body {
         Body::ConsumerInfo => in_answer(alloc, text),
@@ -252,8 +232,6 @@ fn told(alloc: Global, body: Body, text: &str) -> Words {
         Body::Republish => rewritten::<stream::Republish>(alloc, text),
         Body::External => rewritten::<stream::External>(alloc, text),
         Body::Cluster => cluster(alloc, text),
-        Body::Kept => kept(alloc, text),
-        Body::KeptWithAge(max_age) => kept_with_age(alloc, &read(alloc, text)?, max_age),
     }
 }
 

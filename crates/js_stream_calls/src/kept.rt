@@ -1,0 +1,59 @@
+//! A stream's configuration as the server sent it.
+ghost use Rattle.std.specs.Prelude.{◌≡◌};
+ghost use Rattle.js_stream_calls.specs.KeptInfos.{kept_info_fields, whole};
+
+use js_base::Text;
+use js_fields::{FromValue, Key, Member, ReadError, has_float, required};
+use js_stream::stream::Info;
+use serde_json::Value;
+use std::alloc::Global;
+
+/// The configuration of a stream as the server sent it, every member of it: also those that `Config` does not name.
+#[derive(Debug, PartialEq, Eq, Drop)]
+pub struct Kept {
+    // The compact text of the object.
+    pub(crate) text: Text,
+}
+
+impl Kept {
+    /// Its compact JSON.
+    pub fn as_str(&self) -> &str
+        ensures { result.now ≡ self.now.text }
+    {
+        self.text.as_str()
+    }
+}
+
+impl Member for Kept {
+    ghost reads = { whole };
+
+    fn read(alloc: Global, _key: Key, value: &Value) -> Result<Kept, ReadError> {
+        if has_float(value) {
+            return Err(ReadError::Float);
+        }
+        Ok(Kept {
+            text: Text::from(value.to_string(alloc)?),
+        })
+    }
+}
+
+/// What the server knows of a stream, and its configuration as it was sent.
+#[derive(Debug, PartialEq, Eq, Drop)]
+pub struct KeptInfo {
+    /// What the server knows of the stream.
+    pub info: Info,
+    /// The configuration as it was sent.
+    pub config: Kept,
+}
+
+impl FromValue for KeptInfo {
+    ghost fields = { kept_info_fields };
+
+    #[tactic(auto, unfolding(crate::specs::KeptInfos::kept_info_fields))]
+    fn from_fields(alloc: Global, object: &Value) -> Result<KeptInfo, ReadError> {
+        Ok(KeptInfo {
+            info: Info::from_fields(alloc, object)?,
+            config: required(alloc, object, Key::Config)?,
+        })
+    }
+}
