@@ -1,0 +1,25 @@
+//! Tests of the calls over a link: requests, the calls on streams and consumers, lists, and contexts that ask and publish.
+#![tactic(auto)]
+
+#[cfg(test)]
+mod acks;
+#[cfg(test)]
+mod building;
+#[cfg(test)]
+mod consumers;
+#[cfg(test)]
+mod contexts;
+#[cfg(test)]
+mod lists;
+#[cfg(test)]
+mod publishing;
+#[cfg(test)]
+mod requests;
+#[cfg(test)]
+mod server;
+#[cfg(test)]
+mod stream_calls;
+#[cfg(test)]
+mod streams;
+#[cfg(test)]
+mod threads;

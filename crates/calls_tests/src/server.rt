@@ -1,0 +1,240 @@
+//! A server that answers from a script, and what a call over it comes to.
+
+use bytes::Bytes;
+use js_base::{Error, Message, OutOfMemory, StatusCode, Subject, Text, Turn};
+use js_call::{ApiScope, State};
+use js_link::{Link, MemoryLink, ScriptedServer, Sent};
+use js_stream::{DeleteStatus, stream};
+use js_stream_calls::StreamHandle;
+use serde_json::Value;
+use std::alloc::Global;
+use std::fmt::Display;
+
+/// What a call comes to, in a word.
+pub(crate) type Words = Result<String, OutOfMemory>;
+
+/// The subject and the body of a request.
+pub(crate) type Asked = (&'static str, &'static str);
+
+/// The status and the body of a reply.
+pub(crate) type Reply = (Option<StatusCode>, &'static str);
+
+/// What comes where nobody answers.
+pub(crate) const NOBODY: Reply = (Some(StatusCode(503)), "");
+
+/// A reply that does not read.
+pub(crate) const GARBLED: Reply = (None, "{");
+
+pub(crate) fn word(alloc: Global, text: &str) -> Words {
+    Ok(String::from_str(alloc, text)?)
+}
+
+pub(crate) fn scope(
+    alloc: Global,
+    prefix: &str,
+    timeout: Option<u64>,
+) -> Result<ApiScope, OutOfMemory> {
+    Ok(ApiScope {
+        prefix: Text::from_str(alloc, prefix)?,
+        timeout,
+    })
+}
+
+pub(crate) fn message(alloc: Global, reply: Reply) -> Result<Message, OutOfMemory> {
+    Ok(Message {
+        subject: Subject::new(alloc, "_INBOX.t.0")?,
+        reply: None,
+        payload: Bytes::copy_from_slice(alloc, reply.1.as_bytes())?,
+        headers: None,
+        status: reply.0,
+        description: None,
+        length: 0,
+    })
+}
+
+/// A server that answers nothing.
+pub(crate) fn silent(alloc: Global) -> Result<ScriptedServer, OutOfMemory> {
+    Ok(ScriptedServer::new(alloc, MemoryLink::new(alloc, "_INBOX.t")?))
+}
+
+fn scripted(
+    alloc: Global,
+    server: &mut ScriptedServer,
+    asked: Asked,
+    reply: Reply,
+) -> Result<(), OutOfMemory> {
+    server.script(alloc, asked.0, message(alloc, reply)?)
+}
+
+/// A server that answers these requests so.
+pub(crate) fn serving(
+    alloc: Global,
+    script: &[(Asked, Reply)],
+) -> Result<ScriptedServer, OutOfMemory> {
+    let mut server = silent(alloc)?;
+    for (asked, reply) in script {
+        scripted(alloc, &mut server, *asked, *reply)?;
+    }
+    Ok(server)
+}
+
+/// Whether that was sent: a request on that subject with that body.
+pub(crate) fn is_request(sent: &Sent, asked: Asked) -> bool {
+    match sent {
+        Sent::Request {
+            subject,
+            payload,
+            ..
+        } => subject.as_str() == asked.0 && payload.as_slice() == asked.1.as_bytes(),
+        _ => false,
+    }
+}
+
+/// Whether these requests were sent, and nothing else.
+pub(crate) fn has_asked(sent: &[Sent], script: &[(Asked, Reply)]) -> bool {
+    sent.len() == script.len()
+        && sent
+            .iter()
+            .zip(script)
+            .all(|(one, (asked, _))| is_request(one, *asked))
+}
+
+/// What a call answers, in a word.
+pub(crate) trait Answered {
+    fn word(&self, alloc: Global) -> Words;
+}
+
+impl Answered for Value {
+    fn word(&self, alloc: Global) -> Words {
+        Ok(self.to_string(alloc)?)
+    }
+}
+
+impl Answered for Message {
+    fn word(&self, alloc: Global) -> Words {
+        Ok(String::from_utf8_lossy(alloc, self.payload.as_slice())?)
+    }
+}
+
+impl Answered for Text {
+    fn word(&self, alloc: Global) -> Words {
+        word(alloc, self.as_str())
+    }
+}
+
+impl Answered for DeleteStatus {
+    fn word(&self, alloc: Global) -> Words {
+        word(alloc, if self.success { "deleted" } else { "kept" })
+    }
+}
+
+/// The stream's name, and how many messages it has.
+impl Answered for stream::Info {
+    fn word(&self, alloc: Global) -> Words {
+        let name = self.config.name.as_str();
+        let messages = self.state.messages;
+        Ok(format!(in alloc; "{name} {messages}")?)
+    }
+}
+
+impl Answered for StreamHandle<stream::Info> {
+    fn word(&self, alloc: Global) -> Words {
+        let name = self.name.as_str();
+        let messages = self.info.state.messages;
+        Ok(format!(in alloc; "{name} {messages}")?)
+    }
+}
+
+pub(crate) fn answer_word<A: Answered + Drop, K: Display + Drop>(
+    alloc: Global,
+    answer: Result<A, Error<K>>,
+) -> Words {
+    match answer {
+        Ok(answer) => answer.word(alloc),
+        Err(error) => Ok(error.to_string(alloc)?),
+    }
+}
+
+/// What a poll comes to: its answer, its error as it is printed, or `pending`.
+pub(crate) fn turn_word<S: Drop, A: Answered + Drop, K: Display + Drop>(
+    alloc: Global,
+    turn: Turn<S, Result<A, Error<K>>>,
+) -> Words {
+    match turn {
+        Turn::Ready(answer) => answer_word(alloc, answer),
+        Turn::Pending(_) => word(alloc, "pending"),
+        Turn::OutOfMemory(_) => Err(OutOfMemory),
+    }
+}
+
+/// What the first poll of a call comes to.
+pub(crate) fn polled<S, A, K, L: Link>(
+    alloc: Global,
+    link: &mut L,
+    call: Result<S, OutOfMemory>,
+) -> Words
+where
+    S: State<Answer = Result<A, Error<K>>>,
+    A: Answered + Drop,
+    K: Display + Drop,
+{
+    match call {
+        Ok(call) => turn_word(alloc, call.poll(alloc, link, 0)),
+        Err(OutOfMemory) => Err(OutOfMemory),
+    }
+}
+
+/// The call after a poll that leaves it pending.
+pub(crate) fn still<S: State, L: Link>(
+    alloc: Global,
+    link: &mut L,
+    call: S,
+    now: u64,
+) -> Option<S> {
+    match call.poll(alloc, link, now) {
+        Turn::Pending(call) => Some(call),
+        _ => None,
+    }
+}
+
+/// What the last of some polls comes to, where those before it are pending.
+pub(crate) fn waited<S, A, K, L: Link>(
+    alloc: Global,
+    link: &mut L,
+    call: Result<S, OutOfMemory>,
+    moments: [u64; 3],
+) -> Words
+where
+    S: State<Answer = Result<A, Error<K>>>,
+    A: Answered + Drop,
+    K: Display + Drop,
+{
+    let Some(call) = still(alloc, link, call?, moments[0]) else {
+        return word(alloc, "early");
+    };
+    match still(alloc, link, call, moments[1]) {
+        Some(call) => turn_word(alloc, call.poll(alloc, link, moments[2])),
+        None => word(alloc, "early"),
+    }
+}
+
+/// A call that is made and polled over a server.
+pub(crate) trait Case: Drop {
+    fn told(self, alloc: Global, server: &mut ScriptedServer) -> Words;
+}
+
+/// The word of a call, where it asked what it was to ask.
+pub(crate) fn asked_word(alloc: Global, text: String, has_asked: bool) -> Words {
+    if has_asked {
+        Ok(text)
+    } else {
+        Ok(format!(in alloc; "{text}, and asks otherwise")?)
+    }
+}
+
+/// What a call comes to over a server that answers so. Where it asks anything else, that is told too.
+pub(crate) fn outcome<C: Case>(alloc: Global, call: C, script: &[(Asked, Reply)]) -> Words {
+    let mut server = serving(alloc, script)?;
+    let text = call.told(alloc, &mut server)?;
+    asked_word(alloc, text, has_asked(server.link().sent(), script))
+}

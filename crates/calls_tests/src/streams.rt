@@ -1,0 +1,335 @@
+//! Calls on streams.
+
+use crate::server::{
+    Asked, Case, GARBLED, NOBODY, Reply, Words, outcome, polled, still, waited, word,
+};
+use crate::stream_calls::{
+    PREFIX, copy, create, create_or_update, delete, get, get_no_info, get_or_create, update,
+    update_keeping,
+};
+use js_link::{MemoryLink, RequestId, ScriptedServer};
+use std::alloc::Global;
+
+const CREATE: Asked = (
+    "$JS.API.STREAM.CREATE.events",
+    r#"{"discard":"old","name":"events","retention":"limits","storage":"file"}"#,
+);
+
+const UPDATE: Asked = (
+    "$JS.API.STREAM.UPDATE.events",
+    r#"{"discard":"old","name":"events","retention":"limits","storage":"file"}"#,
+);
+
+const INFO: Asked = ("$JS.API.STREAM.INFO.events", "null");
+
+const DELETE: Asked = ("$JS.API.STREAM.DELETE.events", "{}");
+
+/// A stream that copies `orders` of the domain `hub`, as its mirror and as a source.
+const COPY: Asked = (
+    "$JS.API.STREAM.CREATE.events",
+    r#"{"discard":"old","mirror":{"external":{"api":"$JS.hub.API"},"name":"orders"},"name":"events","retention":"limits","sources":[{"external":{"api":"$JS.hub.API"},"name":"orders"}],"storage":"file"}"#,
+);
+
+const KNOWN: Reply = (
+    None,
+    r#"{"config":{"name":"events"},"created":"2026-01-01T00:00:00Z","state":{"messages":3,"bytes":96,"first_seq":1,"last_seq":3}}"#,
+);
+
+/// The same with members that a configuration does not name.
+const WITH_MORE: Reply = (
+    None,
+    r#"{"config":{"discard":"old","duplicate_window":600000000000,"name":"events","no_ack":true,"retention":"limits","storage":"file"},"created":"2026-01-01T00:00:00Z","state":{"messages":3,"bytes":96,"first_seq":1,"last_seq":3}}"#,
+);
+
+/// An update that changes nothing of it.
+const UPDATE_NOTHING: Asked = (
+    "$JS.API.STREAM.UPDATE.events",
+    r#"{"discard":"old","duplicate_window":600000000000,"name":"events","no_ack":true,"retention":"limits","storage":"file"}"#,
+);
+
+/// One that sets how long messages are kept.
+const UPDATE_AGE: Asked = (
+    "$JS.API.STREAM.UPDATE.events",
+    r#"{"discard":"old","duplicate_window":600000000000,"max_age":5,"name":"events","no_ack":true,"retention":"limits","storage":"file"}"#,
+);
+
+const DELETED: Reply = (None, r#"{"success":true}"#);
+
+/// The stream is not there.
+const ABSENT: Reply = (None, r#"{"error":{"code":404,"err_code":10059}}"#);
+
+/// Another error of the API.
+const WRONG: Reply = (
+    None,
+    r#"{"error":{"code":400,"err_code":10052,"description":"no"}}"#,
+);
+
+/// How that error is printed.
+const WRONG_TEXT: &str = "jetstream error: no (code 400, error code 10052)";
+
+/// A call on the stream of a name.
+#[derive(Clone, Copy, Drop)]
+enum Call {
+    /// Under a prefix.
+    Create(&'static str, &'static str),
+    Update(&'static str),
+    Get(&'static str),
+    /// Without asking.
+    GetNoInfo(&'static str),
+    Delete(&'static str),
+    GetOrCreate(&'static str),
+    CreateOrUpdate(&'static str),
+    /// By the handle that getting it gives, with how long messages are kept.
+    UpdateKeeping(u64),
+    /// With a mirror and a source, each of a domain, and maybe of an external too.
+    Copy(bool, bool),
+}
+
+impl Case for Call {
+    fn told(self, alloc: Global, server: &mut ScriptedServer) -> Words {
+        match self {
+            Call::Create(prefix, name) => polled(alloc, server, create(alloc, prefix, name)),
+            Call::Update(name) => polled(alloc, server, update(alloc, name)),
+            Call::Get(name) => polled(alloc, server, get(alloc, name)),
+            Call::GetNoInfo(name) => get_no_info(alloc, name),
+            Call::Delete(name) => polled(alloc, server, delete(alloc, name)),
+            Call::GetOrCreate(name) => polled(alloc, server, get_or_create(alloc, name)),
+            Call::CreateOrUpdate(name) => polled(alloc, server, create_or_update(alloc, name)),
+            Call::UpdateKeeping(max_age) => update_keeping(alloc, server, max_age),
+            Call::Copy(mirror, source) => polled(alloc, server, copy(alloc, mirror, source)),
+        }
+    }
+}
+
+/// Calls of one request, what they ask, what is replied, and what they come to.
+const REPLIES: [(Call, Asked, Reply, &str); 21] = [
+    (Call::Create(PREFIX, "events"), CREATE, KNOWN, "events 3"),
+    (
+        Call::Create(PREFIX, "events"),
+        CREATE,
+        NOBODY,
+        "jetstream unavailable: requested JetStream resource does not exist",
+    ),
+    (
+        Call::Create(PREFIX, "events"),
+        CREATE,
+        ABSENT,
+        "stream not found: unknown (code 404, error code 10059)",
+    ),
+    (Call::Create(PREFIX, "events"), CREATE, WRONG, WRONG_TEXT),
+    (
+        Call::Create(PREFIX, "events"),
+        CREATE,
+        GARBLED,
+        "response error: not JSON",
+    ),
+    (Call::Update("events"), UPDATE, KNOWN, "events 3"),
+    (
+        Call::Update("events"),
+        UPDATE,
+        NOBODY,
+        "jetstream unavailable: requested JetStream resource does not exist",
+    ),
+    (
+        Call::Update("events"),
+        UPDATE,
+        ABSENT,
+        "stream not found: unknown (code 404, error code 10059)",
+    ),
+    (Call::Update("events"), UPDATE, WRONG, WRONG_TEXT),
+    (
+        Call::Update("events"),
+        UPDATE,
+        GARBLED,
+        "response error: not JSON",
+    ),
+    (Call::Get("events"), INFO, KNOWN, "events 3"),
+    (
+        Call::Get("events"),
+        INFO,
+        NOBODY,
+        "request error: requested JetStream resource does not exist",
+    ),
+    (
+        Call::Get("events"),
+        INFO,
+        ABSENT,
+        "jetstream error: unknown (code 404, error code 10059)",
+    ),
+    (Call::Get("events"), INFO, WRONG, WRONG_TEXT),
+    (
+        Call::Get("events"),
+        INFO,
+        GARBLED,
+        "request error: not JSON",
+    ),
+    (Call::Delete("events"), DELETE, DELETED, "deleted"),
+    (
+        Call::Delete("events"),
+        DELETE,
+        NOBODY,
+        "request error: requested JetStream resource does not exist",
+    ),
+    (
+        Call::Delete("events"),
+        DELETE,
+        ABSENT,
+        "jetstream error: unknown (code 404, error code 10059)",
+    ),
+    (Call::Delete("events"), DELETE, WRONG, WRONG_TEXT),
+    (
+        Call::Delete("events"),
+        DELETE,
+        GARBLED,
+        "request error: not JSON",
+    ),
+    (Call::Copy(false, false), COPY, KNOWN, "events 3"),
+];
+
+/// Calls of up to two requests, what they ask and are replied, and what they come to.
+const CHAINS: [(Call, &[(Asked, Reply)], &str); 8] = [
+    (
+        Call::UpdateKeeping(0),
+        &[(INFO, WITH_MORE), (UPDATE_NOTHING, KNOWN)],
+        "events 3",
+    ),
+    (
+        Call::UpdateKeeping(5),
+        &[(INFO, WITH_MORE), (UPDATE_AGE, KNOWN)],
+        "events 3",
+    ),
+    (
+        Call::GetOrCreate("events"),
+        &[(INFO, ABSENT), (CREATE, KNOWN)],
+        "events 3",
+    ),
+    (
+        Call::CreateOrUpdate("events"),
+        &[(UPDATE, ABSENT), (CREATE, KNOWN)],
+        "events 3",
+    ),
+    (Call::GetOrCreate("events"), &[(INFO, KNOWN)], "events 3"),
+    (
+        Call::CreateOrUpdate("events"),
+        &[(UPDATE, KNOWN)],
+        "events 3",
+    ),
+    (Call::GetOrCreate("events"), &[(INFO, WRONG)], WRONG_TEXT),
+    (
+        Call::CreateOrUpdate("events"),
+        &[(UPDATE, WRONG)],
+        WRONG_TEXT,
+    ),
+];
+
+#[test]
+fn calls_ask_and_answer(rt: HostRuntime) {
+    for (call, asked, reply, wanted) in REPLIES {
+        let subject = asked.0;
+        let found = outcome(rt.alloc(), call, &[(asked, reply)]).expect(&rt, wanted);
+        assert_eq!(rt; found.as_str(), wanted, "{subject}");
+    }
+}
+
+#[test]
+fn calls_of_two_requests_ask_and_answer(rt: HostRuntime) {
+    for (call, script, wanted) in CHAINS {
+        let found = outcome(rt.alloc(), call, script).expect(&rt, wanted);
+        assert_eq!(rt; found.as_str(), wanted);
+    }
+}
+
+/// What is no name of a stream, with how calls that make it refuse it, and how calls that find it do.
+const NO_NAMES: [(&str, &str, &str); 3] = [
+    (
+        "",
+        "stream name cannot be empty",
+        "empty name cannot be empty",
+    ),
+    (
+        "a.b",
+        "stream name cannot contain `.`, `_`",
+        "invalid stream name",
+    ),
+    (
+        "a b",
+        "stream name cannot contain `.`, `_`",
+        "invalid stream name",
+    ),
+];
+
+fn making(name: &'static str) -> [Call; 4] {
+    [
+        Call::Create(PREFIX, name),
+        Call::Update(name),
+        Call::GetOrCreate(name),
+        Call::CreateOrUpdate(name),
+    ]
+}
+
+fn finding(name: &'static str) -> [Call; 3] {
+    [Call::Get(name), Call::Delete(name), Call::GetNoInfo(name)]
+}
+
+/// Calls that send nothing, and what they come to.
+const UNSENT: [(Call, &str); 4] = [
+    (
+        Call::Create("a b", "events"),
+        "stream name cannot contain `.`, `_`: invalid subject",
+    ),
+    (Call::Copy(true, false), "domain and external are both set"),
+    (Call::Copy(false, true), "domain and external are both set"),
+    (Call::GetNoInfo("events"), "events"),
+];
+
+#[test]
+fn calls_are_refused_before_anything_is_sent(rt: HostRuntime) {
+    for (name, unmade, unfound) in NO_NAMES {
+        for call in making(name) {
+            let found = outcome(rt.alloc(), call, &[]).expect(&rt, name);
+            assert_eq!(rt; found.as_str(), unmade, "{name}");
+        }
+        for call in finding(name) {
+            let found = outcome(rt.alloc(), call, &[]).expect(&rt, name);
+            assert_eq!(rt; found.as_str(), unfound, "{name}");
+        }
+    }
+    for (call, wanted) in UNSENT {
+        let found = outcome(rt.alloc(), call, &[]).expect(&rt, wanted);
+        assert_eq!(rt; found.as_str(), wanted);
+    }
+}
+
+/// What the making of a stream comes to that has no reply within 200 nanoseconds.
+fn late(alloc: Global) -> Words {
+    let mut link = MemoryLink::new(alloc, "_INBOX.t")?;
+    waited(
+        alloc,
+        &mut link,
+        create(alloc, PREFIX, "events"),
+        [0, 199, 200],
+    )
+}
+
+/// What getting a stream comes to whose replier is gone.
+fn left_by(alloc: Global, link: &mut MemoryLink) -> Words {
+    let call = still(alloc, link, get(alloc, "events")?, 0);
+    let _ = link.respond(RequestId(1), None);
+    match call {
+        Some(call) => polled(alloc, link, Ok(call)),
+        None => word(alloc, "early"),
+    }
+}
+
+fn left(alloc: Global) -> Words {
+    let mut link = MemoryLink::new(alloc, "_INBOX.t")?;
+    left_by(alloc, &mut link)
+}
+
+#[test]
+fn a_request_without_a_reply_is_refused(rt: HostRuntime) {
+    let found = late(rt.alloc()).expect(&rt, "late");
+    assert_eq!(rt; found.as_str(), "jetstream request timed out: timed out");
+    let found = left(rt.alloc()).expect(&rt, "left");
+    assert_eq!(rt; found.as_str(), "request error: request failed");
+}

@@ -1,0 +1,77 @@
+//! Contexts in two threads over one window.
+
+use crate::publishing::{STORED, opened, published};
+use crate::server::message;
+use js_base::OutOfMemory;
+use js_context::Context;
+use js_link::{MemoryLink, RequestId};
+use std::alloc::Global;
+use std::sync::Wait;
+use std::sync::atomic::{AtomicU64, Ordering};
+use std::test::Fail;
+use std::thread;
+
+/// Waits until the other thread has come to that stage, for a long time at most.
+fn wait_for(stage: &AtomicU64, number: u64) {
+    for _ in 0..100_000_000u64 {
+        if stage.load(Ordering::SeqCst) == number {
+            return;
+        }
+        thread::yield_now();
+    }
+}
+
+/// A message that is sent, whose ack is there and not reaped.
+fn sent_and_answered<R: Wait>(
+    rt: &R,
+    alloc: Global,
+    holder: &mut Context,
+) -> Result<MemoryLink, OutOfMemory> {
+    let mut link = MemoryLink::new(alloc, "_INBOX.t")?;
+    let _ = published(rt, alloc, holder, &mut link, "a");
+    link.respond(RequestId(1), Some(message(alloc, STORED)?))?;
+    Ok(link)
+}
+
+/// Holds a permit until the other thread has begun to wait, and then gives it back. How many were given back.
+fn hold<R: Wait + AllocGlobal>(rt: &R, mut holder: Context, stage: &AtomicU64) -> u64 {
+    match sent_and_answered(rt, rt.alloc(), &mut holder) {
+        Ok(mut link) => {
+            stage.store(1, Ordering::SeqCst);
+            wait_for(stage, 2);
+            for _ in 0..1_000u64 {
+                thread::yield_now();
+            }
+            holder.reap(rt, &mut link, 0)
+        }
+        Err(OutOfMemory) => 0,
+    }
+}
+
+/// Waits for the other thread's permit. Whether it was out at first, and all are free at the end.
+fn wait<R: Wait>(rt: &R, mut waiter: Context, stage: &AtomicU64) -> bool {
+    wait_for(stage, 1);
+    if waiter.awaited() > 0 || waiter.detached_len() > 0 || waiter.acks_settled(rt) {
+        return false;
+    }
+    stage.store(2, Ordering::SeqCst);
+    waiter.wait_for_acks(rt);
+    waiter.acks_settled(rt)
+}
+
+#[test]
+fn a_context_waits_for_the_acks_of_another_thread(rt: HostRuntime) -> Result<(), Fail> {
+    let mut holder = opened(&rt, rt.alloc(), 2, true)?;
+    let waiter = holder.split(&rt, rt.alloc())?;
+    let stage = AtomicU64::new(0);
+    let shared = &stage;
+    let here = &rt;
+    let (reaped, settled) = thread::join(
+        here,
+        move || hold(here, holder, shared),
+        move || wait(here, waiter, shared),
+    );
+    assert_eq!(rt; reaped, 1);
+    assert!(rt; settled);
+    Ok(())
+}
