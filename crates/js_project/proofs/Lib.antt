@@ -1,0 +1,4 @@
+mod Worked
+pub mod Rising
+pub mod Placed
+pub mod Shown

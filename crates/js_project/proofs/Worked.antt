@@ -1,0 +1,35 @@
+-- Worked examples, which the definitions compute.
+use Rattle.std.specs.Prelude.{◌≡◌, ℕ, List, [], ◌∷◌, Some, None, refl, codes}
+use Rattle.js_base.specs.declared.message.Entry.{Entry}
+use Rattle.js_project.specs.Table.{table, up_to, after, matched, value_of, last_sequence}
+
+abbrev entry : ℕ → List ℕ → List ℕ → Entry
+entry sequence subject payload = record { subject = subject; sequence = sequence; payload = payload }
+
+-- `a.x` is set, `a.y` is set, `a.x` is set anew, `a.y` is deleted
+abbrev log : List Entry
+log = entry 1 (codes "a.x") (codes "1") ∷ entry 2 (codes "a.y") (codes "2") ∷ entry 3 (codes "a.x") (codes "3") ∷ entry 4 (codes "a.y") [] ∷ []
+
+-- the last entry of `a.x` stands, and the first of it nowhere
+now : table log ≡ entry 3 (codes "a.x") (codes "3") ∷ []
+now = refl
+
+-- at sequence 2 the table was another
+at_two : table (up_to 2 log) ≡ entry 1 (codes "a.x") (codes "1") ∷ entry 2 (codes "a.y") (codes "2") ∷ []
+at_two = refl
+
+deleted : value_of (codes "a.y") log ≡ None
+deleted = refl
+
+above_three : after 3 log ≡ entry 4 (codes "a.y") [] ∷ []
+above_three = refl
+
+last_applied : last_sequence log ≡ 4
+last_applied = refl
+
+-- rows stand in the byte order of subjects, whatever the order of sequences
+in_byte_order : table (entry 1 (codes "b") (codes "1") ∷ entry 5 (codes "a") (codes "2") ∷ []) ≡ entry 5 (codes "a") (codes "2") ∷ entry 1 (codes "b") (codes "1") ∷ []
+in_byte_order = refl
+
+one_subject : matched (codes "a.*") (table (entry 1 (codes "b") (codes "1") ∷ entry 5 (codes "a.x") (codes "2") ∷ [])) ≡ entry 5 (codes "a.x") (codes "2") ∷ []
+one_subject = refl

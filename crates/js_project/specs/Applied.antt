@@ -1,0 +1,10 @@
+-- Why an entry was applied or not.
+use Rattle.std.specs.Prelude.{◌≡◌, ℕ, ◌<◌, ◌≤◌, Result, Ok, Err}
+use Rattle.js_project.specs.declared.error.ApplyError.{ApplyError}
+use Rattle.js_project.specs.declared.error.ApplyError.TheVariants.{NotRising, OutOfMemory}
+
+-- `NotRising` comes exactly where the sequence is at or below the last one, and carries that one
+abbrev pub HasCause : ℕ → ℕ → Result (Unit {0}) ApplyError → Type 0
+HasCause last sequence (Ok done) = last < sequence
+HasCause last sequence (Err (NotRising carried)) = (sequence ≤ last) × (carried ≡ last)
+HasCause last sequence (Err OutOfMemory) = last < sequence
