@@ -1,5 +1,5 @@
 -- The places of the last entries, one entry after another.
-use Rattle.std.proofs.Common.{◌≡◌, ℕ, ◌<◌, ◌≤◌, ◌+◌, nat_cmp, List, [], ◌∷◌, ◌++◌, length, zero, suc, Bool, true, false, cond, refl, sym, ap, ◌∙◌, subst, arith, map, reverse, Option, Some, None, Ordering, Less, Equal, Greater}
+use Rattle.std.proofs.Common.{◌≡◌, ℕ, ◌<◌, nat_cmp, List, [], ◌∷◌, ◌++◌, length, zero, suc, Bool, true, false, cond, refl, sym, ap, ◌∙◌, subst, arith, map, Option, Some, None, Ordering, Less, Equal, Greater}
 use Rattle.std.specs.Prelude.{fold, find, String, string_bytes, string_cmp, IfSome}
 use Rattle.std.specs.declared.alloc.Global.{Global}
 use Rattle.std.specs.Option.{option_and_then}

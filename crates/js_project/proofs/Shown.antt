@@ -1,5 +1,5 @@
 -- The rows at the places of the last entries are those of the table.
-use Rattle.std.proofs.Common.{◌≡◌, ℕ, ◌<◌, ◌==◌, ◌+◌, nat_cmp, List, [], ◌∷◌, ◌++◌, length, get_or, zero, suc, Bool, true, false, cond, refl, sym, ap, ◌∙◌, subst, arith, map, filter, Option, Some, None}
+use Rattle.std.proofs.Common.{◌≡◌, ℕ, ◌<◌, List, [], ◌∷◌, ◌++◌, length, get_or, suc, Bool, true, false, cond, refl, sym, ap, ◌∙◌, arith, Option, Some, None}
 use Rattle.std.specs.Prelude.{String, string_bytes, string_cmp, All}
 use Rattle.std.specs.declared.alloc.Global.{Global}
 use Rattle.std.specs.Option.{option_and_then}
@@ -7,8 +7,8 @@ use Rattle.std.specs.List.{slice_get, filter_map, cons_option}
 use Rattle.std.specs.BTreeMap.{BTreeMap, get}
 use Rattle.js_base.specs.declared.message.Entry.{Entry}
 use Rattle.js_base.specs.Match.{subject_matches}
-use Rattle.js_project.specs.Table.{last_of, present, value_of, matched, table}
-use Rattle.js_project.specs.Places.{Places, names, place_of, IsPlaced, kept, shown, rows_at}
+use Rattle.js_project.specs.Table.{last_of, value_of, matched, table}
+use Rattle.js_project.specs.Places.{Places, names, IsPlaced, kept, shown, rows_at}
 
 kept_step : (f : List ℕ) (e : Entry) (b : Bool) (rows all : List Entry) → subject_matches f e.subject ≡ b → rows ≡ matched f all
     → cons_option (cond b (Some e) None) rows ≡ cond b (e ∷ matched f all) (matched f all)

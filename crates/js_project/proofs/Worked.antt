@@ -1,5 +1,5 @@
 -- Worked examples, which the definitions compute.
-use Rattle.std.specs.Prelude.{◌≡◌, ℕ, List, [], ◌∷◌, Some, None, refl, codes}
+use Rattle.std.specs.Prelude.{◌≡◌, ℕ, List, [], ◌∷◌, None, refl, codes}
 use Rattle.js_base.specs.declared.message.Entry.{Entry}
 use Rattle.js_project.specs.Table.{table, up_to, after, matched, value_of, last_sequence}
 
@@ -10,14 +10,15 @@ entry sequence subject payload = record { subject = subject; sequence = sequence
 abbrev log : List Entry
 log = entry 1 (codes "a.x") (codes "1") ∷ entry 2 (codes "a.y") (codes "2") ∷ entry 3 (codes "a.x") (codes "3") ∷ entry 4 (codes "a.y") [] ∷ []
 
--- the last entry of `a.x` stands, and the first of it nowhere
+-- the last entry of `a.x` stands: a body that keeps the first of a subject answers sequence 1 here
 now : table log ≡ entry 3 (codes "a.x") (codes "3") ∷ []
 now = refl
 
--- at sequence 2 the table was another
+-- the table as it was at sequence 2: a body that answers the present one has neither entry
 at_two : table (up_to 2 log) ≡ entry 1 (codes "a.x") (codes "1") ∷ entry 2 (codes "a.y") (codes "2") ∷ []
 at_two = refl
 
+-- an empty payload deletes its subject: a body that keeps such an entry answers it here
 deleted : value_of (codes "a.y") log ≡ None
 deleted = refl
 

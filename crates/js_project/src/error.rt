@@ -1,5 +1,8 @@
 //! Why an entry was not applied.
 
+ghost use Rattle.std.specs.Prelude.{Some};
+ghost use Rattle.js_project.specs.Applied.{error_text};
+
 use js_base::OutOfMemory;
 use std::alloc::AllocError;
 use std::fmt;
@@ -7,9 +10,9 @@ use std::fmt;
 /// Why an entry was not applied. The projection is as it was before.
 #[derive(Clone, Copy, Debug, PartialEq, Eq)]
 pub enum ApplyError {
-    /// The entry's sequence is not above that of the entry applied last. It prints `the sequence is not above` and that sequence.
+    /// The entry's sequence is not above that of the entry applied last. It prints `the sequence is not above` and the latter.
     NotRising {
-        /// The sequence applied last. It is never 0 unless the entry's own sequence is 0.
+        /// The sequence applied last, 0 where nothing was applied.
         last: u64,
     },
     /// Memory ran out. It prints `out of memory`.
@@ -17,6 +20,8 @@ pub enum ApplyError {
 }
 
 impl fmt::Display for ApplyError {
+    ghost output = { λ error. Some (error_text error) };
+
     fn fmt<W: fmt::Write>(&self, f: &mut fmt::Formatter<W>) -> fmt::Result {
         match self {
             ApplyError::NotRising { last } => write!(f, "the sequence is not above {last}"),

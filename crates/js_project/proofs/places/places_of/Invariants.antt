@@ -1,4 +1,4 @@
-use Rattle.std.proofs.Common.{◌≡◌, take}
+use Rattle.std.proofs.Common.{take}
 use Rattle.js_project.specs.Places.{IsPlaced}
 use Rattle.js_project.proofs.places.places_of.Given as goal
 

@@ -1,4 +1,4 @@
-use Rattle.std.proofs.Common.{◌≡◌, ◌∙◌}
+use Rattle.std.proofs.Common.{◌∙◌}
 use Rattle.js_project.proofs.Placed.{placed_at}
 use Rattle.js_project.proofs.places.set_place.Goals as goal
 
