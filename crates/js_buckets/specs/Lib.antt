@@ -1,0 +1,4 @@
+pub mod Names
+pub mod Origins
+pub mod KeyValues
+pub mod Objects

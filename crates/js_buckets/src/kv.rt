@@ -1,0 +1,232 @@
+//! Buckets of keys and their values: how they are configured, and which stream one is (NATS ADR-8).
+ghost use Rattle.std.specs.Prelude.{◌≡◌, IfOk, string_bytes};
+ghost use Rattle.js_buckets.specs.KeyValues.{all_keys as all_keys_in, history_of as history_in, replicas_of as replicas_in, compression_of as compression_in, subjects_of as subjects_in, origins_of as origins_in, stream_config};
+
+pub use crate::origins::stream_name;
+use crate::origins::{gathered, mirrored};
+use js_base::{Items, Nanos, OutOfMemory, Text, TryClone};
+use js_stream::stream;
+use js_stream::stream::{
+    Compression, DiscardPolicy, Placement, Republish, RetentionPolicy, Source, StorageType,
+};
+use std::alloc::{AllocError, Global};
+
+/// How many values of a key a bucket may keep.
+pub const MAX_HISTORY: i64 = 64;
+
+/// The configuration of a bucket of keys.
+#[derive(Debug, PartialEq, Eq, Drop)]
+pub struct Config {
+    /// The bucket's name: ASCII letters, digits, `_` and `-`.
+    pub bucket: Text,
+    /// Words for people; the server does nothing with them.
+    pub description: Text,
+    /// How many bytes a value may have, with the headers of its message; -1 is no bound, and 0 leaves it to the server,
+    /// which sets none but that of its connections.
+    pub max_value_size: i64,
+    /// How many values of each key are kept, at most 64; 0 and below stand for 1.
+    pub history: i64,
+    /// How long a value is kept, in nanoseconds; 0 for no bound.
+    pub max_age: Nanos,
+    /// How many bytes the bucket may have; -1 is no bound, and 0 leaves it to the server, which sets none.
+    pub max_bytes: i64,
+    /// Where values are kept.
+    pub storage: StorageType,
+    /// How many servers keep it; 0 stands for 1.
+    pub num_replicas: u64,
+    /// Where values that are put are sent on to.
+    pub republish: Option<Republish>,
+    /// The bucket that it copies whole, by its name or by that of its stream.
+    pub mirror: Option<Source>,
+    /// The buckets that it gathers, by their names or by those of their streams. With a mirror they go to the server as they are.
+    pub sources: Option<Items<Source>>,
+    /// Whether it answers gets for the bucket that it copies. One with a mirror always does.
+    pub mirror_direct: bool,
+    /// Whether values are compressed where they are kept, by S2.
+    pub compression: bool,
+    /// Which servers may keep it.
+    pub placement: Option<Placement>,
+    /// How long a marker stands for the values of a key that were too old, in nanoseconds; none for no marker. It wants a server
+    /// whose API is of level 1 or above.
+    pub limit_markers: Option<Nanos>,
+}
+
+impl Config {
+    ghost use Rattle.js_buckets.specs.KeyValues.{new_config};
+
+    /// The default, which takes no memory: without a name, kept in files, and without bounds.
+    pub fn new(alloc: Global) -> Config
+        ensures { result ≡ new_config }
+    {
+        Config {
+            bucket: Text::new(alloc),
+            description: Text::new(alloc),
+            max_value_size: 0,
+            history: 0,
+            max_age: 0,
+            max_bytes: 0,
+            storage: StorageType::File,
+            num_replicas: 0,
+            republish: None,
+            mirror: None,
+            sources: None,
+            mirror_direct: false,
+            compression: false,
+            placement: None,
+            limit_markers: None,
+        }
+    }
+}
+
+impl TryClone for Config {
+    fn try_clone(&self) -> Result<Config, OutOfMemory> {
+        Ok(Config {
+            bucket: self.bucket.try_clone()?,
+            description: self.description.try_clone()?,
+            max_value_size: self.max_value_size,
+            history: self.history,
+            max_age: self.max_age,
+            max_bytes: self.max_bytes,
+            storage: self.storage,
+            num_replicas: self.num_replicas,
+            republish: self.republish.try_clone()?,
+            mirror: self.mirror.try_clone()?,
+            sources: self.sources.try_clone()?,
+            mirror_direct: self.mirror_direct,
+            compression: self.compression,
+            placement: self.placement.try_clone()?,
+            limit_markers: self.limit_markers,
+        })
+    }
+}
+
+/// What a bucket copies, and what it takes in by itself.
+#[derive(Drop)]
+pub(crate) struct Origins {
+    pub(crate) subjects: Items<Text>,
+    pub(crate) mirror: Option<Source>,
+    pub(crate) sources: Option<Items<Source>>,
+    pub(crate) mirror_direct: bool,
+}
+
+fn all_keys_text(alloc: Global, bucket: &str) -> Result<String, AllocError>
+    ensures { IfOk result (λ text. string_bytes text ≡ all_keys_in bucket.now) }
+{
+    format!(in alloc; "$KV.{bucket}.>")
+}
+
+fn all_keys(alloc: Global, bucket: &str) -> Result<Items<Text>, OutOfMemory>
+    ensures { IfOk result (λ subjects. subjects ≡ subjects_in bucket.now) }
+{
+    let mut subjects = Items::new(alloc);
+    subjects.push(Text::from(all_keys_text(alloc, bucket)?))?;
+    Ok(subjects)
+}
+
+fn origins_of(
+    alloc: Global,
+    bucket: &str,
+    mirror: Option<Source>,
+    sources: Option<Items<Source>>,
+    mirror_direct: bool,
+) -> Result<Origins, OutOfMemory>
+    ensures { IfOk result (λ origins. origins ≡ origins_in bucket.now mirror sources mirror_direct) }
+{
+    match (mirror, sources) {
+        (Some(mirror), sources) => Ok(Origins {
+            subjects: Items::new(alloc),
+            mirror: mirrored(alloc, Some(mirror))?,
+            sources,
+            mirror_direct: true,
+        }),
+        (None, Some(sources)) => Ok(Origins {
+            subjects: Items::new(alloc),
+            mirror: None,
+            sources: gathered(alloc, Some(sources))?,
+            mirror_direct,
+        }),
+        (None, None) => Ok(Origins {
+            subjects: all_keys(alloc, bucket)?,
+            mirror: None,
+            sources: None,
+            mirror_direct,
+        }),
+    }
+}
+
+fn history_of(history: i64) -> i64
+    ensures { result ≡ history_in history }
+{
+    if history > 0 { history } else { 1 }
+}
+
+fn replicas_of(replicas: u64) -> u64
+    ensures { result ≡ replicas_in replicas }
+{
+    if replicas == 0 { 1 } else { replicas }
+}
+
+/// How a bucket's messages are compressed.
+pub(crate) fn compression_of(is_compressed: bool) -> Option<Compression>
+    ensures { result ≡ compression_in is_compressed }
+{
+    if is_compressed {
+        Some(Compression::S2)
+    } else {
+        None
+    }
+}
+
+impl Config {
+    /// The configuration of the stream that the bucket is, `KV_{bucket}`, whatever the bucket's name and history. It takes in all keys,
+    /// `$KV.{bucket}.>`, unless it copies other buckets. The one refusal is want of memory.
+    pub fn into_stream_config(self, alloc: Global) -> Result<stream::Config, OutOfMemory>
+        ensures { IfOk result (λ stream. stream ≡ stream_config self) }
+    {
+        let Config {
+            bucket,
+            description,
+            max_value_size,
+            history,
+            max_age,
+            max_bytes,
+            storage,
+            num_replicas,
+            republish,
+            mirror,
+            sources,
+            mirror_direct,
+            compression,
+            placement,
+            limit_markers,
+        } = self;
+        let name = stream_name(alloc, bucket.as_str())?;
+        let origins = origins_of(alloc, bucket.as_str(), mirror, sources, mirror_direct)?;
+        Ok(stream::Config {
+            name,
+            retention: RetentionPolicy::Limits,
+            storage,
+            discard: DiscardPolicy::New,
+            description: Some(description),
+            subjects: origins.subjects,
+            max_messages: 0,
+            max_messages_per_subject: history_of(history),
+            max_bytes,
+            max_message_size: max_value_size,
+            max_age,
+            num_replicas: replicas_of(num_replicas),
+            republish,
+            allow_rollup: true,
+            deny_delete: true,
+            deny_purge: false,
+            allow_direct: true,
+            mirror_direct: origins.mirror_direct,
+            mirror: origins.mirror,
+            sources: origins.sources,
+            compression: compression_of(compression),
+            placement,
+            allow_message_ttl: limit_markers.is_some(),
+            subject_delete_marker_ttl: limit_markers,
+        })
+    }
+}

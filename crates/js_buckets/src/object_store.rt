@@ -1,0 +1,136 @@
+//! Buckets of objects: how they are configured, and which stream one is (NATS ADR-20).
+ghost use Rattle.std.specs.Prelude.{◌≡◌, IfOk, string_bytes};
+ghost use Rattle.js_buckets.specs.Objects.{stream_name as stream_name_in, chunks, metadata, subjects_of as subjects_in, stream_config};
+
+use crate::kv::compression_of;
+use js_base::{Items, Nanos, OutOfMemory, Text, TryClone};
+use js_stream::stream;
+use js_stream::stream::{DiscardPolicy, Placement, RetentionPolicy, StorageType};
+use std::alloc::{AllocError, Global};
+
+/// The configuration of a bucket of objects.
+#[derive(Debug, PartialEq, Eq, Drop)]
+pub struct Config {
+    /// The bucket's name: ASCII letters, digits, `_` and `-`.
+    pub bucket: Text,
+    /// Words for people; the server does nothing with them.
+    pub description: Option<Text>,
+    /// How long an object is kept, in nanoseconds; 0 for no bound.
+    pub max_age: Nanos,
+    /// How many bytes the bucket may have; -1 is no bound, and 0 leaves it to the server, which sets none.
+    pub max_bytes: i64,
+    /// Where objects are kept.
+    pub storage: StorageType,
+    /// How many servers keep it; 0 leaves it to the server.
+    pub num_replicas: u64,
+    /// Whether objects are compressed where they are kept, by S2.
+    pub compression: bool,
+    /// Which servers may keep it.
+    pub placement: Option<Placement>,
+}
+
+impl Config {
+    ghost use Rattle.js_buckets.specs.Objects.{new_config};
+
+    /// The default, which takes no memory: without a name, kept in files, and without bounds.
+    pub fn new(alloc: Global) -> Config
+        ensures { result ≡ new_config }
+    {
+        Config {
+            bucket: Text::new(alloc),
+            description: None,
+            max_age: 0,
+            max_bytes: 0,
+            storage: StorageType::File,
+            num_replicas: 0,
+            compression: false,
+            placement: None,
+        }
+    }
+}
+
+impl TryClone for Config {
+    fn try_clone(&self) -> Result<Config, OutOfMemory> {
+        Ok(Config {
+            bucket: self.bucket.try_clone()?,
+            description: self.description.try_clone()?,
+            max_age: self.max_age,
+            max_bytes: self.max_bytes,
+            storage: self.storage,
+            num_replicas: self.num_replicas,
+            compression: self.compression,
+            placement: self.placement.try_clone()?,
+        })
+    }
+}
+
+fn stream_text(alloc: Global, bucket: &str) -> Result<String, AllocError>
+    ensures { IfOk result (λ text. string_bytes text ≡ stream_name_in bucket.now) }
+{
+    format!(in alloc; "OBJ_{bucket}")
+}
+
+/// The name of the stream that a bucket of objects is. The one refusal is want of memory.
+pub fn stream_name(alloc: Global, bucket: &str) -> Result<Text, OutOfMemory>
+    ensures { IfOk result (λ name. name ≡ stream_name_in bucket.now) }
+{
+    Ok(Text::from(stream_text(alloc, bucket)?))
+}
+
+fn chunks_text(alloc: Global, bucket: &str) -> Result<String, AllocError>
+    ensures { IfOk result (λ text. string_bytes text ≡ chunks bucket.now) }
+{
+    format!(in alloc; "$O.{bucket}.C.>")
+}
+
+fn metadata_text(alloc: Global, bucket: &str) -> Result<String, AllocError>
+    ensures { IfOk result (λ text. string_bytes text ≡ metadata bucket.now) }
+{
+    format!(in alloc; "$O.{bucket}.M.>")
+}
+
+fn subjects_of(alloc: Global, bucket: &str) -> Result<Items<Text>, OutOfMemory>
+    ensures { IfOk result (λ subjects. subjects ≡ subjects_in bucket.now) }
+{
+    let mut subjects = Items::new(alloc);
+    subjects.push(Text::from(chunks_text(alloc, bucket)?))?;
+    subjects.push(Text::from(metadata_text(alloc, bucket)?))?;
+    Ok(subjects)
+}
+
+impl Config {
+    /// The configuration of the stream that the bucket is, `OBJ_{bucket}`, whatever the bucket's name. It takes in the chunks of objects,
+    /// `$O.{bucket}.C.>`, and what is known of them, `$O.{bucket}.M.>`. The one refusal is want of memory.
+    pub fn into_stream_config(self, alloc: Global) -> Result<stream::Config, OutOfMemory>
+        ensures { IfOk result (λ stream. stream ≡ stream_config self) }
+    {
+        let name = stream_name(alloc, self.bucket.as_str())?;
+        let subjects = subjects_of(alloc, self.bucket.as_str())?;
+        Ok(stream::Config {
+            name,
+            retention: RetentionPolicy::Limits,
+            storage: self.storage,
+            discard: DiscardPolicy::New,
+            description: self.description,
+            subjects,
+            max_messages: 0,
+            max_messages_per_subject: 0,
+            max_bytes: self.max_bytes,
+            max_message_size: 0,
+            max_age: self.max_age,
+            num_replicas: self.num_replicas,
+            republish: None,
+            allow_rollup: true,
+            deny_delete: false,
+            deny_purge: false,
+            allow_direct: true,
+            mirror_direct: false,
+            mirror: None,
+            sources: None,
+            compression: compression_of(self.compression),
+            placement: self.placement,
+            allow_message_ttl: false,
+            subject_delete_marker_ttl: None,
+        })
+    }
+}
