@@ -8,6 +8,7 @@
 //! detached acks, or was given back.
 #![tactic(auto)]
 
+mod account;
 mod ack_future;
 mod build_error;
 mod builder;
