@@ -1,0 +1,159 @@
+//! The link over which states are polled.
+ghost use Rattle.std.specs.Prelude.{◌≡◌, ◌&&◌, None, Some, IfOk};
+ghost use Rattle.std.specs.Bool.{MatchBool};
+ghost use Rattle.std.specs.Option.{option_copied};
+ghost use Rattle.js_link.specs.Calls.{AsksOf, AnswersOf, Closes, NamesOf, OpensOf, PublishesOf, SubscribesOf, TakesOf};
+ghost use Rattle.js_link.specs.LinkView.{Waits};
+ghost use Rattle.js_outbox.specs.Calls.{Adds, Sends, SendsNothing, can_ask, can_open, is_live};
+ghost use Rattle.js_outbox.specs.Outbox.{answer_subject, closed_is_empty, counted, front, outbox_view};
+ghost use Rattle.js_outbox.specs.Wire.{FailsUnless, may_begin, may_go};
+
+use crate::answers::{fresh_subject, inbox_subject};
+use crate::inboxes::take_from;
+use crate::outbox::OutboxLink;
+use crate::outgoing::Outgoing;
+use crate::requests::take_answer;
+use crate::sends::{copy_headers, copy_subject, copy_text};
+use crate::wire::{may_begin, may_go};
+use bytes::Bytes;
+use js_base::{HeaderMap, Nanos, Subject, TryClone};
+use js_link::{Answer, InboxId, Link, LinkError, RequestId, Taken, Watch};
+use std::alloc::Global;
+
+impl Link for OutboxLink {
+    ghost view = { outbox_view };
+
+    ghost closed_is_empty = { closed_is_empty };
+
+    ghost counted = { counted };
+
+    fn subscribe(
+        &mut self,
+        alloc: Global,
+        subject: &str,
+        group: Option<&str>,
+    ) -> Result<InboxId, LinkError>
+        ensures call { SubscribesOf result subject.now (option_copied group.entry) (outbox_view self.old) (outbox_view self.new) }
+        ensures sends { Sends result (λ inbox. Outgoing.Subscribe inbox.0 subject.now (option_copied group.entry)) self.old self.new }
+        ensures cause { FailsUnless (can_open self.old && may_begin subject.now (option_copied group.entry)) result }
+    {
+        if !self.can_open() || !may_begin(subject, group) {
+            return Err(self.fail());
+        }
+        let subject = Subject::new(alloc, subject)?;
+        let group = copy_text(alloc, group)?;
+        Ok(self.begin(alloc, subject, group)?)
+    }
+
+    fn open_inbox(&mut self, alloc: Global) -> Result<(InboxId, Subject), LinkError>
+        ensures call { OpensOf result (outbox_view self.old) (outbox_view self.new) }
+        ensures sends { Sends result (λ made. Outgoing.Subscribe made.0.0 made.1 None) self.old self.new }
+        ensures cause { FailsUnless (can_open self.old) result }
+    {
+        if !self.can_open() {
+            return Err(self.fail());
+        }
+        let subject = inbox_subject(alloc, self.front.as_str(), self.inboxes.next)?;
+        let copy = subject.try_clone()?;
+        let inbox = self.begin(alloc, copy, None)?;
+        Ok((inbox, subject))
+    }
+
+    fn fresh_subject(&mut self, alloc: Global) -> Result<Subject, LinkError>
+        ensures call { NamesOf result (outbox_view self.old) (outbox_view self.new) }
+        ensures sends { SendsNothing self.old self.new }
+    {
+        if self.fresh == u64::MAX {
+            return Err(self.fail());
+        }
+        let subject = fresh_subject(alloc, self.front.as_str(), self.fresh)?;
+        self.fresh += 1;
+        Ok(subject)
+    }
+
+    fn unsubscribe(&mut self, inbox: InboxId)
+        ensures call { Closes inbox.0 (outbox_view self.old) (outbox_view self.new) }
+        ensures sends { MatchBool ((outbox_view self.old).is_open inbox.0) (Adds (Outgoing.Unsubscribe inbox.0) self.old self.new) (SendsNothing self.old self.new) }
+    {
+        if let Some(_messages) = self.inboxes.remove(inbox.0) {
+            self.outgoing.push_back_reserved(Outgoing::Unsubscribe {
+                subscription: inbox.0,
+            });
+        }
+    }
+
+    fn publish(
+        &mut self,
+        alloc: Global,
+        subject: &str,
+        reply: Option<&str>,
+        headers: Option<&HeaderMap>,
+        payload: &[u8],
+    ) -> Result<(), LinkError>
+        ensures call { PublishesOf result subject.now (option_copied reply.entry) (option_copied headers.entry) payload.now (outbox_view self.old) (outbox_view self.new) }
+        ensures sends { Sends result (λ _. Outgoing.Publish subject.now (option_copied reply.entry) (option_copied headers.entry) payload.now None) self.old self.new }
+        ensures cause { FailsUnless (is_live self.old && may_go (outbox_view self.old).max_payload subject.now (option_copied reply.entry) (option_copied headers.entry) payload.now) result }
+    {
+        if !self.is_live() || !may_go(self.max_payload, subject, reply, headers, payload) {
+            return Err(self.fail());
+        }
+        let item = Outgoing::Publish {
+            subject: Subject::new(alloc, subject)?,
+            reply: copy_subject(alloc, reply)?,
+            headers: copy_headers(headers)?,
+            payload: Bytes::copy_from_slice(alloc, payload)?,
+            request: None,
+        };
+        Ok(self.send(item)?)
+    }
+
+    fn request(
+        &mut self,
+        alloc: Global,
+        subject: &str,
+        headers: Option<&HeaderMap>,
+        payload: &[u8],
+    ) -> Result<RequestId, LinkError>
+        ensures call { AsksOf result subject.now (option_copied headers.entry) payload.now (outbox_view self.old) (outbox_view self.new) }
+        ensures waits { IfOk result (λ request. (outbox_view self.new).status request.0 ≡ Waits) }
+        ensures sends { Sends result (λ request. Outgoing.Publish subject.now (Some (answer_subject (front self.old) request.0)) (option_copied headers.entry) payload.now (Some request)) self.old self.new }
+        ensures cause { FailsUnless (can_ask self.old && may_go (outbox_view self.old).max_payload subject.now None (option_copied headers.entry) payload.now) result }
+    {
+        if !self.can_ask() || !may_go(self.max_payload, subject, None, headers, payload) {
+            return Err(self.fail());
+        }
+        let subject = Subject::new(alloc, subject)?;
+        let headers = copy_headers(headers)?;
+        let payload = Bytes::copy_from_slice(alloc, payload)?;
+        Ok(self.ask(alloc, subject, headers, payload)?)
+    }
+
+    fn take(&mut self, inbox: InboxId) -> Taken
+        ensures call { TakesOf inbox.0 result (outbox_view self.old) (outbox_view self.new) }
+        ensures sends { SendsNothing self.old self.new }
+    {
+        take_from(&mut self.inboxes, inbox.0)
+    }
+
+    fn answer(&mut self, request: RequestId) -> Answer
+        ensures call { AnswersOf request.0 result (outbox_view self.old) (outbox_view self.new) }
+        ensures sends { SendsNothing self.old self.new }
+    {
+        take_answer(&mut self.requests, request.0)
+    }
+
+    fn state(&mut self) -> Watch
+        ensures value { result ≡ (outbox_view self.old).watch }
+        ensures same { self.new ≡ self.old }
+    {
+        self.watch
+    }
+
+    fn max_payload(&self) -> u64 {
+        self.max_payload
+    }
+
+    fn request_timeout(&self) -> Option<Nanos> {
+        self.request_timeout
+    }
+}

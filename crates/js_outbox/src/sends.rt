@@ -1,0 +1,158 @@
+//! How a link sends: what may be sent goes behind what is to be sent, and what may not is refused.
+ghost use Rattle.std.specs.Prelude.{◌≡◌, ◌+◌, ◌<◌, ◌≤◌, ◌^◌, ◌-◌, None, Some, IfOk, OnErr, OnOk};
+ghost use Rattle.std.specs.Option.{option_copied};
+ghost use Rattle.std.specs.BTreeMap.{btree_map_len};
+ghost use Rattle.std.specs.VecDeque.{deque_capacity, deque_len};
+ghost use Rattle.js_link.specs.Calls.{Asks, Fails, Opens};
+ghost use Rattle.js_link.specs.LinkView.{Waits};
+ghost use Rattle.js_outbox.specs.Calls.{Adds, KeepsRest, SendsNothing, can_ask, can_open, is_live};
+ghost use Rattle.js_outbox.specs.Outbox.{answer_subject, front, outbox_view, outgoing};
+
+use crate::answers::answer_subject;
+use crate::outbox::OutboxLink;
+use crate::outgoing::Outgoing;
+use bytes::Bytes;
+use js_base::{HeaderMap, OutOfMemory, Subject, Text, TryClone};
+use js_link::{InboxId, LinkError, RequestId, Watch};
+use std::alloc::Global;
+use std::collections::VecDeque;
+
+pub(crate) fn copy_headers(headers: Option<&HeaderMap>) -> Result<Option<HeaderMap>, OutOfMemory>
+    ensures { IfOk result (λ copy. copy ≡ option_copied headers.entry) }
+{
+    match headers {
+        Some(headers) => Ok(Some(headers.try_clone()?)),
+        None => Ok(None),
+    }
+}
+
+pub(crate) fn copy_subject(
+    alloc: Global,
+    text: Option<&str>,
+) -> Result<Option<Subject>, OutOfMemory>
+    ensures { IfOk result (λ copy. copy ≡ option_copied text.entry) }
+{
+    match text {
+        Some(text) => Ok(Some(Subject::new(alloc, text)?)),
+        None => Ok(None),
+    }
+}
+
+pub(crate) fn copy_text(alloc: Global, text: Option<&str>) -> Result<Option<Text>, OutOfMemory>
+    ensures { IfOk result (λ copy. copy ≡ option_copied text.entry) }
+{
+    match text {
+        Some(text) => Ok(Some(Text::from_str(alloc, text)?)),
+        None => Ok(None),
+    }
+}
+
+impl OutboxLink {
+    /// Counts a fault.
+    pub(crate) fn fail(&mut self) -> LinkError
+        ensures failed { Fails (outbox_view self.old) (outbox_view self.new) }
+        ensures kind { result ≡ LinkError.Failed }
+        ensures outgoing { SendsNothing self.old self.new }
+    {
+        self.faults = self.faults.saturating_add(1);
+        LinkError::Failed
+    }
+
+    pub(crate) fn is_live(&self) -> bool
+        ensures { result ≡ is_live self.now }
+    {
+        match self.watch {
+            Watch::State(_) => true,
+            Watch::Ended => false,
+        }
+    }
+
+    pub(crate) fn can_open(&self) -> bool
+        ensures { result ≡ can_open self.now }
+    {
+        self.is_live() && self.inboxes.next < u64::MAX
+    }
+
+    pub(crate) fn can_ask(&self) -> bool
+        ensures { result ≡ can_ask self.now }
+    {
+        self.is_live() && self.requests.next < u64::MAX
+    }
+
+    /// Makes room for one thing more that is to be sent, and for the ends of all subscriptions.
+    fn make_room(&mut self, more: usize) -> Result<(), OutOfMemory>
+        requires { more < 3 }
+        ensures room { OnOk result (deque_len self.new.outgoing + btree_map_len self.new.inboxes.map + more ≤ deque_capacity self.new.outgoing) }
+        ensures same { KeepsRest self.old self.new }
+        ensures items { outgoing self.new ≡ outgoing self.old }
+    {
+        let ends = self.inboxes.map.len();
+        self.outgoing.reserve(ends + more)?;
+        Ok(())
+    }
+
+    /// Sends one thing.
+    pub(crate) fn send(&mut self, item: Outgoing) -> Result<(), OutOfMemory>
+        ensures ok { OnOk result (Adds item self.old self.new) }
+        ensures err { OnErr result (SendsNothing self.old self.new) }
+        ensures same { KeepsRest self.old self.new }
+    {
+        self.make_room(1)?;
+        self.outgoing.push_back_reserved(item);
+        Ok(())
+    }
+
+    /// Opens an inbox for a subject that may be sent.
+    pub(crate) fn begin(
+        &mut self,
+        alloc: Global,
+        subject: Subject,
+        group: Option<Text>,
+    ) -> Result<InboxId, OutOfMemory>
+        requires { self.old.inboxes.next < 2 ^ 64 - 1 }
+        ensures opens { IfOk result (λ inbox. Opens inbox.0 subject group (outbox_view self.old) (outbox_view self.new)) }
+        ensures sends { IfOk result (λ inbox. Adds (Outgoing.Subscribe inbox.0 subject group) self.old self.new) }
+        ensures number { IfOk result (λ inbox. inbox.0 ≡ self.old.inboxes.next) }
+        ensures err { OnErr result (outbox_view self.new ≡ outbox_view self.old) }
+        ensures sends_nothing { OnErr result (SendsNothing self.old self.new) }
+    {
+        self.make_room(2)?;
+        let subscription = self.inboxes.add(VecDeque::new(alloc))?;
+        self.outgoing.push_back_reserved(Outgoing::Subscribe {
+            subscription,
+            subject,
+            group,
+        });
+        Ok(InboxId(subscription))
+    }
+
+    /// Makes a request of a message that may be sent.
+    pub(crate) fn ask(
+        &mut self,
+        alloc: Global,
+        subject: Subject,
+        headers: Option<HeaderMap>,
+        payload: Bytes,
+    ) -> Result<RequestId, OutOfMemory>
+        requires { self.old.requests.next < 2 ^ 64 - 1 }
+        ensures asks { IfOk result (λ request. Asks request.0 subject headers payload (outbox_view self.old) (outbox_view self.new)) }
+        ensures sends { IfOk result (λ request. Adds (Outgoing.Publish subject (Some (answer_subject (front self.old) request.0)) headers payload (Some request)) self.old self.new) }
+        ensures waits { IfOk result (λ request. (outbox_view self.new).status request.0 ≡ Waits) }
+        ensures err { OnErr result (outbox_view self.new ≡ outbox_view self.old) }
+        ensures sends_nothing { OnErr result (SendsNothing self.old self.new) }
+    {
+        let number = self.requests.next;
+        let reply = answer_subject(alloc, self.front.as_str(), number)?;
+        self.make_room(1)?;
+        let number = self.requests.add(None)?;
+        let request = RequestId(number);
+        self.outgoing.push_back_reserved(Outgoing::Publish {
+            subject,
+            reply: Some(reply),
+            headers,
+            payload,
+            request: Some(request),
+        });
+        Ok(request)
+    }
+}
