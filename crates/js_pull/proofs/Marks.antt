@@ -17,7 +17,7 @@ use Rattle.js_pull.specs.declared.reader.Inquiry.{Inquiry}
 use Rattle.js_pull.specs.declared.reader.Inquiry.TheVariants.{NoInquiry, Asked, Resting}
 use Rattle.js_pull.specs.declared.reader.Row.{Row}
 use Rattle.js_pull.specs.declared.reader.Row.TheVariants.{Begin, Ask, Threshold, Arm, Inquire, FailInquiry, CheckInquiry, Answered, CheckExpiry, CheckArrival, CheckSilence}
-use Rattle.js_pull.proofs.Ledger.{if_each, if_known, half_pending}
+use Rattle.js_pull.proofs.Cases.{if_each, if_known, half_pending}
 
 -- where the mark rises, at most half of a batch is pending
 abbrev pub RisesLow : Reader → rows.Passed → Type 0

@@ -21,7 +21,7 @@ use Rattle.js_pull.specs.declared.reader.Inquiry.TheVariants.{NoInquiry, Asked, 
 use Rattle.js_pull.specs.declared.reader.Reason.{Reason}
 use Rattle.js_pull.specs.declared.reader.Row.{Row}
 use Rattle.js_pull.specs.declared.reader.Row.TheVariants.{Begin, Ask, Threshold, Arm, Inquire, FailInquiry, CheckInquiry, Answered, CheckExpiry, CheckArrival, CheckSilence}
-use Rattle.js_pull.proofs.Ledger.{if_each}
+use Rattle.js_pull.proofs.Cases.{if_each}
 
 -- ---- what is asked is sent
 

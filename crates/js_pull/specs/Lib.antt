@@ -1,5 +1,6 @@
 pub mod Kind
 pub mod Limits
 pub mod Reader
-pub mod Stream
 pub mod Passes
+pub mod Asking
+pub mod Steps

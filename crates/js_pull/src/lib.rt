@@ -1,12 +1,15 @@
 //! The pull reader: what it asks for, what it counts, and what it makes of arrivals.
 #![tactic(auto)]
 
+mod asking;
 mod kind;
 mod limits;
 mod reader;
 mod replies;
 mod requests;
+mod rows;
 
+pub use asking::{Met, Wish, ask, take};
 pub use kind::{HeaderNumber, Kind, header_number, pull_kind};
 pub use limits::{clamp_batch, clamp_expires, clamp_heartbeat, ordered_batch_config};
 pub use reader::{
@@ -14,3 +17,4 @@ pub use reader::{
     retry_wait, timeout_from,
 };
 pub use replies::info_of_reply;
+pub use rows::{Due, Notice, Spare, Step, Todo, informed_of};

@@ -1,8 +1,9 @@
 //! What a reader makes of the messages that it is sent.
-ghost use Rattle.std.specs.Prelude.{◌≡◌, IfOk, OnErr, OnOk, option_map};
+ghost use Rattle.std.specs.Prelude.{◌≡◌, true, Some, IfOk, OnErr, OnOk, option_map};
 ghost use Rattle.std.specs.Option.{option_copied};
 ghost use Rattle.js_base.specs.Headers.{all_headers, last_value};
 ghost use Rattle.js_pull.specs.Reader as rows;
+ghost use Rattle.js_pull.specs.Steps.{pin_brought};
 
 use crate::reader::Reader;
 use js_base::{HeaderMap, Message, OutOfMemory, StatusCode, Text};
@@ -74,21 +75,50 @@ fn keep_newer(pin: &mut Option<Text>, named: Option<Text>)
     }
 }
 
-/// The pin after an arrival. Status 423 says that another client is pinned.
-fn note_named(pin: &mut Option<Text>, alloc: Global, message: &Message) -> Result<(), OutOfMemory>
-    ensures noted { OnOk result (pin.new ≡ rows.pin_after message.now message.now.status pin.old) }
-    ensures kept { OnErr result (pin.new ≡ pin.old) }
+/// The pin that an arrival brings, where clients are pinned.
+pub(crate) fn brought_pin(
+    alloc: Global,
+    pinned: bool,
+    message: &Message,
+) -> Result<Option<Text>, OutOfMemory>
+    ensures { IfOk result (λ pin. pin ≡ pin_brought pinned (Some message.now)) }
+{
+    if !pinned {
+        return Ok(None);
+    }
+    match message.status {
+        None => named_pin(alloc, &message.headers),
+        Some(StatusCode(200)) => named_pin(alloc, &message.headers),
+        Some(_) => Ok(None),
+    }
+}
+
+/// The pin after an arrival that brings one. Status 423 says that another client is pinned.
+fn keep_brought(pin: &mut Option<Text>, message: &Message, brought: Option<Text>)
+    requires { brought ≡ pin_brought true (Some message.now) }
+    ensures { pin.new ≡ rows.pin_after message.now message.now.status pin.old }
 {
     match message.status {
-        None => keep_newer(pin, named_pin(alloc, &message.headers)?),
-        Some(StatusCode(200)) => keep_newer(pin, named_pin(alloc, &message.headers)?),
+        None => keep_newer(pin, brought),
+        Some(StatusCode(200)) => keep_newer(pin, brought),
         Some(StatusCode(423)) => *pin = None,
         Some(_) => {}
     }
-    Ok(())
 }
 
 impl Reader {
+    /// Keeps the pin that an arrival brings, if clients are pinned at all; status 423 lets it go. It takes no memory.
+    pub(crate) fn keep_pin(&mut self, message: &Message, brought: Option<Text>)
+        requires { brought ≡ pin_brought self.old.source.pinned (Some message.now) }
+        ensures { self.new ≡ rows.with_pin message.now self.old }
+    {
+        if self.source.pinned {
+            keep_brought(&mut self.pin, message, brought);
+        } else {
+            self.pin = None;
+        }
+    }
+
     /// Keeps the pin that an arrival names in its header `Nats-Pin-Id`, if clients are pinned at all; status 423 lets it go.
     ///
     /// # Errors
@@ -98,10 +128,8 @@ impl Reader {
         ensures noted { OnOk result (self.new ≡ rows.with_pin message.now self.old) }
         ensures kept { OnErr result (self.new ≡ self.old) }
     {
-        if self.source.pinned {
-            return note_named(&mut self.pin, alloc, message);
-        }
-        self.pin = None;
+        let brought = brought_pin(alloc, self.source.pinned, message)?;
+        self.keep_pin(message, brought);
         Ok(())
     }
 }

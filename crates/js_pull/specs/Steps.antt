@@ -1,0 +1,112 @@
+-- How a row is passed with what it met, whoever answered what it asked: a link, or an event of a replay.
+use Rattle.std.specs.Prelude.{◌≡◌, ◌==◌, ℕ, Bool, true, false, List, [], ◌∷◌, Option, Some, None, ⊤, if◌then◌else◌}
+use Rattle.js_base.specs.declared.message.Message.{Message}
+use Rattle.js_base.specs.declared.message.StatusCode.{StatusCode}
+use Rattle.js_base.specs.Headers.{last_value, all_headers}
+use Rattle.js_json.specs.declared.consumer.info.Info.{Info}
+use Rattle.js_link.specs.Passing.{Passing}
+use Rattle.js_link.specs.Met.{Wish, Met, passing_of, message_of}
+use Rattle.js_pull.specs.Asking.{reply_met}
+use Rattle.js_pull.specs.declared.reader.Reader.{Reader}
+use Rattle.js_pull.specs.declared.reader.Reason.{Reason}
+use Rattle.js_pull.specs.declared.reader.Reason.TheVariants.{Informed}
+use Rattle.js_pull.specs.declared.reader.Row.{Row}
+use Rattle.js_pull.specs.declared.reader.Row.TheVariants as row
+use Rattle.js_pull.specs.declared.reader.Told.{Told}
+use Rattle.js_pull.specs.declared.reader.Told.TheVariants as tells
+use Rattle.js_pull.specs.Reader.{wish, answer_of, info_of_reply, pin_header}
+use Rattle.js_pull.specs.Reader as rows
+use Rattle.js_pull.specs.Passes.{publishing}
+use Rattle.js_pull.specs.declared.reader.Inquiry.{Inquiry}
+use Rattle.js_pull.specs.declared.rows.Due.{Due}
+use Rattle.js_pull.specs.declared.rows.Due.TheVariants as due
+use Rattle.js_pull.specs.declared.rows.Todo.{Todo}
+use Rattle.js_pull.specs.declared.rows.Todo.TheVariants as todo
+use Rattle.js_pull.specs.declared.rows.Notice.{Notice}
+use Rattle.js_pull.specs.declared.rows.Notice.TheVariants as notice
+use Rattle.js_pull.specs.declared.rows.Spare.{Spare}
+use Rattle.js_pull.specs.declared.rows.Step.{Step}
+
+-- ---- rows, as the code keeps them
+
+-- the row that is due, with the reply that lies beside it
+abbrev pub row_of : Option Message → Due → Row
+row_of reply (due.Ask reason) = row.Ask reason
+row_of reply due.Threshold = row.Threshold
+row_of reply due.Arm = row.Arm
+row_of reply (due.Inquire failures) = row.Inquire failures
+row_of reply (due.FailInquiry failures) = row.FailInquiry failures
+row_of reply due.CheckInquiry = row.CheckInquiry
+row_of reply (due.Answered failures) = row.Answered reply failures
+row_of reply due.CheckExpiry = row.CheckExpiry
+row_of reply due.CheckArrival = row.CheckArrival
+row_of reply due.CheckSilence = row.CheckSilence
+
+-- at most one row
+abbrev pub row_list : Option Message → Option Due → List Row
+row_list reply None = []
+row_list reply (Some due) = row_of reply due ∷ []
+
+-- the rows that are left; only the first reads a reply
+abbrev pub rows_of : Option Message → Todo → List Row
+rows_of reply todo.Nothing = []
+rows_of reply (todo.One due) = row_of reply due ∷ []
+rows_of reply (todo.Two due later) = row_of reply due ∷ row_of None later ∷ []
+
+-- what is told, with the message that was taken
+abbrev pub told_shown : Notice → Option Message → Told
+told_shown notice.Nothing message = tells.Nothing
+told_shown notice.Hands None = tells.Nothing
+told_shown notice.Hands (Some message) = tells.Hands message
+told_shown (notice.Tells kind) message = tells.Tells kind
+
+-- ---- a row that was passed
+
+-- the row at what was met
+abbrev pub met_row : ℕ → Row → Met → Reader → rows.Passed
+met_row now row met r = rows.row (passing_of now met) (answer_of (wish row r) met) (message_of met) row r
+
+-- a step is a row of the table: the reader after it, what it tells, and the row that follows at once
+pub record StepsTo (passed : rows.Passed) (met : Met) (step : Step) (new : Reader) : Type 0 where
+  pub reader : new ≡ passed.reader
+  pub told : told_shown step.told (message_of met) ≡ passed.told
+  pub next : row_list (reply_met met) step.next ≡ passed.next
+
+-- the one clause of a row
+abbrev pub Steps : ℕ → Row → Met → Step → Reader → Reader → Type 0
+Steps now row met step old new = StepsTo (met_row now row met old) met step new
+
+-- how a row is passed that met this, where only its moment is known
+abbrev pub passing_at : ℕ → Met → Passing
+passing_at now met = record (passing_of now met) { now = now }
+
+-- a request has gone out under this number, or was refused
+abbrev pub requesting : ℕ → Option ℕ → Passing
+requesting now None = publishing now false
+requesting now (Some request) = record { now = now; up = true; request = request; inbox = 0; subject = [] }
+
+-- the row that looks at an open info
+abbrev pub inquiry_row : ℕ → Met → Inquiry → Reader → rows.Passed
+inquiry_row now met inquiry r = rows.check_inquiry (passing_at now met) (answer_of (rows.awaited inquiry) met) inquiry r
+
+-- ---- what a row needs beside what it met
+
+-- why messages are asked for after an answer, where it is a good one
+abbrev pub informed_by : Option Info → Option Reason
+informed_by None = None
+informed_by (Some info) = Some (Informed (info.num_waiting == 0))
+
+-- a reply was read by the row that reads one
+abbrev pub IsInformed : Row → Option Reason → Type 0
+IsInformed (row.Answered reply failures) reason = reason ≡ informed_by (info_of_reply reply)
+IsInformed row reason = ⊤
+
+-- the pin that a message without a status, or of status 200, names
+abbrev pub pin_named : Message → Option StatusCode → Option (List ℕ)
+pin_named message None = last_value pin_header (all_headers message.headers)
+pin_named message (Some status) = if status.0 == 200 then last_value pin_header (all_headers message.headers) else None
+
+-- the pin that an arrival brings, where clients are pinned
+abbrev pub pin_brought : Bool → Option Message → Option (List ℕ)
+pin_brought pinned None = None
+pin_brought pinned (Some message) = if pinned then pin_named message message.status else None

@@ -1,0 +1,501 @@
+//! The rows of a pull reader. None of them knows a link: what a row wishes is asked by whoever passes it, and what it met is handed in.
+//!
+//! A row is passed in three steps. What it needs is made ready: the texts of what it wishes (`Reader::wish`) and what its reply tells
+//! (`informed_of`). What it wishes is met, at a link (`ask`) or in an event of a replay; of an arrival its pin is taken then
+//! (`Reader::pin_of`). `Reader::pass` passes it. Only the last step changes the reader; it takes no memory, and always succeeds.
+ghost use Rattle.std.specs.Prelude.{◌≡◌, ℕ, [], false, true, None, Some, IfOk, Option, if◌then◌else◌};
+ghost use Rattle.js_base.specs.declared.message.Message.{Message as SpecMessage};
+ghost use Rattle.js_link.specs.Met.{Met as LinkMet, Took, message_of, passing_of};
+ghost use Rattle.js_pull.specs.Asking.{met_shown, wish_shown};
+ghost use Rattle.js_pull.specs.Kind.{pull_kind as kind_of};
+ghost use Rattle.js_pull.specs.Passes.{publishing};
+ghost use Rattle.js_pull.specs.Reader as rows;
+ghost use Rattle.js_pull.specs.declared.reader.Row.TheVariants as read;
+ghost use Rattle.js_pull.specs.Steps.{IsInformed, Steps, StepsTo, informed_by, inquiry_row, passing_at, pin_brought, requesting, row_of, rows_of};
+
+use crate::asking::{Met, Wish};
+use crate::kind::{Kind, pull_kind};
+use crate::reader::{
+    Inquiry, MessagesErrorKind, Reader, Reason, is_any_due, is_asking, retry_wait, timeout_from,
+};
+use crate::replies::{brought_pin, info_of_reply};
+use bytes::Bytes;
+use js_base::{Message, Moment, OutOfMemory, State, Text, Timer, TryClone};
+use std::alloc::Global;
+
+/// A row that is due: one thing that a reader does, after its event has begun. The reply that `Answered` reads lies beside it.
+#[derive(Clone, Copy, Debug, PartialEq, Eq)]
+pub enum Due {
+    /// A pull request.
+    Ask {
+        reason: Reason,
+    },
+    /// Where little is pending a request follows.
+    Threshold,
+    /// The heartbeat.
+    Arm,
+    /// An info request, after so many that failed.
+    Inquire {
+        failures: u64,
+    },
+    /// It has failed once more.
+    FailInquiry {
+        failures: u64,
+    },
+    /// The answer that an open info waits for.
+    CheckInquiry,
+    /// An info request was answered: the reply is read.
+    Answered {
+        failures: u64,
+    },
+    CheckExpiry,
+    CheckArrival,
+    CheckSilence,
+}
+
+/// The rows that are left of an event. There are never more than two.
+#[derive(Clone, Copy, Debug, PartialEq, Eq)]
+pub enum Todo {
+    Nothing,
+    One(Due),
+    Two(Due, Due),
+}
+
+/// What a row tells the reader's user.
+#[derive(Clone, Copy, Debug, PartialEq, Eq)]
+pub enum Notice {
+    Nothing,
+    /// The message that was taken is handed out.
+    Hands,
+    /// An error. `RequestLimitExceeded` is told with the description of the message that was taken.
+    Tells(MessagesErrorKind),
+}
+
+/// What a row does that was passed.
+#[derive(Clone, Copy, Debug, PartialEq, Eq)]
+pub struct Step {
+    pub told: Notice,
+    /// The row that follows at once. `Answered` reads the reply that was met, which is none where the replier is gone.
+    pub next: Option<Due>,
+}
+
+/// What a row needs that takes memory, beside the texts of what it wishes.
+#[derive(Drop)]
+pub struct Spare {
+    /// What a reply tells to the row that reads it.
+    pub informed: Option<Reason>,
+    /// The pin that an arrival brings.
+    pub pin: Option<Text>,
+}
+
+/// A row that tells nothing.
+fn quietly(next: Option<Due>) -> Step
+    ensures { result ≡ record { told = Notice.Nothing; next = next } }
+{
+    Step {
+        told: Notice::Nothing,
+        next,
+    }
+}
+
+/// A row that tells an error.
+fn tells(kind: MessagesErrorKind, next: Option<Due>) -> Step
+    ensures { result ≡ record { told = Notice.Tells kind; next = next } }
+{
+    Step {
+        told: Notice::Tells(kind),
+        next,
+    }
+}
+
+// ---- what a row needs
+
+/// What a reply tells to the row that reads it: why messages are asked for, where it is a good answer.
+pub fn informed_of(
+    alloc: Global,
+    due: Due,
+    reply: &Option<Message>,
+) -> Result<Option<Reason>, OutOfMemory>
+    ensures { IfOk result (λ reason. IsInformed (row_of reply.now due) reason) }
+{
+    match due {
+        Due::Answered { .. } => informed(alloc, reply),
+        Due::Ask { .. } => Ok(None),
+        Due::Threshold => Ok(None),
+        Due::Arm => Ok(None),
+        Due::Inquire { .. } => Ok(None),
+        Due::FailInquiry { .. } => Ok(None),
+        Due::CheckInquiry => Ok(None),
+        Due::CheckExpiry => Ok(None),
+        Due::CheckArrival => Ok(None),
+        Due::CheckSilence => Ok(None),
+    }
+}
+
+/// Why messages are asked for after this answer, where it is a good one: with a reset where no request waits at the server.
+fn informed(alloc: Global, reply: &Option<Message>) -> Result<Option<Reason>, OutOfMemory>
+    ensures { IfOk result (λ reason. reason ≡ informed_by (rows.info_of_reply reply.now)) }
+{
+    match info_of_reply(alloc, reply.as_ref())? {
+        None => Ok(None),
+        Some(info) => Ok(Some(Reason::Informed {
+            reset: info.num_waiting == 0,
+        })),
+    }
+}
+
+impl Reader {
+    /// What a row wishes, with its texts.
+    ///
+    /// # Errors
+    ///
+    /// Want of memory, after which nothing has changed.
+    pub fn wish(&self, alloc: Global, due: Due) -> Result<Wish, OutOfMemory>
+        ensures { IfOk result (λ wish. (reply : Option SpecMessage) → wish_shown wish ≡ rows.wish (row_of reply due) self.now) }
+    {
+        match due {
+            Due::Ask { .. } => self.pull_wish(alloc),
+            Due::Inquire { .. } => self.info_wish(alloc),
+            Due::CheckInquiry => Ok(awaited(self.inquiry)),
+            Due::CheckArrival => Ok(Wish::Reads {
+                inbox: self.source.inbox,
+            }),
+            Due::Threshold => Ok(Wish::Nothing),
+            Due::Arm => Ok(Wish::Nothing),
+            Due::FailInquiry { .. } => Ok(Wish::Nothing),
+            Due::Answered { .. } => Ok(Wish::Nothing),
+            Due::CheckExpiry => Ok(Wish::Nothing),
+            Due::CheckSilence => Ok(Wish::Nothing),
+        }
+    }
+
+    /// A pull request goes out.
+    fn pull_wish(&self, alloc: Global) -> Result<Wish, OutOfMemory>
+        ensures { IfOk result (λ wish. wish_shown wish ≡ rows.wish (read.Ask Reason.Low) self.now) }
+    {
+        Ok(Wish::Publishes {
+            subject: self.source.pull_subject(alloc)?,
+            reply: Some(self.source.subject.try_clone()?),
+            payload: self.pull_body(alloc)?,
+        })
+    }
+
+    /// The consumer's info is asked for.
+    fn info_wish(&self, alloc: Global) -> Result<Wish, OutOfMemory>
+        ensures { IfOk result (λ wish. wish_shown wish ≡ rows.wish (read.Inquire 0) self.now) }
+    {
+        Ok(Wish::Requests {
+            subject: self.source.info_subject(alloc)?,
+            payload: Bytes::from_static(b"{}"),
+        })
+    }
+
+    /// The pin that an arrival brings, where clients are pinned.
+    ///
+    /// # Errors
+    ///
+    /// Want of memory. The message is still there.
+    pub fn pin_of(&self, alloc: Global, met: &Met) -> Result<Option<Text>, OutOfMemory>
+        ensures { IfOk result (λ pin. pin ≡ pin_brought self.now.source.pinned (message_of (met_shown met.now))) }
+    {
+        match met.message() {
+            None => Ok(None),
+            Some(message) => brought_pin(alloc, self.source.pinned, message),
+        }
+    }
+}
+
+/// An open info that was asked for waits for its answer.
+fn awaited(inquiry: Inquiry) -> Wish
+    ensures { wish_shown result ≡ rows.awaited inquiry }
+{
+    match inquiry {
+        Inquiry::NoInquiry => Wish::Nothing,
+        Inquiry::Asked { request, .. } => Wish::Awaits { request },
+        Inquiry::Resting { .. } => Wish::Nothing,
+    }
+}
+
+// ---- rows
+
+impl Reader {
+    /// What an event does first, with the connection's change.
+    pub fn begin(&mut self, now: Moment, change: Option<State>) -> Todo
+        ensures reader { self.new ≡ (rows.begin_row (publishing now false) change self.old).reader }
+        ensures next { rows_of None result ≡ (rows.begin_row (publishing now false) change self.old).next }
+    {
+        if self.ended {
+            return Todo::Nothing;
+        }
+        if is_asking(&self.inquiry) {
+            return Todo::Two(Due::CheckInquiry, Due::CheckArrival);
+        }
+        match change {
+            None => Todo::Two(Due::CheckExpiry, Due::CheckArrival),
+            Some(State::Connected) => Todo::Two(Due::Inquire { failures: 0 }, Due::CheckArrival),
+            Some(State::Pending) => {
+                self.arm_expiry(now);
+                Todo::One(Due::CheckArrival)
+            }
+            Some(State::Disconnected) => {
+                self.arm_expiry(now);
+                Todo::One(Due::CheckArrival)
+            }
+        }
+    }
+
+    /// A pull request has gone out, or was refused, of which the user is told. The expiry is armed in both cases.
+    pub fn pass_ask(&mut self, now: Moment, reason: Reason, goes_out: bool) -> Step
+        ensures { (met : LinkMet) → StepsTo (rows.ask (publishing now goes_out) reason self.old) met result self.new }
+    {
+        self.arm_expiry(now);
+        if goes_out {
+            self.count_request(reason);
+            quietly(None)
+        } else {
+            tells(MessagesErrorKind::Pull, None)
+        }
+    }
+
+    /// Where little is pending a request follows.
+    pub fn pass_threshold(&mut self) -> Step
+        ensures { (met : LinkMet) → StepsTo (rows.threshold self.old) met result self.new }
+    {
+        if self.threshold() {
+            quietly(Some(Due::Ask {
+                reason: Reason::Low,
+            }))
+        } else {
+            quietly(None)
+        }
+    }
+
+    /// The heartbeat is armed.
+    pub fn pass_arm(&mut self, now: Moment) -> Step
+        ensures { (met : LinkMet) → StepsTo (rows.quietly (rows.with_silence now self.old) []) met result self.new }
+    {
+        self.arm_silence(now);
+        quietly(None)
+    }
+
+    // ---- the consumer's info, after a reconnection
+
+    /// The info was asked for, under this number, or the request was refused.
+    pub fn pass_inquire(&mut self, now: Moment, failures: u64, request: Option<u64>) -> Step
+        ensures { (met : LinkMet) → StepsTo (rows.inquire (requesting now request) failures self.old) met result self.new }
+    {
+        match request {
+            None => quietly(Some(Due::FailInquiry { failures })),
+            Some(request) => {
+                self.inquiry = Inquiry::Asked {
+                    request,
+                    timeout: timeout_from(now, self.source.patience),
+                    failures,
+                };
+                quietly(None)
+            }
+        }
+    }
+
+    /// A try failed: the next one waits, and after the sixth the user is told.
+    pub fn pass_fail_inquiry(&mut self, now: Moment, failures: u64) -> Step
+        ensures { (met : LinkMet) → StepsTo (rows.fail_inquiry (publishing now false) failures self.old) met result self.new }
+    {
+        if failures >= 5 {
+            self.inquiry = Inquiry::NoInquiry;
+            return tells(
+                MessagesErrorKind::Pull,
+                Some(Due::Ask {
+                    reason: Reason::Informed { reset: false },
+                }),
+            );
+        }
+        self.inquiry = Inquiry::Resting {
+            wait: Timer {
+                set: now,
+                wait: retry_wait(failures + 1),
+            },
+            failures: failures + 1,
+        };
+        quietly(None)
+    }
+
+    /// An open info looks at its answer before its clock.
+    pub fn pass_check_inquiry(&mut self, now: Moment, met: &Met) -> Step
+        ensures { StepsTo (inquiry_row now (met_shown met.now) self.old.inquiry self.old) (met_shown met.now) result self.new }
+    {
+        match self.inquiry {
+            Inquiry::NoInquiry => quietly(None),
+            Inquiry::Asked {
+                timeout, failures, ..
+            } => {
+                if met.is_answer() {
+                    quietly(Some(Due::Answered { failures }))
+                } else {
+                    quietly(failed_if(is_any_due(&timeout, now), failures))
+                }
+            }
+            Inquiry::Resting { wait, failures } => quietly(tried_if(wait.is_due(now), failures)),
+        }
+    }
+
+    /// The answer was read.
+    pub fn pass_answered(&mut self, failures: u64, informed: Option<Reason>) -> Step
+        ensures { (reply : Option SpecMessage) → (met : LinkMet) → informed ≡ informed_by (rows.info_of_reply reply)
+            → StepsTo (rows.answered failures (rows.info_of_reply reply) self.old) met result self.new }
+    {
+        match informed {
+            None => quietly(Some(Due::FailInquiry { failures })),
+            Some(reason) => {
+                self.inquiry = Inquiry::NoInquiry;
+                quietly(Some(Due::Ask { reason }))
+            }
+        }
+    }
+
+    // ---- timers
+
+    /// After a request has expired another one follows.
+    pub fn pass_check_expiry(&mut self, now: Moment) -> Step
+        ensures { (met : LinkMet) → StepsTo (rows.row (publishing now false) None None read.CheckExpiry self.old) met result self.new }
+    {
+        if is_any_due(&self.expiry, now) {
+            quietly(Some(Due::Ask {
+                reason: Reason::Expired,
+            }))
+        } else {
+            quietly(None)
+        }
+    }
+
+    /// A missing heartbeat is told, and armed anew.
+    pub fn pass_check_silence(&mut self, now: Moment) -> Step
+        ensures { (met : LinkMet) → StepsTo (rows.check_silence (publishing now false) self.old) met result self.new }
+    {
+        if is_any_due(&self.silence, now) {
+            self.arm_silence(now);
+            tells(MessagesErrorKind::MissingHeartbeat, None)
+        } else {
+            quietly(None)
+        }
+    }
+
+    // ---- arrivals
+
+    /// What an arrival does, once its pin is kept and the heartbeat is armed.
+    fn hear(&mut self, message: &Message) -> Step
+        ensures { StepsTo (rows.hear message.now (kind_of message.now) self.old) (Took message.now) result self.new }
+    {
+        match pull_kind(message) {
+            Kind::Delivered => {
+                self.lower(1, message.length);
+                heard(Notice::Hands)
+            }
+            Kind::Quiet => heard(Notice::Nothing),
+            Kind::Deleted => self.end_with(MessagesErrorKind::ConsumerDeleted),
+            Kind::PushBased => self.end_with(MessagesErrorKind::PushBasedConsumer),
+            Kind::Limit => self.end_with(MessagesErrorKind::RequestLimitExceeded),
+            Kind::Gone => heard(Notice::Tells(MessagesErrorKind::NoResponders)),
+            Kind::Bad => heard(Notice::Tells(MessagesErrorKind::Other)),
+            Kind::Ledger { messages, bytes } => {
+                let messages = messages.unwrap_or(self.source.config.batch);
+                let bytes = bytes.unwrap_or(self.source.config.max_bytes);
+                self.lower(messages, bytes);
+                heard(Notice::Nothing)
+            }
+        }
+    }
+
+    /// An error ends the reader: no row follows.
+    fn end_with(&mut self, kind: MessagesErrorKind) -> Step
+        ensures step { result ≡ record { told = Notice.Tells kind; next = None } }
+        ensures reader { self.new ≡ record self.old { ended = true } }
+    {
+        self.ended = true;
+        tells(kind, None)
+    }
+
+    /// A message that was taken is heard: it arms the heartbeat, and may bring a pin.
+    pub fn hear_arrival(&mut self, now: Moment, message: &Message, pin: Option<Text>) -> Step
+        requires { pin ≡ pin_brought self.old.source.pinned (Some message.now) }
+        ensures { StepsTo (rows.check_arrival (publishing now false) (Some message.now) self.old) (Took message.now) result self.new }
+    {
+        self.arm_silence(now);
+        self.keep_pin(message, pin);
+        self.hear(message)
+    }
+
+    /// The message that was taken is heard. Without one the heartbeat is looked at.
+    pub fn pass_check_arrival(&mut self, now: Moment, met: &Met, pin: Option<Text>) -> Step
+        requires { pin ≡ pin_brought self.old.source.pinned (message_of (met_shown met.now)) }
+        ensures { StepsTo (rows.check_arrival (passing_at now (met_shown met.now)) (message_of (met_shown met.now)) self.old) (met_shown met.now) result self.new }
+    {
+        match met {
+            Met::Took(message) => self.hear_arrival(now, message, pin),
+            Met::Unasked
+            | Met::GoneOut
+            | Met::Refused
+            | Met::Dropped
+            | Met::Requested { .. }
+            | Met::Opened { .. }
+            | Met::Empty
+            | Met::Shut
+            | Met::Waiting
+            | Met::Gone
+            | Met::Got(_)
+            | Met::Stands(_)
+            | Met::WatchOver => quietly(Some(Due::CheckSilence)),
+        }
+    }
+
+    // ---- each row
+
+    /// Passes a row of an event that has begun, with what it met. It takes no memory.
+    pub fn pass(&mut self, now: Moment, due: Due, spare: Spare, met: &Met) -> Step
+        requires pin { due ≡ Due.CheckArrival → spare.pin ≡ pin_brought self.old.source.pinned (message_of (met_shown met.now)) }
+        ensures { (reply : Option SpecMessage) → IsInformed (row_of reply due) spare.informed → Steps now (row_of reply due) (met_shown met.now) result self.old self.new }
+    {
+        match due {
+            Due::Ask { reason } => self.pass_ask(now, reason, met.request().is_some()),
+            Due::Threshold => self.pass_threshold(),
+            Due::Arm => self.pass_arm(now),
+            Due::Inquire { failures } => self.pass_inquire(now, failures, met.request()),
+            Due::FailInquiry { failures } => self.pass_fail_inquiry(now, failures),
+            Due::CheckInquiry => self.pass_check_inquiry(now, met),
+            Due::Answered { failures } => self.pass_answered(failures, spare.informed),
+            Due::CheckExpiry => self.pass_check_expiry(now),
+            Due::CheckArrival => self.pass_check_arrival(now, met, spare.pin),
+            Due::CheckSilence => self.pass_check_silence(now),
+        }
+    }
+}
+
+/// An arrival was heard, after which the threshold is looked at.
+fn heard(told: Notice) -> Step
+    ensures { result ≡ record { told = told; next = Some Due.Threshold } }
+{
+    Step {
+        told,
+        next: Some(Due::Threshold),
+    }
+}
+
+fn failed_if(is_due: bool, failures: u64) -> Option<Due>
+    ensures { result ≡ (if is_due then Some (Due.FailInquiry failures) else None) }
+{
+    if is_due {
+        Some(Due::FailInquiry { failures })
+    } else {
+        None
+    }
+}
+
+fn tried_if(is_due: bool, failures: u64) -> Option<Due>
+    ensures { result ≡ (if is_due then Some (Due.Inquire failures) else None) }
+{
+    if is_due {
+        Some(Due::Inquire { failures })
+    } else {
+        None
+    }
+}
