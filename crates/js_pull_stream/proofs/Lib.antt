@@ -1,0 +1,9 @@
+mod Ledger
+mod Bodies
+mod Walking
+mod Answering
+mod Falling
+mod Holding
+mod Seeing
+mod Turning
+mod Sleeping

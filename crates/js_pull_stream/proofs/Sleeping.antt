@@ -1,0 +1,269 @@
+-- A stream at rest that is left alone does nothing before one of its timers is due.
+use Rattle.std.proofs.Common.{◌≡◌, ◌⊎◌, ℕ, Bool, true, false, List, [], ◌∷◌, ◌++◌, Option, None, refl, sym, ◌∙◌, ap, subst, inl, inr, arith}
+use Rattle.std.specs.Prelude.{⊤, ◌||◌, unwrap_or, if◌then◌else◌}
+use Rattle.js_base.specs.Clock.{is_due, is_any_due}
+use Rattle.js_base.specs.declared.clock.Timer.{Timer}
+use Rattle.js_base.specs.declared.message.Message.{Message}
+use Rattle.js_base.specs.declared.message.State.{State}
+use Rattle.js_link.specs.LinkView.{LinkView, Status}
+use Rattle.js_link.specs.LinkView as views
+use Rattle.js_link.specs.Met.{Wish, Met, Watches, Awaits, Reads, Unasked, Took, Empty, Shut, Waiting, Gone, Got, Stands, Watch_over, passing_of, message_of, IsClosing}
+use Rattle.js_link.specs.Met as link
+use Rattle.js_link.specs.Meets.{Meets}
+use Rattle.js_link.specs.Passing.{Passing}
+use Rattle.js_link.specs.declared.link.Watch.{Watch}
+use Rattle.js_pull.specs.Asking.{watch_met}
+use Rattle.js_pull.specs.declared.reader.Reader.{Reader}
+use Rattle.js_pull.specs.declared.reader.Inquiry.{Inquiry}
+use Rattle.js_pull.specs.declared.reader.Inquiry.TheVariants.{NoInquiry, Asked, Resting}
+use Rattle.js_pull.specs.declared.reader.Reason.TheVariants.{Expired}
+use Rattle.js_pull.specs.declared.reader.Row.{Row}
+use Rattle.js_pull.specs.declared.reader.Row.TheVariants.{Ask, Inquire, FailInquiry, CheckInquiry, CheckExpiry, CheckArrival, CheckSilence}
+use Rattle.js_pull.specs.declared.reader.MessagesErrorKind.TheVariants as error
+use Rattle.js_pull.specs.declared.reader.Told.{Told}
+use Rattle.js_pull.specs.declared.reader.Told.TheVariants.{Nothing}
+use Rattle.js_pull.specs.Reader as rows
+use Rattle.js_pull_stream.specs.Stream.{Position, Stride, PollAnswer, HandsOut, Fails, Waits, Ends, Lacks, told_by, walk, step, passed_by, told_list, later_rows, connection_after, wish_next, closed_at, change_met, IsStride, IsMet, IsPoll}
+use Rattle.js_pull_stream.specs.Wakes.{IsLeftAlone, IsUnanswered, Sleeps, inquiry_due, timer_due}
+use Rattle.js_pull_stream.proofs.Walking.{place, three_parts, passing_now, append_rows}
+use Rattle.js_pull_stream.proofs.Answering.{walk_append}
+
+-- where an event stands that does nothing
+data Stage : Type 0 where
+  Rest Expiry Info Arrival Silence : Stage
+
+abbrev rows_at : Stage → List Row
+rows_at Rest = []
+rows_at Expiry = CheckExpiry ∷ CheckArrival ∷ []
+rows_at Info = CheckInquiry ∷ CheckArrival ∷ []
+rows_at Arrival = CheckArrival ∷ []
+rows_at Silence = CheckSilence ∷ []
+
+-- the expiry is looked at where no info is open
+abbrev IsAt : Stage → Reader → Type 0
+IsAt Expiry r = rows.is_asking r.inquiry ≡ false
+IsAt Rest r = ⊤
+IsAt Info r = ⊤
+IsAt Arrival r = ⊤
+IsAt Silence r = ⊤
+
+-- a row leads to the next of them, and does nothing
+record Stays (r : Reader) (c : State) (stage : Stage) (s : Stride) (v u : LinkView) : Type 0 where
+  next : Stage
+  at : IsAt next r
+  leads : step s (place r (rows_at stage) c) ≡ place r (rows_at next) c
+  told : (passed_by s (place r (rows_at stage) c)).told ≡ Nothing
+  same : u ≡ v
+
+stays_by : (r : Reader) (c : State) (stage : Stage) (s : Stride) (v u : LinkView) (next : Stage) (xs : List Row) → IsAt next r
+    → passed_by s (place r (rows_at stage) c) ≡ rows.quietly r xs → xs ++ later_rows (rows_at stage) ≡ rows_at next → connection_after (rows_at stage) s.change c ≡ c → u ≡ v
+    → Stays r c stage s v u
+stays_by r c stage s v u next xs at e f kept same =
+    let passed = passed_by s (place r (rows_at stage) c) in
+    record {
+      next = next;
+      at = at;
+      leads = three_parts passed.reader r (passed.next ++ later_rows (rows_at stage)) (rows_at next) (connection_after (rows_at stage) s.change c) c
+          (ap (λ (p : rows.Passed). p.reader) e) (ap (λ (p : rows.Passed). p.next ++ later_rows (rows_at stage)) e ∙ f) kept;
+      told = ap (λ (p : rows.Passed). p.told) e;
+      same = same;
+    }
+
+-- ---- what is not due
+
+either_false : (a b : Bool) → (a || b) ≡ false → (a ≡ false) × (b ≡ false)
+either_false true b e = absurd (never e)
+  where
+    never : true ≡ false → ⊥
+    never e = cc
+either_false false b e = (refl, e)
+
+early_parts : (now : ℕ) (r : Reader) → r.ended ≡ false → timer_due now r ≡ false → (inquiry_due now r.inquiry r.expiry ≡ false) × (is_any_due r.silence now ≡ false)
+early_parts now r alive e =
+    either_false (inquiry_due now r.inquiry r.expiry) (is_any_due r.silence now)
+    (sym (ap (λ (b : Bool). if b then false else (inquiry_due now r.inquiry r.expiry || is_any_due r.silence now)) alive) ∙ e)
+
+expiry_early : (now : ℕ) (inquiry : Inquiry) (expiry : Option Timer) → rows.is_asking inquiry ≡ false → inquiry_due now inquiry expiry ≡ false → is_any_due expiry now ≡ false
+expiry_early now NoInquiry expiry none e = e
+expiry_early now (Asked request timeout failures) expiry none e = cc
+expiry_early now (Resting wait failures) expiry none e = cc
+
+-- ---- rows that do nothing
+
+nothing_same : (met : Met) (v u : LinkView) → Meets link.Nothing met v u → u ≡ v
+nothing_same Unasked v u m = m
+nothing_same met v u m = absurd m
+
+-- an event begins
+begun_idle : (p : Passing) (r : Reader) (b : Bool) → rows.is_asking r.inquiry ≡ b → r.ended ≡ false → (stage : Stage) × IsAt stage r × (rows.begin_row p None r ≡ rows.quietly r (rows_at stage))
+begun_idle p r true asks alive = (
+  Info,
+  tt,
+  ap (λ (e : Bool). if e then rows.quietly r [] else (if rows.is_asking r.inquiry then rows.quietly r (CheckInquiry ∷ CheckArrival ∷ []) else rows.begin_change p None r)) alive
+  ∙ ap (λ (b : Bool). if b then rows.quietly r (CheckInquiry ∷ CheckArrival ∷ []) else rows.begin_change p None r) asks,
+)
+begun_idle p r false asks alive = (
+  Expiry,
+  asks,
+  ap (λ (e : Bool). if e then rows.quietly r [] else (if rows.is_asking r.inquiry then rows.quietly r (CheckInquiry ∷ CheckArrival ∷ []) else rows.begin_change p None r)) alive
+  ∙ ap (λ (b : Bool). if b then rows.quietly r (CheckInquiry ∷ CheckArrival ∷ []) else rows.begin_change p None r) asks,
+)
+
+unchanged : (c : State) (met : Met) (v u : LinkView) → change_met c (watch_met v.watch) ≡ None → Meets Watches met v u → (change_met c met ≡ None) × (u ≡ v)
+unchanged c (Stands state) v u same m = (ap (λ (w : Watch). change_met c (watch_met w)) (sym m.1) ∙ same, m.0)
+unchanged c Watch_over v u same m = (refl, m.0)
+unchanged c met v u same m = absurd m
+
+inquiry_idle : (now : ℕ) (p : Passing) (answer : Option rows.Answer) (inquiry : Inquiry) (r : Reader) (met : Met) (v u : LinkView) → p.now ≡ now → answer ≡ rows.answer_of (rows.awaited inquiry) met
+    → Meets (rows.awaited inquiry) met v u → IsUnanswered inquiry v → inquiry_due now inquiry r.expiry ≡ false
+    → (rows.check_inquiry p answer inquiry r ≡ rows.quietly r []) × (u ≡ v)
+inquiry_idle now p answer NoInquiry r met v u at is m waits early = (refl, nothing_same met v u m)
+inquiry_idle now p answer (Asked request timeout failures) r Waiting v u at is m waits early = (
+  ap (λ (a : Option rows.Answer). rows.check_asked p timeout failures (rows.reply_to request a) r) is
+  ∙ ap (λ (b : Bool). rows.quietly r (if b then FailInquiry failures ∷ [] else [])) (ap (is_any_due timeout) at ∙ early),
+  m.0,
+)
+inquiry_idle now p answer (Asked request timeout failures) r Gone v u at is m waits early = absurd (never (sym waits ∙ m.1))
+  where
+    never : views.Waits ≡ views.Ended → ⊥
+    never e = cc
+inquiry_idle now p answer (Asked request timeout failures) r (Got reply) v u at is m waits early = absurd (never (sym waits ∙ m.had_come))
+  where
+    never : views.Waits ≡ views.Answered → ⊥
+    never e = cc
+inquiry_idle now p answer (Asked request timeout failures) r met v u at is m waits early = absurd m
+inquiry_idle now p answer (Resting wait failures) r met v u at is m waits early =
+    (ap (λ (b : Bool). rows.quietly r (if b then Inquire failures ∷ [] else [])) (ap (is_due wait) at ∙ early), nothing_same met v u m)
+
+arrival_idle : (p : Passing) (arrival : Option Message) (r : Reader) (met : Met) (v u : LinkView) → arrival ≡ message_of met → Meets (Reads r.source.inbox) met v u
+    → v.is_open r.source.inbox ≡ true → v.count r.source.inbox ≡ 0 → (rows.check_arrival p arrival r ≡ rows.quietly r (CheckSilence ∷ [])) × (u ≡ v)
+arrival_idle p arrival r Empty v u is m is_open empty = (ap (λ (a : Option Message). rows.check_arrival p a r) is, m.0)
+arrival_idle p arrival r Shut v u is m is_open empty = absurd (never (sym m.1 ∙ is_open))
+  where
+    never : false ≡ true → ⊥
+    never e = cc
+arrival_idle p arrival r (Took message) v u is m is_open empty =
+    let less = m.one_less in
+    absurd (omega (arith, less, empty))
+arrival_idle p arrival r met v u is m is_open empty = absurd m
+
+-- a row of a stream that is left alone
+idle_step : (now : ℕ) (r : Reader) (c : State) (v u : LinkView) → IsLeftAlone now (place r [] c) v → (stage : Stage) → IsAt stage r → (s : Stride) (met : Met)
+    → IsStride now c (wish_next Watches (place r (rows_at stage) c)) met s → Meets (wish_next Watches (place r (rows_at stage) c)) met v u → Stays r c stage s v u
+idle_step now r c v u alone Rest at s met is meets =
+    let stands = unchanged c met v u alone.connection meets in
+    let none : s.change ≡ None = is.change refl ∙ stands.0 in
+    let begun = begun_idle s.passing r (rows.is_asking r.inquiry) refl alone.alive in
+    stays_by r c Rest s v u begun.0 (rows_at begun.0) begun.1 (ap (λ (x : Option State). rows.begin_row s.passing x r) none ∙ begun.2) (sym (append_rows (rows_at begun.0)))
+    (ap (λ (x : Option State). unwrap_or x c) none) stands.1
+idle_step now r c v u alone Expiry at s met is meets =
+    let early = early_parts now r alone.alive alone.early in
+    let moment : s.passing.now ≡ now = ap (λ (p : Passing). p.now) is.passing ∙ sym (passing_now now met) in
+    stays_by r c Expiry s v u Arrival [] tt
+    (ap (λ (b : Bool). rows.quietly r (if b then Ask Expired ∷ [] else [])) (ap (is_any_due r.expiry) moment ∙ expiry_early now r.inquiry r.expiry at early.0)) refl refl (nothing_same met v u meets)
+idle_step now r c v u alone Info at s met is meets =
+    let early = early_parts now r alone.alive alone.early in
+    let moment : s.passing.now ≡ now = ap (λ (p : Passing). p.now) is.passing ∙ sym (passing_now now met) in
+    let idle = inquiry_idle now s.passing s.answer r.inquiry r met v u moment is.answer meets alone.unanswered early.0 in
+    stays_by r c Info s v u Arrival [] tt idle.0 refl refl idle.1
+idle_step now r c v u alone Arrival at s met is meets =
+    let idle = arrival_idle s.passing s.arrival r met v u is.arrival meets alone.is_open alone.empty in
+    stays_by r c Arrival s v u Silence (CheckSilence ∷ []) tt idle.0 refl refl idle.1
+idle_step now r c v u alone Silence at s met is meets =
+    let early = early_parts now r alone.alive alone.early in
+    let moment : s.passing.now ≡ now = ap (λ (p : Passing). p.now) is.passing ∙ sym (passing_now now met) in
+    stays_by r c Silence s v u Rest [] tt
+    (ap (λ (b : Bool). if b then rows.tell error.MissingHeartbeat (rows.with_silence s.passing.now r) [] else rows.quietly r []) (ap (is_any_due r.silence) moment ∙ early.1)) refl refl
+    (nothing_same met v u meets)
+
+-- ---- row after row
+
+record IdleWalk (r : Reader) (c : State) (strides : List Stride) (at : Position) (v u : LinkView) : Type 0 where
+  stage : Stage
+  leads : (walk strides at).position ≡ place r (rows_at stage) c
+  told : (walk strides at).told ≡ []
+  same : u ≡ v
+
+idle_walk : (now : ℕ) (r : Reader) (c : State) (strides : List Stride) (v u : LinkView) → IsLeftAlone now (place r [] c) v → (stage : Stage) → IsAt stage r
+    → IsMet now Meets Watches strides (place r (rows_at stage) c) v u → IdleWalk r c strides (place r (rows_at stage) c) v u
+idle_walk now r c [] v u alone stage at met = record { stage = stage; leads = refl; told = refl; same = met }
+idle_walk now r c (s ∷ strides) v u alone stage at (met, between, is, meets, rest) =
+    let one = idle_step now r c v between alone stage at s met is meets in
+    let left : IsMet now Meets Watches strides (place r (rows_at one.next) c) between u = subst (λ (p : Position). IsMet now Meets Watches strides p between u) one.leads rest in
+    let more = idle_walk now r c strides between u (subst (λ (w : LinkView). IsLeftAlone now (place r [] c) w) (sym one.same) alone) one.next one.at left in
+    record {
+      stage = more.stage;
+      leads = ap (λ (p : Position). (walk strides p).position) one.leads ∙ more.leads;
+      told = ap (λ (x : Told). told_list x ++ (walk strides (step s (place r (rows_at stage) c))).told) one.told ∙ ap (λ (p : Position). (walk strides p).told) one.leads ∙ more.told;
+      same = more.same ∙ one.same;
+    }
+
+-- ---- a poll
+
+never_closed : (r : Reader) (c : State) (stage : Stage) (v u : LinkView) → v.is_open r.source.inbox ≡ true → IsClosing Meets (wish_next Watches (place r (rows_at stage) c)) true v u → ⊥
+never_closed r c Rest v u is_open closes = closes
+never_closed r c Expiry v u is_open closes = closes
+never_closed r c Info v u is_open closes = by_inquiry r.inquiry closes
+  where
+    by_inquiry : (inquiry : Inquiry) → IsClosing Meets (rows.awaited inquiry) true v u → ⊥
+    by_inquiry NoInquiry m = m
+    by_inquiry (Asked request timeout failures) m = m
+    by_inquiry (Resting wait failures) m = m
+never_closed r c Arrival v u is_open closes = never (sym closes.1 ∙ is_open)
+  where
+    never : false ≡ true → ⊥
+    never e = cc
+never_closed r c Silence v u is_open closes = closes
+
+-- a call that found nothing closed ends where its rows lead
+record Left (closed : Bool) (at new : Position) (between after : LinkView) : Type 0 where
+  leads : new ≡ at
+  same : after ≡ between
+
+left_at : (r : Reader) (c : State) (stage : Stage) (closed : Bool) (at new : Position) (v u : LinkView) → v.is_open r.source.inbox ≡ true → at ≡ place r (rows_at stage) c
+    → new ≡ closed_at closed at → IsClosing Meets (wish_next Watches at) closed v u → Left closed at new v u
+left_at r c stage false at new v u is_open is leads closes = record { leads = leads; same = closes }
+left_at r c stage true at new v u is_open is leads closes =
+    absurd (never_closed r c stage v u is_open (subst (λ (p : Position). IsClosing Meets (wish_next Watches p) true v u) is closes))
+
+answers_by : (answer : PollAnswer) → [] ≡ told_by answer → (answer ≡ Ends → ⊥) → (answer ≡ Waits) ⊎ (answer ≡ Lacks)
+answers_by (HandsOut message) told ended = absurd (never told)
+  where
+    never : {t : Told} → [] ≡ t ∷ [] → ⊥
+    never e = cc
+answers_by (Fails kind text) told ended = absurd (never told)
+  where
+    never : {t : Told} → [] ≡ t ∷ [] → ⊥
+    never e = cc
+answers_by Waits told ended = inl refl
+answers_by Ends told ended = absurd (ended refl)
+answers_by Lacks told ended = inr refl
+
+sleeps_at : (now : ℕ) (r : Reader) (c : State) (new : Position) (v u : LinkView) (answer : PollAnswer) → IsPoll Meets now (place r [] c) new v u answer → IsLeftAlone now (place r [] c) v
+    → Sleeps (place r [] c) new v u answer
+sleeps_at now r c new v u answer poll alone =
+    let old : Position = place r [] c in
+    let call = poll.call in
+    let idle = idle_walk now r c poll.strides v call.between alone Rest tt call.met in
+    let open_then : call.between.is_open r.source.inbox ≡ true = ap (λ (w : LinkView). w.is_open r.source.inbox) idle.same ∙ alone.is_open in
+    let left = left_at r c idle.stage poll.closed (walk poll.strides old).position new call.between u open_then idle.leads call.leads call.closing in
+    let new_at : new ≡ place r (rows_at idle.stage) c = left.leads ∙ idle.leads in
+    record {
+      answers = answers_by answer (sym idle.told ∙ call.told) (λ e. never (sym (ap (λ (p : Position). p.reader.ended) new_at ∙ alone.alive) ∙ poll.ended e));
+      same = left.same ∙ idle.same;
+      stays = λ e.
+          let quiet = poll.waits e in
+          let rested : rows_at idle.stage ≡ [] =
+          sym (ap (λ (p : Position). p.todo) idle.leads) ∙ ap (λ (xs : List Stride). (walk xs old).position.todo) quiet.2
+          ∙ ap (λ (p : Position). p.todo) (walk_append quiet.0 quiet.1 old) ∙ quiet.3.2 in
+          new_at ∙ ap (λ (xs : List Row). place r xs c) rested;
+    }
+  where
+    never : false ≡ true → ⊥
+    never e = cc
+
+pub poll_sleeps : (now : ℕ) (old new : Position) (v u : LinkView) (answer : PollAnswer) → IsPoll Meets now old new v u answer → IsLeftAlone now old v → Sleeps old new v u answer
+poll_sleeps now old new v u answer poll alone =
+    let is : old ≡ place old.reader [] old.connection = ap (λ (xs : List Row). place old.reader xs old.connection) alone.rests in
+    subst (λ (p : Position). Sleeps p new v u answer) (sym is)
+    (sleeps_at now old.reader old.connection new v u answer (subst (λ (p : Position). IsPoll Meets now p new v u answer) is poll) (subst (λ (p : Position). IsLeftAlone now p v) is alone))

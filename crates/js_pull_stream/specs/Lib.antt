@@ -1,0 +1,4 @@
+pub mod Stream
+pub mod Held
+pub mod Turns
+pub mod Wakes
