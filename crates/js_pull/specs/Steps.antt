@@ -5,7 +5,7 @@ use Rattle.js_base.specs.declared.message.StatusCode.{StatusCode}
 use Rattle.js_base.specs.Headers.{last_value, all_headers}
 use Rattle.js_json.specs.declared.consumer.info.Info.{Info}
 use Rattle.js_link.specs.Passing.{Passing}
-use Rattle.js_link.specs.Met.{Wish, Met, passing_of, message_of}
+use Rattle.js_link.specs.Met.{Met, passing_of, message_of}
 use Rattle.js_pull.specs.Asking.{reply_met}
 use Rattle.js_pull.specs.declared.reader.Reader.{Reader}
 use Rattle.js_pull.specs.declared.reader.Reason.{Reason}
@@ -24,7 +24,6 @@ use Rattle.js_pull.specs.declared.rows.Todo.{Todo}
 use Rattle.js_pull.specs.declared.rows.Todo.TheVariants as todo
 use Rattle.js_pull.specs.declared.rows.Notice.{Notice}
 use Rattle.js_pull.specs.declared.rows.Notice.TheVariants as notice
-use Rattle.js_pull.specs.declared.rows.Spare.{Spare}
 use Rattle.js_pull.specs.declared.rows.Step.{Step}
 
 -- ---- rows, as the code keeps them

@@ -27,27 +27,19 @@ use std::alloc::Global;
 #[derive(Clone, Copy, Debug, PartialEq, Eq)]
 pub enum Due {
     /// A pull request.
-    Ask {
-        reason: Reason,
-    },
+    Ask { reason: Reason },
     /// Where little is pending a request follows.
     Threshold,
     /// The heartbeat.
     Arm,
     /// An info request, after so many that failed.
-    Inquire {
-        failures: u64,
-    },
+    Inquire { failures: u64 },
     /// It has failed once more.
-    FailInquiry {
-        failures: u64,
-    },
+    FailInquiry { failures: u64 },
     /// The answer that an open info waits for.
     CheckInquiry,
     /// An info request was answered: the reply is read.
-    Answered {
-        failures: u64,
-    },
+    Answered { failures: u64 },
     CheckExpiry,
     CheckArrival,
     CheckSilence,
@@ -327,7 +319,9 @@ impl Reader {
         match self.inquiry {
             Inquiry::NoInquiry => quietly(None),
             Inquiry::Asked {
-                timeout, failures, ..
+                timeout,
+                failures,
+                ..
             } => {
                 if met.is_answer() {
                     quietly(Some(Due::Answered { failures }))

@@ -100,13 +100,13 @@ begun_idle p r true asks alive = (
   Info,
   tt,
   ap (λ (e : Bool). if e then rows.quietly r [] else (if rows.is_asking r.inquiry then rows.quietly r (CheckInquiry ∷ CheckArrival ∷ []) else rows.begin_change p None r)) alive
-  ∙ ap (λ (b : Bool). if b then rows.quietly r (CheckInquiry ∷ CheckArrival ∷ []) else rows.begin_change p None r) asks,
+      ∙ ap (λ (b : Bool). if b then rows.quietly r (CheckInquiry ∷ CheckArrival ∷ []) else rows.begin_change p None r) asks,
 )
 begun_idle p r false asks alive = (
   Expiry,
   asks,
   ap (λ (e : Bool). if e then rows.quietly r [] else (if rows.is_asking r.inquiry then rows.quietly r (CheckInquiry ∷ CheckArrival ∷ []) else rows.begin_change p None r)) alive
-  ∙ ap (λ (b : Bool). if b then rows.quietly r (CheckInquiry ∷ CheckArrival ∷ []) else rows.begin_change p None r) asks,
+      ∙ ap (λ (b : Bool). if b then rows.quietly r (CheckInquiry ∷ CheckArrival ∷ []) else rows.begin_change p None r) asks,
 )
 
 unchanged : (c : State) (met : Met) (v u : LinkView) → change_met c (watch_met v.watch) ≡ None → Meets Watches met v u → (change_met c met ≡ None) × (u ≡ v)
@@ -120,7 +120,7 @@ inquiry_idle : (now : ℕ) (p : Passing) (answer : Option rows.Answer) (inquiry 
 inquiry_idle now p answer NoInquiry r met v u at is m waits early = (refl, nothing_same met v u m)
 inquiry_idle now p answer (Asked request timeout failures) r Waiting v u at is m waits early = (
   ap (λ (a : Option rows.Answer). rows.check_asked p timeout failures (rows.reply_to request a) r) is
-  ∙ ap (λ (b : Bool). rows.quietly r (if b then FailInquiry failures ∷ [] else [])) (ap (is_any_due timeout) at ∙ early),
+      ∙ ap (λ (b : Bool). rows.quietly r (if b then FailInquiry failures ∷ [] else [])) (ap (is_any_due timeout) at ∙ early),
   m.0,
 )
 inquiry_idle now p answer (Asked request timeout failures) r Gone v u at is m waits early = absurd (never (sym waits ∙ m.1))
