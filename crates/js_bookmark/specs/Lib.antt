@@ -1,0 +1,5 @@
+pub mod Lines
+pub mod Sessions
+pub mod Joined
+pub mod Progress
+pub mod Texts

@@ -1,0 +1,14 @@
+//! Sessions of an ordered consumer, each of which goes on at the bookmark that the one before it has saved.
+#![tactic(auto)]
+
+mod course;
+mod error;
+mod mark;
+mod runs;
+mod scope;
+mod session;
+
+pub use course::{SessionCourse, SessionEnd, Sessions};
+pub use error::SessionsError;
+pub use runs::run_sessions;
+pub use session::{Line, Session, SessionRun};

@@ -1,0 +1,195 @@
+//! The runs of a list of sessions.
+
+ghost use Rattle.std.specs.Prelude.{◌≡◌, ℕ, List, [], ◌∷◌, ◌++◌, IfOk, OnOk};
+ghost use Rattle.js_table.specs.Gapless.{Logged, Server};
+ghost use Rattle.js_bookmark.specs.Joined.{AreServed, LeaveNoGap};
+ghost use Rattle.js_bookmark.specs.Progress.{HasComeTo, HasStepped, HaveRun, RunsOn, with_line, with_lines};
+ghost use Rattle.js_bookmark.specs.Sessions.{IsAnswer};
+ghost use Rattle.js_bookmark.specs.declared.session.Session.{Session};
+
+use crate::course::{SessionCourse, SessionEnd, Sessions};
+use crate::error::SessionsError;
+use crate::session::{Line, Session, SessionRun};
+use js_base::{Items, OutOfMemory, TryClone};
+use js_ordered::{Output, Run, Step};
+use std::alloc::Global;
+
+fn copy_of(output: &Output) -> Result<Output, OutOfMemory>
+    ensures { IfOk result (λ copy. copy ≡ output.now) }
+{
+    match output {
+        Output::Yield {
+            stream_sequence,
+            consumer_sequence,
+            subject,
+            payload,
+        } => Ok(Output::Yield {
+            stream_sequence: *stream_sequence,
+            consumer_sequence: *consumer_sequence,
+            subject: subject.try_clone()?,
+            payload: payload.clone()?,
+        }),
+        Output::Item { kind } => Ok(Output::Item { kind: *kind }),
+        Output::Recreate { serial, start } => Ok(Output::Recreate {
+            serial: *serial,
+            start: *start,
+        }),
+        Output::Request {
+            number,
+            subject,
+            payload,
+        } => Ok(Output::Request {
+            number: *number,
+            subject: subject.try_clone()?,
+            payload: payload.clone()?,
+        }),
+        Output::Publish {
+            subject,
+            reply,
+            payload,
+        } => Ok(Output::Publish {
+            subject: subject.try_clone()?,
+            reply: reply.try_clone()?,
+            payload: payload.clone()?,
+        }),
+        Output::Subscribe { inbox, subject } => Ok(Output::Subscribe {
+            inbox: *inbox,
+            subject: subject.try_clone()?,
+        }),
+    }
+}
+
+/// The step that puts these out.
+fn step_of(alloc: Global, outputs: &[Output]) -> Result<Step, OutOfMemory>
+    ensures { IfOk result (λ step. step.outputs ≡ outputs.now) }
+{
+    let mut copies = Items::from(Vec::with_capacity(alloc, outputs.len())?);
+    for output in outputs {
+        copies.push(copy_of(output)?)?;
+    }
+    Ok(Step { outputs: copies })
+}
+
+// ---- one session
+
+fn pass_line(
+    alloc: Global,
+    course: &mut SessionCourse<'_>,
+    steps: &mut Items<Step>,
+    line: &Line,
+) -> Result<(), OutOfMemory>
+    ensures { (next : ℕ) → (done : List Session) → (s : Session) → HasStepped next done s course.old steps.old
+        → OnOk result (HasStepped next done (with_line s line.now) course.new steps.new) }
+{
+    match line {
+        Line::Event(event) => {
+            course.advance(alloc, event)?;
+            steps.push(step_of(alloc, course.outputs())?)
+        }
+        Line::Save => {
+            course.save();
+            Ok(())
+        }
+    }
+}
+
+/// The steps of a session's events.
+fn steps_of(
+    alloc: Global,
+    course: &mut SessionCourse<'_>,
+    lines: &[Line],
+) -> Result<Items<Step>, OutOfMemory>
+    ensures { (next : ℕ) → (done : List Session) → (s : Session) → HasComeTo next done (with_lines s []) course.old
+        → IfOk result (λ steps. HasStepped next done (with_lines s lines.now) course.new steps) }
+{
+    let mut steps = Items::new(alloc);
+    for line in lines {
+        pass_line(alloc, course, &mut steps, line)?;
+    }
+    Ok(steps)
+}
+
+/// One session more, whose run stands behind the others.
+fn run_session(
+    alloc: Global,
+    sessions: Sessions,
+    session: &Session,
+    runs: &mut Items<SessionRun>,
+) -> Result<Sessions, SessionsError>
+    ensures { (next : ℕ) → (done : List Session) → HaveRun next done sessions runs.old → RunsOn next done session.now runs.new result }
+{
+    let begun = sessions.begin(
+        alloc,
+        &session.settings,
+        &session.setup,
+        &session.first,
+        session.start,
+    );
+    let mut course = match begun {
+        Ok(course) => course,
+        Err(refusal) => return Err(refusal),
+    };
+    let opening = step_of(alloc, course.outputs())?;
+    let steps = steps_of(alloc, &mut course, session.lines.as_slice())?;
+    let SessionEnd {
+        sessions,
+        ended,
+        committed,
+    } = course.end()?;
+    let next = sessions.next();
+    runs.push(SessionRun {
+        run: Run {
+            opening,
+            steps,
+            ended,
+        },
+        committed,
+        next,
+    })?;
+    Ok(sessions)
+}
+
+// ---- all sessions
+
+/// What sessions of one ordered consumer come to, one after the other. A session may stop anywhere; the next one starts at the last saved bookmark.
+///
+/// The first session starts at the bookmark `next`, which is above 0 where a session can start at it. What a session yields before its last save is
+/// committed; the bookmark after it is the last committed sequence plus one, or the one before it where nothing is committed. What is yielded after
+/// the last save is not committed, and the next session may yield it again.
+///
+/// Where one log and an honest server for each session are given, and what was removed stays removed, the committed yields of all sessions leave no
+/// gap: in order they rise strictly, each has the subject and the payload of the log's entry, and every entry that the filters select from the first
+/// bookmark to the last committed yield, and that is not committed, was removed. It is not said that an uncommitted yield comes again.
+///
+/// # Errors
+///
+/// The first of these that applies, where sessions are counted from 1 and each is looked at, in this order, before the next one:
+///
+/// - `WrongStart`: its configured start is none, or not the bookmark, which the error carries.
+/// - `WrongFilter`: it filters by another list of subjects than session 1, or its first info names another stream. A filter subject that is not
+///   empty stands before the filter subjects.
+/// - `Replay`: its replay is refused. The places of events count no saves.
+/// - `BookmarkEnd`: it has committed a yield with the last of all sequences.
+///
+/// `OutOfMemory` may come in place of the runs or of any of them. After a refusal no run is handed out.
+pub fn run_sessions(
+    alloc: Global,
+    next: u64,
+    sessions: &[Session],
+) -> Result<Items<SessionRun>, SessionsError>
+    ensures answer { IsAnswer next sessions.now result }
+
+    // Over one log the committed yields of all sessions leave no gap.
+    ensures joined { (log : List Logged) → (servers : List Server) → AreServed log [] sessions.now servers
+        → OnOk result (LeaveNoGap log servers next sessions.now) }
+{
+    let mut so_far = Sessions::new(next);
+    let mut runs = Items::new(alloc);
+    for session in sessions {
+        so_far = match run_session(alloc, so_far, session, &mut runs) {
+            Ok(so_far) => so_far,
+            Err(refusal) => return Err(refusal),
+        };
+    }
+    Ok(runs)
+}
