@@ -120,4 +120,6 @@ fn contexts_are_built(rt: HostRuntime) {
         .to_string(rt.alloc())
         .expect(&rt, "printed");
     assert_eq!(rt; memory.as_str(), "out of memory");
+    assert_eq!(rt; Yes::default(), Yes);
+    assert_eq!(rt; No::default(), No);
 }

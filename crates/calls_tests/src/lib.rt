@@ -10,6 +10,8 @@ mod consumers;
 #[cfg(test)]
 mod contexts;
 #[cfg(test)]
+mod errors;
+#[cfg(test)]
 mod lists;
 #[cfg(test)]
 mod publishing;

@@ -310,6 +310,47 @@ const RUNS: [(u64, bool, &[Step], &str); 6] = [
     ),
 ];
 
+/// What a context with three permits comes to whose `reap` looks at so many acks.
+fn run_limited<R: Wait>(rt: &R, alloc: Global, limit: Option<u64>, steps: &[Step]) -> Words {
+    let mut link = MemoryLink::new(alloc, "_INBOX.t")?;
+    let builder = ContextBuilder::new(alloc)?
+        .max_ack_inflight(3)
+        .concurrency_limit(limit);
+    match builder.build(rt, alloc) {
+        Ok(mut context) => run_with(rt, alloc, &mut context, &mut link, steps),
+        Err(_) => Err(OutOfMemory),
+    }
+}
+
+/// The second of two acks is answered, and then the first.
+const ANSWERED: &[Step] = &[
+    Step::Publish("a"),
+    Step::Publish("a"),
+    Step::Answer(2, Some(STORED)),
+    Step::Reap(SECOND),
+    Step::Answer(1, Some(STORED)),
+    Step::Reap(SECOND),
+    Step::Settled,
+    Step::Reap(SECOND),
+    Step::Settled,
+];
+
+/// How many acks a `reap` looks at, and what it comes to: with a limit the first acks alone, none and 0 set no limit.
+const LIMITED: [(Option<u64>, &str); 4] = [
+    (Some(1), "sent\nsent\n\n0\n\n1\nnot settled\n1\nsettled\n"),
+    (Some(2), "sent\nsent\n\n1\n\n1\nsettled\n0\nsettled\n"),
+    (Some(0), "sent\nsent\n\n1\n\n1\nsettled\n0\nsettled\n"),
+    (None, "sent\nsent\n\n1\n\n1\nsettled\n0\nsettled\n"),
+];
+
+#[test]
+fn reaps_look_at_the_first(rt: HostRuntime) {
+    for (limit, wanted) in LIMITED {
+        let found = run_limited(&rt, rt.alloc(), limit, ANSWERED).expect(&rt, wanted);
+        assert_eq!(rt; found.as_str(), wanted);
+    }
+}
+
 #[test]
 fn publishes_take_and_give_permits(rt: HostRuntime) {
     for (capacity, backpressure, steps, wanted) in RUNS {

@@ -18,7 +18,7 @@ use Rattle.js_consumer_calls.specs.declared.error.ConsumerErrorKind.{ConsumerErr
 use Rattle.js_consumer_calls.specs.declared.error.ConsumerErrorKind.TheVariants.{JetStream}
 use Rattle.js_consumer_calls.specs.Kinds.{consumer_failure, failed, held}
 use Rattle.js_consumer_calls.specs.Refusals.{delete_refusal}
-use Rattle.js_consumer_calls.specs.Subjects.{of_consumer}
+use Rattle.js_subjects.specs.Subjects.{of_consumer}
 
 -- what was deleted, or the API's error
 abbrev pub deleted : Response DeleteStatus → Result DeleteStatus (Error ConsumerErrorKind)

@@ -20,7 +20,7 @@ use Rattle.js_consumer_calls.specs.declared.get.GettingConsumer.{GettingConsumer
 use Rattle.js_consumer_calls.specs.declared.told.Told.{Told}
 use Rattle.js_consumer_calls.specs.Kinds.{consumer_failure, failed, held}
 use Rattle.js_consumer_calls.specs.Refusals.{get_refusal}
-use Rattle.js_consumer_calls.specs.Subjects.{of_consumer}
+use Rattle.js_subjects.specs.Subjects.{of_consumer}
 use Rattle.js_consumer_calls.specs.Tells.{told_fields, converted}
 
 -- the consumer, or why it was not got

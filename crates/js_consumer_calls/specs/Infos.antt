@@ -22,7 +22,7 @@ use Rattle.js_consumer_calls.specs.declared.error.ConsumerInfoErrorKind.{Consume
 use Rattle.js_consumer_calls.specs.declared.error.ConsumerInfoErrorKind.TheVariants as infos
 use Rattle.js_consumer_calls.specs.declared.info.AskingInfo.{AskingInfo}
 use Rattle.js_consumer_calls.specs.Kinds.{failed, held}
-use Rattle.js_consumer_calls.specs.Subjects.{of_consumer}
+use Rattle.js_subjects.specs.Subjects.{of_consumer}
 
 -- an error of the API as the error of the call: no such consumer, no such stream, or a consumer that is offline, with it as the source
 abbrev pub info_refusal : api.Error → Error ConsumerInfoErrorKind

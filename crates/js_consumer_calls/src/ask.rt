@@ -1,19 +1,13 @@
 //! Requests on one consumer of a stream.
-ghost use Rattle.std.specs.Prelude.{◌≡◌, IfOk, codes, string_bytes};
-ghost use Rattle.js_call.specs.Scopes.{asking, under};
-ghost use Rattle.js_consumer_calls.specs.Subjects.{of_consumer};
+ghost use Rattle.std.specs.Prelude.{◌≡◌, IfOk, codes};
+ghost use Rattle.js_call.specs.Scopes.{asking};
+ghost use Rattle.js_subjects.specs.Subjects.{of_consumer};
 
 use bytes::Bytes;
 use js_base::OutOfMemory;
 use js_call::{ApiScope, RawCall};
-use std::alloc::{AllocError, Global};
-
-/// Words and one more, after a dot.
-pub(crate) fn with_word(alloc: Global, words: &str, word: &str) -> Result<String, AllocError>
-    ensures { IfOk result (λ text. string_bytes text ≡ under words.now word.now) }
-{
-    format!(in alloc; "{words}.{word}")
-}
+use js_subjects::with_word;
+use std::alloc::Global;
 
 /// A request on a consumer of a stream by the words of a call, as `CONSUMER.INFO`, with an empty object as its body.
 pub(crate) fn ask_consumer(

@@ -1,10 +1,10 @@
 //! The subject on which a consumer is made.
 ghost use Rattle.std.specs.Prelude.{◌≡◌, IfOk, string_bytes, option_copied};
-ghost use Rattle.js_consumer_calls.specs.Subjects.{create_subject, named_subject, name_of};
+ghost use Rattle.js_consumer_calls.specs.Subjects.{create_subject, name_of};
 
-use crate::ask::with_word;
 use js_base::{OutOfMemory, Text};
 use js_json::consumer::Config;
+use js_subjects::{named_subject, with_word};
 use std::alloc::Global;
 
 /// The name that a configuration asks for, and else its durable name.
@@ -15,22 +15,6 @@ fn name_of(config: &Config) -> Option<&Text>
         Some(name) => Some(name),
         None => config.durable_name.as_ref(),
     }
-}
-
-/// The subject of a named consumer, and after it that which the consumer reads, where it reads one.
-fn named_subject(
-    alloc: Global,
-    words: &str,
-    name: &str,
-    filter: &str,
-) -> Result<String, OutOfMemory>
-    ensures { IfOk result (λ text. string_bytes text ≡ named_subject words.now name.now filter.now) }
-{
-    let named = with_word(alloc, words, name)?;
-    if filter.is_empty() {
-        return Ok(named);
-    }
-    Ok(with_word(alloc, named.as_str(), filter)?)
 }
 
 /// The subject on which a consumer is made.
@@ -44,11 +28,11 @@ pub(crate) fn create_subject(
     let words = with_word(alloc, "CONSUMER.CREATE", stream)?;
     match name_of(config) {
         None => Ok(words),
-        Some(name) => named_subject(
+        Some(name) => Ok(named_subject(
             alloc,
             words.as_str(),
             name.as_str(),
             config.filter_subject.as_str(),
-        ),
+        )?),
     }
 }

@@ -34,6 +34,7 @@ use Rattle.js_pull.specs.declared.reader.Reason.TheVariants.{Low, Expired, Infor
 use Rattle.js_pull.specs.declared.reader.Row.{Row}
 use Rattle.js_pull.specs.declared.reader.Row.TheVariants.{Begin, Ask, Threshold, Arm, Inquire, FailInquiry, CheckInquiry, Answered, CheckExpiry, CheckArrival, CheckSilence}
 use Rattle.js_pull.specs.declared.reader.Told.{Told}
+use Rattle.js_subjects.specs.Subjects.{under, of_consumer}
 use Rattle.js_pull.specs.declared.reader.Told.TheVariants.{Nothing, Hands, Tells}
 
 -- a reader that has asked for nothing yet
@@ -87,15 +88,15 @@ dot = codes "."
 
 -- of a request to the API that speaks of a consumer
 abbrev pub api_subject : List ℕ → List ℕ → List ℕ → List ℕ → List ℕ
-api_subject api verb stream name = api ++ codes ".CONSUMER." ++ verb ++ dot ++ stream ++ dot ++ name
+api_subject api words stream name = under api (of_consumer words stream name)
 
 -- of a pull request
 abbrev pub pull_subject : Source → List ℕ
-pull_subject s = api_subject s.api (codes "MSG.NEXT") s.stream s.name
+pull_subject s = api_subject s.api (codes "CONSUMER.MSG.NEXT") s.stream s.name
 
 -- of an info request
 abbrev pub info_subject : Source → List ℕ
-info_subject s = api_subject s.api (codes "INFO") s.stream s.name
+info_subject s = api_subject s.api (codes "CONSUMER.INFO") s.stream s.name
 
 -- ---- timers
 

@@ -6,27 +6,21 @@ ghost use Rattle.js_pull.specs.Limits.{pull_body};
 use crate::reader::{Reader, Source};
 use bytes::Bytes;
 use js_base::{OutOfMemory, Subject};
+use js_subjects::{of_consumer, with_word};
 use std::alloc::{AllocError, Global};
 
 /// The subject of a request to the API that speaks of a consumer.
 fn api_subject(
     alloc: Global,
     api: &str,
-    verb: &str,
+    words: &str,
     stream: &str,
     name: &str,
 ) -> Result<String, AllocError>
-    ensures { IfOk result (λ text. string_bytes text ≡ rows.api_subject api.now verb.now stream.now name.now) }
+    ensures { IfOk result (λ text. string_bytes text ≡ rows.api_subject api.now words.now stream.now name.now) }
 {
-    let mut text = String::new(alloc);
-    text.push_str(api)?;
-    text.push_str(".CONSUMER.")?;
-    text.push_str(verb)?;
-    text.push_str(".")?;
-    text.push_str(stream)?;
-    text.push_str(".")?;
-    text.push_str(name)?;
-    Ok(text)
+    let subject = of_consumer(alloc, words, stream, name)?;
+    with_word(alloc, api, subject.as_str())
 }
 
 impl Source {
@@ -37,7 +31,7 @@ impl Source {
         let text = api_subject(
             alloc,
             self.api.as_str(),
-            "MSG.NEXT",
+            "CONSUMER.MSG.NEXT",
             self.stream.as_str(),
             self.name.as_str(),
         )?;
@@ -51,7 +45,7 @@ impl Source {
         let text = api_subject(
             alloc,
             self.api.as_str(),
-            "INFO",
+            "CONSUMER.INFO",
             self.stream.as_str(),
             self.name.as_str(),
         )?;

@@ -12,6 +12,7 @@ use Rattle.js_json.specs.declared.consumer.deliver_policy.DeliverPolicy.TheVaria
 use Rattle.js_pull.specs.Limits.{ordered_batch_config, body_of}
 use Rattle.js_pull.specs.declared.reader.Source.{Source}
 use Rattle.js_pull.specs.Reader.{dot}
+use Rattle.js_subjects.specs.Subjects.{under, of_consumer, named_subject}
 use Rattle.js_table.specs.declared.setup.Settings.{Settings}
 use Rattle.js_table.specs.declared.consumer.Recreation.{Recreation}
 use Rattle.js_table.specs.declared.consumer.Opened.{Opened}
@@ -78,18 +79,12 @@ inbox_subject g inbox = g.settings.inbox_prefix ++ dot ++ decimal inbox
 
 -- of the request that deletes the old consumer
 abbrev pub delete_subject : Given → Recreation → List ℕ
-delete_subject g r = g.settings.api_prefix ++ codes ".CONSUMER.DELETE." ++ g.first.stream_name ++ dot ++ r.old_name
-
--- a text after a dot, or nothing
-abbrev pub dotted : List ℕ → List ℕ
-dotted [] = []
-dotted (c ∷ cs) = dot ++ c ∷ cs
+delete_subject g r = under g.settings.api_prefix (of_consumer (codes "CONSUMER.DELETE") g.first.stream_name r.old_name)
 
 -- of the request that makes the new one
 abbrev pub create_subject : Given → Recreation → List ℕ
 create_subject g r =
-    g.settings.api_prefix ++ codes ".CONSUMER.CREATE." ++ g.first.stream_name ++ dot ++ r.new_name
-    ++ dotted (config_of g.setup).filter_subject
+    under g.settings.api_prefix (named_subject (under (codes "CONSUMER.CREATE") g.first.stream_name) r.new_name (config_of g.setup).filter_subject)
 
 -- ---- bodies
 

@@ -1,7 +1,8 @@
 //! Names, subjects, bodies and timeouts of an ordered consumer.
-ghost use Rattle.std.specs.Prelude.{◌≡◌, IfOk, codes, decimal, string_bytes, ◌++◌};
+ghost use Rattle.std.specs.Prelude.{◌≡◌, IfOk, decimal, string_bytes, ◌++◌};
 ghost use Rattle.js_table.specs.Passes.{given_of};
 ghost use Rattle.js_table.specs.Texts as texts;
+ghost use Rattle.js_subjects.specs.Subjects.{under};
 
 use crate::consumer::{Opened, Recreation};
 use crate::run::Start;
@@ -12,6 +13,7 @@ use js_base::{Nanos, OutOfMemory, Subject, Text, TryClone};
 use js_fields::ToValue;
 use js_json::consumer::{Action, Config, CreateRequest, DeliverPolicy, Info, IntoConsumerConfig};
 use js_pull::{Source, ordered_batch_config};
+use js_subjects::{named_subject, of_consumer, with_word};
 use std::alloc::{AllocError, Global};
 
 // ---- timeouts
@@ -114,35 +116,11 @@ pub fn inbox_subject(alloc: Global, turn: &Turn<'_>, inbox: u64) -> Result<Subje
     Ok(Subject::from(numbered(alloc, turn.settings.inbox_prefix.as_str(), ".", inbox)?))
 }
 
-fn api_text(
-    alloc: Global,
-    prefix: &str,
-    verb: &str,
-    stream: &str,
-    name: &str,
-) -> Result<String, AllocError>
-    ensures { IfOk result (λ text. string_bytes text ≡ prefix.now ++ verb.now ++ stream.now ++ codes "." ++ name.now) }
+/// A subject under the prefix of the API.
+fn under_api(alloc: Global, turn: &Turn<'_>, subject: &str) -> Result<Subject, OutOfMemory>
+    ensures { IfOk result (λ whole. whole ≡ under turn.now.settings.now.api_prefix subject.now) }
 {
-    let mut text = String::new(alloc);
-    text.push_str(prefix)?;
-    text.push_str(verb)?;
-    text.push_str(stream)?;
-    text.push_str(".")?;
-    text.push_str(name)?;
-    Ok(text)
-}
-
-/// The text, and after a dot the other one, unless it is empty.
-fn with_filter(text: String, filter: &str) -> Result<String, AllocError>
-    ensures { IfOk result (λ whole. string_bytes whole ≡ string_bytes text ++ texts.dotted filter.now) }
-{
-    let mut text = text;
-    if filter.is_empty() {
-        return Ok(text);
-    }
-    text.push_str(".")?;
-    text.push_str(filter)?;
-    Ok(text)
+    Ok(Subject::from(with_word(alloc, turn.settings.api_prefix.as_str(), subject)?))
 }
 
 /// The subject of the request that deletes the old consumer.
@@ -153,13 +131,13 @@ pub fn delete_subject(
 ) -> Result<Subject, OutOfMemory>
     ensures { IfOk result (λ subject. subject ≡ texts.delete_subject (given_of turn.now) recreation.now) }
 {
-    Ok(Subject::from(api_text(
+    let subject = of_consumer(
         alloc,
-        turn.settings.api_prefix.as_str(),
-        ".CONSUMER.DELETE.",
+        "CONSUMER.DELETE",
         turn.first.stream_name.as_str(),
         recreation.old_name.as_str(),
-    )?))
+    )?;
+    under_api(alloc, turn, subject.as_str())
 }
 
 /// The subject of the request that makes the new one.
@@ -170,14 +148,14 @@ pub fn create_subject(
 ) -> Result<Subject, OutOfMemory>
     ensures { IfOk result (λ subject. subject ≡ texts.create_subject (given_of turn.now) recreation.now) }
 {
-    let text = api_text(
+    let on_stream = with_word(alloc, "CONSUMER.CREATE", turn.first.stream_name.as_str())?;
+    let subject = named_subject(
         alloc,
-        turn.settings.api_prefix.as_str(),
-        ".CONSUMER.CREATE.",
-        turn.first.stream_name.as_str(),
+        on_stream.as_str(),
         recreation.new_name.as_str(),
+        turn.setup.filter_subject(),
     )?;
-    Ok(Subject::from(with_filter(text, turn.setup.filter_subject())?))
+    under_api(alloc, turn, subject.as_str())
 }
 
 // ---- bodies

@@ -6,7 +6,7 @@ use Rattle.js_call.specs.declared.raw_call.RawCall.{RawCall}
 use Rattle.js_call.specs.declared.scope.ApiScope.{ApiScope}
 use Rattle.js_call.specs.Scopes.{asking}
 use Rattle.js_consumer_calls.specs.Infos.{info_request}
-use Rattle.js_consumer_calls.specs.Subjects.{of_consumer}
+use Rattle.js_subjects.specs.Subjects.{of_consumer}
 use Rattle.js_consumer_calls.proofs.info.ask_info.Goals as goal
 
 -- a request by the names that stand in an info
