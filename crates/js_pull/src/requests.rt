@@ -1,5 +1,5 @@
 //! What a pull reader sends.
-ghost use Rattle.std.specs.Prelude.{◌≡◌, IfOk, string_bytes};
+ghost use Rattle.std.specs.Prelude.{◌≡◌, IfOk};
 ghost use Rattle.js_pull.specs.Reader as rows;
 ghost use Rattle.js_pull.specs.Limits.{pull_body};
 
@@ -7,49 +7,29 @@ use crate::reader::{Reader, Source};
 use bytes::Bytes;
 use js_base::{OutOfMemory, Subject};
 use js_subjects::{of_consumer, with_word};
-use std::alloc::{AllocError, Global};
-
-/// The subject of a request to the API that speaks of a consumer.
-fn api_subject(
-    alloc: Global,
-    api: &str,
-    words: &str,
-    stream: &str,
-    name: &str,
-) -> Result<String, AllocError>
-    ensures { IfOk result (λ text. string_bytes text ≡ rows.api_subject api.now words.now stream.now name.now) }
-{
-    let subject = of_consumer(alloc, words, stream, name)?;
-    with_word(alloc, api, subject.as_str())
-}
+use std::alloc::Global;
 
 impl Source {
+    /// The subject of a request on the consumer, by the words of the call.
+    fn api_subject(&self, alloc: Global, words: &str) -> Result<Subject, OutOfMemory>
+        ensures { IfOk result (λ subject. subject ≡ rows.api_subject self.now.api words.now self.now.stream self.now.name) }
+    {
+        let subject = of_consumer(alloc, words, self.stream.as_str(), self.name.as_str())?;
+        Ok(Subject::from(with_word(alloc, self.api.as_str(), subject.as_str())?))
+    }
+
     /// The subject of a pull request.
     pub fn pull_subject(&self, alloc: Global) -> Result<Subject, OutOfMemory>
         ensures { IfOk result (λ subject. subject ≡ rows.pull_subject self.now) }
     {
-        let text = api_subject(
-            alloc,
-            self.api.as_str(),
-            "CONSUMER.MSG.NEXT",
-            self.stream.as_str(),
-            self.name.as_str(),
-        )?;
-        Ok(Subject::from(text))
+        self.api_subject(alloc, "CONSUMER.MSG.NEXT")
     }
 
     /// The subject of a request for the consumer's info.
     pub fn info_subject(&self, alloc: Global) -> Result<Subject, OutOfMemory>
         ensures { IfOk result (λ subject. subject ≡ rows.info_subject self.now) }
     {
-        let text = api_subject(
-            alloc,
-            self.api.as_str(),
-            "CONSUMER.INFO",
-            self.stream.as_str(),
-            self.name.as_str(),
-        )?;
-        Ok(Subject::from(text))
+        self.api_subject(alloc, "CONSUMER.INFO")
     }
 }
 

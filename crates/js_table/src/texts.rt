@@ -2,7 +2,7 @@
 ghost use Rattle.std.specs.Prelude.{◌≡◌, IfOk, decimal, string_bytes, ◌++◌};
 ghost use Rattle.js_table.specs.Passes.{given_of};
 ghost use Rattle.js_table.specs.Texts as texts;
-ghost use Rattle.js_subjects.specs.Subjects.{under};
+ghost use Rattle.js_subjects.specs.Subjects.{under, of_consumer, named_subject};
 
 use crate::consumer::{Opened, Recreation};
 use crate::run::Start;
@@ -116,11 +116,34 @@ pub fn inbox_subject(alloc: Global, turn: &Turn<'_>, inbox: u64) -> Result<Subje
     Ok(Subject::from(numbered(alloc, turn.settings.inbox_prefix.as_str(), ".", inbox)?))
 }
 
-/// A subject under the prefix of the API.
-fn under_api(alloc: Global, turn: &Turn<'_>, subject: &str) -> Result<Subject, OutOfMemory>
-    ensures { IfOk result (λ whole. whole ≡ under turn.now.settings.now.api_prefix subject.now) }
+/// The subject of a request on a consumer, by the words of the call.
+fn consumer_subject(
+    alloc: Global,
+    turn: &Turn<'_>,
+    words: &str,
+    name: &str,
+) -> Result<Subject, OutOfMemory>
+    ensures { IfOk result (λ subject. subject ≡ under turn.now.settings.now.api_prefix (of_consumer words.now turn.now.first.now.stream_name name.now)) }
 {
-    Ok(Subject::from(with_word(alloc, turn.settings.api_prefix.as_str(), subject)?))
+    let subject = of_consumer(alloc, words, turn.first.stream_name.as_str(), name)?;
+    let prefix = turn.settings.api_prefix.as_str();
+    Ok(Subject::from(with_word(alloc, prefix, subject.as_str())?))
+}
+
+/// The subject of a request that names a consumer, and what it reads.
+fn filtered_subject(
+    alloc: Global,
+    turn: &Turn<'_>,
+    words: &str,
+    name: &str,
+    filter: &str,
+) -> Result<Subject, OutOfMemory>
+    ensures { IfOk result (λ subject. subject ≡ under turn.now.settings.now.api_prefix (named_subject (under words.now turn.now.first.now.stream_name) name.now filter.now)) }
+{
+    let on_stream = with_word(alloc, words, turn.first.stream_name.as_str())?;
+    let subject = named_subject(alloc, on_stream.as_str(), name, filter)?;
+    let prefix = turn.settings.api_prefix.as_str();
+    Ok(Subject::from(with_word(alloc, prefix, subject.as_str())?))
 }
 
 /// The subject of the request that deletes the old consumer.
@@ -131,13 +154,7 @@ pub fn delete_subject(
 ) -> Result<Subject, OutOfMemory>
     ensures { IfOk result (λ subject. subject ≡ texts.delete_subject (given_of turn.now) recreation.now) }
 {
-    let subject = of_consumer(
-        alloc,
-        "CONSUMER.DELETE",
-        turn.first.stream_name.as_str(),
-        recreation.old_name.as_str(),
-    )?;
-    under_api(alloc, turn, subject.as_str())
+    consumer_subject(alloc, turn, "CONSUMER.DELETE", recreation.old_name.as_str())
 }
 
 /// The subject of the request that makes the new one.
@@ -148,14 +165,13 @@ pub fn create_subject(
 ) -> Result<Subject, OutOfMemory>
     ensures { IfOk result (λ subject. subject ≡ texts.create_subject (given_of turn.now) recreation.now) }
 {
-    let on_stream = with_word(alloc, "CONSUMER.CREATE", turn.first.stream_name.as_str())?;
-    let subject = named_subject(
+    filtered_subject(
         alloc,
-        on_stream.as_str(),
+        turn,
+        "CONSUMER.CREATE",
         recreation.new_name.as_str(),
         turn.setup.filter_subject(),
-    )?;
-    under_api(alloc, turn, subject.as_str())
+    )
 }
 
 // ---- bodies
