@@ -1,6 +1,5 @@
-mod Called
+pub mod Called
 mod Compact
-mod Cuts
 mod Headers
 mod Loop
-mod Passing
+pub mod Passing

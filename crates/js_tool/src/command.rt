@@ -105,8 +105,8 @@ fn number_within(word: &str, low: u64, high: u64) -> Option<u64>
     }
 }
 
-// 1 to 20 digits, and no sign.
-fn read_number(word: &str) -> Option<u64>
+/// The number below 2^64 that a word of 1 to 20 decimal digits is. A sign is none of its digits.
+pub fn read_number(word: &str) -> Option<u64>
     ensures { result ≡ number_of word.now }
 {
     if word.len() > 20 || word.as_bytes().first() == Some(&b'+') {

@@ -4,7 +4,6 @@
 mod command;
 mod generate;
 mod info;
-mod lines;
 mod program;
 mod progress;
 mod status;
@@ -12,7 +11,7 @@ mod text;
 mod transcript;
 mod window;
 
-pub use command::{Command, command_of};
+pub use command::{Command, command_of, read_number};
 pub use generate::summary_line;
 pub use info::{error_line, info_line};
 pub use js_ends::{
@@ -22,6 +21,8 @@ pub use js_ends::{
 pub use js_workers::{Gate, Open, WindowCounts, run_window, take_calls};
 pub use program::{run, run_plain};
 pub use status::Status;
-pub use text::refusal_line;
-pub use transcript::{Setup, Transcript, Unread};
+pub use text::{Cell, push_end, push_line, push_outputs, push_quoted, refusal_line};
+pub use transcript::{
+    Payloads, Setup, Transcript, Unread, event_line, first_line, next_line, setup_line,
+};
 pub use window::window_line;

@@ -3,17 +3,17 @@
 ghost use Rattle.std.specs.Prelude.{◌≡◌, ◌≤◌, ◌+◌, ◌++◌, ◌∷◌, [], ℕ, List, length, IfOk, OnOk};
 ghost use Rattle.js_table.specs.declared.consumer.Given.{Given};
 ghost use Rattle.js_table.specs.declared.event.Event as events;
-ghost use Rattle.js_tool.specs.Lines.{lines_of};
+ghost use Rattle.js_lines.specs.Lines.{lines_of};
 ghost use Rattle.js_tool.specs.Program.{given, IsReply};
 ghost use Rattle.js_tool.specs.Progress.{HasPassed, PassesLines, IsReplyOn, IsReplyTo};
 ghost use Rattle.js_tool.specs.Transcripts.{with_lines};
 
-use crate::lines::cut_line;
 use crate::program::Reply;
 use crate::text::{push_end, push_outputs, refusal_line};
-use crate::transcript::{Payloads, Setup, Unread, first_line, next_line, next_piece};
+use crate::transcript::{Payloads, Setup, Unread, first_line, next_line};
 use js_base::OutOfMemory;
 use js_ends::Pieces;
+use js_lines::{cut_line, next_piece};
 use js_ordered::{Course, Event};
 use std::alloc::{AllocError, Global};
 

@@ -8,16 +8,13 @@ mod quoted;
 
 use js_base::Subject;
 use js_ordered::{Field, ItemKind, Output, ReplayError, Start};
-pub(crate) use line::{Cell, push_line};
+pub use line::{Cell, push_line};
 pub(crate) use quoted::plain_front;
+pub use quoted::push_quoted;
 use std::alloc::{AllocError, Global};
 
-/// Adds the lines of what a step has put out.
-pub(crate) fn push_outputs(
-    out: &mut Vec<u8>,
-    number: u64,
-    outputs: &[Output],
-) -> Result<(), AllocError>
+/// Adds the lines of what the step with a number has put out.
+pub fn push_outputs(out: &mut Vec<u8>, number: u64, outputs: &[Output]) -> Result<(), AllocError>
     ensures { OnOk result (out.new.items ≡ out.old.items ++ flat_map (output_text number) outputs.now) }
 {
     for output in outputs {
@@ -138,7 +135,7 @@ fn reply_cell<'a>(reply: &'a Option<Subject>) -> Cell<'a>
 }
 
 /// Adds the last line: whether the consumer has ended, and how many events there were.
-pub(crate) fn push_end(out: &mut Vec<u8>, ended: bool, events: u64) -> Result<(), AllocError>
+pub fn push_end(out: &mut Vec<u8>, ended: bool, events: u64) -> Result<(), AllocError>
     ensures { OnOk result (out.new.items ≡ out.old.items ++ last_line ended events) }
 {
     push_line(

@@ -1,7 +1,6 @@
 //! Transcripts: a setup, and the events that happen to a consumer.
 
-ghost use Rattle.std.specs.Prelude.{◌≡◌, ◌<◌, ◌+◌, ◌++◌, [], length, IfSome, MatchOption};
-ghost use Rattle.js_tool.specs.Lines.{lines_of};
+ghost use Rattle.std.specs.Prelude.{◌≡◌};
 ghost use Rattle.js_tool.specs.Transcripts.{GivesLines, numbered};
 ghost use Rattle.js_tool.specs.Setups.{setup_line as setup_in};
 ghost use Rattle.js_tool.specs.Events.{event_line as event_in};
@@ -14,14 +13,12 @@ mod message;
 mod payloads;
 mod setup;
 
-use event::event_line;
+pub use event::event_line;
 use js_base::Items;
-use js_ends::Pieces;
 use js_fields::ReadError;
 use js_ordered::Event;
-pub(crate) use payloads::Payloads;
-pub use setup::Setup;
-use setup::setup_line;
+pub use payloads::Payloads;
+pub use setup::{Setup, setup_line};
 use std::alloc::{AllocFailed, Global};
 
 /// A setup, and what happened. No value of it is made: it stands in contracts alone.
@@ -47,7 +44,8 @@ impl<T: Drop> From<AllocFailed<T>> for Unread {
     }
 }
 
-pub(crate) fn first_line(alloc: Global, line: &[u8]) -> Result<Setup, Unread>
+/// The setup that the first line of a transcript says.
+pub fn first_line(alloc: Global, line: &[u8]) -> Result<Setup, Unread>
     ensures { GivesLines (λ s. s) result (numbered 1 (setup_in line.now)) }
 {
     match setup_line(alloc, line) {
@@ -57,7 +55,8 @@ pub(crate) fn first_line(alloc: Global, line: &[u8]) -> Result<Setup, Unread>
     }
 }
 
-pub(crate) fn next_line(
+/// The event that a further line says, which has this number.
+pub fn next_line(
     alloc: Global,
     payloads: &mut Payloads,
     number: u64,
@@ -70,13 +69,4 @@ pub(crate) fn next_line(
         Err(ReadError::OutOfMemory) => Err(Unread::OutOfMemory),
         Err(_) => Err(Unread::BadLine(number)),
     }
-}
-
-// Some lines of those that are left.
-pub(crate) fn next_piece(alloc: Global, bytes: &mut Pieces) -> Option<Vec<u8>>
-    ensures lines { MatchOption result (bytes.old ≡ []) (λ piece. lines_of bytes.old ≡ lines_of piece.items ++ lines_of bytes.new) }
-    ensures filled { IfSome result (λ piece. 0 < length piece.items) }
-    ensures length { IfSome result (λ piece. length bytes.old ≡ length piece.items + length bytes.new) }
-{
-    bytes.take(alloc)
 }

@@ -7,7 +7,7 @@ ghost use Rattle.json.specs.Print.{escape_letter as letter_of, escape_byte, esca
 use std::alloc::AllocError;
 
 /// Adds a text between quotes, with the shortest escapes.
-pub(crate) fn push_quoted(out: &mut Vec<u8>, text: &[u8]) -> Result<(), AllocError>
+pub fn push_quoted(out: &mut Vec<u8>, text: &[u8]) -> Result<(), AllocError>
     ensures { OnOk result (out.new.items ≡ out.old.items ++ quoted text.now) }
 {
     out.push(b'"')?;

@@ -253,12 +253,8 @@ fn event_fields(alloc: Global, payloads: &mut Payloads, object: &Value) -> Resul
     Ok(Event { at, what })
 }
 
-/// The event that a line says.
-pub(crate) fn event_line(
-    alloc: Global,
-    payloads: &mut Payloads,
-    line: &[u8],
-) -> Result<Event, ReadError>
+/// The event that a line says. The payload that it may bring is kept in the room that short payloads share.
+pub fn event_line(alloc: Global, payloads: &mut Payloads, line: &[u8]) -> Result<Event, ReadError>
     ensures { Gives result (line_in line.now) }
 {
     if let Some(at) = tick(line) {

@@ -13,13 +13,13 @@ const SHORT: usize = 4_096;
 
 /// Room that short payloads share, so that each takes little more than its bytes.
 #[derive(Drop)]
-pub(crate) struct Payloads {
+pub struct Payloads {
     room: BytesMut,
 }
 
 impl Payloads {
     /// No room, which takes no memory.
-    pub(crate) fn new(alloc: Global) -> Payloads {
+    pub fn new(alloc: Global) -> Payloads {
         Payloads {
             room: BytesMut::new(alloc),
         }

@@ -169,7 +169,7 @@ fn setup_fields(alloc: Global, object: &Value) -> Result<Setup, ReadError>
 
 /// The setup that a line says.
 #[tactic(auto, unfolding(crate::specs::Members::line_as))]
-pub(crate) fn setup_line(alloc: Global, line: &[u8]) -> Result<Setup, ReadError>
+pub fn setup_line(alloc: Global, line: &[u8]) -> Result<Setup, ReadError>
     ensures { Gives result (line_in line.now) }
 {
     let object = value_of(alloc, line)?;

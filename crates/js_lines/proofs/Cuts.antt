@@ -1,8 +1,9 @@
 -- The first line feed cuts the first line off.
 use Rattle.std.proofs.Common.{◌≡◌, ℕ, zero, suc, ◌+◌, ◌<◌, ◌==◌, Bool, List, [], ◌∷◌, length, get_or, take, drop, true, false, refl, arith, add-one}
-use Rattle.std.proofs.Common.{◌++◌, append_assoc, append-nil, if◌then◌else◌, Option, None, Some, MatchOption, IfSome, ap, ◌∙◌, length-append}
+use Rattle.std.proofs.Common.{◌++◌, append_assoc, append-nil, if◌then◌else◌, Option, None, Some, MatchOption, IfSome, ap, sym, ◌∙◌, length-append, ◌≤◌, ◌-◌}
+use Rattle.std.proofs.lemmas.List.{drop-drop, length-drop}
 use Rattle.js_ends.specs.Pieces.{EndsLine}
-use Rattle.js_tool.specs.Lines.{lines_of, onto_first}
+use Rattle.js_lines.specs.Lines.{lines_of, onto_first}
 
 is_false : (b : Bool) → (b ≡ true → ⊥) → b ≡ false
 is_false true never = absurd (never refl)
@@ -63,3 +64,24 @@ module _ {Piece : Type 0} (items : Piece → List ℕ) where
   pub piece_length : (taken : Option Piece) (old new : List ℕ) → MatchOption taken (old ≡ []) (λ piece. old ≡ items piece ++ new) → IfSome taken (λ piece. length old ≡ length (items piece) + length new)
   piece_length None old new whole = tt
   piece_length (Some piece) old new whole = ap length whole ∙ length-append (items piece) new
+
+fewer_on : (feed : Bool) (b n : ℕ) (lines : List (List ℕ)) → length lines ≤ n → length (if feed then [] ∷ lines else onto_first b lines) ≤ suc n
+fewer_on true b n lines fewer = omega (arith, fewer)
+fewer_on false b n [] fewer = omega arith
+fewer_on false b n (line ∷ lines) fewer = omega (arith, fewer)
+
+-- there are not more lines than bytes
+pub fewer_lines : (bytes : List ℕ) → length (lines_of bytes) ≤ length bytes
+fewer_lines [] = omega arith
+fewer_lines (b ∷ bytes) = fewer_on (b == 10) b (length bytes) (lines_of bytes) (fewer_lines bytes)
+
+-- what is cut off behind a place is the line there
+pub line_there : (bytes line rest : List ℕ) (at : ℕ) → at < length bytes → lines_of (drop at bytes) ≡ line ∷ lines_of rest → take (length line) (drop at bytes) ≡ line
+    → drop (length (drop at bytes) - length rest) (drop at bytes) ≡ rest → length rest < length (drop at bytes)
+    → lines_of (drop at bytes) ≡ take (length line) (drop at bytes) ∷ lines_of (drop (length bytes - length rest) bytes)
+line_there bytes line rest at within cut front behind shorter =
+    let long : length (drop at bytes) ≡ length bytes - at = length-drop at bytes in
+    let place : length bytes - length rest ≡ at + (length (drop at bytes) - length rest) = omega (arith, within, shorter, long) in
+    let same : drop (length bytes - length rest) bytes ≡ rest =
+    ap (λ (n : ℕ). drop n bytes) place ∙ sym (drop-drop (length (drop at bytes) - length rest) at bytes) ∙ behind in
+    cut ∙ ap (λ (l : List ℕ). l ∷ lines_of rest) (sym front) ∙ ap (λ (after : List ℕ). take (length line) (drop at bytes) ∷ lines_of after) (sym same)
