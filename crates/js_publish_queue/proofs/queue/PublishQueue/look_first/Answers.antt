@@ -1,0 +1,12 @@
+use Rattle.std.proofs.Common.{rules}
+use Rattle.js_publish_queue.proofs.Awaiting.{behind, landed}
+use Rattle.js_publish_queue.proofs.queue.PublishQueue.look_first.Goals as goal
+
+pub invariant_of-self-in-Ready : goal.invariant_of-self-in-Ready
+invariant_of-self-in-Ready g c = landed _ _ _ _ _ _ _ c.in-Some.ensures.items c.in-Ready.ensures.permit c.self.invariant
+
+pub invariant_of-self-in-Pending : goal.invariant_of-self-in-Pending
+invariant_of-self-in-Pending g c = behind _ _ _ _ _ _ _ _ _ c.in-Some.ensures.items c.push_back_reserved.ensures.items (search rules) c.in-Pending.ensures.permit.0 c.in-Pending.ensures.permit.1 c.self.invariant
+
+pub invariant_of-self-in-OutOfMemory : goal.invariant_of-self-in-OutOfMemory
+invariant_of-self-in-OutOfMemory g c = behind _ _ _ _ _ _ _ _ _ c.in-Some.ensures.items c.push_back_reserved-in-OutOfMemory.ensures.items (search rules) c.in-OutOfMemory.ensures.permit.0 c.in-OutOfMemory.ensures.permit.1 c.self.invariant

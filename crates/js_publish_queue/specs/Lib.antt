@@ -1,0 +1,4 @@
+pub mod Tries
+pub mod Flights
+pub mod Queue
+pub mod Steps

@@ -1,0 +1,21 @@
+//! Publishing many messages under the permits of one context.
+//!
+//! A [`PublishQueue`] is made of a context. Messages are pushed, each of which gets a [`Tag`], and polls hand out what became of them, in the order in
+//! which that is known:
+//!
+//! - A message is sent by a poll that finds a permit free. One that finds none, or whose send fails, stays in front of those behind it, and a later poll
+//!   sends it, until its time is over. Its headers stay as they are, its id among them, so that a server that has it already knows it for a duplicate.
+//! - A message that was sent has its outcome when its ack comes, or when the context's timeout is due.
+//!
+//! Each message has one outcome. `close` hands back the messages that were not sent, and the context.
+#![tactic(auto)]
+
+mod flying;
+mod published;
+mod queue;
+mod tries;
+mod unsent;
+
+pub use published::{Published, Tag};
+pub use queue::{Closed, PublishQueue};
+pub use unsent::Unsent;

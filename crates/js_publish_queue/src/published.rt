@@ -1,0 +1,16 @@
+//! What became of a message.
+use js_context::PublishError;
+use js_json::PublishAck;
+
+/// Names a message of a queue.
+#[derive(Clone, Copy, Debug, PartialEq, Eq)]
+pub struct Tag(pub u64);
+
+/// What became of a message.
+#[derive(Debug, Drop)]
+pub struct Published {
+    /// Which message it is.
+    pub tag: Tag,
+    /// Where it is stored, or why that is not known.
+    pub outcome: Result<PublishAck, PublishError>,
+}

@@ -1,0 +1,307 @@
+//! The queue.
+ghost use Rattle.std.specs.Prelude.{◌≡◌, ◌<◌, ◌≤◌, ◌+◌, ◌++◌, ◌∷◌, [], None, IfOk, OnOk, OnErr, length};
+ghost use Rattle.js_message.specs.Publishing.{outbound};
+ghost use Rattle.js_window.specs.Caller.{held};
+ghost use Rattle.js_publish_queue.specs.Queue.{EachHasOne, EndsEmpty, Keeps, handed, open_tags, times};
+ghost use Rattle.js_publish_queue.specs.Flights.{Detaches};
+ghost use Rattle.js_publish_queue.specs.Steps.{Looks, Sends, outcome_of};
+
+use crate::flying::{Flying, detach_all};
+use crate::published::{Published, Tag};
+use crate::tries::{Tried, try_to_send};
+use crate::unsent::Unsent;
+use bytes::Bytes;
+use js_base::{Error, Moment, Nanos, Next, OutOfMemory, Subject, Turn};
+use js_context::Context;
+use js_link::Link;
+use js_message::OutboundMessage;
+use std::alloc::Global;
+use std::collections::VecDeque;
+use std::marker::Model;
+use std::sync::Wait;
+
+/// Messages that are published under the permits of one context, each of which has one outcome.
+///
+/// Where it is dropped, the permits of messages that were sent are never free again: close it.
+pub struct PublishQueue {
+    context: Context,
+    unsent: VecDeque<Unsent>,
+    flying: VecDeque<Flying>,
+    next: u64,
+    patience: Nanos,
+}
+
+impl Model for PublishQueue {
+    ghost use Rattle.js_publish_queue.specs.Flights.{tags_of};
+    ghost use Rattle.js_publish_queue.specs.Queue.{QueueView, IsQueue};
+
+    ghost Value = { QueueView };
+
+    ghost view = { λ q. record { context = q.context; unsent = q.unsent.items; in_flight = tags_of q.flying.items; next = q.next; patience = q.patience } };
+
+    ghost invariant = { λ q. IsQueue q.context q.unsent.items q.flying.items q.next };
+}
+
+impl Drop for PublishQueue {
+    fn drop(self) {
+        let PublishQueue {
+            mut context,
+            unsent: _,
+            flying,
+            next: _,
+            patience: _,
+        } = self;
+        detach_all(&mut context, flying);
+    }
+}
+
+/// What a closed queue hands back.
+#[derive(Drop)]
+pub struct Closed {
+    /// Its context. The acks of messages that were sent are detached: `Context::reap` looks after them.
+    pub context: Context,
+    /// The messages that were not sent, in the order in which they were pushed.
+    pub unsent: VecDeque<Unsent>,
+}
+
+/// What a step came to.
+enum Step {
+    /// The step was made.
+    Made,
+    /// Nothing can be done now.
+    Stays,
+    /// An outcome is known.
+    Over(Published),
+    /// Memory ran out.
+    NoMemory,
+}
+
+impl PublishQueue {
+    /// A queue without messages. A message waits as long as that for its sending, in nanoseconds, from its push on.
+    pub fn new(alloc: Global, context: Context, patience: Nanos) -> PublishQueue
+        ensures { result ≡ record { context = context; unsent = []; in_flight = []; next = 0; patience = patience } }
+    {
+        PublishQueue {
+            context,
+            unsent: VecDeque::new(alloc),
+            flying: VecDeque::new(alloc),
+            next: 0,
+            patience,
+        }
+    }
+
+    /// Puts a message behind the others. A refusal is want of memory, and the message is let go.
+    pub fn push(&mut self, message: OutboundMessage, now: Moment) -> Result<Tag, OutOfMemory>
+        ensures tag { IfOk result (λ tag. tag.0 ≡ self.old.next) }
+        ensures fresh { times self.old.next (open_tags self.old) ≡ 0 }
+        ensures ok { OnOk result (self.new ≡ record self.old { unsent = self.old.unsent ++ record { tag = record { 0 = self.old.next }; message = message; since = now } ∷ []; next = self.old.next + 1 }) }
+        ensures err { OnErr result (self.new ≡ self.old) }
+    {
+        let Some(next) = self.next.checked_add(1) else {
+            return Err(OutOfMemory);
+        };
+        let tag = Tag(self.next);
+        self.unsent.push_back(Unsent {
+            tag,
+            message,
+            since: now,
+        })?;
+        self.next = next;
+        Ok(tag)
+    }
+
+    /// Puts a message with this payload and no headers behind the others. The refusals are those of `push`.
+    pub fn publish(
+        &mut self,
+        alloc: Global,
+        subject: &str,
+        payload: &[u8],
+        now: Moment,
+    ) -> Result<Tag, OutOfMemory>
+        ensures tag { IfOk result (λ tag. tag.0 ≡ self.old.next) }
+        ensures ok { OnOk result (self.new ≡ record self.old { unsent = self.old.unsent ++ record { tag = record { 0 = self.old.next }; message = outbound subject.now payload.now None; since = now } ∷ []; next = self.old.next + 1 }) }
+        ensures err { OnErr result (self.new ≡ self.old) }
+    {
+        let subject = Subject::new(alloc, subject)?;
+        let payload = Bytes::copy_from_slice(alloc, payload)?;
+        self.push(OutboundMessage::new(subject, payload, None), now)
+    }
+
+    /// Sends what permits allow, then looks at the acks, and hands out an outcome.
+    ///
+    /// `Pending` comes where no outcome is known and messages are left, `End` where none is left.
+    pub fn poll_next<R: Wait, L: Link>(
+        &mut self,
+        rt: &R,
+        alloc: Global,
+        link: &mut L,
+        now: Moment,
+    ) -> Next<Published>
+        ensures each { EachHasOne (handed result) self.old self.new }
+        ensures end { EndsEmpty result self.new }
+        ensures keeps { Keeps self.old self.new }
+    {
+        match self.send(rt, alloc, link, now) {
+            Step::Over(published) => Next::Item(published),
+            Step::NoMemory => Next::OutOfMemory,
+            Step::Made => self.look_on(rt, alloc, link, now),
+            Step::Stays => self.look_on(rt, alloc, link, now),
+        }
+    }
+
+    /// Looks at the acks, and hands out an outcome.
+    fn look_on<R: Wait, L: Link>(
+        &mut self,
+        rt: &R,
+        alloc: Global,
+        link: &mut L,
+        now: Moment,
+    ) -> Next<Published>
+        ensures each { EachHasOne (handed result) self.old self.new }
+        ensures end { EndsEmpty result self.new }
+        ensures keeps { Keeps self.old self.new }
+    {
+        match self.look(rt, alloc, link, now) {
+            Step::Over(published) => Next::Item(published),
+            Step::NoMemory => Next::OutOfMemory,
+            Step::Made => self.rest(),
+            Step::Stays => self.rest(),
+        }
+    }
+
+    /// How many messages were sent and have no ack yet. Each of them bears a permit that the context holds, so that they are never more than the
+    /// permits of its window.
+    pub fn in_flight(&self) -> usize
+        ensures count { result ≡ length self.now.in_flight }
+        ensures held { result ≤ held self.now.context.pass }
+    {
+        let _awaited = self.context.awaited();
+        self.flying.len()
+    }
+
+    /// Whether messages are left.
+    fn rest(&self) -> Next<Published>
+        ensures end { EndsEmpty result self.now }
+        ensures nothing { handed result ≡ [] }
+    {
+        if self.unsent.is_empty() && self.flying.is_empty() {
+            Next::End
+        } else {
+            Next::Pending
+        }
+    }
+
+    /// Tries to send the messages in order, up to the first that stays or whose outcome is known.
+    fn send<R: Wait, L: Link>(&mut self, rt: &R, alloc: Global, link: &mut L, now: Moment) -> Step
+        ensures each { EachHasOne (outcome_of result) self.old self.new }
+        ensures keeps { Keeps self.old self.new }
+    {
+        for _ in 0..self.unsent.len() {
+            match self.send_first(rt, alloc, link, now) {
+                Step::Made => {}
+                step => return step,
+            }
+        }
+        Step::Made
+    }
+
+    /// Tries to send the first message.
+    fn send_first<R: Wait, L: Link>(
+        &mut self,
+        rt: &R,
+        alloc: Global,
+        link: &mut L,
+        now: Moment,
+    ) -> Step
+        ensures sends { Sends result self.old self.new }
+        ensures keeps { Keeps self.old self.new }
+    {
+        if self.flying.reserve(1).is_err() {
+            return Step::NoMemory;
+        }
+        let Some(first) = self.unsent.pop_front() else {
+            return Step::Stays;
+        };
+        match try_to_send(&first.message, rt, alloc, &mut self.context, link, now) {
+            Tried::Went(future) => {
+                let tag = first.into_tag();
+                self.flying.push_back_reserved(Flying { tag, future });
+                Step::Made
+            }
+            Tried::Fails(error) => Step::Over(Published {
+                tag: first.into_tag(),
+                outcome: Err(error),
+            }),
+            Tried::Stays(kind) if first.is_over(now, self.patience) => Step::Over(Published {
+                tag: first.into_tag(),
+                outcome: Err(Error::new(kind)),
+            }),
+            Tried::Stays(_) => {
+                self.unsent.push_front_reserved(first);
+                Step::Stays
+            }
+            Tried::NoMemory => {
+                self.unsent.push_front_reserved(first);
+                Step::NoMemory
+            }
+        }
+    }
+
+    /// Looks at each ack once, up to the first that is known. Those that were looked at go behind the others.
+    fn look<R: Wait, L: Link>(&mut self, rt: &R, alloc: Global, link: &mut L, now: Moment) -> Step
+        ensures each { EachHasOne (outcome_of result) self.old self.new }
+        ensures keeps { Keeps self.old self.new }
+    {
+        for _ in 0..self.flying.len() {
+            match self.look_first(rt, alloc, link, now) {
+                Step::Made => {}
+                step => return step,
+            }
+        }
+        Step::Made
+    }
+
+    /// Looks at the first ack, which goes behind the others where it is not known.
+    fn look_first<R: Wait, L: Link>(
+        &mut self,
+        rt: &R,
+        alloc: Global,
+        link: &mut L,
+        now: Moment,
+    ) -> Step
+        ensures looks { Looks result self.old self.new }
+        ensures keeps { Keeps self.old self.new }
+    {
+        let Some(Flying { tag, future }) = self.flying.pop_front() else {
+            return Step::Stays;
+        };
+        match future.poll(rt, alloc, &mut self.context, link, now) {
+            Turn::Ready(outcome) => Step::Over(Published { tag, outcome }),
+            Turn::Pending(future) => {
+                self.flying.push_back_reserved(Flying { tag, future });
+                Step::Made
+            }
+            Turn::OutOfMemory(future) => {
+                self.flying.push_back_reserved(Flying { tag, future });
+                Step::NoMemory
+            }
+        }
+    }
+
+    /// Ends the queue: the messages that were not sent are handed back, and the context. The acks of those that were sent are detached, so that
+    /// no permit is lost.
+    pub fn close(self) -> Closed
+        ensures unsent { result.unsent.items ≡ self.unsent }
+        ensures context { Detaches (length self.in_flight) self.context result.context }
+    {
+        let PublishQueue {
+            mut context,
+            unsent,
+            flying,
+            next: _,
+            patience: _,
+        } = self;
+        detach_all(&mut context, flying);
+        Closed { context, unsent }
+    }
+}

@@ -1,0 +1,45 @@
+//! A message that was not sent.
+ghost use Rattle.std.specs.Prelude.{◌≡◌, IfOk};
+ghost use Rattle.js_base.specs.Clock.{is_over};
+
+use crate::published::Tag;
+use js_base::{Moment, Nanos, OutOfMemory, TryClone, due};
+use js_message::OutboundMessage;
+
+/// A message that was not sent.
+#[derive(Drop)]
+pub struct Unsent {
+    /// Which message it is.
+    pub tag: Tag,
+    /// The message, as it was pushed.
+    pub message: OutboundMessage,
+    /// When it was pushed.
+    pub since: Moment,
+}
+
+impl Unsent {
+    /// Its tag. The message is let go.
+    pub(crate) fn into_tag(self) -> Tag
+        ensures { result ≡ self.tag }
+    {
+        self.tag
+    }
+
+    /// Whether its time is over.
+    pub(crate) fn is_over(&self, now: Moment, patience: Nanos) -> bool
+        ensures { result ≡ is_over self.now.since patience now }
+    {
+        due(now, self.since, patience)
+    }
+}
+
+/// A copy of a message, which shares its payload.
+pub(crate) fn copy_of(message: &OutboundMessage) -> Result<OutboundMessage, OutOfMemory>
+    ensures { IfOk result (λ copy. copy ≡ message.now) }
+{
+    Ok(OutboundMessage {
+        subject: message.subject.try_clone()?,
+        payload: message.payload.clone()?,
+        headers: message.headers.try_clone()?,
+    })
+}
