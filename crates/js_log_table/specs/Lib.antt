@@ -1,0 +1,4 @@
+pub mod Kept
+pub mod Yielded
+pub mod Honest
+pub mod Worked
