@@ -1,0 +1,11 @@
+pub mod Errors
+pub mod Tells
+pub mod Places
+pub mod Outcomes
+pub mod Refusals
+pub mod Levels
+pub mod Stores
+pub mod Gets
+pub mod Creates
+pub mod Changes
+pub mod Objects

@@ -1,0 +1,136 @@
+//! The calls on buckets that a context makes.
+ghost use Rattle.std.specs.Prelude.{◌≡◌, IfOk};
+ghost use Rattle.js_call.specs.declared.scope.ApiScope.{ApiScope};
+ghost use Rattle.js_context.specs.Contexts.{scope_in};
+ghost use Rattle.js_store.specs.Changes.{PutsBucket, UpdatesBucket};
+ghost use Rattle.js_store.specs.Creates.{CreatesBucket};
+ghost use Rattle.js_store.specs.Gets.{deleting as deleting_bucket, getting as getting_bucket};
+ghost use Rattle.js_store.specs.Objects.{CreatesObjects, deleting as deleting_objects, getting as getting_objects};
+
+use crate::changing::{
+    CreateOrUpdateKeyValue, UpdateKeyValue, create_or_update_key_value, update_key_value,
+};
+use crate::creating::{CreateKeyValue, create_key_value};
+use crate::deleting::{DeleteKeyValue, delete_key_value};
+use crate::getting::{GetKeyValue, get_key_value};
+use crate::objects::{
+    CreateObjectStore, DeleteObjects, GetObjectStore, create_object_store, delete_object_store,
+    get_object_store,
+};
+use js_base::OutOfMemory;
+use js_buckets::{kv, object_store};
+use js_context::Context;
+use std::alloc::Global;
+
+/// What makes calls on buckets.
+///
+/// Each hands out a state, and refuses for want of memory alone; what else it refuses comes from the state's first poll, before anything
+/// is sent. The functions of the same names say which errors come and when.
+pub trait StoreCalls {
+    /// Where its requests go, and how long they are waited for.
+    ghost stores_by: { Self → ApiScope };
+
+    /// Gets a bucket of keys, and where its values are.
+    fn get_key_value(&self, alloc: Global, bucket: &str) -> Result<GetKeyValue, OutOfMemory>
+        ensures { IfOk result (λ call. call ≡ getting_bucket (stores_by self.now) bucket.now) };
+
+    /// Makes a bucket of keys: asks how far the server's API goes, and then for the bucket's stream.
+    fn create_key_value(
+        &self,
+        alloc: Global,
+        config: kv::Config,
+    ) -> Result<CreateKeyValue, OutOfMemory>
+        ensures { IfOk result (λ calls. CreatesBucket (stores_by self.now) config calls) };
+
+    /// Changes a bucket of keys: asks how far the server's API goes, and then for the change of the bucket's stream.
+    fn update_key_value(
+        &self,
+        alloc: Global,
+        config: kv::Config,
+    ) -> Result<UpdateKeyValue, OutOfMemory>
+        ensures { IfOk result (λ calls. UpdatesBucket (stores_by self.now) config calls) };
+
+    /// Changes a bucket of keys, and makes it where it is not there.
+    fn create_or_update_key_value(
+        &self,
+        alloc: Global,
+        config: kv::Config,
+    ) -> Result<CreateOrUpdateKeyValue, OutOfMemory>
+        ensures { IfOk result (λ calls. PutsBucket (stores_by self.now) config calls) };
+
+    /// Deletes a bucket of keys with all its values.
+    fn delete_key_value(&self, alloc: Global, bucket: &str) -> Result<DeleteKeyValue, OutOfMemory>
+        ensures { IfOk result (λ call. call ≡ deleting_bucket (stores_by self.now) bucket.now) };
+
+    /// Makes a bucket of objects.
+    fn create_object_store(
+        &self,
+        alloc: Global,
+        config: object_store::Config,
+    ) -> Result<CreateObjectStore, OutOfMemory>
+        ensures { IfOk result (λ call. CreatesObjects (stores_by self.now) config call) };
+
+    /// Gets a bucket of objects.
+    fn get_object_store(&self, alloc: Global, bucket: &str) -> Result<GetObjectStore, OutOfMemory>
+        ensures { IfOk result (λ call. call ≡ getting_objects (stores_by self.now) bucket.now) };
+
+    /// Deletes a bucket of objects with all its objects.
+    fn delete_object_store(&self, alloc: Global, bucket: &str) -> Result<DeleteObjects, OutOfMemory>
+        ensures { IfOk result (λ call. call ≡ deleting_objects (stores_by self.now) bucket.now) };
+}
+
+impl StoreCalls for Context {
+    ghost stores_by = { scope_in };
+
+    fn get_key_value(&self, alloc: Global, bucket: &str) -> Result<GetKeyValue, OutOfMemory> {
+        get_key_value(alloc, self.scope(), bucket)
+    }
+
+    fn create_key_value(
+        &self,
+        alloc: Global,
+        config: kv::Config,
+    ) -> Result<CreateKeyValue, OutOfMemory> {
+        create_key_value(alloc, self.scope(), config)
+    }
+
+    fn update_key_value(
+        &self,
+        alloc: Global,
+        config: kv::Config,
+    ) -> Result<UpdateKeyValue, OutOfMemory> {
+        update_key_value(alloc, self.scope(), config)
+    }
+
+    fn create_or_update_key_value(
+        &self,
+        alloc: Global,
+        config: kv::Config,
+    ) -> Result<CreateOrUpdateKeyValue, OutOfMemory> {
+        create_or_update_key_value(alloc, self.scope(), config)
+    }
+
+    fn delete_key_value(&self, alloc: Global, bucket: &str) -> Result<DeleteKeyValue, OutOfMemory> {
+        delete_key_value(alloc, self.scope(), bucket)
+    }
+
+    fn create_object_store(
+        &self,
+        alloc: Global,
+        config: object_store::Config,
+    ) -> Result<CreateObjectStore, OutOfMemory> {
+        create_object_store(alloc, self.scope(), config)
+    }
+
+    fn get_object_store(&self, alloc: Global, bucket: &str) -> Result<GetObjectStore, OutOfMemory> {
+        get_object_store(alloc, self.scope(), bucket)
+    }
+
+    fn delete_object_store(
+        &self,
+        alloc: Global,
+        bucket: &str,
+    ) -> Result<DeleteObjects, OutOfMemory> {
+        delete_object_store(alloc, self.scope(), bucket)
+    }
+}

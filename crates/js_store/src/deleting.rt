@@ -1,0 +1,72 @@
+//! The call that deletes a bucket of keys.
+ghost use Rattle.std.specs.Prelude.{◌≡◌, IfOk};
+ghost use Rattle.js_store.specs.Gets.{delete_row, deleting};
+
+use crate::error::{KeyValueError, KeyValueErrorKind};
+use crate::getting::name_refusal;
+use crate::outcome::{BucketCall, Outcome};
+use js_base::{Error, OutOfMemory, Source, Text};
+use js_buckets::kv;
+use js_call::ApiScope;
+use js_stream::DeleteStatus;
+use js_stream_calls::{DeleteStream, DeleteStreamError, delete_stream};
+use std::alloc::Global;
+
+/// The row of `delete_key_value`.
+#[derive(Drop)]
+pub struct DeletingBucket {
+    bucket: Text,
+}
+
+/// The state of `delete_key_value`.
+pub type DeleteKeyValue = BucketCall<DeleteStream, DeleteStatus, DeleteStreamError, DeletingBucket>;
+
+impl Outcome<DeleteStatus, DeleteStreamError> for DeletingBucket {
+    type Needs = ();
+
+    type Answer = Result<DeleteStatus, KeyValueError>;
+
+    ghost table = { delete_row };
+
+    fn refusal(&self) -> Option<Result<DeleteStatus, KeyValueError>> {
+        match name_refusal(self.bucket.as_str()) {
+            None => None,
+            Some(kind) => Some(Err(Error::new(kind))),
+        }
+    }
+
+    fn needs(&self, _alloc: Global, _given: &DeleteStatus) -> Result<(), OutOfMemory> {
+        Ok(())
+    }
+
+    fn accept(self, given: DeleteStatus, _needs: ()) -> Result<DeleteStatus, KeyValueError> {
+        Ok(given)
+    }
+
+    fn refuse(
+        self,
+        _error: DeleteStreamError,
+        source: Source,
+    ) -> Result<DeleteStatus, KeyValueError> {
+        Err(Error::with_source(KeyValueErrorKind::JetStream, source))
+    }
+}
+
+/// Deletes a bucket of keys with all its values.
+///
+/// The one refusal here is want of memory; others come from the polls. `InvalidStoreName` comes from the first, and nothing is sent.
+/// `JetStream` has the server's error as its source, or the text of the error of `delete_stream`.
+pub fn delete_key_value(
+    alloc: Global,
+    scope: &ApiScope,
+    bucket: &str,
+) -> Result<DeleteKeyValue, OutOfMemory>
+    ensures { IfOk result (λ call. call ≡ deleting scope.now bucket.now) }
+{
+    let stream_name = kv::stream_name(alloc, bucket)?;
+    let asked = delete_stream(alloc, scope, stream_name.as_str())?;
+    let meaning = DeletingBucket {
+        bucket: Text::from_str(alloc, bucket)?,
+    };
+    Ok(BucketCall::new(meaning, asked))
+}

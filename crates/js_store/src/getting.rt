@@ -1,0 +1,89 @@
+//! The call that gets a bucket of keys.
+ghost use Rattle.std.specs.Prelude.{◌≡◌, IfOk};
+ghost use Rattle.js_store.specs.Gets.{get_row, getting, got_names, name_refusal};
+
+use crate::error::{KeyValueError, KeyValueErrorKind};
+use crate::outcome::{BucketCall, Outcome};
+use crate::places::places_of;
+use crate::store::{Store, StoreNames, store_of};
+use js_base::{Error, OutOfMemory, Source, Text};
+use js_buckets::{is_valid_bucket_name, kv};
+use js_call::ApiScope;
+use js_stream::stream::Info;
+use js_stream_calls::{GetStream, GetStreamError, StreamHandle, get_stream};
+use std::alloc::Global;
+
+/// The row of `get_key_value`.
+#[derive(Drop)]
+pub struct GettingBucket {
+    bucket: Text,
+}
+
+/// The state of `get_key_value`.
+pub type GetKeyValue = BucketCall<GetStream, StreamHandle<Info>, GetStreamError, GettingBucket>;
+
+/// What the name of a bucket of keys is refused with.
+pub(crate) fn name_refusal(bucket: &str) -> Option<KeyValueErrorKind>
+    ensures { result ≡ name_refusal bucket.now }
+{
+    if is_valid_bucket_name(bucket) {
+        None
+    } else {
+        Some(KeyValueErrorKind::InvalidStoreName)
+    }
+}
+
+impl Outcome<StreamHandle<Info>, GetStreamError> for GettingBucket {
+    type Needs = StoreNames;
+
+    type Answer = Result<Store, KeyValueError>;
+
+    ghost table = { get_row };
+
+    fn refusal(&self) -> Option<Result<Store, KeyValueError>> {
+        match name_refusal(self.bucket.as_str()) {
+            None => None,
+            Some(kind) => Some(Err(Error::new(kind))),
+        }
+    }
+
+    fn needs(&self, alloc: Global, given: &StreamHandle<Info>) -> Result<StoreNames, OutOfMemory> {
+        let api = given.scope.prefix.as_str();
+        let bucket = self.bucket.as_str();
+        Ok(StoreNames {
+            stream_name: kv::stream_name(alloc, bucket)?,
+            places: places_of(alloc, api, bucket, &given.info.config.mirror)?,
+        })
+    }
+
+    fn accept(self, given: StreamHandle<Info>, needs: StoreNames) -> Result<Store, KeyValueError> {
+        if given.info.config.max_messages_per_subject < 1 {
+            return Err(Error::new(KeyValueErrorKind::InvalidStoreName));
+        }
+        Ok(store_of(self.bucket, needs, given))
+    }
+
+    fn refuse(self, _error: GetStreamError, source: Source) -> Result<Store, KeyValueError> {
+        Err(Error::with_source(KeyValueErrorKind::GetBucket, source))
+    }
+}
+
+/// Gets a bucket of keys, and where its values are.
+///
+/// The one refusal here is want of memory; others come from the polls. `InvalidStoreName` comes from the first where the name is none, and
+/// nothing is sent; later it tells that the stream of that name keeps no value of a key, and is no bucket. `GetBucket` has the server's
+/// error as its source, or the text of the error of `get_stream`.
+pub fn get_key_value(
+    alloc: Global,
+    scope: &ApiScope,
+    bucket: &str,
+) -> Result<GetKeyValue, OutOfMemory>
+    ensures { IfOk result (λ call. call ≡ getting scope.now bucket.now) }
+{
+    let stream_name = kv::stream_name(alloc, bucket)?;
+    let asked = get_stream(alloc, scope, stream_name.as_str())?;
+    let meaning = GettingBucket {
+        bucket: Text::from_str(alloc, bucket)?,
+    };
+    Ok(BucketCall::new(meaning, asked))
+}

@@ -1,0 +1,91 @@
+//! How far the server's API goes, which is asked before the stream of a bucket is made or changed.
+ghost use Rattle.std.specs.Prelude.{◌≡◌, IfOk};
+ghost use Rattle.js_store.specs.Levels.{asking_level, level_row, refused_with, unless_allowed};
+
+use crate::outcome::{BucketCall, Outcome};
+use crate::refusal::{OfRefusal, Refusal, Refused};
+use crate::store::Store;
+use js_account_calls::{AccountError, QueryAccount, query_account};
+use js_base::{Error, OutOfMemory, Source};
+use js_call::{ApiScope, Decision};
+use js_json::account::Account;
+use std::alloc::Global;
+
+/// The row of the call that asks how far the server's API goes.
+#[derive(Drop)]
+pub struct AskingLevel {
+    // What the bucket is refused with before anything is sent.
+    refusal: Option<Refusal>,
+}
+
+/// The first call of those that make or change a bucket of keys.
+pub type AskLevel = BucketCall<QueryAccount, Account, AccountError, AskingLevel>;
+
+impl Outcome<Account, AccountError> for AskingLevel {
+    type Needs = ();
+
+    type Answer = Result<u64, Refused>;
+
+    ghost table = { level_row };
+
+    fn refusal(&self) -> Option<Result<u64, Refused>> {
+        match self.refusal {
+            None => None,
+            Some(refusal) => Some(Err(Refused {
+                refusal,
+                source: None,
+            })),
+        }
+    }
+
+    fn needs(&self, _alloc: Global, _given: &Account) -> Result<(), OutOfMemory> {
+        Ok(())
+    }
+
+    fn accept(self, given: Account, _needs: ()) -> Result<u64, Refused> {
+        Ok(given.requests.level)
+    }
+
+    fn refuse(self, _error: AccountError, source: Source) -> Result<u64, Refused> {
+        Err(Refused {
+            refusal: Refusal::JetStream,
+            source: Some(source),
+        })
+    }
+}
+
+/// The call, which is not sent.
+pub(crate) fn ask_level(
+    alloc: Global,
+    scope: &ApiScope,
+    refusal: Option<Refusal>,
+) -> Result<AskLevel, OutOfMemory>
+    ensures { IfOk result (λ call. call ≡ asking_level scope.now refusal) }
+{
+    let asked = query_account(alloc, scope)?;
+    Ok(BucketCall::new(AskingLevel { refusal }, asked))
+}
+
+/// The second call follows where the account was told, and its level allows the markers that are asked for.
+#[derive(Clone, Copy, Debug, PartialEq, Eq, Drop)]
+pub struct IfAllowed {
+    pub(crate) limit_markers: bool,
+}
+
+impl<K: OfRefusal> Decision<Result<u64, Refused>, Result<Store, Error<K>>> for IfAllowed {
+    ghost decides = { λ asks first. unless_allowed K.of_refusal asks.limit_markers first };
+
+    fn decide(self, first: Result<u64, Refused>) -> Option<Result<Store, Error<K>>> {
+        match first {
+            Ok(level) => {
+                if self.limit_markers && level < 1 {
+                    let kind = K::of_refusal(Refusal::LimitMarkersNotSupported);
+                    Some(Err(Error::new(kind)))
+                } else {
+                    None
+                }
+            }
+            Err(refused) => Some(Err(refused.into_error())),
+        }
+    }
+}

@@ -1,0 +1,45 @@
+//! Buckets of keys and of objects, which a context gets, makes, changes and deletes.
+//!
+//! A call on a bucket stands on a call on the stream that the bucket is (NATS ADR-8 and ADR-20). Its state is polled as those of a context.
+//! What is done with the values of a bucket is not here: a [`Store`] says where they are.
+#![tactic(auto)]
+
+mod calls;
+mod changing;
+mod creating;
+mod deleting;
+mod error;
+mod getting;
+mod level;
+mod objects;
+mod outcome;
+mod places;
+mod refusal;
+mod store;
+mod told;
+
+pub use calls::StoreCalls;
+pub use changing::{
+    ChangedBucket, CreateOrUpdateKeyValue, PutBucket, PuttingBucket, UpdateBucket, UpdateKeyValue,
+    UpdatingBucket, create_or_update_key_value, update_key_value,
+};
+pub use creating::{CreateBucket, CreateKeyValue, CreatingBucket, create_key_value};
+pub use deleting::{DeleteKeyValue, DeletingBucket, delete_key_value};
+pub use error::{
+    CreateKeyValueError, CreateKeyValueErrorKind, CreateObjectStoreError,
+    CreateObjectStoreErrorKind, DeleteObjectStore, DeleteObjectStoreKind, KeyValueError,
+    KeyValueErrorKind, ObjectStoreError, ObjectStoreErrorKind, UpdateKeyValueError,
+    UpdateKeyValueErrorKind,
+};
+pub use getting::{GetKeyValue, GettingBucket, get_key_value};
+pub use js_buckets::{is_valid_bucket_name, kv, object_store};
+pub use level::{AskLevel, AskingLevel, IfAllowed};
+pub use objects::{
+    CreateObjectStore, CreatingObjects, DeleteObjects, DeletingObjects, GetObjectStore,
+    GettingObjects, create_object_store, delete_object_store, get_object_store,
+};
+pub use outcome::{BucketCall, Outcome};
+pub use places::Places;
+pub use refusal::{OfRefusal, Refusal, Refused};
+pub use store::{ObjectStore, Store, StoreNames};
+pub use told::Told;

@@ -1,0 +1,241 @@
+//! The calls on buckets of objects.
+ghost use Rattle.std.specs.Prelude.{◌≡◌, IfOk};
+ghost use Rattle.js_buckets.specs.Objects.{stream_config};
+ghost use Rattle.js_stream_calls.specs.Creates.{Creates};
+ghost use Rattle.js_store.specs.Objects.{creates_refusal, create_row, CreatesObjects, delete_row, deleting, get_refusal, get_row, getting};
+
+use crate::error::{
+    CreateObjectStoreError, CreateObjectStoreErrorKind, DeleteObjectStore, ObjectStoreError,
+    ObjectStoreErrorKind,
+};
+use crate::outcome::{BucketCall, Outcome};
+use crate::store::ObjectStore;
+use js_base::{Error, OutOfMemory, Source, Text, TryClone};
+use js_buckets::{is_valid_bucket_name, object_store};
+use js_call::ApiScope;
+use js_stream::DeleteStatus;
+use js_stream::stream::Info;
+use js_stream_calls::{
+    CreateStream, CreateStreamError, DeleteStream, DeleteStreamError, GetStream, GetStreamError,
+    StreamHandle, create_stream, delete_stream, get_stream,
+};
+use std::alloc::Global;
+
+/// The row of `get_object_store`.
+#[derive(Drop)]
+pub struct GettingObjects {
+    bucket: Text,
+}
+
+/// The state of `get_object_store`.
+pub type GetObjectStore = BucketCall<GetStream, StreamHandle<Info>, GetStreamError, GettingObjects>;
+
+/// What the name of a bucket of objects that is got is refused with.
+fn get_refusal(bucket: &str) -> Option<ObjectStoreErrorKind>
+    ensures { result ≡ get_refusal bucket.now }
+{
+    if is_valid_bucket_name(bucket) {
+        None
+    } else {
+        Some(ObjectStoreErrorKind::InvalidBucketName)
+    }
+}
+
+impl Outcome<StreamHandle<Info>, GetStreamError> for GettingObjects {
+    type Needs = ();
+
+    type Answer = Result<ObjectStore, ObjectStoreError>;
+
+    ghost table = { get_row };
+
+    fn refusal(&self) -> Option<Result<ObjectStore, ObjectStoreError>> {
+        match get_refusal(self.bucket.as_str()) {
+            None => None,
+            Some(kind) => Some(Err(Error::new(kind))),
+        }
+    }
+
+    fn needs(&self, _alloc: Global, _given: &StreamHandle<Info>) -> Result<(), OutOfMemory> {
+        Ok(())
+    }
+
+    fn accept(
+        self,
+        given: StreamHandle<Info>,
+        _needs: (),
+    ) -> Result<ObjectStore, ObjectStoreError> {
+        Ok(ObjectStore {
+            name: self.bucket,
+            stream: given,
+        })
+    }
+
+    fn refuse(
+        self,
+        _error: GetStreamError,
+        source: Source,
+    ) -> Result<ObjectStore, ObjectStoreError> {
+        Err(Error::with_source(ObjectStoreErrorKind::GetStore, source))
+    }
+}
+
+/// Gets a bucket of objects.
+///
+/// The one refusal here is want of memory; others come from the polls. `InvalidBucketName` comes from the first, and nothing is sent.
+/// `GetStore` has the server's error as its source, or the text of the error of `get_stream`.
+pub fn get_object_store(
+    alloc: Global,
+    scope: &ApiScope,
+    bucket: &str,
+) -> Result<GetObjectStore, OutOfMemory>
+    ensures { IfOk result (λ call. call ≡ getting scope.now bucket.now) }
+{
+    let stream_name = object_store::stream_name(alloc, bucket)?;
+    let asked = get_stream(alloc, scope, stream_name.as_str())?;
+    let meaning = GettingObjects {
+        bucket: Text::from_str(alloc, bucket)?,
+    };
+    Ok(BucketCall::new(meaning, asked))
+}
+
+/// The row of `create_object_store`.
+#[derive(Drop)]
+pub struct CreatingObjects {
+    bucket: Text,
+}
+
+/// The state of `create_object_store`.
+pub type CreateObjectStore = BucketCall<
+    CreateStream,
+    StreamHandle<Info>,
+    CreateStreamError,
+    CreatingObjects,
+>;
+
+/// What the name of a bucket of objects that is made is refused with.
+fn creates_refusal(bucket: &str) -> Option<CreateObjectStoreErrorKind>
+    ensures { result ≡ creates_refusal bucket.now }
+{
+    if is_valid_bucket_name(bucket) {
+        None
+    } else {
+        Some(CreateObjectStoreErrorKind::InvalidStoreName)
+    }
+}
+
+impl Outcome<StreamHandle<Info>, CreateStreamError> for CreatingObjects {
+    type Needs = ();
+
+    type Answer = Result<ObjectStore, CreateObjectStoreError>;
+
+    ghost table = { create_row };
+
+    fn refusal(&self) -> Option<Result<ObjectStore, CreateObjectStoreError>> {
+        match creates_refusal(self.bucket.as_str()) {
+            None => None,
+            Some(kind) => Some(Err(Error::new(kind))),
+        }
+    }
+
+    fn needs(&self, _alloc: Global, _given: &StreamHandle<Info>) -> Result<(), OutOfMemory> {
+        Ok(())
+    }
+
+    fn accept(
+        self,
+        given: StreamHandle<Info>,
+        _needs: (),
+    ) -> Result<ObjectStore, CreateObjectStoreError> {
+        Ok(ObjectStore {
+            name: self.bucket,
+            stream: given,
+        })
+    }
+
+    fn refuse(
+        self,
+        _error: CreateStreamError,
+        source: Source,
+    ) -> Result<ObjectStore, CreateObjectStoreError> {
+        Err(Error::with_source(CreateObjectStoreErrorKind::BucketCreate, source))
+    }
+}
+
+/// The call that makes the stream which the bucket is.
+fn create_its_stream(
+    alloc: Global,
+    scope: &ApiScope,
+    config: object_store::Config,
+) -> Result<CreateStream, OutOfMemory>
+    ensures { IfOk result (λ create. Creates scope.now (stream_config config) create) }
+{
+    let stream = config.into_stream_config(alloc)?;
+    create_stream(alloc, scope, stream)
+}
+
+/// Makes a bucket of objects. A server that has a bucket of that name and configuration already answers it, and refuses another
+/// configuration.
+///
+/// The one refusal here is want of memory; others come from the polls. `InvalidStoreName` comes from the first, and nothing is sent.
+/// `BucketCreate` has the server's error as its source, or the text of the error of `create_stream`, also where that is a timeout.
+pub fn create_object_store(
+    alloc: Global,
+    scope: &ApiScope,
+    config: object_store::Config,
+) -> Result<CreateObjectStore, OutOfMemory>
+    ensures { IfOk result (λ call. CreatesObjects scope.now config call) }
+{
+    let meaning = CreatingObjects {
+        bucket: config.bucket.try_clone()?,
+    };
+    let asked = create_its_stream(alloc, scope, config)?;
+    Ok(BucketCall::new(meaning, asked))
+}
+
+/// The row of `delete_object_store`, which keeps nothing of its arguments.
+#[derive(Drop)]
+pub struct DeletingObjects;
+
+/// The state of `delete_object_store`.
+pub type DeleteObjects = BucketCall<DeleteStream, DeleteStatus, DeleteStreamError, DeletingObjects>;
+
+impl Outcome<DeleteStatus, DeleteStreamError> for DeletingObjects {
+    type Needs = ();
+
+    type Answer = Result<(), DeleteObjectStore>;
+
+    ghost table = { delete_row };
+
+    fn refusal(&self) -> Option<Result<(), DeleteObjectStore>> {
+        None
+    }
+
+    fn needs(&self, _alloc: Global, _given: &DeleteStatus) -> Result<(), OutOfMemory> {
+        Ok(())
+    }
+
+    fn accept(self, _given: DeleteStatus, _needs: ()) -> Result<(), DeleteObjectStore> {
+        Ok(())
+    }
+
+    fn refuse(self, _error: DeleteStreamError, source: Source) -> Result<(), DeleteObjectStore> {
+        Err(Error::with_source(ObjectStoreErrorKind::GetStore, source))
+    }
+}
+
+/// Deletes a bucket of objects with all its objects. It tests no name of a bucket: one that no stream may have is refused as
+/// `delete_stream` refuses it, before anything is sent.
+///
+/// The one refusal here is want of memory; others come from the polls. `GetStore` has the server's error as its source, or the text of
+/// the error of `delete_stream`.
+pub fn delete_object_store(
+    alloc: Global,
+    scope: &ApiScope,
+    bucket: &str,
+) -> Result<DeleteObjects, OutOfMemory>
+    ensures { IfOk result (λ call. call ≡ deleting scope.now bucket.now) }
+{
+    let stream_name = object_store::stream_name(alloc, bucket)?;
+    let asked = delete_stream(alloc, scope, stream_name.as_str())?;
+    Ok(BucketCall::new(DeletingObjects, asked))
+}

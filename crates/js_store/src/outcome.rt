@@ -1,0 +1,134 @@
+//! Calls on a bucket, each of which stands on another call.
+ghost use Rattle.std.specs.Prelude.{◌≡◌, IfOk, Result};
+ghost use Rattle.js_base.specs.declared.turn.Turn.{Turn};
+ghost use Rattle.js_store.specs.Outcomes.{Row, answered, asking, AnswersOf, Polled, TurnsTo};
+
+use crate::told::Told;
+use js_base::{Moment, OutOfMemory, Source, Turn};
+use js_call::State;
+use js_link::Link;
+use std::alloc::Global;
+
+/// What a call on a bucket makes of the answer of the call that it stands on: of what that gives, and of its error.
+///
+/// The type holds what the call keeps of its arguments. Its `BucketCall` is the state that is polled.
+pub trait Outcome<X, E>: Drop {
+    /// What has to be made of what is given, before the call can answer.
+    type Needs: Drop;
+
+    /// What the call answers.
+    type Answer: Drop;
+
+    /// The call's row of the table of calls on buckets.
+    ghost table: { Row Self X E Self.Needs Self.Answer };
+
+    /// What its arguments are refused with, before anything is sent.
+    fn refusal(&self) -> Option<Self::Answer>
+        ensures { result ≡ table.refused self.now };
+
+    /// What has to be made of what is given. The one refusal is want of memory.
+    fn needs(&self, alloc: Global, given: &X) -> Result<Self::Needs, OutOfMemory>
+        ensures { IfOk result (λ needs. needs ≡ table.needs self.now given.now) };
+
+    /// What the call answers to what is given.
+    fn accept(self, given: X, needs: Self::Needs) -> Self::Answer
+        ensures { result ≡ table.accepts self given needs };
+
+    /// What it answers to an error. The source is what the error tells.
+    fn refuse(self, error: E, source: Source) -> Self::Answer
+        ensures { result ≡ table.refuses self error source };
+}
+
+/// A call on a bucket under way: the call that it stands on is polled until that answers.
+///
+/// Refused arguments are answered before anything is sent. An answer for which no memory is left is kept, and told at the next poll.
+#[derive(Drop)]
+pub struct BucketCall<S, X, E, M> {
+    meaning: M,
+    stage: Stage<S, X, E>,
+}
+
+/// How far a call is.
+#[derive(Drop)]
+pub(crate) enum Stage<S, X, E> {
+    Asking(S),
+    /// The call that it stands on has answered, and that is not told yet.
+    Answered(Result<X, E>),
+}
+
+impl<S, X, E, M> BucketCall<S, X, E, M> {
+    /// A call that stands on this one.
+    pub(crate) fn new(meaning: M, asked: S) -> BucketCall<S, X, E, M>
+        ensures { result ≡ asking meaning asked }
+    {
+        BucketCall {
+            meaning,
+            stage: Stage::Asking(asked),
+        }
+    }
+
+    fn answered(meaning: M, given: Result<X, E>) -> BucketCall<S, X, E, M>
+        ensures { result ≡ answered meaning given }
+    {
+        BucketCall {
+            meaning,
+            stage: Stage::Answered(given),
+        }
+    }
+}
+
+/// Tells what the call that it stands on has answered, which is kept where memory runs out.
+fn tell<S: Drop, X: Drop, E: Told, M: Outcome<X, E>>(
+    alloc: Global,
+    meaning: M,
+    given: Result<X, E>,
+) -> Turn<BucketCall<S, X, E, M>, M::Answer>
+    ensures { AnswersOf M.table E.told meaning given result }
+{
+    match given {
+        Ok(given) => match meaning.needs(alloc, &given) {
+            Ok(needs) => Turn::Ready(meaning.accept(given, needs)),
+            Err(OutOfMemory) => Turn::OutOfMemory(BucketCall::answered(meaning, Ok(given))),
+        },
+        Err(error) => match error.to_source(alloc) {
+            Ok(source) => Turn::Ready(meaning.refuse(error, source)),
+            Err(OutOfMemory) => Turn::OutOfMemory(BucketCall::answered(meaning, Err(error))),
+        },
+    }
+}
+
+/// What the call answers to what the call that it stands on does.
+fn turn<S: Drop, X: Drop, E: Told, M: Outcome<X, E>>(
+    alloc: Global,
+    meaning: M,
+    asked: Turn<S, Result<X, E>>,
+) -> Turn<BucketCall<S, X, E, M>, M::Answer>
+    ensures { TurnsTo M.table E.told meaning asked result }
+{
+    match asked {
+        Turn::Pending(asked) => Turn::Pending(BucketCall::new(meaning, asked)),
+        Turn::OutOfMemory(asked) => Turn::OutOfMemory(BucketCall::new(meaning, asked)),
+        Turn::Ready(given) => tell(alloc, meaning, given),
+    }
+}
+
+impl<S: State<Answer = Result<X, E>>, X: Drop, E: Told, M: Outcome<X, E>> State
+    for BucketCall<S, X, E, M> {
+    type Answer = M::Answer;
+
+    ghost polled = { Polled M.table E.told S.polled };
+
+    fn poll<L: Link>(self, alloc: Global, link: &mut L, now: Moment) -> Turn<Self, Self::Answer> {
+        if let Some(answer) = self.meaning.refusal() {
+            return Turn::Ready(answer);
+        }
+        let BucketCall { meaning, stage } = self;
+        match stage {
+            Stage::Answered(given) => tell(alloc, meaning, given),
+            Stage::Asking(asked) => {
+                let asked = asked.poll(alloc, link, now);
+                turn(alloc, meaning, asked)
+            }
+        }
+    }
+}
