@@ -1,0 +1,3 @@
+pub mod Relayed
+pub mod Handed
+pub mod Copied
