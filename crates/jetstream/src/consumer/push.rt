@@ -1,0 +1,2 @@
+//! Push consumers: their configurations.
+pub use js_json::push::{Config, OrderedConfig};

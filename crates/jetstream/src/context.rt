@@ -1,0 +1,12 @@
+//! A client's end of JetStream, what makes its requests, and the lists of its streams.
+pub use js_call::{
+    ApiRequest, ApiScope, RawCall, RawRequest, RequestError, RequestErrorKind, SendError,
+};
+pub use js_context::{
+    BuildError, ClientProvider, Context, ContextBuilder, No, Publisher, RequestSender, Requester,
+    TimeoutProvider, ToAssign, Yes,
+};
+pub use js_listing::{
+    FindingStream as SearchingStream, GetStreamByNameError, GetStreamByNameErrorKind,
+    StreamBySubject, StreamNames, Streams, StreamsError, StreamsErrorKind,
+};

@@ -1,0 +1,80 @@
+//! JetStream over any connection: the one crate that a program lists.
+//!
+//! # How a program is made
+//!
+//! Four values come together, and none of them waits or reads a clock:
+//!
+//! - a [`Context`]: where requests go, how long they are waited for, and the permits under which messages are published;
+//! - a *link*: an end of a connection. [`link::OutboxLink`] is the one for programs, [`link::MemoryLink`] and [`link::ScriptedServer`] are for tests;
+//! - *states*: each call hands one out, and nothing is sent before its first poll;
+//! - *moments*: whole nanoseconds from a beginning that the program chooses, which never go back. Each poll is handed the present one.
+//!
+//! # The loop
+//!
+//! ```text
+//! let mut call = context.get_stream(alloc, "events")?;       // 1. a call: memory is all that it can want
+//! loop {
+//!     match call.poll(alloc, &mut link, now()) {              // 2. a poll: sends, or looks at what came, and never waits
+//!         Turn::Ready(answer) => break answer,                //    the answer, or the error with its kind and source
+//!         Turn::Pending(later) => call = later,               //    nothing can be done yet: the state comes back
+//!         Turn::OutOfMemory(later) => call = later,           //    the state as it was: free memory, and poll again
+//!     }
+//!     while let Some(item) = link.next_outgoing() { .. }      // 3. what is to be sent goes to the connection, in order
+//!     link.deliver(subscription, message)?;                   // 4. what came is brought, under its subscription's number
+//! }
+//! ```
+//!
+//! **The order.** Poll, then take all that is to be sent, then wait for the connection or for the next moment, then bring what came, and poll
+//! again. What a poll sent is not on its way before it was taken. What came between two polls is seen by the next.
+//!
+//! **Which calls take what.** What makes a call takes the allocator and its arguments. A poll of a call takes the allocator, the link and the moment. A poll
+//! that publishes ([`publish::Sending`], [`publish::PublishAckFuture`]) also takes the runtime and the context, whose permits other threads may share.
+//! A reader or a list has `poll_next`, which answers a [`Next`] and keeps the state.
+//!
+//! **When to wake.** After `Pending`: when anything was brought, and at the latest when the state's wait is over. Its wait began at its first poll and
+//! lasts for the timeout of its call, of the context or of the link. [`link::OutboxLink::deliver`] answers which inbox or request wanted the message, so that
+//! a program that keeps many states polls the one whose request it was.
+//!
+//! **Before anything is sent,** a bad name or subject is answered by the first poll, with its own kind of error, and nothing goes out. What must not
+//! reach a wire is refused by the link itself.
+//!
+//! **Letting go.** A state can be let go at any time, but a [`publish::PublishAckFuture`] bears a permit and is spent: poll it until it is ready, or `detach` it. A
+//! request whose answer nobody awaits any more is ended by [`link::OutboxLink::forget`].
+//!
+//! **Many messages.** A [`PublishQueue`] publishes any number of messages under the permits of its context, keeps those that could not be sent, and
+//! hands out one outcome a message.
+//!
+//! # Where to look
+//!
+//! | Module | What stands in it |
+//! |---|---|
+//! | [`context`] | the context, its builder, what makes requests, lists of streams |
+//! | [`stream`] | configurations and infos of streams, and the calls on them |
+//! | [`consumer`] | the same of consumers; [`consumer::pull`] and [`consumer::push`] |
+//! | [`publish`] | messages that are published, and their acks |
+//! | [`message`] | messages that came from a stream, and their acknowledgement |
+//! | [`link`] | the trait `Link`, and the links |
+//! | [`errors`] | the server's errors, by number |
+//! | [`account`] | what an account may use |
+#![tactic(auto)]
+
+pub mod account;
+mod any_error;
+pub mod consumer;
+pub mod context;
+pub mod errors;
+pub mod link;
+pub mod message;
+pub mod publish;
+pub mod stream;
+
+pub use any_error::AnyError;
+pub use bytes::Bytes;
+pub use js_base::{
+    Error, HeaderMap, Items, Moment, Nanos, Next, OutOfMemory, Source, Subject, Text, TryClone,
+    Turn,
+};
+pub use js_call::State;
+pub use js_context::{Context, ContextBuilder};
+pub use js_message::AckKind;
+pub use js_publish_queue::PublishQueue;

@@ -1,0 +1,28 @@
+//! Connections: the trait `Link`, the end for programs, and two in memory for tests.
+ghost use Rattle.std.specs.Prelude.{◌≡◌, IfOk, None};
+ghost use Rattle.jetstream.specs.Received.{received};
+
+use bytes::Bytes;
+use js_base::{Message, OutOfMemory, Subject};
+pub use js_base::{Message as PlainMessage, State as ConnectionState, StatusCode};
+pub use js_link::{
+    Answer, InboxId, Link, LinkError, MemoryLink, RequestId, ScriptedServer, Sent, Taken, Watch,
+};
+pub use js_outbox::{Delivery, OutboxLink, Outgoing};
+use std::alloc::Global;
+
+/// A message that came with these bytes, without a reply subject, headers or a status. Its length is that of subject and payload.
+pub fn received(alloc: Global, subject: &str, payload: &[u8]) -> Result<Message, OutOfMemory>
+    ensures { IfOk result (λ message. message ≡ received subject.now payload.now) }
+{
+    let length = (subject.len() as u64).saturating_add(payload.len() as u64);
+    Ok(Message {
+        subject: Subject::new(alloc, subject)?,
+        reply: None,
+        payload: Bytes::copy_from_slice(alloc, payload)?,
+        headers: None,
+        status: None,
+        description: None,
+        length,
+    })
+}

@@ -1,0 +1,5 @@
+//! Messages that came from a stream, what their acknowledgement subjects say, and how they are acknowledged.
+pub use js_message::{
+    AckError, AckKind, Acker, DoubleAck, Info, InfoError, Message, MessageInfoError, StreamMessage,
+    StreamMessageError, StreamMessageErrorKind, parse_info,
+};

@@ -1,0 +1,5 @@
+//! Messages that are published, one by one or many, and their acks.
+pub use js_context::{PublishAckFuture, PublishError, PublishErrorKind, Sending};
+pub use js_json::PublishAck;
+pub use js_message::{OutboundMessage, PublishMessage};
+pub use js_publish_queue::{Closed, PublishQueue, Published, Tag, Unsent};

@@ -1,0 +1,30 @@
+//! Streams: what they are configured with, what the server knows of them, and the calls on them.
+ghost use Rattle.std.specs.Prelude.{◌≡◌, IfOk};
+ghost use Rattle.jetstream.specs.Configs.{named};
+
+use js_base::{Items, OutOfMemory, Text};
+pub use js_stream::DeleteStatus;
+pub use js_stream::stream::{
+    Compression, Config, DiscardPolicy, External, Info, Placement, Republish, RetentionPolicy,
+    Source, State, StorageType,
+};
+pub use js_stream_calls::{
+    CreateOrUpdateStream, CreateStream, CreateStreamError, CreateStreamErrorKind, DeleteStream,
+    DeleteStreamError, DeleteStreamErrorKind, FindingStream, GetOrCreateStream, GetStream,
+    GetStreamError, GetStreamErrorKind, Kept, KeptInfo, StreamHandle, UpdateStream,
+    UpdateStreamError, UpdateStreamErrorKind,
+};
+use std::alloc::Global;
+
+/// A configuration with a name and a subject, and all else as `Config::new` has it. The one refusal is want of memory.
+pub fn named(alloc: Global, name: &str, subject: &str) -> Result<Config, OutOfMemory>
+    ensures { IfOk result (λ config. config ≡ named name.now subject.now) }
+{
+    let mut subjects = Items::new(alloc);
+    subjects.push(Text::from_str(alloc, subject)?)?;
+    Ok(Config {
+        name: Text::from_str(alloc, name)?,
+        subjects,
+        ..Config::new(alloc)
+    })
+}
