@@ -1,0 +1,93 @@
+//! Calls on buckets of objects.
+
+use crate::server::{
+    ABSENT, Asked, Case, DELETED, NOBODY, Reply, WRONG, Words, context, outcome, polled,
+};
+use js_base::{OutOfMemory, Text};
+use js_context::Context;
+use js_link::ScriptedServer;
+use js_store::{StoreCalls, object_store};
+use std::alloc::Global;
+
+const CREATE: Asked = (
+    "$JS.API.STREAM.CREATE.OBJ_files",
+    r#"{"allow_direct":true,"allow_rollup_hdrs":true,"compression":"s2","discard":"new","name":"OBJ_files","retention":"limits","storage":"file","subjects":["$O.files.C.>","$O.files.M.>"]}"#,
+);
+
+const INFO: Asked = ("$JS.API.STREAM.INFO.OBJ_files", "null");
+
+const DELETE: Asked = ("$JS.API.STREAM.DELETE.OBJ_files", "{}");
+
+const KNOWN: Reply = (
+    None,
+    r#"{"config":{"name":"OBJ_files"},"created":"2026-01-01T00:00:00Z","state":{"messages":3,"bytes":96,"first_seq":1,"last_seq":3}}"#,
+);
+
+/// A call on the bucket of objects of a name.
+#[derive(Clone, Copy, Drop)]
+enum Call {
+    Create(&'static str),
+    Get(&'static str),
+    Delete(&'static str),
+}
+
+fn config(alloc: Global, bucket: &str) -> Result<object_store::Config, OutOfMemory> {
+    Ok(object_store::Config {
+        bucket: Text::from_str(alloc, bucket)?,
+        compression: true,
+        ..object_store::Config::new(alloc)
+    })
+}
+
+impl Case for Call {
+    fn told(self, alloc: Global, context: &Context, server: &mut ScriptedServer) -> Words {
+        match self {
+            Call::Create(bucket) => {
+                let config = config(alloc, bucket)?;
+                polled(alloc, server, context.create_object_store(alloc, config))
+            }
+            Call::Get(bucket) => polled(alloc, server, context.get_object_store(alloc, bucket)),
+            Call::Delete(bucket) => {
+                polled(alloc, server, context.delete_object_store(alloc, bucket))
+            }
+        }
+    }
+}
+
+/// Calls, what they ask and are replied, and what they come to.
+const CALLS: [(Call, &[(Asked, Reply)], &str); 9] = [
+    (Call::Create("files"), &[(CREATE, KNOWN)], "files OBJ_files"),
+    (
+        Call::Create("files"),
+        &[(CREATE, WRONG)],
+        "bucket creation failed: no (code 400, error code 10058)",
+    ),
+    (Call::Create("a.b"), &[], "invalid Key Value Store name"),
+    (Call::Get("files"), &[(INFO, KNOWN)], "files OBJ_files"),
+    (
+        Call::Get("files"),
+        &[(INFO, NOBODY)],
+        "failed to get Object Store: request error: requested JetStream resource does not exist",
+    ),
+    (Call::Get("a.b"), &[], "invalid Object Store bucket name"),
+    (Call::Delete("files"), &[(DELETE, DELETED)], "done"),
+    (
+        Call::Delete("files"),
+        &[(DELETE, ABSENT)],
+        "failed to get Object Store: unknown (code 404, error code 10059)",
+    ),
+    (
+        Call::Delete("a.b"),
+        &[],
+        "failed to get Object Store: invalid stream name",
+    ),
+];
+
+#[test]
+fn calls_on_objects_ask_and_answer(rt: HostRuntime) {
+    let context = context(&rt, rt.alloc(), "$JS.API").expect(&rt, "context");
+    for (call, script, wanted) in CALLS {
+        let found = outcome(rt.alloc(), &context, call, script).expect(&rt, wanted);
+        assert_eq!(rt; found.as_str(), wanted);
+    }
+}
