@@ -4,12 +4,12 @@ use crate::server::{Words, polled, scope, word};
 use js_base::{Items, OutOfMemory, Text, TryClone, Turn};
 use js_call::State;
 use js_link::Link;
-use js_stream::stream::{Config, External, Info, Source};
 use js_stream_calls::{
     CreateOrUpdateStream, CreateStream, DeleteStream, GetOrCreateStream, GetStream, StreamHandle,
     UpdateStream, create_or_update_stream, create_stream, delete_stream, domain_prefix,
     get_or_create_stream, get_stream, get_stream_no_info, update_stream, update_stream_keeping,
 };
+use js_stream_json::stream::{Config, External, Info, Source};
 use std::alloc::Global;
 
 pub(crate) const PREFIX: &str = "$JS.API";

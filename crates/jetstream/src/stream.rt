@@ -3,16 +3,16 @@ ghost use Rattle.std.specs.Prelude.{◌≡◌, IfOk};
 ghost use Rattle.jetstream.specs.Configs.{named};
 
 use js_base::{Items, OutOfMemory, Text};
-pub use js_stream::DeleteStatus;
-pub use js_stream::stream::{
-    Compression, Config, DiscardPolicy, External, Info, Placement, Republish, RetentionPolicy,
-    Source, State, StorageType,
-};
 pub use js_stream_calls::{
     CreateOrUpdateStream, CreateStream, CreateStreamError, CreateStreamErrorKind, DeleteStream,
     DeleteStreamError, DeleteStreamErrorKind, FindingStream, GetOrCreateStream, GetStream,
     GetStreamError, GetStreamErrorKind, Kept, KeptInfo, StreamHandle, UpdateStream,
     UpdateStreamError, UpdateStreamErrorKind,
+};
+pub use js_stream_json::DeleteStatus;
+pub use js_stream_json::stream::{
+    Compression, Config, DiscardPolicy, External, Info, Placement, Republish, RetentionPolicy,
+    Source, State, StorageType,
 };
 use std::alloc::Global;
 

@@ -5,7 +5,7 @@ ghost use Rattle.js_account_calls.specs.Accounts.{account_in, account_row, query
 use crate::error::{AccountError, AccountErrorKind, account_kind};
 use bytes::Bytes;
 use js_base::{Error, OutOfMemory, Source};
-use js_call::{ApiScope, Call, Failure, Meaning};
+use js_call::{ApiCall, ApiScope, Call, Failure};
 use js_fields::ReadError;
 use js_json::account::Account;
 use js_json::{Response, response_as};
@@ -28,7 +28,7 @@ fn account_in(reply: Response<Account>) -> Result<Account, AccountError>
     }
 }
 
-impl Meaning for QueryingAccount {
+impl ApiCall for QueryingAccount {
     type Reply = Response<Account>;
 
     type Answer = Result<Account, AccountError>;

@@ -3,10 +3,10 @@ use Rattle.std.proofs.Common.{◌≡◌, ℕ, ◌+◌, Bool, true, false, List, 
 use Rattle.std.proofs.lemmas.Bool.{eq-eqb}
 use Rattle.std.specs.Prelude.{◌&&◌, unwrap_or, if◌then◌else◌}
 use Rattle.std.specs.Cmp.Lexicographic.{pointwise}
-use Rattle.js_ordered.specs.declared.course.Course.{Course}
-use Rattle.js_ordered.specs.Course.{HasCome, last}
+use Rattle.js_ordered.specs.declared.incremental_replay.IncrementalReplay.{IncrementalReplay}
+use Rattle.js_ordered.specs.IncrementalReplay.{HasCome, last}
 use Rattle.js_ordered.proofs.Coursing.{no_steps, opening_is}
-use Rattle.js_table.specs.declared.consumer.Given.{Given}
+use Rattle.js_table.specs.declared.consumer.ReplayInput.{ReplayInput}
 use Rattle.js_table.specs.declared.event.Event.{Event}
 use Rattle.js_table.specs.declared.run.Output.{Output}
 use Rattle.js_table.specs.declared.run.ReplayError.{ReplayError}
@@ -16,9 +16,9 @@ use Rattle.js_table.specs.Fold.{fold}
 use Rattle.js_table.specs.Gapless.{Entry, yields, joined, all_outputs}
 use Rattle.js_table.specs.Refusal.{refuse}
 use Rattle.js_table.specs.Texts.{configured_start}
-use Rattle.js_bookmark.specs.declared.course.SessionCourse.{SessionCourse}
-use Rattle.js_bookmark.specs.declared.course.SessionEnd.{SessionEnd}
-use Rattle.js_bookmark.specs.declared.course.Sessions.{Sessions}
+use Rattle.js_bookmark.specs.declared.session_replay.SessionReplay.{SessionReplay}
+use Rattle.js_bookmark.specs.declared.session_replay.SessionEnd.{SessionEnd}
+use Rattle.js_bookmark.specs.declared.session_replay.Sessions.{Sessions}
 use Rattle.js_bookmark.specs.declared.error.SessionsError.TheVariants as error
 use Rattle.js_bookmark.specs.declared.mark.Mark.{Mark}
 use Rattle.js_bookmark.specs.declared.scope.Scope.{Scope}
@@ -73,13 +73,13 @@ agreed_none (Some first) scope is = by_test (same_scope first scope) is
 
 -- ---- the begin
 
-yields_first : (g : Given) (start : ℕ) → yields (all_outputs (fold g start [])) ≡ yields (last g start []).outputs
+yields_first : (g : ReplayInput) (start : ℕ) → yields (all_outputs (fold g start [])) ≡ yields (last g start []).outputs
 yields_first g start =
     ap (λ (steps : List Step). yields ((fold g start []).opening.outputs ++ joined steps)) (no_steps g start)
     ∙ ap yields (append-nil (fold g start []).opening.outputs)
     ∙ ap (λ (step : Step). yields step.outputs) (opening_is g start [])
 
-pub begun : (next : ℕ) (done : List Session) (s : Session) (old : Sessions) (c : SessionCourse) (kept : Scope) → HaveEnded next done old
+pub begun : (next : ℕ) (done : List Session) (s : Session) (old : Sessions) (c : SessionReplay) (kept : Scope) → HaveEnded next done old
     → s.lines ≡ [] → c.number ≡ old.count + 1 → is_at old.next (configured_start s.setup) ≡ true → agreed old.scope (scope_of s.setup s.first) ≡ Some kept
     → c.before ≡ old.committed → c.scope ≡ kept → HasCome (given_of s) s.start [] c.course
     → c.saved ≡ mark_of old.next [] → c.yielded ≡ mark_of old.next (yields c.course.outputs) → c.has_failed ≡ false
@@ -110,13 +110,13 @@ begun next done s old c kept ended empty number starts agrees before scope come 
 -- ---- one line more
 
 -- an event is passed
-pub comes_event : (next : ℕ) (done : List Session) (s : Session) (e : Event) (c new : SessionCourse) → HasComeTo next done s c
+pub comes_event : (next : ℕ) (done : List Session) (s : Session) (e : Event) (c new : SessionReplay) → HasComeTo next done s c
     → new.number ≡ c.number → new.before ≡ c.before → new.scope ≡ c.scope
     → HasCome (given_of s) s.start (events_of s.lines ++ e ∷ []) new.course
     → ((at : ℕ) (entries : List Entry) → c.yielded ≡ mark_of at entries → new.yielded ≡ mark_of at (entries ++ yields new.course.outputs))
     → new.saved ≡ c.saved → new.has_failed ≡ false → HasComeTo next done (with_line s (line.Event e)) new
 comes_event next done s e c new come number before scope course yielded same sound =
-    let g : Given = given_of s in
+    let g : ReplayInput = given_of s in
     let es : List Event = events_of s.lines in
     let one : es ++ e ∷ [] ≡ events_of (s.lines ++ line.Event e ∷ []) = sym (events_event s.lines e) in
     let b : ℕ = bookmark next (all_committed done) in
@@ -142,11 +142,11 @@ comes_event next done s e c new come number before scope course yielded same sou
     }
 
 -- or all is committed
-pub comes_save : (next : ℕ) (done : List Session) (s : Session) (c new : SessionCourse) → HasComeTo next done s c
+pub comes_save : (next : ℕ) (done : List Session) (s : Session) (c new : SessionReplay) → HasComeTo next done s c
     → new.number ≡ c.number → new.before ≡ c.before → new.scope ≡ c.scope → new.course ≡ c.course → new.yielded ≡ c.yielded → new.saved ≡ c.yielded → new.has_failed ≡ c.has_failed
     → HasComeTo next done (with_line s line.Save) new
 comes_save next done s c new come number before scope course yielded same sound =
-    let g : Given = given_of s in
+    let g : ReplayInput = given_of s in
     let es : List Event = events_of s.lines in
     let one : es ≡ events_of (s.lines ++ line.Save ∷ []) = sym (events_save s.lines) in
     let b : ℕ = bookmark next (all_committed done) in
@@ -159,7 +159,7 @@ comes_save next done s c new come number before scope course yielded same sound 
       matches = come.matches;
       course =
           subst (λ (all : List Event). HasCome g s.start all new.course) one
-          (subst (λ (course : Course). HasCome g s.start es course) (sym course) come.course);
+          (subst (λ (course : IncrementalReplay). HasCome g s.start es course) (sym course) come.course);
       yielded = yielded ∙ come.yielded ∙ ap (λ (all : List Event). mark_of b (yields (all_outputs (fold g s.start all)))) one;
       saved =
           same ∙ come.yielded
@@ -172,7 +172,7 @@ comes_save next done s c new come number before scope course yielded same sound 
 -- ---- the end
 
 -- its replay is refused,
-pub ends_refused : (next : ℕ) (done : List Session) (s : Session) (c : SessionCourse) (refusal : ReplayError) → HasComeTo next done s c → refuse (given_of s) s.start (events_of s.lines) ≡ Some refusal
+pub ends_refused : (next : ℕ) (done : List Session) (s : Session) (c : SessionReplay) (refusal : ReplayError) → HasComeTo next done s c → refuse (given_of s) s.start (events_of s.lines) ≡ Some refusal
     → IsRefusal next (done ++ s ∷ []) (replay_refusal c.number refusal)
 ends_refused next done s c replay.OutOfMemory come refused = tt
 ends_refused next done s c replay.NoDeliverSubject come refused = replay_refused next c.number done s replay.NoDeliverSubject come.accepted come.number come.starts come.matches refused
@@ -192,11 +192,11 @@ within_at : (b : Bool) (at next : ℕ) → (if b then None else Some at) ≡ Som
 within_at true at next is = cc
 within_at false at next is = cc
 
-saved_next : (next : ℕ) (done : List Session) (s : Session) (c : SessionCourse) → HasComeTo next done s c → c.saved.next ≡ bookmark_within (bookmark next (all_committed done)) (committed s)
+saved_next : (next : ℕ) (done : List Session) (s : Session) (c : SessionReplay) → HasComeTo next done s c → c.saved.next ≡ bookmark_within (bookmark next (all_committed done)) (committed s)
 saved_next next done s c come = ap (λ (m : Mark). m.next) come.saved
 
 -- it commits the last of all sequences,
-pub ends_last : (next : ℕ) (done : List Session) (s : Session) (c : SessionCourse) → HasComeTo next done s c → refuse (given_of s) s.start (events_of s.lines) ≡ None → c.saved.next ≡ None
+pub ends_last : (next : ℕ) (done : List Session) (s : Session) (c : SessionReplay) → HasComeTo next done s c → refuse (given_of s) s.start (events_of s.lines) ≡ None → c.saved.next ≡ None
     → refuse_sessions next (done ++ s ∷ []) ≡ Some (error.BookmarkEnd c.number)
 ends_last next done s c come accepted none =
     bookmark_ends next c.number done s come.accepted come.number come.starts come.matches accepted
@@ -210,7 +210,7 @@ count_on : (done : List Session) (s : Session) → length done + 1 ≡ length (d
 count_on done s = sym (simp length-append (omega arith))
 
 -- or has ended
-pub ends_well : (next : ℕ) (done : List Session) (s : Session) (c : SessionCourse) (end : SessionEnd) (at : ℕ) → HasComeTo next done s c
+pub ends_well : (next : ℕ) (done : List Session) (s : Session) (c : SessionReplay) (end : SessionEnd) (at : ℕ) → HasComeTo next done s c
     → refuse (given_of s) s.start (events_of s.lines) ≡ None → end.ended ≡ (run_of s).ended → c.saved.next ≡ Some at
     → end.committed ≡ c.saved.count → end.sessions ≡ record { count = c.number; next = at; committed = c.before + c.saved.count; scope = Some c.scope }
     → HasEnded next done s end

@@ -2,16 +2,16 @@
 use Rattle.std.proofs.Common.{◌≡◌, ℕ, ◌+◌, ◌<◌, List, [], ◌∷◌, ◌++◌, length, take, drop, get_or, sym, ap, ◌∙◌, subst, take-append-drop}
 use Rattle.std.proofs.lemmas.List.{take_more}
 use Rattle.std.specs.Prelude.{Bool, Result, Ok, Err, OnOk}
-use Rattle.js_ordered.specs.Course.{last}
+use Rattle.js_ordered.specs.IncrementalReplay.{last}
 use Rattle.js_ordered.proofs.Coursing.{no_steps, opening_is, steps_on}
-use Rattle.js_table.specs.declared.consumer.Given.{Given}
+use Rattle.js_table.specs.declared.consumer.ReplayInput.{ReplayInput}
 use Rattle.js_table.specs.declared.event.Event.{Event}
 use Rattle.js_table.specs.declared.run.Output.{Output}
 use Rattle.js_table.specs.declared.run.Step.{Step}
 use Rattle.js_table.specs.Fold.{fold, step_of}
 use Rattle.js_table.specs.Gapless.{Logged, Server}
-use Rattle.js_bookmark.specs.declared.course.SessionCourse.{SessionCourse}
-use Rattle.js_bookmark.specs.declared.course.SessionEnd.{SessionEnd}
+use Rattle.js_bookmark.specs.declared.session_replay.SessionReplay.{SessionReplay}
+use Rattle.js_bookmark.specs.declared.session_replay.SessionEnd.{SessionEnd}
 use Rattle.js_bookmark.specs.declared.error.SessionsError.{SessionsError}
 use Rattle.js_bookmark.specs.declared.session.Line.{Line}
 use Rattle.js_bookmark.specs.declared.session.Line.TheVariants as line
@@ -33,11 +33,11 @@ pub steps_none : (s : Session) → [] ≡ (run_of (with_lines s [])).steps
 steps_none s = sym (no_steps (given_of s) s.start)
 
 -- an event adds the step that it puts out
-pub steps_event : (next : ℕ) (done : List Session) (s : Session) (e : Event) (new : SessionCourse) (before steps : List Step) (step : Step) (outputs : List Output)
+pub steps_event : (next : ℕ) (done : List Session) (s : Session) (e : Event) (new : SessionReplay) (before steps : List Step) (step : Step) (outputs : List Output)
     → HasComeTo next done (with_line s (line.Event e)) new → before ≡ (run_of s).steps → outputs ≡ new.course.outputs → step.outputs ≡ outputs → steps ≡ before ++ step ∷ []
     → steps ≡ (run_of (with_line s (line.Event e))).steps
 steps_event next done s e new before steps step outputs come were put copied added =
-    let g : Given = given_of s in
+    let g : ReplayInput = given_of s in
     let es : List Event = events_of s.lines in
     let all : List Event = events_of (s.lines ++ line.Event e ∷ []) in
     let one : es ++ e ∷ [] ≡ all = sym (events_event s.lines e) in
@@ -55,7 +55,7 @@ pub steps_save : (s : Session) (steps : List Step) → steps ≡ (run_of s).step
 steps_save s steps were = were ∙ ap (λ (es : List Event). (fold (given_of s) s.start es).steps) (sym (events_save s.lines))
 
 -- with an event
-pub stepped_event : {E : Type 0} (next : ℕ) (done : List Session) (s : Session) (e : Event) (c new : SessionCourse) (before steps : List Step) (step : Step) (outputs : List Output) (l : Line) (result : Result (Unit {0}) E)
+pub stepped_event : {E : Type 0} (next : ℕ) (done : List Session) (s : Session) (e : Event) (c new : SessionReplay) (before steps : List Step) (step : Step) (outputs : List Output) (l : Line) (result : Result (Unit {0}) E)
     → l ≡ line.Event e → HasStepped next done s c before → HasComeTo next done (with_line s (line.Event e)) new → outputs ≡ new.course.outputs → step.outputs ≡ outputs
     → OnOk result (steps ≡ before ++ step ∷ []) → OnOk result (HasStepped next done (with_line s l) new steps)
 stepped_event next done s e c new before steps step outputs l (Ok u) is stepped come put copied added =
@@ -64,7 +64,7 @@ stepped_event next done s e c new before steps step outputs l (Ok u) is stepped 
 stepped_event next done s e c new before steps step outputs l (Err error) is stepped come put copied added = tt
 
 -- with a save
-pub stepped_save : (next : ℕ) (done : List Session) (s : Session) (c new : SessionCourse) (steps : List Step) (l : Line)
+pub stepped_save : (next : ℕ) (done : List Session) (s : Session) (c new : SessionReplay) (steps : List Step) (l : Line)
     → l ≡ line.Save → HasStepped next done s c steps → HasComeTo next done (with_line s line.Save) new → HasStepped next done (with_line s l) new steps
 stepped_save next done s c new steps l is stepped come =
     subst (λ (l : Line). HasStepped next done (with_line s l) new steps) (sym is)
@@ -73,11 +73,11 @@ stepped_save next done s c new steps l is stepped come =
 -- ---- the run
 
 -- what a session has come to is its run
-pub run_is : (next : ℕ) (done : List Session) (s : Session) (began : SessionCourse) (end : SessionEnd) (opening : Step) (steps : List Step) (outputs : List Output) (at : ℕ)
+pub run_is : (next : ℕ) (done : List Session) (s : Session) (began : SessionReplay) (end : SessionEnd) (opening : Step) (steps : List Step) (outputs : List Output) (at : ℕ)
     → HasComeTo next done (with_lines s []) began → outputs ≡ began.course.outputs → opening.outputs ≡ outputs → steps ≡ (run_of s).steps → HasEnded next done s end → at ≡ end.sessions.next
     → record { run = record { opening = opening; steps = steps; ended = end.ended }; committed = end.committed; next = at } ≡ session_run (bookmark next (all_committed done)) s
 run_is next done s began end opening steps outputs at come put copied were ended behind =
-    let g : Given = given_of s in
+    let g : ReplayInput = given_of s in
     let made : List Output → Step = λ some. record { outputs = some } in
     let first : opening ≡ (run_of s).opening = ap made (copied ∙ put ∙ come.course.outputs) ∙ sym (opening_is g s.start (events_of s.lines)) in
     let of : Step → List Step → Bool → ℕ → ℕ → SessionRun = λ opening steps ended count at. record { run = record { opening = opening; steps = steps; ended = ended }; committed = count; next = at } in

@@ -2,9 +2,9 @@
 use Rattle.std.proofs.Common.{◌≡◌, ℕ, suc, ◌≤◌, List, [], ◌∷◌, ◌++◌, Option, Some, None, refl, sym, ap, ◌∙◌, length, take, drop, append_assoc, append-nil, arith}
 use Rattle.std.proofs.lemmas.List.{take_all, take-append-le, take-append-drop}
 use Rattle.std.specs.Prelude.{IfSome, option_map, unwrap_or}
-use Rattle.js_ordered.specs.Course.{last}
+use Rattle.js_ordered.specs.IncrementalReplay.{last}
 use Rattle.js_ordered.proofs.Coursing.{steps_on, opening_is, steps_count}
-use Rattle.js_table.specs.declared.consumer.Given.{Given}
+use Rattle.js_table.specs.declared.consumer.ReplayInput.{ReplayInput}
 use Rattle.js_table.specs.declared.event.Event.{Event}
 use Rattle.js_table.specs.declared.run.Output.{Output}
 use Rattle.js_table.specs.declared.run.Output.TheVariants as out
@@ -63,7 +63,7 @@ yields_append (out.Yield sequence number subject payload ∷ xs) ys =
     let entry : Entry = record { subject = subject; sequence = sequence; payload = payload } in
     ap (λ (entries : List Entry). entry ∷ entries) (yields_append xs ys)
 yields_append (out.Item kind ∷ xs) ys = yields_append xs ys
-yields_append (out.Recreate serial start ∷ xs) ys = yields_append xs ys
+yields_append (out.Recreate recreation_count start ∷ xs) ys = yields_append xs ys
 yields_append (out.Request number subject payload ∷ xs) ys = yields_append xs ys
 yields_append (out.Publish subject reply payload ∷ xs) ys = yields_append xs ys
 yields_append (out.Subscribe inbox subject ∷ xs) ys = yields_append xs ys
@@ -91,11 +91,11 @@ outputs_grow opening steps step =
     ∙ ap yields (sym (append_assoc opening (joined steps) step.outputs))
     ∙ yields_append (opening ++ joined steps) step.outputs
 
-same_opening : (g : Given) (start : ℕ) (es more : List Event) → (fold g start es).opening ≡ (fold g start more).opening
+same_opening : (g : ReplayInput) (start : ℕ) (es more : List Event) → (fold g start es).opening ≡ (fold g start more).opening
 same_opening g start es more = opening_is g start es ∙ sym (opening_is g start more)
 
 -- one event more adds what it has put out
-pub yields_grow : (g : Given) (start : ℕ) (es : List Event) (e : Event)
+pub yields_grow : (g : ReplayInput) (start : ℕ) (es : List Event) (e : Event)
     → yields (all_outputs (fold g start (es ++ e ∷ []))) ≡ yields (all_outputs (fold g start es)) ++ yields (last g start (es ++ e ∷ [])).outputs
 yields_grow g start es e =
     let all : List Event = es ++ e ∷ [] in
@@ -104,7 +104,7 @@ yields_grow g start es e =
     ∙ outputs_grow (fold g start es).opening.outputs (fold g start es).steps (step_of (last g start all))
 
 -- and leaves what is committed
-pub committed_grow : (n : Option ℕ) (g : Given) (start : ℕ) (es : List Event) (e : Event) → IfSome n (λ k. k ≤ length es)
+pub committed_grow : (n : Option ℕ) (g : ReplayInput) (start : ℕ) (es : List Event) (e : Event) → IfSome n (λ k. k ≤ length es)
     → committed_of n (fold g start (es ++ e ∷ [])) ≡ committed_of n (fold g start es)
 committed_grow None g start es e within = refl
 committed_grow (Some n) g start es e within =
@@ -117,7 +117,7 @@ committed_grow (Some n) g start es e within =
     ∙ ap (λ (steps : List Step). yields ((fold g start es).opening.outputs ++ joined steps)) (take-append-le n before (step_of (last g start all) ∷ []) inside)
 
 -- a save commits all yields
-pub committed_all : (g : Given) (start : ℕ) (es : List Event) → committed_of (Some (length es)) (fold g start es) ≡ yields (all_outputs (fold g start es))
+pub committed_all : (g : ReplayInput) (start : ℕ) (es : List Event) → committed_of (Some (length es)) (fold g start es) ≡ yields (all_outputs (fold g start es))
 committed_all g start es =
     let count : length (fold g start es).steps ≡ length es = steps_count g start es in
     let inside : length (fold g start es).steps ≤ length es = omega arith in

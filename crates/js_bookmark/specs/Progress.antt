@@ -1,13 +1,13 @@
 -- How far sessions have come that are told line by line.
 use Rattle.std.specs.Prelude.{◌≡◌, ℕ, ◌+◌, ◌==◌, List, [], ◌∷◌, ◌++◌, length, true, false, Option, Some, None, unwrap_or, if◌then◌else◌, Result, Ok, Err}
-use Rattle.js_ordered.specs.Course.{HasCome}
+use Rattle.js_ordered.specs.IncrementalReplay.{HasCome}
 use Rattle.js_pull.specs.Reader.{u64_max}
 use Rattle.js_table.specs.declared.run.Step.{Step}
 use Rattle.js_table.specs.Gapless.{Entry, yields, all_outputs}
 use Rattle.js_table.specs.Texts.{configured_start}
-use Rattle.js_bookmark.specs.declared.course.SessionCourse.{SessionCourse}
-use Rattle.js_bookmark.specs.declared.course.SessionEnd.{SessionEnd}
-use Rattle.js_bookmark.specs.declared.course.Sessions.{Sessions}
+use Rattle.js_bookmark.specs.declared.session_replay.SessionReplay.{SessionReplay}
+use Rattle.js_bookmark.specs.declared.session_replay.SessionEnd.{SessionEnd}
+use Rattle.js_bookmark.specs.declared.session_replay.Sessions.{Sessions}
 use Rattle.js_bookmark.specs.declared.error.SessionsError.{SessionsError}
 use Rattle.js_bookmark.specs.declared.mark.Mark.{Mark}
 use Rattle.js_bookmark.specs.declared.scope.Scope.{Scope}
@@ -69,7 +69,7 @@ abbrev pub scope_for : List Session → Session → Scope
 scope_for done s = unwrap_or (first_scope done) (scope_of s.setup s.first)
 
 -- sessions have ended, and the next one has come through these lines
-pub record HasComeTo (next : ℕ) (done : List Session) (s : Session) (c : SessionCourse) : Type 0 where
+pub record HasComeTo (next : ℕ) (done : List Session) (s : Session) (c : SessionReplay) : Type 0 where
   pub number : c.number ≡ length done + 1
   pub before : c.before ≡ length (all_committed done)
   pub scope : c.scope ≡ scope_for done s
@@ -82,7 +82,7 @@ pub record HasComeTo (next : ℕ) (done : List Session) (s : Session) (c : Sessi
   pub sound : c.has_failed ≡ false
 
 -- what the begin of a session answers: a session with no lines yet, or the refusal that applies whatever lines it has
-abbrev pub Begins : ℕ → List Session → Session → Result SessionCourse SessionsError → Type 0
+abbrev pub Begins : ℕ → List Session → Session → Result SessionReplay SessionsError → Type 0
 Begins next done s (Ok course) = HasComeTo next done (with_lines s []) course
 Begins next done s (Err refusal) = (lines : List Line) → IsRefusal next (done ++ with_lines s lines ∷ []) refusal
 
@@ -101,7 +101,7 @@ Ends next done s (Err refusal) = IsRefusal next (done ++ s ∷ []) refusal
 -- ---- with their runs
 
 -- a session that has come through its lines, and the steps of its events
-pub record HasStepped (next : ℕ) (done : List Session) (s : Session) (c : SessionCourse) (steps : List Step) : Type 0 where
+pub record HasStepped (next : ℕ) (done : List Session) (s : Session) (c : SessionReplay) (steps : List Step) : Type 0 where
   pub come : HasComeTo next done s c
   pub so_far : steps ≡ (run_of s).steps
 

@@ -2,7 +2,7 @@
 use Rattle.std.specs.Prelude.{◌≡◌, ℕ, ◌+◌, ◌==◌, ◌&&◌, Bool, false, not, List, [], ◌∷◌, ◌++◌, length, Option, Some, None, option_map, nat_eq, Result, Ok, Err, ⊤}
 use Rattle.std.specs.Cmp.Lexicographic.{pointwise}
 use Rattle.js_json.specs.declared.consumer.info.Info.{Info}
-use Rattle.js_table.specs.declared.consumer.Given.{Given}
+use Rattle.js_table.specs.declared.consumer.ReplayInput.{ReplayInput}
 use Rattle.js_table.specs.declared.run.Run.{Run}
 use Rattle.js_table.specs.declared.run.ReplayError.{ReplayError}
 use Rattle.js_table.specs.declared.run.ReplayError.TheVariants as replay
@@ -21,7 +21,7 @@ use Rattle.js_bookmark.specs.Lines.{events_of, saved, committed_of, bookmark, ha
 -- ---- one session
 
 -- what a session's consumer is made with
-abbrev pub given_of : Session → Given
+abbrev pub given_of : Session → ReplayInput
 given_of s = record { settings = s.settings; setup = s.setup; first = s.first }
 
 -- the run of its events

@@ -7,9 +7,9 @@ ghost use Rattle.js_bookmark.specs.Progress.{HasComeTo, HasStepped, HaveRun, Run
 ghost use Rattle.js_bookmark.specs.Sessions.{IsAnswer};
 ghost use Rattle.js_bookmark.specs.declared.session.Session.{Session};
 
-use crate::course::{SessionCourse, SessionEnd, Sessions};
 use crate::error::SessionsError;
 use crate::session::{Line, Session, SessionRun};
+use crate::session_replay::{SessionEnd, SessionReplay, Sessions};
 use js_base::{Items, OutOfMemory, TryClone};
 use js_ordered::{Output, Run, Step};
 use std::alloc::Global;
@@ -30,8 +30,11 @@ fn copy_of(output: &Output) -> Result<Output, OutOfMemory>
             payload: payload.clone()?,
         }),
         Output::Item { kind } => Ok(Output::Item { kind: *kind }),
-        Output::Recreate { serial, start } => Ok(Output::Recreate {
-            serial: *serial,
+        Output::Recreate {
+            recreation_count,
+            start,
+        } => Ok(Output::Recreate {
+            recreation_count: *recreation_count,
             start: *start,
         }),
         Output::Request {
@@ -74,7 +77,7 @@ fn step_of(alloc: Global, outputs: &[Output]) -> Result<Step, OutOfMemory>
 
 fn pass_line(
     alloc: Global,
-    course: &mut SessionCourse<'_>,
+    course: &mut SessionReplay<'_>,
     steps: &mut Items<Step>,
     line: &Line,
 ) -> Result<(), OutOfMemory>
@@ -96,7 +99,7 @@ fn pass_line(
 /// The steps of a session's events.
 fn steps_of(
     alloc: Global,
-    course: &mut SessionCourse<'_>,
+    course: &mut SessionReplay<'_>,
     lines: &[Line],
 ) -> Result<Items<Step>, OutOfMemory>
     ensures { (next : ℕ) → (done : List Session) → (s : Session) → HasComeTo next done (with_lines s []) course.old

@@ -1,9 +1,9 @@
 -- The stream that a bucket of objects is.
 use Rattle.std.specs.Prelude.{ℕ, ◌≡◌, pos, true, false, List, [], ◌∷◌, ◌++◌, codes, None, refl}
-use Rattle.js_stream.specs.StreamConfig.{new_config as new_stream}
-use Rattle.js_stream.specs.declared.stream.config.Config.{Config as StreamConfig}
-use Rattle.js_stream.specs.declared.stream.policies.DiscardPolicy.TheVariants.{New}
-use Rattle.js_stream.specs.declared.stream.policies.StorageType.TheVariants.{File}
+use Rattle.js_stream_json.specs.StreamConfig.{new_config as new_stream}
+use Rattle.js_stream_json.specs.declared.stream.config.Config.{Config as StreamConfig}
+use Rattle.js_stream_json.specs.declared.stream.policies.DiscardPolicy.TheVariants.{New}
+use Rattle.js_stream_json.specs.declared.stream.policies.StorageType.TheVariants.{File}
 use Rattle.js_buckets.specs.declared.object_store.Config.{Config}
 use Rattle.js_buckets.specs.KeyValues.{compression_of}
 

@@ -5,8 +5,8 @@ ghost use Rattle.js_buckets.specs.KeyValues.{all_keys as all_keys_in, history_of
 pub use crate::origins::stream_name;
 use crate::origins::{gathered, mirrored};
 use js_base::{Items, Nanos, OutOfMemory, Text, TryClone};
-use js_stream::stream;
-use js_stream::stream::{
+use js_stream_json::stream;
+use js_stream_json::stream::{
     Compression, DiscardPolicy, Placement, Republish, RetentionPolicy, Source, StorageType,
 };
 use std::alloc::{AllocError, Global};

@@ -4,8 +4,8 @@ ghost use Rattle.js_buckets.specs.Objects.{stream_name as stream_name_in, chunks
 
 use crate::kv::compression_of;
 use js_base::{Items, Nanos, OutOfMemory, Text, TryClone};
-use js_stream::stream;
-use js_stream::stream::{DiscardPolicy, Placement, RetentionPolicy, StorageType};
+use js_stream_json::stream;
+use js_stream_json::stream::{DiscardPolicy, Placement, RetentionPolicy, StorageType};
 use std::alloc::{AllocError, Global};
 
 /// The configuration of a bucket of objects.

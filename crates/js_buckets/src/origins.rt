@@ -3,7 +3,7 @@ ghost use Rattle.std.specs.Prelude.{◌≡◌, IfOk, option_map, map, string_byt
 ghost use Rattle.js_buckets.specs.Origins.{stream_name as stream_name_in, begins_as_stream, as_stream_name as as_stream_name_in, of_bucket, mirrored, gathered};
 
 use js_base::{Items, OutOfMemory, Text};
-use js_stream::stream::Source;
+use js_stream_json::stream::Source;
 use std::alloc::{AllocError, Global};
 
 fn stream_text(alloc: Global, bucket: &str) -> Result<String, AllocError>

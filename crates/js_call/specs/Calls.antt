@@ -22,15 +22,15 @@ use Rattle.js_call.specs.Table.{Table}
 
 -- a call that asks this, which is not answered
 abbrev pub calling : {M : Type 0} → M → RawCall → Call M
-calling meaning asked = record { meaning = meaning; stage = Asking asked }
+calling meaning asked = record { meaning = api_call; stage = Asking asked }
 
 -- a call whose reply has come, and is not read yet
 abbrev pub answered : {M : Type 0} → M → Message → Call M
-answered meaning message = record { meaning = meaning; stage = Answered message }
+answered meaning message = record { meaning = api_call; stage = Answered message }
 
 -- a call that has failed, and has not told it yet
 abbrev pub failed : {M : Type 0} → M → Failure → Call M
-failed meaning failure = record { meaning = meaning; stage = Failed failure }
+failed meaning failure = record { meaning = api_call; stage = Failed failure }
 
 -- a failure is answered with its text as the source, and kept where memory runs out
 abbrev pub Fails : {M R A : Type 0} → Table M R A → M → Failure → Turn (Call M) A → Type 0

@@ -18,8 +18,8 @@ use Rattle.js_call.specs.declared.open_request.OpenRequest.{OpenRequest}
 use Rattle.js_call.specs.declared.open_request.Shown.{Shown}
 use Rattle.js_call.specs.declared.open_request.Shown.TheVariants.{Came, Gone, Due, Still}
 use Rattle.js_call.specs.declared.raw_call.RawCall.{RawCall}
-use Rattle.js_call.specs.declared.raw_call.Met.{Met}
-use Rattle.js_call.specs.declared.raw_call.Met.TheVariants as met
+use Rattle.js_call.specs.declared.raw_call.RequestProgress.{RequestProgress}
+use Rattle.js_call.specs.declared.raw_call.RequestProgress.TheVariants as met
 
 -- a wait that has an end is over
 abbrev pub times_out : Option ℕ → ℕ → ℕ → Bool
@@ -62,7 +62,7 @@ pub record SendsAndShows (call : RawCall) (now : ℕ) (asked : OpenRequest) (sho
   pub shows : Shows asked now shown between new
 
 -- what a poll meets that sends a tested request, by what keeps it from being sent
-abbrev pub MeetsTested : Option RequestErrorKind → RawCall → ℕ → Met → LinkView → LinkView → Type 0
+abbrev pub MeetsTested : Option RequestErrorKind → RawCall → ℕ → RequestProgress → LinkView → LinkView → Type 0
 MeetsTested (Some kind) call now (met.Barred barred) old new = (barred ≡ kind) × (new ≡ old)
 MeetsTested None call now (met.Shown asked shown) old new = SendsAndShows call now asked shown old new
 MeetsTested None call now met.Failed old new = FailsToSend old new
@@ -70,7 +70,7 @@ MeetsTested None call now met.OutOfMemory old new = new ≡ old
 MeetsTested bar call now other old new = ⊥
 
 -- what a poll meets that sends: it tests first and looks at the end, or does neither
-abbrev pub MeetsUnsent : Bool → RawCall → ℕ → Met → LinkView → LinkView → Type 0
+abbrev pub MeetsUnsent : Bool → RawCall → ℕ → RequestProgress → LinkView → LinkView → Type 0
 MeetsUnsent true call now met old new = MeetsTested (bar_of call old) call now met old new
 MeetsUnsent false call now (met.Sent asked) old new = Sends call now asked old new
 MeetsUnsent false call now met.Failed old new = FailsToSend old new
@@ -78,7 +78,7 @@ MeetsUnsent false call now met.OutOfMemory old new = new ≡ old
 MeetsUnsent false call now other old new = ⊥
 
 -- What a poll meets. The request is sent at the first poll, and looked at later.
-abbrev pub Meets : Option OpenRequest → RawCall → ℕ → Met → LinkView → LinkView → Type 0
+abbrev pub Meets : Option OpenRequest → RawCall → ℕ → RequestProgress → LinkView → LinkView → Type 0
 Meets None call now met old new = MeetsUnsent call.is_tested call now met old new
 Meets (Some sent) call now (met.Shown asked shown) old new = (asked ≡ sent) × Shows sent now shown old new
 Meets (Some sent) call now other old new = ⊥
@@ -97,7 +97,7 @@ abbrev pub sent_as : RawCall → OpenRequest → RawCall
 sent_as call asked = record call { sent = Some asked }
 
 -- what a call answers to what it met
-abbrev pub met_turn : RawCall → Met → Turn RawCall (Result Message (Error RequestErrorKind))
+abbrev pub met_turn : RawCall → RequestProgress → Turn RawCall (Result Message (Error RequestErrorKind))
 met_turn call (met.Barred kind) = turns.Ready (Err (plain kind))
 met_turn call met.Failed = turns.Ready (Err (plain kind.Other))
 met_turn call met.OutOfMemory = turns.OutOfMemory call
@@ -109,4 +109,4 @@ met_turn call (met.Shown asked Still) = turns.Pending (sent_as call asked)
 
 -- what a poll of one request does
 abbrev pub RawPolled : RawCall → ℕ → Turn RawCall (Result Message (Error RequestErrorKind)) → LinkView → LinkView → Type 0
-RawPolled call now turn old new = (met : Met) × Meets call.sent call now met old new × (turn ≡ met_turn call met)
+RawPolled call now turn old new = (met : RequestProgress) × Meets call.sent call now met old new × (turn ≡ met_turn call met)

@@ -3,10 +3,10 @@ ghost use Rattle.std.specs.Prelude.{◌≡◌, IfOk};
 ghost use Rattle.serde_json.specs.View.{view};
 ghost use Rattle.js_call.specs.ApiRequests.{value_row, request_error, AskingFor};
 
+use crate::api_call::ApiCall;
 use crate::call::Call;
 use crate::error::{RequestError, RequestErrorKind};
 use crate::failure::Failure;
-use crate::meaning::Meaning;
 use crate::raw_call::RawCall;
 use crate::scope::ApiScope;
 use bytes::Bytes;
@@ -32,7 +32,7 @@ fn request_error(failure: Failure, source: Source) -> RequestError
     }
 }
 
-impl Meaning for AskingValue {
+impl ApiCall for AskingValue {
     type Reply = Value;
 
     type Answer = Result<Value, RequestError>;

@@ -4,9 +4,9 @@ ghost use Rattle.js_base.specs.declared.error.Error.{Error};
 ghost use Rattle.js_base.specs.declared.turn.Turn.{Turn};
 ghost use Rattle.js_call.specs.Calls.{calling, Fails, Polled, Reads, Turns};
 
+use crate::api_call::ApiCall;
 use crate::error::RequestError;
 use crate::failure::Failure;
-use crate::meaning::Meaning;
 use crate::raw_call::RawCall;
 use crate::state::State;
 use js_base::{Message, Moment, OutOfMemory, Turn};
@@ -20,7 +20,7 @@ use std::alloc::Global;
 /// poll; so is a failure for whose text none is left.
 #[derive(Drop)]
 pub struct Call<M> {
-    pub(crate) meaning: M,
+    pub(crate) api_call: M,
     pub(crate) stage: Stage,
 }
 
@@ -34,9 +34,9 @@ pub(crate) enum Stage {
     Failed(Failure),
 }
 
-impl<M: Meaning> Call<M> {
+impl<M: ApiCall> Call<M> {
     /// A call that asks this.
-    pub fn new(meaning: M, asked: RawCall) -> Call<M>
+    pub fn new(api_call: M, asked: RawCall) -> Call<M>
         ensures { result ≡ calling meaning asked }
     {
         Call {
@@ -47,11 +47,11 @@ impl<M: Meaning> Call<M> {
 }
 
 /// Tells a failure, which is kept where memory runs out.
-fn fail<M: Meaning>(alloc: Global, meaning: M, failure: Failure) -> Turn<Call<M>, M::Answer>
+fn fail<M: ApiCall>(alloc: Global, api_call: M, failure: Failure) -> Turn<Call<M>, M::Answer>
     ensures { Fails M.table meaning failure result }
 {
     match failure.to_source(alloc) {
-        Ok(source) => Turn::Ready(meaning.failure(failure, source)),
+        Ok(source) => Turn::Ready(api_call.failure(failure, source)),
         Err(OutOfMemory) => Turn::OutOfMemory(Call {
             meaning,
             stage: Stage::Failed(failure),
@@ -60,11 +60,11 @@ fn fail<M: Meaning>(alloc: Global, meaning: M, failure: Failure) -> Turn<Call<M>
 }
 
 /// Reads a reply, which is kept where memory runs out.
-fn read<M: Meaning>(alloc: Global, meaning: M, message: Message) -> Turn<Call<M>, M::Answer>
+fn read<M: ApiCall>(alloc: Global, api_call: M, message: Message) -> Turn<Call<M>, M::Answer>
     ensures { Reads M.table meaning message result }
 {
     match M::read(alloc, message.payload.as_slice()) {
-        Ok(reply) => Turn::Ready(meaning.answer(reply)),
+        Ok(reply) => Turn::Ready(api_call.answer(reply)),
         Err(ReadError::OutOfMemory) => Turn::OutOfMemory(Call {
             meaning,
             stage: Stage::Answered(message),
@@ -74,9 +74,9 @@ fn read<M: Meaning>(alloc: Global, meaning: M, message: Message) -> Turn<Call<M>
 }
 
 /// What the call answers to what its request does.
-fn turn<M: Meaning>(
+fn turn<M: ApiCall>(
     alloc: Global,
-    meaning: M,
+    api_call: M,
     asked: Turn<RawCall, Result<Message, RequestError>>,
 ) -> Turn<Call<M>, M::Answer>
     ensures { Turns M.table meaning asked result }
@@ -92,13 +92,13 @@ fn turn<M: Meaning>(
     }
 }
 
-impl<M: Meaning> State for Call<M> {
+impl<M: ApiCall> State for Call<M> {
     type Answer = M::Answer;
 
     ghost polled = { Polled M.table };
 
     fn poll<L: Link>(self, alloc: Global, link: &mut L, now: Moment) -> Turn<Self, Self::Answer> {
-        if let Some(answer) = self.meaning.refusal() {
+        if let Some(answer) = self.api_call.refusal() {
             return Turn::Ready(answer);
         }
         let Call { meaning, stage } = self;

@@ -32,7 +32,7 @@ pub struct RawCall {
 
 /// What one poll of a request met.
 #[derive(Drop)]
-pub(crate) enum Met {
+pub(crate) enum RequestProgress {
     /// It may not be sent.
     Barred(RequestErrorKind),
     /// The link failed to send it.
@@ -105,30 +105,30 @@ impl RawCall {
     }
 
     /// Sends it where it was not sent, and looks at it, as far as one poll goes.
-    fn pass<L: Link>(&self, alloc: Global, link: &mut L, now: Moment) -> Met
+    fn pass<L: Link>(&self, alloc: Global, link: &mut L, now: Moment) -> RequestProgress
         ensures { Meets self.now.sent self.now now result (L.view link.old) (L.view link.new) }
     {
         if let Some(sent) = self.sent {
             let shown = sent.look(link, now);
-            return Met::Shown(sent, shown);
+            return RequestProgress::Shown(sent, shown);
         }
         if !self.is_tested {
             return match self.send(alloc, link, now) {
-                Ok(sent) => Met::Sent(sent),
-                Err(LinkError::Failed) => Met::Failed,
-                Err(LinkError::OutOfMemory) => Met::OutOfMemory,
+                Ok(sent) => RequestProgress::Sent(sent),
+                Err(LinkError::Failed) => RequestProgress::Failed,
+                Err(LinkError::OutOfMemory) => RequestProgress::OutOfMemory,
             };
         }
         if let Some(kind) = self.bar(link) {
-            return Met::Barred(kind);
+            return RequestProgress::Barred(kind);
         }
         match self.send(alloc, link, now) {
             Ok(sent) => {
                 let shown = sent.look(link, now);
-                Met::Shown(sent, shown)
+                RequestProgress::Shown(sent, shown)
             }
-            Err(LinkError::Failed) => Met::Failed,
-            Err(LinkError::OutOfMemory) => Met::OutOfMemory,
+            Err(LinkError::Failed) => RequestProgress::Failed,
+            Err(LinkError::OutOfMemory) => RequestProgress::OutOfMemory,
         }
     }
 
@@ -143,15 +143,15 @@ impl RawCall {
     }
 
     /// What it answers to what it met.
-    fn turn(self, met: Met) -> Turn<RawCall, Result<Message, RequestError>>
+    fn turn(self, met: RequestProgress) -> Turn<RawCall, Result<Message, RequestError>>
         ensures { result ≡ met_turn self met }
     {
         match met {
-            Met::Barred(kind) => Turn::Ready(Err(Error::new(kind))),
-            Met::Failed => Turn::Ready(Err(Error::new(RequestErrorKind::Other))),
-            Met::OutOfMemory => Turn::OutOfMemory(self),
-            Met::Sent(sent) => Turn::Pending(self.sent_as(sent)),
-            Met::Shown(sent, shown) => match shown {
+            RequestProgress::Barred(kind) => Turn::Ready(Err(Error::new(kind))),
+            RequestProgress::Failed => Turn::Ready(Err(Error::new(RequestErrorKind::Other))),
+            RequestProgress::OutOfMemory => Turn::OutOfMemory(self),
+            RequestProgress::Sent(sent) => Turn::Pending(self.sent_as(sent)),
+            RequestProgress::Shown(sent, shown) => match shown {
                 Shown::Came(message) => Turn::Ready(reply_of(message)),
                 Shown::Gone => Turn::Ready(Err(Error::new(RequestErrorKind::Other))),
                 Shown::Due => Turn::Ready(Err(Error::new(RequestErrorKind::TimedOut))),

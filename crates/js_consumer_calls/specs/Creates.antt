@@ -32,18 +32,18 @@ use Rattle.js_consumer_calls.specs.declared.consumer.Consumer.{Consumer}
 use Rattle.js_consumer_calls.specs.declared.create.CreatingConsumer.{CreatingConsumer}
 use Rattle.js_consumer_calls.specs.declared.create_call.CreateCall.{CreateCall}
 use Rattle.js_consumer_calls.specs.declared.create_call.CreateCall.TheVariants.{Refused, Asking}
-use Rattle.js_consumer_calls.specs.declared.told.Told.{Told}
+use Rattle.js_consumer_calls.specs.declared.consumer_answer.ConsumerAnswer.{ConsumerAnswer}
 use Rattle.js_consumer_calls.specs.Kinds.{Kinds, consumer_kinds, failed}
 use Rattle.js_consumer_calls.specs.Subjects.{create_subject}
 use Rattle.js_consumer_calls.specs.Tells.{told_fields, converted}
 
 -- the consumer, or why it was not made
-abbrev pub created : {C K : Type 0} → Kinds K → CreatingConsumer C K → Response (Told C) → Result (Consumer C) (Error K)
+abbrev pub created : {C K : Type 0} → Kinds K → CreatingConsumer C K → Response (ConsumerAnswer C) → Result (Consumer C) (Error K)
 created kinds s (response.Ok told) = converted kinds.other s.scope told.info told.config
 created kinds s (response.Err error) = Err (kinds.of_api error)
 
 -- the row of a call that makes a kind of consumer
-abbrev pub create_row : {C K : Type 0} → (Config → Result C ConfigError) → Kinds K → Table (CreatingConsumer C K) (Response (Told C)) (Result (Consumer C) (Error K))
+abbrev pub create_row : {C K : Type 0} → (Config → Result C ConfigError) → Kinds K → Table (CreatingConsumer C K) (Response (ConsumerAnswer C)) (Result (Consumer C) (Error K))
 create_row of_config kinds = record {
   refused = λ s. None;
   reads = reads_as (response_of (float_free (told_fields of_config)));

@@ -17,19 +17,19 @@ use Rattle.js_consumer_calls.specs.declared.consumer.Consumer.{Consumer}
 use Rattle.js_consumer_calls.specs.declared.error.ConsumerErrorKind.{ConsumerErrorKind}
 use Rattle.js_consumer_calls.specs.declared.error.ConsumerErrorKind.TheVariants.{JetStream, InvalidConsumerType}
 use Rattle.js_consumer_calls.specs.declared.get.GettingConsumer.{GettingConsumer}
-use Rattle.js_consumer_calls.specs.declared.told.Told.{Told}
+use Rattle.js_consumer_calls.specs.declared.consumer_answer.ConsumerAnswer.{ConsumerAnswer}
 use Rattle.js_consumer_calls.specs.Kinds.{consumer_failure, failed, held}
 use Rattle.js_consumer_calls.specs.Refusals.{get_refusal}
 use Rattle.js_subjects.specs.Subjects.{of_consumer}
 use Rattle.js_consumer_calls.specs.Tells.{told_fields, converted}
 
 -- the consumer, or why it was not got
-abbrev pub got : {C : Type 0} → GettingConsumer C → Response (Told C) → Result (Consumer C) (Error ConsumerErrorKind)
+abbrev pub got : {C : Type 0} → GettingConsumer C → Response (ConsumerAnswer C) → Result (Consumer C) (Error ConsumerErrorKind)
 got s (response.Ok told) = converted InvalidConsumerType s.scope told.info told.config
 got s (response.Err error) = Err (held JetStream error)
 
 -- the row of `get_consumer_from_stream`, for a kind of consumer
-abbrev pub get_row : {C : Type 0} → (Config → Result C ConfigError) → Table (GettingConsumer C) (Response (Told C)) (Result (Consumer C) (Error ConsumerErrorKind))
+abbrev pub get_row : {C : Type 0} → (Config → Result C ConfigError) → Table (GettingConsumer C) (Response (ConsumerAnswer C)) (Result (Consumer C) (Error ConsumerErrorKind))
 get_row of_config = record {
   refused = λ s. refused_by (option_map plain (get_refusal s.consumer s.stream));
   reads = reads_as (response_of (float_free (told_fields of_config)));

@@ -14,7 +14,7 @@ use Rattle.js_json.specs.declared.consumer.conversion.ConfigError.{ConfigError}
 use Rattle.js_json.specs.declared.consumer.info.Info.{Info}
 use Rattle.js_call.specs.declared.scope.ApiScope.{ApiScope}
 use Rattle.js_consumer_calls.specs.declared.consumer.Consumer.{Consumer}
-use Rattle.js_consumer_calls.specs.declared.told.Told.{Told}
+use Rattle.js_consumer_calls.specs.declared.consumer_answer.ConsumerAnswer.{ConsumerAnswer}
 
 -- the configuration as that of a kind, or why it is none, as the source of an error
 abbrev pub as_kind : {C : Type 0} → Result C ConfigError → Result C Source
@@ -22,7 +22,7 @@ as_kind (Ok config) = Ok config
 as_kind (Err fault) = Err (Text (config_error_text fault))
 
 -- the info, and the configuration that stands in it, converted
-unfoldable pub told_fields : {C : Type 0} → (Config → Result C ConfigError) → Data → Result (Told C) ReadError
+unfoldable pub told_fields : {C : Type 0} → (Config → Result C ConfigError) → Data → Result (ConsumerAnswer C) ReadError
 told_fields of_config d = info_fields d >>= λ info. Ok (record { info = info; config = as_kind (of_config info.config) })
 
 -- the consumer, unless its configuration is that of another kind

@@ -3,10 +3,10 @@ ghost use Rattle.std.specs.Prelude.{◌≡◌};
 ghost use Rattle.js_consumer_calls.specs.Creates.{create_row, created};
 
 use crate::consumer::Consumer;
+use crate::consumer_answer::ConsumerAnswer;
 use crate::create_kind::CreateKind;
-use crate::told::Told;
 use js_base::{Error, Source};
-use js_call::{ApiScope, Failure, Meaning};
+use js_call::{ApiCall, ApiScope, Failure};
 use js_fields::ReadError;
 use js_json::consumer::FromConsumer;
 use js_json::{Response, response_as};
@@ -32,8 +32,8 @@ impl<C, K> CreatingConsumer<C, K> {
     }
 }
 
-impl<C: FromConsumer, K: CreateKind> Meaning for CreatingConsumer<C, K> {
-    type Reply = Response<Told<C>>;
+impl<C: FromConsumer, K: CreateKind> ApiCall for CreatingConsumer<C, K> {
+    type Reply = Response<ConsumerAnswer<C>>;
 
     type Answer = Result<Consumer<C>, Error<K>>;
 
@@ -43,11 +43,11 @@ impl<C: FromConsumer, K: CreateKind> Meaning for CreatingConsumer<C, K> {
         None
     }
 
-    fn read(alloc: Global, payload: &[u8]) -> Result<Response<Told<C>>, ReadError> {
+    fn read(alloc: Global, payload: &[u8]) -> Result<Response<ConsumerAnswer<C>>, ReadError> {
         response_as(alloc, payload)
     }
 
-    fn answer(self, reply: Response<Told<C>>) -> Result<Consumer<C>, Error<K>>
+    fn answer(self, reply: Response<ConsumerAnswer<C>>) -> Result<Consumer<C>, Error<K>>
         ensures { result ≡ created K.kinds self reply }
     {
         match reply {

@@ -7,10 +7,10 @@ use crate::create_kind::consumer_failure;
 use crate::error::{ConsumerError, ConsumerErrorKind};
 use crate::refusal::delete_refusal;
 use js_base::{Error, OutOfMemory, Source, Text};
-use js_call::{ApiScope, Call, Failure, Meaning};
+use js_call::{ApiCall, ApiScope, Call, Failure};
 use js_fields::ReadError;
 use js_json::{Response, response_as};
-use js_stream::DeleteStatus;
+use js_stream_json::DeleteStatus;
 use std::alloc::Global;
 
 /// The row of `delete_consumer_from_stream`.
@@ -23,7 +23,7 @@ pub struct DeletingConsumer {
 /// The state of `delete_consumer_from_stream`.
 pub type DeleteConsumerFromStream = Call<DeletingConsumer>;
 
-impl Meaning for DeletingConsumer {
+impl ApiCall for DeletingConsumer {
     type Reply = Response<DeleteStatus>;
 
     type Answer = Result<DeleteStatus, ConsumerError>;

@@ -4,12 +4,12 @@ ghost use Rattle.js_consumer_calls.specs.Gets.{get_row, getting, got};
 
 use crate::ask::ask_consumer;
 use crate::consumer::Consumer;
+use crate::consumer_answer::ConsumerAnswer;
 use crate::create_kind::consumer_failure;
 use crate::error::{ConsumerError, ConsumerErrorKind};
 use crate::refusal::get_refusal;
-use crate::told::Told;
 use js_base::{Error, OutOfMemory, Source, Text, TryClone};
-use js_call::{ApiScope, Call, Failure, Meaning};
+use js_call::{ApiCall, ApiScope, Call, Failure};
 use js_fields::ReadError;
 use js_json::consumer::FromConsumer;
 use js_json::{Response, response_as};
@@ -28,8 +28,8 @@ pub struct GettingConsumer<T> {
 /// The state of `get_consumer_from_stream`.
 pub type GetConsumerFromStream<T> = Call<GettingConsumer<T>>;
 
-impl<T: FromConsumer> Meaning for GettingConsumer<T> {
-    type Reply = Response<Told<T>>;
+impl<T: FromConsumer> ApiCall for GettingConsumer<T> {
+    type Reply = Response<ConsumerAnswer<T>>;
 
     type Answer = Result<Consumer<T>, ConsumerError>;
 
@@ -42,11 +42,11 @@ impl<T: FromConsumer> Meaning for GettingConsumer<T> {
         }
     }
 
-    fn read(alloc: Global, payload: &[u8]) -> Result<Response<Told<T>>, ReadError> {
+    fn read(alloc: Global, payload: &[u8]) -> Result<Response<ConsumerAnswer<T>>, ReadError> {
         response_as(alloc, payload)
     }
 
-    fn answer(self, reply: Response<Told<T>>) -> Result<Consumer<T>, ConsumerError>
+    fn answer(self, reply: Response<ConsumerAnswer<T>>) -> Result<Consumer<T>, ConsumerError>
         ensures { result ≡ got self reply }
     {
         match reply {

@@ -5,7 +5,7 @@ ghost use Rattle.js_consumer_calls.specs.Infos.{info_row, info_refusal, info_fai
 use crate::ask::ask_consumer;
 use crate::error::{ConsumerInfoError, ConsumerInfoErrorKind};
 use js_base::{Error, OutOfMemory, Source};
-use js_call::{ApiScope, Call, Failure, Meaning, RawCall, RequestErrorKind};
+use js_call::{ApiCall, ApiScope, Call, Failure, RawCall, RequestErrorKind};
 use js_codes::{ErrorCode, errors};
 use js_fields::ReadError;
 use js_json::consumer::Info;
@@ -55,7 +55,7 @@ pub(crate) fn ask_info(alloc: Global, scope: &ApiScope, info: &Info) -> Result<R
     ask_consumer(alloc, scope, "CONSUMER.INFO", stream, info.name.as_str())
 }
 
-impl Meaning for AskingInfo {
+impl ApiCall for AskingInfo {
     type Reply = Response<Info>;
 
     type Answer = Result<Info, ConsumerInfoError>;

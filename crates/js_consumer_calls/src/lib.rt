@@ -6,6 +6,7 @@
 
 mod ask;
 mod consumer;
+mod consumer_answer;
 mod create;
 mod create_call;
 mod create_kind;
@@ -15,12 +16,12 @@ mod error;
 mod get;
 mod info;
 mod refusal;
-mod told;
 mod written;
 
 pub use consumer::{
     Consumer, OrderedPullConsumer, OrderedPushConsumer, PullConsumer, PushConsumer,
 };
+pub use consumer_answer::ConsumerAnswer;
 pub use create::CreatingConsumer;
 pub use create_call::{
     CreateCall, CreateConsumerOnStream, CreateConsumerStrictOnStream, UpdateConsumerOnStream,
@@ -34,5 +35,4 @@ pub use error::{
 };
 pub use get::{GetConsumerFromStream, GettingConsumer, get_consumer_from_stream};
 pub use info::{AskingInfo, GetInfo};
-pub use told::Told;
 pub use written::instants_alone_are_refused;

@@ -10,12 +10,12 @@ ghost use Rattle.js_stream_calls.specs.Updates.{Updates, UpdatesOrCreates};
 
 use crate::context::Context;
 use js_base::OutOfMemory;
-use js_stream::stream::{Config, Info};
 use js_stream_calls::{
     CreateOrUpdateStream, CreateStream, DeleteStream, GetOrCreateStream, GetStream, GetStreamError,
     StreamHandle, UpdateStream, create_or_update_stream, create_stream, delete_stream,
     get_or_create_stream, get_stream, get_stream_no_info, update_stream, update_stream_keeping,
 };
+use js_stream_json::stream::{Config, Info};
 use std::alloc::Global;
 
 impl Context {

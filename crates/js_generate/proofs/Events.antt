@@ -19,23 +19,23 @@ use Rattle.js_pull.specs.declared.reader.Source.{Source}
 use Rattle.js_pull.specs.declared.reader.Reader.{Reader}
 use Rattle.js_pull.specs.declared.reader.Reason.{Reason}
 use Rattle.js_pull.specs.declared.reader.Reason.TheVariants.{Low, Expired}
-use Rattle.js_pull.specs.declared.reader.Inquiry.TheVariants.{NoInquiry}
+use Rattle.js_pull.specs.declared.reader.InfoRequest.TheVariants.{NoInfoRequest}
 use Rattle.js_pull.specs.declared.reader.MessagesErrorKind.TheVariants as error
 use Rattle.js_pull.specs.declared.reader.Row.TheVariants as read
 use Rattle.js_table.specs.declared.setup.Settings.{Settings}
 use Rattle.js_table.specs.declared.setup.OrderedSetup.TheVariants.{Pull}
-use Rattle.js_table.specs.declared.consumer.Given.{Given}
+use Rattle.js_table.specs.declared.consumer.ReplayInput.{ReplayInput}
 use Rattle.js_table.specs.declared.consumer.Phase.{Phase}
 use Rattle.js_table.specs.declared.consumer.Phase.TheVariants.{Pulls, Recreates}
 use Rattle.js_table.specs.declared.consumer.Stage.{Stage}
 use Rattle.js_table.specs.declared.consumer.Stage.TheVariants.{Deleting, Creating}
-use Rattle.js_table.specs.declared.event.What.TheVariants as what
+use Rattle.js_table.specs.declared.event.EventKind.TheVariants as what
 use Rattle.js_table.specs.declared.row.Row.TheVariants.{Event, Read}
 use Rattle.js_table.specs.declared.run.Output.{Output}
 use Rattle.js_table.specs.declared.run.Start.{Start}
 use Rattle.js_table.specs.declared.run.Start.TheVariants as start
 use Rattle.js_table.specs.Texts.{consumer_name, inbox_subject, recreation_timeout, source_of}
-use Rattle.js_table.specs.declared.world.World.{World}
+use Rattle.js_table.specs.declared.replay_state.ReplayState.{ReplayState}
 use Rattle.js_table.specs.State.{Matter}
 use Rattle.js_table.specs.Reading.{read_row}
 use Rattle.js_table.specs.Fold.{Ran, after, stays, and_then, pass_each, pass_to, rank, tick, opening, matter_of, event}
@@ -49,10 +49,10 @@ pub record Ledger : Type 0 where
   pub pending : ℕ
   pub pending_bytes : ℕ
   pub waiting : Bool
-  pub extra : ℕ
+  pub unreset_requests : ℕ
   pub pin : Option (List ℕ)
   pub expiry : Option Timer
-  pub silence : Option Timer
+  pub heartbeat_timer : Option Timer
 
 abbrev pub reader : Source → Ledger → Reader
 reader source l = record {
@@ -60,95 +60,95 @@ reader source l = record {
   pending = l.pending;
   pending_bytes = l.pending_bytes;
   waiting = l.waiting;
-  extra = l.extra;
+  unreset_requests = l.unreset_requests;
   pin = l.pin;
   expiry = l.expiry;
-  silence = l.silence;
-  inquiry = NoInquiry;
+  heartbeat_timer = l.heartbeat_timer;
+  inquiry = NoInfoRequest;
   ended = false;
 }
 
 -- what a consumer keeps of what it heard
 pub record Course : Type 0 where
-  pub num : ℕ
+  pub consumer_sequence : ℕ
   pub last : ℕ
-  pub serial : ℕ
+  pub recreation_count : ℕ
   pub name : List ℕ
   pub missed : Bool
   pub limited : Bool
   pub connection : State
 
-abbrev pub world_at : Phase → Course → ℕ → ℕ → World
-world_at phase c asked made = record {
+abbrev pub world_at : Phase → Course → ℕ → ℕ → ReplayState
+world_at phase c requests_sent inboxes_opened = record {
   consumer = record {
     phase = phase;
-    num = c.num;
+    consumer_sequence = c.consumer_sequence;
     last = c.last;
-    serial = c.serial;
+    recreation_count = c.recreation_count;
     name = c.name;
     missed = c.missed;
     limited = c.limited;
     connection = c.connection;
   };
   up = true;
-  asked = asked;
-  made = made;
+  requests_sent = requests_sent;
+  inboxes_opened = inboxes_opened;
 }
 
-same_counts : (phase : Phase) (c : Course) (asked made asked_now made_now : ℕ) → asked ≡ asked_now → made ≡ made_now
-    → world_at phase c asked made ≡ world_at phase c asked_now made_now
-same_counts phase c asked made asked_now made_now a m = ap₂ (λ (asked made : ℕ). world_at phase c asked made) a m
+same_counts : (phase : Phase) (c : Course) (requests_sent inboxes_opened asked_now made_now : ℕ) → requests_sent ≡ asked_now → inboxes_opened ≡ made_now
+    → world_at phase c requests_sent inboxes_opened ≡ world_at phase c asked_now made_now
+same_counts phase c requests_sent inboxes_opened asked_now made_now a m = ap₂ (λ (requests_sent inboxes_opened : ℕ). world_at phase c requests_sent inboxes_opened) a m
 
 -- the reader reads
-abbrev pub IsOn : Source → Course → ℕ → ℕ → World → Type 0
-IsOn source c asked made w = (l : Ledger) × (w ≡ world_at (Pulls (reader source l)) c asked made)
+abbrev pub IsOn : Source → Course → ℕ → ℕ → ReplayState → Type 0
+IsOn source c requests_sent inboxes_opened w = (l : Ledger) × (w ≡ world_at (Pulls (reader source l)) c requests_sent inboxes_opened)
 
-recounted : (source : Source) (c : Course) (asked made asked_now made_now : ℕ) → asked ≡ asked_now → made ≡ made_now
-    → (w : World) → IsOn source c asked made w → IsOn source c asked_now made_now w
-recounted source c asked made asked_now made_now a m w on =
-    (on.0, on.1 ∙ same_counts (Pulls (reader source on.0)) c asked made asked_now made_now a m)
+recounted : (source : Source) (c : Course) (requests_sent inboxes_opened asked_now made_now : ℕ) → requests_sent ≡ asked_now → inboxes_opened ≡ made_now
+    → (w : ReplayState) → IsOn source c requests_sent inboxes_opened w → IsOn source c asked_now made_now w
+recounted source c requests_sent inboxes_opened asked_now made_now a m w on =
+    (on.0, on.1 ∙ same_counts (Pulls (reader source on.0)) c requests_sent inboxes_opened asked_now made_now a m)
 
 -- a recreation waits for the answer to a request
-pub record IsRecreating (stage : ℕ → Timer → Stage) (request last made : ℕ) (w : World) : Type 0 where
+pub record IsRecreating (stage : ℕ → Timer → Stage) (request last inboxes_opened : ℕ) (w : ReplayState) : Type 0 where
   pub old_name : List ℕ
   pub new_name : List ℕ
   pub start : Start
   pub failures : ℕ
   pub timeout : Timer
-  pub serial : ℕ
+  pub recreation_count : ℕ
   pub name : List ℕ
   pub limited : Bool
   pub connection : State
   pub request_now : ℕ
   pub last_now : ℕ
-  pub asked : ℕ
+  pub requests_sent : ℕ
   pub made_now : ℕ
   pub world : w ≡ world_at
       (Recreates (record { old_name = old_name; new_name = new_name; start = start; failures = failures; opened = None; stage = stage request_now timeout }))
-      (record { num = 0; last = last_now; serial = serial; name = name; missed = false; limited = limited; connection = connection })
-      asked made_now
+      (record { consumer_sequence = 0; last = last_now; recreation_count = recreation_count; name = name; missed = false; limited = limited; connection = connection })
+      requests_sent made_now
   pub request_is : request_now ≡ request
-  pub asked_is : asked ≡ request
+  pub asked_is : requests_sent ≡ request
   pub last_is : last_now ≡ last
-  pub made_is : made_now ≡ made
+  pub made_is : made_now ≡ inboxes_opened
 
 -- a new inbox is read
-pub record IsOpened (request last made : ℕ) (w : World) : Type 0 where
+pub record IsOpened (request last inboxes_opened : ℕ) (w : ReplayState) : Type 0 where
   pub source : Source
   pub c : Course
-  pub asked : ℕ
+  pub requests_sent : ℕ
   pub made_now : ℕ
-  pub on : IsOn source c asked made_now w
-  pub inbox_is : source.inbox ≡ made
-  pub num_is : c.num ≡ 0
+  pub on : IsOn source c requests_sent made_now w
+  pub inbox_is : source.inbox ≡ inboxes_opened
+  pub num_is : c.consumer_sequence ≡ 0
   pub last_is : c.last ≡ last
   pub missed_is : c.missed ≡ false
-  pub asked_is : asked ≡ request
-  pub made_is : made_now ≡ made + 1
+  pub asked_is : requests_sent ≡ request
+  pub made_is : made_now ≡ inboxes_opened + 1
 
 -- a reader that has asked for nothing yet
 abbrev new : Ledger
-new = record { pending = 0; pending_bytes = 0; waiting = false; extra = 0; pin = None; expiry = None; silence = None }
+new = record { pending = 0; pending_bytes = 0; waiting = false; unreset_requests = 0; pin = None; expiry = None; heartbeat_timer = None }
 
 four_nils : (o : List Output) → (((o ++ []) ++ []) ++ []) ++ [] ≡ o
 four_nils o = append-nil (((o ++ []) ++ []) ++ []) ∙ append-nil ((o ++ []) ++ []) ∙ append-nil (o ++ []) ∙ append-nil o
@@ -159,23 +159,23 @@ equal a b e = (Decides-eqb a b).1 e
 -- ---- what is put out
 
 -- outputs that go on, and a world of some kind
-pub record Leads (starts : ℕ → ℕ) (last from : ℕ) (next : World → Type 0) (last_now from_now : ℕ) (ran : Ran) : Type 0 where
+pub record Leads (starts : ℕ → ℕ) (last from : ℕ) (next : ReplayState → Type 0) (last_now from_now : ℕ) (ran : Ran) : Type 0 where
   pub world : next ran.world
   pub outputs : Follows starts last from ran.outputs last_now from_now
 
-pub leads_weaker : (starts : ℕ → ℕ) (last from last_now from_now : ℕ) (next other : World → Type 0) (ran : Ran)
-    → ((w : World) → next w → other w) → Leads starts last from next last_now from_now ran → Leads starts last from other last_now from_now ran
+pub leads_weaker : (starts : ℕ → ℕ) (last from last_now from_now : ℕ) (next other : ReplayState → Type 0) (ran : Ran)
+    → ((w : ReplayState) → next w → other w) → Leads starts last from next last_now from_now ran → Leads starts last from other last_now from_now ran
 leads_weaker starts last from last_now from_now next other ran f h = record { world = f ran.world h.world; outputs = h.outputs }
 
-pub leads_alone : (starts : ℕ → ℕ) (last from last_now from_now : ℕ) (next : World → Type 0) (ran : Ran)
+pub leads_alone : (starts : ℕ → ℕ) (last from last_now from_now : ℕ) (next : ReplayState → Type 0) (ran : Ran)
     → Leads starts last from next last_now from_now ran → Leads starts last from next last_now from_now (and_then ran.outputs (stays ran.world))
 leads_alone starts last from last_now from_now next ran h = record {
   world = h.world;
   outputs = subst (λ outputs. Follows starts last from outputs last_now from_now) (sym (append-nil ran.outputs)) h.outputs;
 }
 
-pub leads_then : (starts : ℕ → ℕ) (last from last_then from_then last_now from_now : ℕ) (next other : World → Type 0) (ran : Ran) (rest : World → Ran)
-    → Leads starts last from next last_then from_then ran → ((w : World) → next w → Leads starts last_then from_then other last_now from_now (rest w))
+pub leads_then : (starts : ℕ → ℕ) (last from last_then from_then last_now from_now : ℕ) (next other : ReplayState → Type 0) (ran : Ran) (rest : ReplayState → Ran)
+    → Leads starts last from next last_then from_then ran → ((w : ReplayState) → next w → Leads starts last_then from_then other last_now from_now (rest w))
     → Leads starts last from other last_now from_now (and_then ran.outputs (rest ran.world))
 leads_then starts last from last_then from_then last_now from_now next other ran rest h more =
     let after_it : Leads starts last_then from_then other last_now from_now (rest ran.world) = more ran.world h.world in
@@ -187,69 +187,69 @@ leads_then starts last from last_then from_then last_now from_now next other ran
 -- ---- the rows of a reader
 
 module _ (settings : Settings) (config : OrderedConfig) (first : Info) (starts : ℕ → ℕ) where
-  abbrev pub given : Given
+  abbrev pub given : ReplayInput
   given = record { settings = settings; setup = Pull config; first = first }
 
   -- what follows a reader's row
-  abbrev done : ℕ → Matter → ℕ → World → pull.Passed → Ran
+  abbrev done : ℕ → Matter → ℕ → ReplayState → pull.Passed → Ran
   done now m depth w passed =
       let row = read_row passed w.consumer in
       and_then row.outputs (pass_each (pass_to given now m depth) row.next (after w row))
 
-  module _ (now : ℕ) (m : Matter) (last from : ℕ) (source : Source) (c : Course) (asked made : ℕ) where
+  module _ (now : ℕ) (m : Matter) (last from : ℕ) (source : Source) (c : Course) (requests_sent inboxes_opened : ℕ) where
     asks : (depth : ℕ) (l : Ledger) (reason : Reason)
-        → Leads starts last from (IsOn source c asked made) last from (pass_to given now m (suc depth) (Read (read.Ask reason)) (world_at (Pulls (reader source l)) c asked made))
+        → Leads starts last from (IsOn source c requests_sent inboxes_opened) last from (pass_to given now m (suc depth) (Read (read.Ask reason)) (world_at (Pulls (reader source l)) c requests_sent inboxes_opened))
     asks depth l reason = record {
       world = (
         record {
           pending = pull.raised (pull.resets reason) source.config.batch l.pending;
           pending_bytes = pull.raised (pull.resets reason) source.config.max_bytes l.pending_bytes;
           waiting = false;
-          extra = pull.extra_after reason l.extra;
+          unreset_requests = pull.extra_after reason l.unreset_requests;
           pin = l.pin;
           expiry = pull.armed_expiry now source.config.expires;
-          silence = l.silence;
+          heartbeat_timer = l.heartbeat_timer;
         },
         same_counts _ _ _ _ _ _ (omega arith) (omega arith),
       );
       outputs = (refl, refl);
     }
 
-    stays_on : (l : Ledger) → Leads starts last from (IsOn source c asked made) last from (stays (world_at (Pulls (reader source l)) c asked made))
+    stays_on : (l : Ledger) → Leads starts last from (IsOn source c requests_sent inboxes_opened) last from (stays (world_at (Pulls (reader source l)) c requests_sent inboxes_opened))
     stays_on l = record { world = (l, refl); outputs = (refl, refl) }
 
     arms : (depth : ℕ) (l : Ledger)
-        → Leads starts last from (IsOn source c asked made) last from (pass_to given now m (suc depth) (Read read.Arm) (world_at (Pulls (reader source l)) c asked made))
+        → Leads starts last from (IsOn source c requests_sent inboxes_opened) last from (pass_to given now m (suc depth) (Read read.Arm) (world_at (Pulls (reader source l)) c requests_sent inboxes_opened))
     arms depth l = record {
-      world = (record l { silence = pull.armed_silence now source.config.idle_heartbeat }, same_counts _ _ _ _ _ _ (omega arith) (omega arith));
+      world = (record l { heartbeat_timer = pull.armed_silence now source.config.idle_heartbeat }, same_counts _ _ _ _ _ _ (omega arith) (omega arith));
       outputs = (refl, refl);
     }
 
     asks_if : (depth : ℕ) (l : Ledger) (reason : Reason) (b : Bool)
-        → Leads starts last from (IsOn source c asked made) last from (pass_each (pass_to given now m (suc depth)) (map Read (if b then read.Ask reason ∷ [] else [])) (world_at (Pulls (reader source l)) c asked made))
+        → Leads starts last from (IsOn source c requests_sent inboxes_opened) last from (pass_each (pass_to given now m (suc depth)) (map Read (if b then read.Ask reason ∷ [] else [])) (world_at (Pulls (reader source l)) c requests_sent inboxes_opened))
     asks_if depth l reason true =
-        leads_alone starts last from last from (IsOn source c asked made)
-        (pass_to given now m (suc depth) (Read (read.Ask reason)) (world_at (Pulls (reader source l)) c asked made)) (asks depth l reason)
+        leads_alone starts last from last from (IsOn source c requests_sent inboxes_opened)
+        (pass_to given now m (suc depth) (Read (read.Ask reason)) (world_at (Pulls (reader source l)) c requests_sent inboxes_opened)) (asks depth l reason)
     asks_if depth l reason false = stays_on l
 
-  module _ (now : ℕ) (m : Matter) (last from : ℕ) (source : Source) (c : Course) (asked made : ℕ) where
-    again : (ran : Ran) → Leads starts last from (IsOn source c (asked + 0) (made + 0)) last from ran → Leads starts last from (IsOn source c asked made) last from ran
-    again ran = leads_weaker starts last from last from (IsOn source c (asked + 0) (made + 0)) (IsOn source c asked made) ran
-        (recounted source c (asked + 0) (made + 0) asked made (omega arith) (omega arith))
+  module _ (now : ℕ) (m : Matter) (last from : ℕ) (source : Source) (c : Course) (requests_sent inboxes_opened : ℕ) where
+    again : (ran : Ran) → Leads starts last from (IsOn source c (requests_sent + 0) (inboxes_opened + 0)) last from ran → Leads starts last from (IsOn source c requests_sent inboxes_opened) last from ran
+    again ran = leads_weaker starts last from last from (IsOn source c (requests_sent + 0) (inboxes_opened + 0)) (IsOn source c requests_sent inboxes_opened) ran
+        (recounted source c (requests_sent + 0) (inboxes_opened + 0) requests_sent inboxes_opened (omega arith) (omega arith))
 
     expires : (depth : ℕ) (l : Ledger)
-        → Leads starts last from (IsOn source c asked made) last from (pass_to given now m (suc (suc depth)) (Read read.CheckExpiry) (world_at (Pulls (reader source l)) c asked made))
-    expires depth l = again _ (asks_if now m last from source c (asked + 0) (made + 0) depth l Expired (is_any_due l.expiry now))
+        → Leads starts last from (IsOn source c requests_sent inboxes_opened) last from (pass_to given now m (suc (suc depth)) (Read read.CheckExpiry) (world_at (Pulls (reader source l)) c requests_sent inboxes_opened))
+    expires depth l = again _ (asks_if now m last from source c (requests_sent + 0) (inboxes_opened + 0) depth l Expired (is_any_due l.expiry now))
 
     refills : (depth : ℕ) (l : Ledger)
-        → Leads starts last from (IsOn source c asked made) last from (pass_to given now m (suc (suc depth)) (Read read.Threshold) (world_at (Pulls (reader source l)) c asked made))
+        → Leads starts last from (IsOn source c requests_sent inboxes_opened) last from (pass_to given now m (suc (suc depth)) (Read read.Threshold) (world_at (Pulls (reader source l)) c requests_sent inboxes_opened))
     refills depth l =
-        if_both (λ (passed : pull.Passed). Leads starts last from (IsOn source c asked made) last from (done now m (suc depth) (world_at (Pulls (reader source l)) c asked made) passed))
+        if_both (λ (passed : pull.Passed). Leads starts last from (IsOn source c requests_sent inboxes_opened) last from (done now m (suc depth) (world_at (Pulls (reader source l)) c requests_sent inboxes_opened) passed))
         (pull.is_low (reader source l) && not l.waiting)
         (pull.quietly (record (reader source l) { waiting = true }) (read.Ask Low ∷ []))
         (pull.quietly (reader source l) [])
-        (again _ (asks_if now m last from source c (asked + 0) (made + 0) depth (record l { waiting = true }) Low true))
-        (again _ (stays_on now m last from source c (asked + 0) (made + 0) l))
+        (again _ (asks_if now m last from source c (requests_sent + 0) (inboxes_opened + 0) depth (record l { waiting = true }) Low true))
+        (again _ (stays_on now m last from source c (requests_sent + 0) (inboxes_opened + 0) l))
 
   -- ---- an arrival on the inbox that is read
 
@@ -258,13 +258,13 @@ module _ (settings : Settings) (config : OrderedConfig) (first : Info) (starts :
 
   -- the course after a yield
   abbrev pub accepted : Place → Course → Course
-  accepted place c = record c { num = place.number; last = place.sequence; missed = false; limited = false }
+  accepted place c = record c { consumer_sequence = place.number; last = place.sequence; missed = false; limited = false }
 
-  module _ (now last from : ℕ) (source : Source) (c : Course) (asked made inbox : ℕ) (reply payload : List ℕ) (place : Place) where
+  module _ (now last from : ℕ) (source : Source) (c : Course) (requests_sent inboxes_opened inbox : ℕ) (reply payload : List ℕ) (place : Place) where
     abbrev arrives : Matter
     arrives = matter_of (what.Arrival inbox (message reply payload))
 
-    abbrev heard_world : ℕ → ℕ → Ledger → World
+    abbrev heard_world : ℕ → ℕ → Ledger → ReplayState
     heard_world a m l = world_at (Pulls (reader source l)) (accepted place c) a m
 
     -- after the message the reader has this
@@ -273,48 +273,48 @@ module _ (settings : Settings) (config : OrderedConfig) (first : Info) (starts :
       pending = l.pending - 1;
       pending_bytes = l.pending_bytes - length payload;
       waiting = l.waiting;
-      extra = l.extra;
+      unreset_requests = l.unreset_requests;
       pin = (if source.pinned then pull.pin_after (message reply payload) None l.pin else None);
       expiry = l.expiry;
-      silence = pull.armed_silence now source.config.idle_heartbeat;
+      heartbeat_timer = pull.armed_silence now source.config.idle_heartbeat;
     }
 
-    goes_on : (depth : ℕ) (l : Ledger) → Leads starts place.sequence from (IsOn source (accepted place c) asked made) place.sequence from
-        (pass_each (pass_to given now arrives (suc (suc depth))) (Read read.Threshold ∷ []) (heard_world (asked + 0) (made + 0) (kept l)))
+    goes_on : (depth : ℕ) (l : Ledger) → Leads starts place.sequence from (IsOn source (accepted place c) requests_sent inboxes_opened) place.sequence from
+        (pass_each (pass_to given now arrives (suc (suc depth))) (Read read.Threshold ∷ []) (heard_world (requests_sent + 0) (inboxes_opened + 0) (kept l)))
     goes_on depth l =
-        again now arrives place.sequence from source (accepted place c) asked made _
-        (leads_alone starts place.sequence from place.sequence from (IsOn source (accepted place c) (asked + 0) (made + 0))
-        (pass_to given now arrives (suc (suc depth)) (Read read.Threshold) (heard_world (asked + 0) (made + 0) (kept l)))
-        (refills now arrives place.sequence from source (accepted place c) (asked + 0) (made + 0) depth (kept l)))
+        again now arrives place.sequence from source (accepted place c) requests_sent inboxes_opened _
+        (leads_alone starts place.sequence from place.sequence from (IsOn source (accepted place c) (requests_sent + 0) (inboxes_opened + 0))
+        (pass_to given now arrives (suc (suc depth)) (Read read.Threshold) (heard_world (requests_sent + 0) (inboxes_opened + 0) (kept l)))
+        (refills now arrives place.sequence from source (accepted place c) (requests_sent + 0) (inboxes_opened + 0) depth (kept l)))
 
     -- the next message is yielded
-    pub yields : (depth : ℕ) (l : Ledger) → (source.inbox == inbox) ≡ true → readable_as (Some reply) ≡ Some place → (place.number == c.num + 1) ≡ true → place.sequence ≡ last + 1
-        → Leads starts last from (IsOn source (accepted place c) asked made) place.sequence from
-        (pass_to given now arrives (suc (suc (suc depth))) (Read read.CheckArrival) (world_at (Pulls (reader source l)) c asked made))
+    pub yields : (depth : ℕ) (l : Ledger) → (source.inbox == inbox) ≡ true → readable_as (Some reply) ≡ Some place → (place.number == c.consumer_sequence + 1) ≡ true → place.sequence ≡ last + 1
+        → Leads starts last from (IsOn source (accepted place c) requests_sent inboxes_opened) place.sequence from
+        (pass_to given now arrives (suc (suc (suc depth))) (Read read.CheckArrival) (world_at (Pulls (reader source l)) c requests_sent inboxes_opened))
     yields depth l here reads next rises =
         rw (here, reads, next) (record { world = (goes_on depth l).world; outputs = (rises, (goes_on depth l).outputs) })
 
     -- another one begins a recreation
-    pub restarts : (depth : ℕ) (l : Ledger) → (source.inbox == inbox) ≡ true → readable_as (Some reply) ≡ Some place → (place.number == c.num + 1) ≡ false
+    pub restarts : (depth : ℕ) (l : Ledger) → (source.inbox == inbox) ≡ true → readable_as (Some reply) ≡ Some place → (place.number == c.consumer_sequence + 1) ≡ false
         → (c.last == pull.u64_max) ≡ false → (c.last == 0) ≡ false → c.last ≡ last
-        → Leads starts last from (IsRecreating Deleting (asked + 1) last made) last (last + 1)
-        (pass_to given now arrives (suc (suc (suc depth))) (Read read.CheckArrival) (world_at (Pulls (reader source l)) c asked made))
+        → Leads starts last from (IsRecreating Deleting (requests_sent + 1) last inboxes_opened) last (last + 1)
+        (pass_to given now arrives (suc (suc (suc depth))) (Read read.CheckArrival) (world_at (Pulls (reader source l)) c requests_sent inboxes_opened))
     restarts depth l here reads next below some is =
         rw (here, reads, next, below, some) (record {
           world = record {
             old_name = c.name;
-            new_name = consumer_name given (min (c.serial + 1) pull.u64_max);
+            new_name = consumer_name given (min (c.recreation_count + 1) pull.u64_max);
             start = start.From (c.last + 1);
             failures = 0;
             timeout = record { set = now; wait = recreation_timeout settings };
-            serial = min (c.serial + 1) pull.u64_max;
-            name = consumer_name given (min (c.serial + 1) pull.u64_max);
+            recreation_count = min (c.recreation_count + 1) pull.u64_max;
+            name = consumer_name given (min (c.recreation_count + 1) pull.u64_max);
             limited = c.limited;
             connection = c.connection;
-            request_now = asked + 0 + 0 + 1;
+            request_now = requests_sent + 0 + 0 + 1;
             last_now = c.last;
-            asked = asked + 0 + 0 + 1;
-            made_now = made + 0 + 0 + 0;
+            requests_sent = requests_sent + 0 + 0 + 1;
+            made_now = inboxes_opened + 0 + 0 + 0;
             world = refl;
             request_is = omega arith;
             asked_is = omega arith;
@@ -326,39 +326,39 @@ module _ (settings : Settings) (config : OrderedConfig) (first : Info) (starts :
 
     -- one on another inbox does nothing
     pub passes_over : (depth : ℕ) (l : Ledger) → (source.inbox == inbox) ≡ false → c.missed ≡ false
-        → Leads starts last from (λ w. (missed : Bool) × IsOn source (record c { missed = missed }) asked made w) last from
-        (pass_to given now arrives (suc (suc depth)) (Read read.CheckArrival) (world_at (Pulls (reader source l)) c asked made))
+        → Leads starts last from (λ w. (missed : Bool) × IsOn source (record c { missed = missed }) requests_sent inboxes_opened w) last from
+        (pass_to given now arrives (suc (suc depth)) (Read read.CheckArrival) (world_at (Pulls (reader source l)) c requests_sent inboxes_opened))
     passes_over depth l other found =
-        rw other (leads_alone starts last from last from (λ w. (missed : Bool) × IsOn source (record c { missed = missed }) asked made w)
-        (pass_to given now arrives (suc depth) (Read read.CheckSilence) (world_at (Pulls (reader source l)) c (asked + 0) (made + 0)))
-        (if_both (λ (passed : pull.Passed). Leads starts last from (λ w. (missed : Bool) × IsOn source (record c { missed = missed }) asked made w) last from
-        (done now arrives depth (world_at (Pulls (reader source l)) c (asked + 0) (made + 0)) passed))
-        (is_any_due l.silence now)
-        (pull.tell error.MissingHeartbeat (record (reader source l) { silence = pull.armed_silence now source.config.idle_heartbeat }) [])
+        rw other (leads_alone starts last from last from (λ w. (missed : Bool) × IsOn source (record c { missed = missed }) requests_sent inboxes_opened w)
+        (pass_to given now arrives (suc depth) (Read read.CheckSilence) (world_at (Pulls (reader source l)) c (requests_sent + 0) (inboxes_opened + 0)))
+        (if_both (λ (passed : pull.Passed). Leads starts last from (λ w. (missed : Bool) × IsOn source (record c { missed = missed }) requests_sent inboxes_opened w) last from
+        (done now arrives depth (world_at (Pulls (reader source l)) c (requests_sent + 0) (inboxes_opened + 0)) passed))
+        (is_any_due l.heartbeat_timer now)
+        (pull.tell error.MissingHeartbeat (record (reader source l) { heartbeat_timer = pull.armed_silence now source.config.idle_heartbeat }) [])
         (pull.quietly (reader source l) [])
-        (rw found (record { world = (true, (record l { silence = pull.armed_silence now source.config.idle_heartbeat }, same_counts _ _ _ _ _ _ (omega arith) (omega arith))); outputs = (refl, refl) }))
+        (rw found (record { world = (true, (record l { heartbeat_timer = pull.armed_silence now source.config.idle_heartbeat }, same_counts _ _ _ _ _ _ (omega arith) (omega arith))); outputs = (refl, refl) }))
         (record { world = (c.missed, (l, same_counts _ _ _ _ _ _ (omega arith) (omega arith))); outputs = (refl, refl) })))
 
   -- ---- the whole event of an arrival
 
-  module _ (now last from : ℕ) (source : Source) (c : Course) (asked made inbox : ℕ) (reply payload : List ℕ) (last_now from_now : ℕ) (next : World → Type 0) where
+  module _ (now last from : ℕ) (source : Source) (c : Course) (requests_sent inboxes_opened inbox : ℕ) (reply payload : List ℕ) (last_now from_now : ℕ) (next : ReplayState → Type 0) where
     abbrev comes : Matter
     comes = matter_of (what.Arrival inbox (message reply payload))
 
-    heard_then : ((l : Ledger) → Leads starts last from next last_now from_now (pass_to given now comes 9 (Read read.CheckArrival) (world_at (Pulls (reader source l)) c (asked + 0) (made + 0))))
-        → (w : World) → IsOn source c (asked + 0) (made + 0) w → Leads starts last from next last_now from_now (pass_each (pass_to given now comes 9) (Read read.CheckArrival ∷ []) w)
-    heard_then row w on = subst (λ (w : World). Leads starts last from next last_now from_now (pass_each (pass_to given now comes 9) (Read read.CheckArrival ∷ []) w)) (sym on.1)
-        (leads_alone starts last from last_now from_now next (pass_to given now comes 9 (Read read.CheckArrival) (world_at (Pulls (reader source on.0)) c (asked + 0) (made + 0))) (row on.0))
+    heard_then : ((l : Ledger) → Leads starts last from next last_now from_now (pass_to given now comes 9 (Read read.CheckArrival) (world_at (Pulls (reader source l)) c (requests_sent + 0) (inboxes_opened + 0))))
+        → (w : ReplayState) → IsOn source c (requests_sent + 0) (inboxes_opened + 0) w → Leads starts last from next last_now from_now (pass_each (pass_to given now comes 9) (Read read.CheckArrival ∷ []) w)
+    heard_then row w on = subst (λ (w : ReplayState). Leads starts last from next last_now from_now (pass_each (pass_to given now comes 9) (Read read.CheckArrival ∷ []) w)) (sym on.1)
+        (leads_alone starts last from last_now from_now next (pass_to given now comes 9 (Read read.CheckArrival) (world_at (Pulls (reader source on.0)) c (requests_sent + 0) (inboxes_opened + 0))) (row on.0))
 
-    pub heard : ((l : Ledger) → Leads starts last from next last_now from_now (pass_to given now comes 9 (Read read.CheckArrival) (world_at (Pulls (reader source l)) c (asked + 0) (made + 0))))
-        → (w : World) → IsOn source c asked made w → Leads starts last from next last_now from_now (event given (record { at = now; what = what.Arrival inbox (message reply payload) }) w)
+    pub heard : ((l : Ledger) → Leads starts last from next last_now from_now (pass_to given now comes 9 (Read read.CheckArrival) (world_at (Pulls (reader source l)) c (requests_sent + 0) (inboxes_opened + 0))))
+        → (w : ReplayState) → IsOn source c requests_sent inboxes_opened w → Leads starts last from next last_now from_now (event given (record { at = now; what = what.Arrival inbox (message reply payload) }) w)
     unfolding event
-    heard row w on = subst (λ (w : World). Leads starts last from next last_now from_now (event given (record { at = now; what = what.Arrival inbox (message reply payload) }) w)) (sym on.1)
-        (leads_alone starts last from last_now from_now next (pass_to given now comes 10 Event (world_at (Pulls (reader source on.0)) c asked made))
-        (leads_then starts last from last from last_now from_now (IsOn source c (asked + 0) (made + 0)) next
-        (pass_to given now comes 9 (Read read.CheckExpiry) (world_at (Pulls (reader source on.0)) c (asked + 0) (made + 0)))
-        (λ (w : World). pass_each (pass_to given now comes 9) (Read read.CheckArrival ∷ []) w)
-        (expires now comes last from source c (asked + 0) (made + 0) 7 on.0) (heard_then row)))
+    heard row w on = subst (λ (w : ReplayState). Leads starts last from next last_now from_now (event given (record { at = now; what = what.Arrival inbox (message reply payload) }) w)) (sym on.1)
+        (leads_alone starts last from last_now from_now next (pass_to given now comes 10 Event (world_at (Pulls (reader source on.0)) c requests_sent inboxes_opened))
+        (leads_then starts last from last from last_now from_now (IsOn source c (requests_sent + 0) (inboxes_opened + 0)) next
+        (pass_to given now comes 9 (Read read.CheckExpiry) (world_at (Pulls (reader source on.0)) c (requests_sent + 0) (inboxes_opened + 0)))
+        (λ (w : ReplayState). pass_each (pass_to given now comes 9) (Read read.CheckArrival ∷ []) w)
+        (expires now comes last from source c (requests_sent + 0) (inboxes_opened + 0) 7 on.0) (heard_then row)))
 
   -- ---- the events of a recreation
 
@@ -370,12 +370,12 @@ module _ (settings : Settings) (config : OrderedConfig) (first : Info) (starts :
     says = matter_of (what.Answer answered (Some answer))
 
     -- the old consumer is deleted, and a new one is asked for
-    pub deletes : (request made : ℕ) (w : World) → IsRecreating Deleting request last made w → (request ≡ answered)
-        → Leads starts last from (IsRecreating Creating (request + 1) last made) last from (event given (record { at = now; what = what.Answer answered (Some answer) }) w)
+    pub deletes : (request inboxes_opened : ℕ) (w : ReplayState) → IsRecreating Deleting request last inboxes_opened w → (request ≡ answered)
+        → Leads starts last from (IsRecreating Creating (request + 1) last inboxes_opened) last from (event given (record { at = now; what = what.Answer answered (Some answer) }) w)
     unfolding event
-    deletes request made w at same =
+    deletes request inboxes_opened w at same =
         let here : (at.request_now == answered) ≡ true = equal at.request_now answered (at.request_is ∙ same) in
-        subst (λ (w : World). Leads starts last from (IsRecreating Creating (request + 1) last made) last from (event given (record { at = now; what = what.Answer answered (Some answer) }) w)) (sym at.world)
+        subst (λ (w : ReplayState). Leads starts last from (IsRecreating Creating (request + 1) last inboxes_opened) last from (event given (record { at = now; what = what.Answer answered (Some answer) }) w)) (sym at.world)
         (rw here (record {
           world = record {
             old_name = at.old_name;
@@ -383,13 +383,13 @@ module _ (settings : Settings) (config : OrderedConfig) (first : Info) (starts :
             start = at.start;
             failures = at.failures;
             timeout = record { set = now; wait = recreation_timeout settings };
-            serial = at.serial;
+            recreation_count = at.recreation_count;
             name = at.name;
             limited = at.limited;
             connection = at.connection;
-            request_now = at.asked + 0 + 0 + 0 + 1;
+            request_now = at.requests_sent + 0 + 0 + 0 + 1;
             last_now = at.last_now;
-            asked = at.asked + 0 + 0 + 0 + 1;
+            requests_sent = at.requests_sent + 0 + 0 + 0 + 1;
             made_now = at.made_now + 0 + 0 + 0 + 0;
             world = refl;
             request_is = let a = at.asked_is in omega arith;
@@ -400,40 +400,40 @@ module _ (settings : Settings) (config : OrderedConfig) (first : Info) (starts :
           outputs = (refl, refl);
         }))
 
-    arms_then : (source : Source) (c : Course) (asked made : ℕ) (w : World) → IsOn source c asked made w
-        → Leads starts last from (IsOn source c asked made) last from (pass_each (pass_to given now says 6) (Read read.Arm ∷ []) w)
-    arms_then source c asked made w on = subst (λ (w : World). Leads starts last from (IsOn source c asked made) last from (pass_each (pass_to given now says 6) (Read read.Arm ∷ []) w)) (sym on.1)
-        (leads_alone starts last from last from (IsOn source c asked made) (pass_to given now says 6 (Read read.Arm) (world_at (Pulls (reader source on.0)) c asked made)) (arms now says last from source c asked made 5 on.0))
+    arms_then : (source : Source) (c : Course) (requests_sent inboxes_opened : ℕ) (w : ReplayState) → IsOn source c requests_sent inboxes_opened w
+        → Leads starts last from (IsOn source c requests_sent inboxes_opened) last from (pass_each (pass_to given now says 6) (Read read.Arm ∷ []) w)
+    arms_then source c requests_sent inboxes_opened w on = subst (λ (w : ReplayState). Leads starts last from (IsOn source c requests_sent inboxes_opened) last from (pass_each (pass_to given now says 6) (Read read.Arm ∷ []) w)) (sym on.1)
+        (leads_alone starts last from last from (IsOn source c requests_sent inboxes_opened) (pass_to given now says 6 (Read read.Arm) (world_at (Pulls (reader source on.0)) c requests_sent inboxes_opened)) (arms now says last from source c requests_sent inboxes_opened 5 on.0))
 
     -- a new reader asks for messages and listens
-    opens : (source : Source) (c : Course) (asked made : ℕ) (l : Ledger)
-        → Leads starts last from (IsOn source c asked made) last from (pass_each (pass_to given now says 6) (Read read.Threshold ∷ Read read.Arm ∷ []) (world_at (Pulls (reader source l)) c asked made))
-    opens source c asked made l =
-        leads_then starts last from last from last from (IsOn source c asked made) (IsOn source c asked made)
-        (pass_to given now says 6 (Read read.Threshold) (world_at (Pulls (reader source l)) c asked made))
-        (λ (w : World). pass_each (pass_to given now says 6) (Read read.Arm ∷ []) w)
-        (refills now says last from source c asked made 4 l) (arms_then source c asked made)
+    opens : (source : Source) (c : Course) (requests_sent inboxes_opened : ℕ) (l : Ledger)
+        → Leads starts last from (IsOn source c requests_sent inboxes_opened) last from (pass_each (pass_to given now says 6) (Read read.Threshold ∷ Read read.Arm ∷ []) (world_at (Pulls (reader source l)) c requests_sent inboxes_opened))
+    opens source c requests_sent inboxes_opened l =
+        leads_then starts last from last from last from (IsOn source c requests_sent inboxes_opened) (IsOn source c requests_sent inboxes_opened)
+        (pass_to given now says 6 (Read read.Threshold) (world_at (Pulls (reader source l)) c requests_sent inboxes_opened))
+        (λ (w : ReplayState). pass_each (pass_to given now says 6) (Read read.Arm ∷ []) w)
+        (refills now says last from source c requests_sent inboxes_opened 4 l) (arms_then source c requests_sent inboxes_opened)
 
     -- the new consumer is there, and its inbox is read
-    pub creates : (request made : ℕ) (info : Info) (w : World) → IsRecreating Creating request last made w → (request ≡ answered) → starts made ≡ from
+    pub creates : (request inboxes_opened : ℕ) (info : Info) (w : ReplayState) → IsRecreating Creating request last inboxes_opened w → (request ≡ answered) → starts inboxes_opened ≡ from
         → response_of (float_free info_fields) payload ≡ Ok (response.Ok info)
-        → Leads starts last from (IsOpened request last made) last from (event given (record { at = now; what = what.Answer answered (Some answer) }) w)
+        → Leads starts last from (IsOpened request last inboxes_opened) last from (event given (record { at = now; what = what.Answer answered (Some answer) }) w)
     unfolding event
-    creates request made info w at same begins reads =
+    creates request inboxes_opened info w at same begins reads =
         let here : (at.request_now == answered) ≡ true = equal at.request_now answered (at.request_is ∙ same) in
         let inbox : ℕ = at.made_now + 0 + 0 + 0 in
-        let source : Source = source_of given at.serial inbox (inbox_subject given inbox) info in
-        let c : Course = record { num = 0; last = at.last_now; serial = at.serial; name = at.name; missed = false; limited = at.limited; connection = at.connection } in
-        let asked : ℕ = at.asked + 0 + 0 + 0 + 0 in
-        let rest : Leads starts last from (IsOn source c asked (inbox + 1)) last from
-        (pass_each (pass_to given now says 6) (Read read.Threshold ∷ Read read.Arm ∷ []) (world_at (Pulls (reader source new)) c asked (inbox + 1))) =
-        opens source c asked (inbox + 1) new in
-        subst (λ (w : World). Leads starts last from (IsOpened request last made) last from (event given (record { at = now; what = what.Answer answered (Some answer) }) w)) (sym at.world)
+        let source : Source = source_of given at.recreation_count inbox (inbox_subject given inbox) info in
+        let c : Course = record { consumer_sequence = 0; last = at.last_now; recreation_count = at.recreation_count; name = at.name; missed = false; limited = at.limited; connection = at.connection } in
+        let requests_sent : ℕ = at.requests_sent + 0 + 0 + 0 + 0 in
+        let rest : Leads starts last from (IsOn source c requests_sent (inbox + 1)) last from
+        (pass_each (pass_to given now says 6) (Read read.Threshold ∷ Read read.Arm ∷ []) (world_at (Pulls (reader source new)) c requests_sent (inbox + 1))) =
+        opens source c requests_sent (inbox + 1) new in
+        subst (λ (w : ReplayState). Leads starts last from (IsOpened request last inboxes_opened) last from (event given (record { at = now; what = what.Answer answered (Some answer) }) w)) (sym at.world)
         (rw (here, reads) (record {
           world = record {
             source = source;
             c = c;
-            asked = asked;
+            requests_sent = requests_sent;
             made_now = inbox + 1;
             on = rest.world;
             inbox_is = let m = at.made_is in omega arith;
@@ -443,19 +443,19 @@ module _ (settings : Settings) (config : OrderedConfig) (first : Info) (starts :
             asked_is = let a = at.asked_is in omega arith;
             made_is = let m = at.made_is in omega arith;
           };
-          outputs = (ap starts (let m = at.made_is in omega arith) ∙ begins, subst (λ (o : List Output). Follows starts last from o last from) (sym (four_nils (pass_each (pass_to given now says 6) (Read read.Threshold ∷ Read read.Arm ∷ []) (world_at (Pulls (reader source new)) c asked (inbox + 1))).outputs)) rest.outputs);
+          outputs = (ap starts (let m = at.made_is in omega arith) ∙ begins, subst (λ (o : List Output). Follows starts last from o last from) (sym (four_nils (pass_each (pass_to given now says 6) (Read read.Threshold ∷ Read read.Arm ∷ []) (world_at (Pulls (reader source new)) c requests_sent (inbox + 1))).outputs)) rest.outputs);
         }))
 
   -- ---- the opening
 
-  pub opened : (start : ℕ) → Leads starts 0 0 (IsOn (source_of given 0 0 (inbox_subject given 0) first) (record { num = 0; last = 0; serial = 0; name = first.name; missed = false; limited = false; connection = Connected }) 0 1) 0 0 (opening given start)
+  pub opened : (start : ℕ) → Leads starts 0 0 (IsOn (source_of given 0 0 (inbox_subject given 0) first) (record { consumer_sequence = 0; last = 0; recreation_count = 0; name = first.name; missed = false; limited = false; connection = Connected }) 0 1) 0 0 (opening given start)
   unfolding opening
   opened start =
       let source : Source = source_of given 0 0 (inbox_subject given 0) first in
-      let c : Course = record { num = 0; last = 0; serial = 0; name = first.name; missed = false; limited = false; connection = Connected } in
+      let c : Course = record { consumer_sequence = 0; last = 0; recreation_count = 0; name = first.name; missed = false; limited = false; connection = Connected } in
       leads_then starts 0 0 0 0 0 0 (IsOn source c 0 1) (IsOn source c 0 1)
       (pass_to given start tick 2 (Read read.Threshold) (world_at (Pulls (reader source new)) c 0 1))
-      (λ (w : World). pass_each (λ row. pass_to given start tick (suc (rank row)) row) (Read read.Arm ∷ []) w)
+      (λ (w : ReplayState). pass_each (λ row. pass_to given start tick (suc (rank row)) row) (Read read.Arm ∷ []) w)
       (refills start tick 0 0 source c 0 1 0 new)
-      (λ w on. subst (λ (w : World). Leads starts 0 0 (IsOn source c 0 1) 0 0 (pass_each (λ row. pass_to given start tick (suc (rank row)) row) (Read read.Arm ∷ []) w)) (sym on.1)
+      (λ w on. subst (λ (w : ReplayState). Leads starts 0 0 (IsOn source c 0 1) 0 0 (pass_each (λ row. pass_to given start tick (suc (rank row)) row) (Read read.Arm ∷ []) w)) (sym on.1)
       (leads_alone starts 0 0 0 0 (IsOn source c 0 1) (pass_to given start tick 1 (Read read.Arm) (world_at (Pulls (reader source on.0)) c 0 1)) (arms start tick 0 0 source c 0 1 0 on.0)))

@@ -13,7 +13,7 @@ Follows starts last from [] last_now from_now = (last ≡ last_now) × (from ≡
 Follows starts last from (out.Yield sequence number subject payload ∷ outputs) last_now from_now =
     (sequence ≡ last + 1) × Follows starts sequence from outputs last_now from_now
 Follows starts last from (out.Item kind ∷ outputs) last_now from_now = Follows starts last from outputs last_now from_now
-Follows starts last from (out.Recreate serial start ∷ outputs) last_now from_now = Follows starts last (start_sequence start) outputs last_now from_now
+Follows starts last from (out.Recreate recreation_count start ∷ outputs) last_now from_now = Follows starts last (start_sequence start) outputs last_now from_now
 Follows starts last from (out.Request number subject payload ∷ outputs) last_now from_now = Follows starts last from outputs last_now from_now
 Follows starts last from (out.Publish subject reply payload ∷ outputs) last_now from_now = Follows starts last from outputs last_now from_now
 Follows starts last from (out.Subscribe inbox subject ∷ outputs) last_now from_now =
@@ -27,7 +27,7 @@ follows_append starts last from [] second l f ln fn h k =
 follows_append starts last from (out.Yield sequence number subject payload ∷ first) second l f ln fn h k =
     (h.0, follows_append starts sequence from first second l f ln fn h.1 k)
 follows_append starts last from (out.Item kind ∷ first) second l f ln fn h k = follows_append starts last from first second l f ln fn h k
-follows_append starts last from (out.Recreate serial start ∷ first) second l f ln fn h k = follows_append starts last (start_sequence start) first second l f ln fn h k
+follows_append starts last from (out.Recreate recreation_count start ∷ first) second l f ln fn h k = follows_append starts last (start_sequence start) first second l f ln fn h k
 follows_append starts last from (out.Request number subject payload ∷ first) second l f ln fn h k = follows_append starts last from first second l f ln fn h k
 follows_append starts last from (out.Publish subject reply payload ∷ first) second l f ln fn h k = follows_append starts last from first second l f ln fn h k
 follows_append starts last from (out.Subscribe inbox subject ∷ first) second l f ln fn h k =
@@ -40,7 +40,7 @@ follows_front starts last from [] second ln fn h = (last, from, (refl, refl))
 follows_front starts last from (out.Yield sequence number subject payload ∷ first) second ln fn h =
     let more = follows_front starts sequence from first second ln fn h.1 in (more.0, more.1, (h.0, more.2))
 follows_front starts last from (out.Item kind ∷ first) second ln fn h = follows_front starts last from first second ln fn h
-follows_front starts last from (out.Recreate serial start ∷ first) second ln fn h = follows_front starts last (start_sequence start) first second ln fn h
+follows_front starts last from (out.Recreate recreation_count start ∷ first) second ln fn h = follows_front starts last (start_sequence start) first second ln fn h
 follows_front starts last from (out.Request number subject payload ∷ first) second ln fn h = follows_front starts last from first second ln fn h
 follows_front starts last from (out.Publish subject reply payload ∷ first) second ln fn h = follows_front starts last from first second ln fn h
 follows_front starts last from (out.Subscribe inbox subject ∷ first) second ln fn h =
@@ -50,7 +50,7 @@ pub follows_starts : (starts : ℕ → ℕ) (last from : ℕ) (outputs : List Ou
 follows_starts starts last from [] ln fn h = tt
 follows_starts starts last from (out.Yield sequence number subject payload ∷ outputs) ln fn h = follows_starts starts sequence from outputs ln fn h.1
 follows_starts starts last from (out.Item kind ∷ outputs) ln fn h = follows_starts starts last from outputs ln fn h
-follows_starts starts last from (out.Recreate serial start ∷ outputs) ln fn h = follows_starts starts last (start_sequence start) outputs ln fn h
+follows_starts starts last from (out.Recreate recreation_count start ∷ outputs) ln fn h = follows_starts starts last (start_sequence start) outputs ln fn h
 follows_starts starts last from (out.Request number subject payload ∷ outputs) ln fn h = follows_starts starts last from outputs ln fn h
 follows_starts starts last from (out.Publish subject reply payload ∷ outputs) ln fn h = follows_starts starts last from outputs ln fn h
 follows_starts starts last from (out.Subscribe inbox subject ∷ outputs) ln fn h = (h.0, follows_starts starts last from outputs ln fn h.1)
@@ -67,7 +67,7 @@ follows_count starts last from (out.Yield sequence number subject payload ∷ ou
     sum_by-cons (λ x. cond (is_yield x) 1 0) (out.Yield sequence number subject payload) outputs in
     omega (arith, more, next, same, one)
 follows_count starts last from (out.Item kind ∷ outputs) ln fn h = let more = follows_count starts last from outputs ln fn h in omega (arith, more)
-follows_count starts last from (out.Recreate serial start ∷ outputs) ln fn h = let more = follows_count starts last (start_sequence start) outputs ln fn h in omega (arith, more)
+follows_count starts last from (out.Recreate recreation_count start ∷ outputs) ln fn h = let more = follows_count starts last (start_sequence start) outputs ln fn h in omega (arith, more)
 follows_count starts last from (out.Request number subject payload ∷ outputs) ln fn h = let more = follows_count starts last from outputs ln fn h in omega (arith, more)
 follows_count starts last from (out.Publish subject reply payload ∷ outputs) ln fn h = let more = follows_count starts last from outputs ln fn h in omega (arith, more)
 follows_count starts last from (out.Subscribe inbox subject ∷ outputs) ln fn h = let more = follows_count starts last from outputs ln fn h.1 in omega (arith, more)

@@ -7,7 +7,7 @@ use Rattle.std.proofs.lemmas.Grind.{get_or_default_zero}
 use Rattle.js_message.specs.Ack.{Place, readable_as}
 use Rattle.js_pull.specs.Reader.{u64_max}
 use Rattle.js_table.specs.declared.event.Event as events
-use Rattle.js_table.specs.declared.event.What.{What}
+use Rattle.js_table.specs.declared.event.EventKind.{EventKind}
 use Rattle.js_table.specs.Gapless.{Logged, entry_at, IsMatching, IsWhole, IsDelivery, IsHonestEvent, entry_of}
 use Rattle.js_table.specs.Valid.{IsEventBelowEnd}
 use Rattle.js_generate.specs.Episodes.{delivered, before, reply, plain, delivery, deliveries, answer, recovery, happens, episodes}
@@ -90,7 +90,7 @@ some_same P x y same px = subst P (injected x y same) px
     injected x y same = cc
 
 -- an event is honest, and names no last sequence
-pub record IsFine (seed count : ℕ) (what : What) : Type 0 where
+pub record IsFine (seed count : ℕ) (what : EventKind) : Type 0 where
   pub honest : IsHonestEvent given.setup (server seed count) what
   pub below : IsEventBelowEnd what
 
@@ -137,7 +137,7 @@ module _ (seed count : ℕ) (small : before seed count + 2 < 2 ^ 62) where
   fine_episodes (suc left) episode within =
       all_append (IsFine seed count) (happens seed episode) (episodes seed (episode + 1) left) (fine_episode episode (omega arith)) (fine_episodes left (episode + 1) (omega arith))
 
-  fine_places : (place : ℕ) (whats : List What) → AllByRecursion (IsFine seed count) whats → AllByRecursion (λ (e : events.Event). IsFine seed count e.what) (at_places place whats)
+  fine_places : (place : ℕ) (whats : List EventKind) → AllByRecursion (IsFine seed count) whats → AllByRecursion (λ (e : events.Event). IsFine seed count e.what) (at_places place whats)
   fine_places place [] fine = tt
   fine_places place (what ∷ whats) fine = (fine.0, fine_places (place + 1) whats fine.1)
 

@@ -134,12 +134,12 @@ escape_digits (c ∷ cs) h =
     let one : escape_byte c ≡ c ∷ [] = escape_byte_plain c (λ e. absurd (omega arith)) (λ e. absurd (omega arith)) (omega arith) in
     rw (one, escape_digits cs h.1) refl
 
-pub name_plain : (serial : ℕ) → serial < 2 ^ 64 → escape (name_of serial) ≡ name_of serial
+pub name_plain : (recreation_count : ℕ) → recreation_count < 2 ^ 64 → escape (name_of recreation_count) ≡ name_of recreation_count
 unfolding escape_byte
-name_plain serial small = ap (λ (ds : List ℕ). codes "gen_" ++ ds) (escape_digits (decimal serial) (decimal_is_IsNumeral serial small).0.1)
+name_plain recreation_count small = ap (λ (ds : List ℕ). codes "gen_" ++ ds) (escape_digits (decimal recreation_count) (decimal_is_IsNumeral recreation_count small).0.1)
 
-pub name_utf8 : (serial : ℕ) → serial < 2 ^ 64 → IsUtf8 (name_of serial)
-name_utf8 serial small = IsUtf8-append (codes "gen_") (decimal serial) (IsUtf8-are_ascii (codes "gen_") refl) (IsUtf8-from_ascii (decimal serial) (IsAscii-decimal serial small))
+pub name_utf8 : (recreation_count : ℕ) → recreation_count < 2 ^ 64 → IsUtf8 (name_of recreation_count)
+name_utf8 recreation_count small = IsUtf8-append (codes "gen_") (decimal recreation_count) (IsUtf8-are_ascii (codes "gen_") refl) (IsUtf8-from_ascii (decimal recreation_count) (IsAscii-decimal recreation_count small))
 
 first_plain : escape (codes "gen") ≡ codes "gen"
 unfolding escape_byte

@@ -2,7 +2,7 @@
 use Rattle.std.proofs.Common.{◌≡◌, ℕ, zero, suc, ◌+◌, ◌-◌, ◌*◌, ◌%◌, ◌<◌, ◌≤◌, List, [], ◌∷◌, ◌++◌, length, take, codes, Result, Ok, Err, OnOk, refl, sym, ap, ap₂, ◌∙◌, arith, append_assoc, append-nil, length-append, add-one}
 use Rattle.std.proofs.lemmas.List.{take-append-le}
 use Rattle.js_table.specs.declared.event.Event.{Event}
-use Rattle.js_table.specs.declared.event.What.{What}
+use Rattle.js_table.specs.declared.event.EventKind.{EventKind}
 use Rattle.js_generate.specs.declared.episode.Episode.{Episode}
 use Rattle.js_generate.specs.Episodes.{draw, delivered, before, info_text, name_of, delivery, deliveries, answer, recovery, happens, episodes}
 use Rattle.js_generate.specs.Transcript.{at_places, generated}
@@ -10,18 +10,18 @@ use Rattle.js_generate.proofs.Numbers.{before_bound}
 
 -- ---- places
 
-pub length_places : (place : ℕ) (whats : List What) → length (at_places place whats) ≡ length whats
+pub length_places : (place : ℕ) (whats : List EventKind) → length (at_places place whats) ≡ length whats
 length_places place [] = refl
 length_places place (what ∷ whats) = let h = length_places (place + 1) whats in omega (arith, h)
 
-places_append : (place : ℕ) (first second : List What) → at_places place (first ++ second) ≡ at_places place first ++ at_places (place + length first) second
+places_append : (place : ℕ) (first second : List EventKind) → at_places place (first ++ second) ≡ at_places place first ++ at_places (place + length first) second
 places_append place [] second = ap (λ (p : ℕ). at_places p second) (let e : place ≡ place + 0 = omega arith in e)
 places_append place (what ∷ first) second =
     ap (λ (es : List Event). record { at = place * 1_000_000; what = what } ∷ es)
     (places_append (place + 1) first second ∙ ap (λ (p : ℕ). at_places (place + 1) first ++ at_places p second) (let e : place + 1 + length first ≡ place + suc (length first) = omega arith in e))
 
 -- an event is added, and others follow it
-pub pushed : (old new : List Event) (what : What) (whats : List What) → new ≡ old ++ record { at = (length old + 1) * 1_000_000; what = what } ∷ []
+pub pushed : (old new : List Event) (what : EventKind) (whats : List EventKind) → new ≡ old ++ record { at = (length old + 1) * 1_000_000; what = what } ∷ []
     → new ++ at_places (length new + 1) whats ≡ old ++ at_places (length old + 1) (what ∷ whats)
 pushed old new what whats e =
     let e1 : Event = record { at = (length old + 1) * 1_000_000; what = what } in
@@ -30,14 +30,14 @@ pushed old new what whats e =
     ∙ append_assoc old (e1 ∷ []) (at_places (length old + 1 + 1) whats)
 
 -- the next delivery, where one is left
-pub next_delivery : (inbox before number left : ℕ) (more : List What) → 0 < left
+pub next_delivery : (inbox before number left : ℕ) (more : List EventKind) → 0 < left
     → deliveries inbox before number left ++ more ≡ delivery inbox before number ∷ (deliveries inbox before (number + 1) (left - 1) ++ more)
 next_delivery inbox before number zero more some = absurd (omega arith)
 next_delivery inbox before number (suc left) more some =
     ap (λ (n : ℕ). delivery inbox before number ∷ (deliveries inbox before (number + 1) n ++ more)) (let e : left ≡ suc left - 1 = omega arith in e)
 
 -- four events are added
-pub four_pushed : (a b c d e : List Event) (first second third fourth : What)
+pub four_pushed : (a b c d e : List Event) (first second third fourth : EventKind)
     → b ≡ a ++ record { at = (length a + 1) * 1_000_000; what = first } ∷ []
     → c ≡ b ++ record { at = (length b + 1) * 1_000_000; what = second } ∷ []
     → d ≡ c ++ record { at = (length c + 1) * 1_000_000; what = third } ∷ []
@@ -59,7 +59,7 @@ recovery_pushed a b c d e number before delivered deleted created is_deleted is_
     ∙ ap₂ (λ (x y : List ℕ). a ++ at_places (length a + 1) (delivery number before (delivered + 2) ∷ answer (2 * number + 1) x ∷ answer (2 * number + 2) y ∷ delivery number before (delivered + 1) ∷ []))
     is_deleted is_created
 
-none_left : (inbox before number left : ℕ) (more : List What) → left ≡ 0 → deliveries inbox before number left ++ more ≡ more
+none_left : (inbox before number left : ℕ) (more : List EventKind) → left ≡ 0 → deliveries inbox before number left ++ more ≡ more
 none_left inbox before number left more none = ap (λ (n : ℕ). deliveries inbox before number n ++ more) none
 
 -- all of an episode
@@ -70,7 +70,7 @@ pub all_pushed : (start loop new : List Event) (inbox before number delivered ma
     → new ≡ start ++ at_places (length start + 1) (deliveries inbox before 1 many ++ recovery inbox before many)
 all_pushed start loop new inbox before number delivered many same end rest last =
     last
-    ∙ ap (λ (whats : List What). loop ++ at_places (length loop + 1) whats) (sym (none_left inbox before number (delivered + 1 - number) (recovery inbox before delivered) (omega arith)))
+    ∙ ap (λ (whats : List EventKind). loop ++ at_places (length loop + 1) whats) (sym (none_left inbox before number (delivered + 1 - number) (recovery inbox before delivered) (omega arith)))
     ∙ rest
     ∙ ap (λ (n : ℕ). start ++ at_places (length start + 1) (deliveries inbox before 1 n ++ recovery inbox before n)) same
 
@@ -87,7 +87,7 @@ episodes_append seed episode zero second =
     ap (episodes seed episode) n ∙ ap (λ (e : ℕ). episodes seed e second) e
 episodes_append seed episode (suc first) second =
     ap (episodes seed episode) (let e : suc first + second ≡ suc (first + second) = omega arith in e)
-    ∙ ap (λ (whats : List What). happens seed episode ++ whats)
+    ∙ ap (λ (whats : List EventKind). happens seed episode ++ whats)
     (episodes_append seed (episode + 1) first second
     ∙ ap (λ (e : ℕ). episodes seed (episode + 1) first ++ episodes seed e second) (let e : episode + 1 + first ≡ episode + suc first = omega arith in e))
     ∙ sym (append_assoc (happens seed episode) (episodes seed (episode + 1) first) (episodes seed (episode + suc first) second))
@@ -97,7 +97,7 @@ pub enough : (seed count number : ℕ) → number ≤ count → count ≤ length
 enough seed count number within long =
     let whole : episodes seed 0 count ≡ episodes seed 0 number ++ episodes seed (0 + number) (count - number) =
     ap (episodes seed 0) (let e : count ≡ number + (count - number) = omega arith in e) ∙ episodes_append seed 0 number (count - number) in
-    ap (λ (whats : List What). take count (at_places 1 whats)) whole
+    ap (λ (whats : List EventKind). take count (at_places 1 whats)) whole
     ∙ ap (take count) (places_append 1 (episodes seed 0 number) (episodes seed (0 + number) (count - number)))
     ∙ take-append-le count (at_places 1 (episodes seed 0 number)) (at_places (1 + length (episodes seed 0 number)) (episodes seed (0 + number) (count - number))) long
 
@@ -112,7 +112,7 @@ pub episode_pushed : (seed : ℕ) (episode : Episode) (old new : List Event) →
 episode_pushed seed episode old new is before new_is =
     let n : ℕ = episode.number in
     let one : episodes seed 0 (n + 1) ≡ episodes seed 0 n ++ happens seed n =
-    episodes_append seed 0 n 1 ∙ ap (λ (whats : List What). episodes seed 0 n ++ whats) (append-nil (happens seed (0 + n)) ∙ ap (happens seed) (let e : 0 + n ≡ n = omega arith in e)) in
+    episodes_append seed 0 n 1 ∙ ap (λ (whats : List EventKind). episodes seed 0 n ++ whats) (append-nil (happens seed (0 + n)) ∙ ap (happens seed) (let e : 0 + n ≡ n = omega arith in e)) in
     let long : length old ≡ length (episodes seed 0 n) = ap length before ∙ length_places 1 (episodes seed 0 n) in
     new_is
     ∙ ap (λ (e : Episode). old ++ at_places (length old + 1) (deliveries e.number e.before 1 (1 + e.draw % 8) ++ recovery e.number e.before (1 + e.draw % 8))) is
@@ -149,8 +149,8 @@ pub episode_length : (seed : ℕ) (episode : Episode) (old new : List Event)
     → (length old + 5 ≤ length new) × (length new ≤ length old + 12)
 episode_length seed episode old new is =
     let m : ℕ = 1 + episode.draw % 8 in
-    let first : List What = deliveries episode.number episode.before 1 m in
-    let second : List What = recovery episode.number episode.before m in
+    let first : List EventKind = deliveries episode.number episode.before 1 m in
+    let second : List EventKind = recovery episode.number episode.before m in
     let long : length new ≡ length old + (m + 4) =
     ap length is ∙ length-append old (at_places (length old + 1) (first ++ second)) ∙ ap (λ (n : ℕ). length old + n)
     (length_places (length old + 1) (first ++ second) ∙ length-append first second ∙ ap (λ (n : ℕ). n + 4) (length_deliveries episode.number episode.before 1 m)) in

@@ -1,16 +1,16 @@
 -- Lists of events, one after another.
 use Rattle.std.proofs.Common.{◌≡◌, ℕ, ◌+◌, ◌*◌, List, [], ◌∷◌, ◌++◌, length, map, refl, sym, ap, ◌∙◌, arith, append_assoc}
-use Rattle.js_table.specs.declared.consumer.Given.{Given}
+use Rattle.js_table.specs.declared.consumer.ReplayInput.{ReplayInput}
 use Rattle.js_table.specs.declared.event.Event as events
-use Rattle.js_table.specs.declared.event.What.{What}
+use Rattle.js_table.specs.declared.event.EventKind.{EventKind}
 use Rattle.js_table.specs.declared.run.Output.{Output}
-use Rattle.js_table.specs.declared.world.World.{World}
+use Rattle.js_table.specs.declared.replay_state.ReplayState.{ReplayState}
 use Rattle.js_table.specs.Fold.{Ran, stays, and_then, event, run_events, step_of}
 use Rattle.js_table.specs.Gapless.{joined}
 use Rattle.js_generate.specs.Transcript.{at_places}
 
 -- what happens from a place on
-abbrev pub plays : Given → ℕ → List What → World → Ran
+abbrev pub plays : ReplayInput → ℕ → List EventKind → ReplayState → Ran
 plays g place [] w = stays w
 plays g place (what ∷ whats) w =
     let ran = event g (record { at = place * 1_000_000; what = what }) w in
@@ -19,7 +19,7 @@ plays g place (what ∷ whats) w =
 abbrev pub outputs_of : List Ran → List Output
 outputs_of rans = joined (map step_of rans)
 
-pub plays_outputs : (g : Given) (place : ℕ) (whats : List What) (w : World) → (plays g place whats w).outputs ≡ outputs_of (run_events g (at_places place whats) w)
+pub plays_outputs : (g : ReplayInput) (place : ℕ) (whats : List EventKind) (w : ReplayState) → (plays g place whats w).outputs ≡ outputs_of (run_events g (at_places place whats) w)
 unfolding run_events
 plays_outputs g place [] w = refl
 plays_outputs g place (what ∷ whats) w =
@@ -29,7 +29,7 @@ plays_outputs g place (what ∷ whats) w =
 then_then : (first second : List Output) (ran : Ran) → and_then first (and_then second ran) ≡ and_then (first ++ second) ran
 then_then first second ran = ap (λ (outputs : List Output). record { world = ran.world; outputs = outputs }) (sym (append_assoc first second ran.outputs))
 
-pub plays_append : (g : Given) (place place_then : ℕ) (first second : List What) (w : World) → place_then ≡ place + length first
+pub plays_append : (g : ReplayInput) (place place_then : ℕ) (first second : List EventKind) (w : ReplayState) → place_then ≡ place + length first
     → plays g place (first ++ second) w ≡ and_then (plays g place first w).outputs (plays g place_then second (plays g place first w).world)
 plays_append g place place_then [] second w e = ap (λ (p : ℕ). plays g p second w) (omega (arith, e))
 plays_append g place place_then (what ∷ first) second w e =
@@ -39,7 +39,7 @@ plays_append g place place_then (what ∷ first) second w e =
     ∙ then_then ran.outputs rest.outputs (plays g place_then second rest.world)
 
 -- what a front of the events puts out is a front
-pub run_front : (g : Given) (first second : List events.Event) (w : World)
+pub run_front : (g : ReplayInput) (first second : List events.Event) (w : ReplayState)
     → (rest : List Output) × (outputs_of (run_events g (first ++ second) w) ≡ outputs_of (run_events g first w) ++ rest)
 unfolding run_events
 run_front g [] second w = (outputs_of (run_events g second w), refl)

@@ -24,7 +24,7 @@ last_push : (last : ℕ) (outputs : List Output) (o : Output) → last_yielded l
 last_push last [] o = refl
 last_push last (out.Yield sequence number subject payload ∷ outputs) o = last_push sequence outputs o
 last_push last (out.Item kind ∷ outputs) o = last_push last outputs o
-last_push last (out.Recreate serial start ∷ outputs) o = last_push last outputs o
+last_push last (out.Recreate recreation_count start ∷ outputs) o = last_push last outputs o
 last_push last (out.Request number subject payload ∷ outputs) o = last_push last outputs o
 last_push last (out.Publish subject reply payload ∷ outputs) o = last_push last outputs o
 last_push last (out.Subscribe inbox subject ∷ outputs) o = last_push last outputs o
@@ -33,7 +33,7 @@ last_push last (out.Subscribe inbox subject ∷ outputs) o = last_push last outp
 abbrev pub tallied : Output → Summary → Summary
 tallied (out.Yield sequence number subject payload) s = record s { yields = s.yields + 1; last = sequence }
 tallied (out.Item kind) s = record s { items = s.items + 1 }
-tallied (out.Recreate serial start) s = record s { recreations = s.recreations + 1 }
+tallied (out.Recreate recreation_count start) s = record s { recreations = s.recreations + 1 }
 tallied (out.Request number subject payload) s = record s { requests = s.requests + 1 }
 tallied (out.Publish subject reply payload) s = record s { publishes = s.publishes + 1 }
 tallied (out.Subscribe inbox subject) s = record s { subscribes = s.subscribes + 1 }
@@ -45,8 +45,8 @@ counts_push events outputs (out.Yield sequence number subject payload) =
 counts_push events outputs (out.Item kind) =
     let o = out.Item kind in
     rw (none is_yield outputs o refl, one is_item outputs o refl, none is_recreation outputs o refl, none is_request outputs o refl, none is_publish outputs o refl, none is_subscribe outputs o refl, last_push 0 outputs o) refl
-counts_push events outputs (out.Recreate serial start) =
-    let o = out.Recreate serial start in
+counts_push events outputs (out.Recreate recreation_count start) =
+    let o = out.Recreate recreation_count start in
     rw (none is_yield outputs o refl, none is_item outputs o refl, one is_recreation outputs o refl, none is_request outputs o refl, none is_publish outputs o refl, none is_subscribe outputs o refl, last_push 0 outputs o) refl
 counts_push events outputs (out.Request number subject payload) =
     let o = out.Request number subject payload in

@@ -4,12 +4,12 @@ use Rattle.std.specs.Prelude.{nat_lt}
 use Rattle.std.proofs.lemmas.List.{take-append-drop}
 use Rattle.std.proofs.lemmas.Bool.Decides.{nat_tests}
 use Rattle.js_json.specs.PullConfig.{new_ordered_pull_config}
-use Rattle.js_table.specs.declared.consumer.Given.{Given}
+use Rattle.js_table.specs.declared.consumer.ReplayInput.{ReplayInput}
 use Rattle.js_table.specs.declared.event.Event as events
-use Rattle.js_table.specs.declared.event.What.{What}
+use Rattle.js_table.specs.declared.event.EventKind.{EventKind}
 use Rattle.js_table.specs.declared.run.Output.{Output}
 use Rattle.js_table.specs.declared.run.Run.{Run}
-use Rattle.js_table.specs.declared.world.World.{World}
+use Rattle.js_table.specs.declared.replay_state.ReplayState.{ReplayState}
 use Rattle.js_table.specs.Fold.{opening, run_events, fold}
 use Rattle.js_table.specs.Refusal.{first_early}
 use Rattle.js_table.specs.Gapless.{IsHonest, all_outputs}
@@ -34,8 +34,8 @@ all_follow : (seed count : ℕ) → count ≤ 200_000
     → (from : ℕ) × Follows (starts seed) 0 0 ((opening given 0).outputs ++ outputs_of (run_events given (at_places 1 (episodes seed 0 count)) (opening given 0).world)) (before seed (0 + count)) from
 all_follow seed count small =
     let o = at.opened settings new_ordered_pull_config (info (codes "gen")) (starts seed) 0 in
-    let w : World = (opening given 0).world in
-    let r : IsReading 0 0 0 w = record { source = _; c = _; asked = 0; made = 1; on = o.world; inbox_is = refl; num_is = refl; last_is = refl; asked_is = refl; made_is = refl } in
+    let w : ReplayState = (opening given 0).world in
+    let r : IsReading 0 0 0 w = record { source = _; c = _; requests_sent = 0; inboxes_opened = 1; on = o.world; inbox_is = refl; num_is = refl; last_is = refl; asked_is = refl; made_is = refl } in
     let played = episodes_play settings new_ordered_pull_config (info (codes "gen")) (starts seed) seed (λ inbox. refl) count 0 1 0 w (omega arith) r in (
       played.0,
       follows_append (starts seed) 0 0 (opening given 0).outputs _ 0 0 (before seed (0 + count)) played.0 o.outputs
@@ -47,7 +47,7 @@ run_follows : (seed count : ℕ) → count ≤ 200_000
     → (last : ℕ) × (from : ℕ) × Follows (starts seed) 0 0 (all_outputs (fold given 0 (generated seed count))) last from
 unfolding fold
 run_follows seed count small =
-    let w : World = (opening given 0).world in
+    let w : ReplayState = (opening given 0).world in
     let all : List events.Event = at_places 1 (episodes seed 0 count) in
     let whole = all_follow seed count small in
     let front = run_front given (take count all) (drop count all) w in
@@ -89,7 +89,7 @@ yields_last seed count small run replay =
 
 -- ---- valid input
 
-not_early : (n place before index : ℕ) (whats : List What) → before ≤ place * 1_000_000 → first_early index before (take n (at_places place whats)) ≡ None
+not_early : (n place before index : ℕ) (whats : List EventKind) → before ≤ place * 1_000_000 → first_early index before (take n (at_places place whats)) ≡ None
 not_early zero place before index whats order = refl
 not_early (suc n) place before index [] order = refl
 not_early (suc n) place before index (what ∷ whats) order =
@@ -110,16 +110,16 @@ pub if_ok : {A E : Type 0} {P Q : A → Type 0} (r : Result A E) → ((x : A) �
 if_ok (Ok x) f h = f x h
 if_ok (Err e) f h = tt
 
-pub still_valid : (g : Given) (es : List events.Event) (seed count : ℕ) → count ≤ 200_000 → g ≡ given → es ≡ generated seed count → IsValid g 0 es
+pub still_valid : (g : ReplayInput) (es : List events.Event) (seed count : ℕ) → count ≤ 200_000 → g ≡ given → es ≡ generated seed count → IsValid g 0 es
 still_valid g es seed count small is_given is_generated =
-    subst (λ (g : Given). IsValid g 0 es) (sym is_given) (subst (λ (es : List events.Event). IsValid given 0 es) (sym is_generated) (valid seed count small))
+    subst (λ (g : ReplayInput). IsValid g 0 es) (sym is_given) (subst (λ (es : List events.Event). IsValid given 0 es) (sym is_generated) (valid seed count small))
 
-pub counted : (g : Given) (es : List events.Event) (seed count : ℕ) (run : Run) → IsReplay g 0 es run → g ≡ given → es ≡ generated seed count
+pub counted : (g : ReplayInput) (es : List events.Event) (seed count : ℕ) (run : Run) → IsReplay g 0 es run → g ≡ given → es ≡ generated seed count
     → summary run ≡ summary (fold given 0 (generated seed count))
 counted g es seed count run replay is_given is_generated =
-    ap summary (replay.folded ∙ ap (λ (g : Given). fold g 0 es) is_given ∙ ap (λ (es : List events.Event). fold given 0 es) is_generated)
+    ap summary (replay.folded ∙ ap (λ (g : ReplayInput). fold g 0 es) is_given ∙ ap (λ (es : List events.Event). fold given 0 es) is_generated)
 
-pub whole : (g : Given) (es : List events.Event) (seed count : ℕ) (run : Run) (s : Summary) → count ≤ 200_000 → IsReplay g 0 es run → g ≡ given → es ≡ generated seed count
+pub whole : (g : ReplayInput) (es : List events.Event) (seed count : ℕ) (run : Run) (s : Summary) → count ≤ 200_000 → IsReplay g 0 es run → g ≡ given → es ≡ generated seed count
     → s ≡ summary run → s.yields ≡ s.last
 whole g es seed count run s small replay is_given is_generated is =
     let same : s ≡ summary (fold given 0 (generated seed count)) = is ∙ counted g es seed count run replay is_given is_generated in

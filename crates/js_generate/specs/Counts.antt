@@ -22,7 +22,7 @@ is_item _ = false
 
 -- a recreation begins
 abbrev pub is_recreation : Output → Bool
-is_recreation (out.Recreate serial start) = true
+is_recreation (out.Recreate recreation_count start) = true
 is_recreation _ = false
 
 -- a pull request goes out

@@ -1,8 +1,8 @@
 -- The events of a generated transcript, episode after episode: some messages in order, a gap, and the recreation that it brings.
 use Rattle.std.specs.Prelude.{ℕ, zero, suc, ◌+◌, ◌*◌, ◌%◌, List, [], ◌∷◌, ◌++◌, length, Some, None, codes, decimal}
 use Rattle.js_base.specs.declared.message.Message.{Message}
-use Rattle.js_table.specs.declared.event.What.{What}
-use Rattle.js_table.specs.declared.event.What.TheVariants as what
+use Rattle.js_table.specs.declared.event.EventKind.{EventKind}
+use Rattle.js_table.specs.declared.event.EventKind.TheVariants as what
 
 -- ---- the numbers
 
@@ -35,7 +35,7 @@ info_text name =
 
 -- the name of the consumer that the recreation with this serial makes
 abbrev pub name_of : ℕ → List ℕ
-name_of serial = codes "gen_" ++ decimal serial
+name_of recreation_count = codes "gen_" ++ decimal recreation_count
 
 -- ---- what happens
 
@@ -44,21 +44,21 @@ abbrev pub plain : List ℕ → Message
 plain payload = record { subject = []; reply = None; payload = payload; headers = None; status = None; description = None; length = length payload }
 
 -- the message with this number on an inbox that starts after some sequence
-abbrev pub delivery : ℕ → ℕ → ℕ → What
+abbrev pub delivery : ℕ → ℕ → ℕ → EventKind
 delivery inbox before number =
     what.Arrival inbox (record (plain (decimal (before + number))) { reply = Some (reply (before + number) number) })
 
 -- so many of them, from a number on
-abbrev pub deliveries : ℕ → ℕ → ℕ → ℕ → List What
+abbrev pub deliveries : ℕ → ℕ → ℕ → ℕ → List EventKind
 deliveries inbox before number zero = []
 deliveries inbox before number (suc left) = delivery inbox before number ∷ deliveries inbox before (number + 1) left
 
 -- the answer to a request
-abbrev pub answer : ℕ → List ℕ → What
+abbrev pub answer : ℕ → List ℕ → EventKind
 answer request payload = what.Answer request (Some (plain payload))
 
 -- The message after the last in order is missing, and the one behind it shows the gap. Then the old consumer is deleted and a new one made; and the missing message comes late.
-abbrev pub recovery : ℕ → ℕ → ℕ → List What
+abbrev pub recovery : ℕ → ℕ → ℕ → List EventKind
 recovery episode before delivered =
     delivery episode before (delivered + 2)
     ∷ answer (2 * episode + 1) (codes "{\"success\":true}")
@@ -67,12 +67,12 @@ recovery episode before delivered =
     ∷ []
 
 -- all of an episode
-abbrev pub happens : ℕ → ℕ → List What
+abbrev pub happens : ℕ → ℕ → List EventKind
 happens seed episode =
     deliveries episode (before seed episode) 1 (delivered seed episode)
     ++ recovery episode (before seed episode) (delivered seed episode)
 
 -- so many episodes, from one on
-abbrev pub episodes : ℕ → ℕ → ℕ → List What
+abbrev pub episodes : ℕ → ℕ → ℕ → List EventKind
 episodes seed episode zero = []
 episodes seed episode (suc left) = happens seed episode ++ episodes seed (episode + 1) left

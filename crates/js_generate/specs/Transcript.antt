@@ -7,9 +7,9 @@ use Rattle.js_json.specs.ConsumerConfig.{new_config}
 use Rattle.js_json.specs.PullConfig.{new_ordered_pull_config}
 use Rattle.js_table.specs.declared.setup.Settings.{Settings}
 use Rattle.js_table.specs.declared.setup.OrderedSetup.TheVariants.{Pull}
-use Rattle.js_table.specs.declared.consumer.Given.{Given}
+use Rattle.js_table.specs.declared.consumer.ReplayInput.{ReplayInput}
 use Rattle.js_table.specs.declared.event.Event.{Event}
-use Rattle.js_table.specs.declared.event.What.{What}
+use Rattle.js_table.specs.declared.event.EventKind.{EventKind}
 use Rattle.js_generate.specs.Episodes.{episodes}
 
 -- ---- the setup
@@ -53,13 +53,13 @@ info name = record {
 }
 
 -- an ordered pull consumer of all messages
-abbrev pub given : Given
+abbrev pub given : ReplayInput
 given = record { settings = settings; setup = Pull new_ordered_pull_config; first = info (codes "gen") }
 
 -- ---- the events
 
 -- one a millisecond, of which the first here has this place
-abbrev pub at_places : ℕ → List What → List Event
+abbrev pub at_places : ℕ → List EventKind → List Event
 at_places place [] = []
 at_places place (what ∷ whats) = record { at = place * 1_000_000; what = what } ∷ at_places (place + 1) whats
 

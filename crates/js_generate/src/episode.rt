@@ -6,7 +6,7 @@ ghost use Rattle.js_generate.specs.Transcript as transcript;
 use crate::texts;
 use bytes::Bytes;
 use js_base::{Boxed, Message, OutOfMemory, Subject};
-use js_table::{Event, What};
+use js_table::{Event, EventKind};
 use std::alloc::Global;
 
 /// Some messages in order, a gap, and the recreation that it brings.
@@ -111,7 +111,7 @@ impl Episode {
     }
 
     /// The arrival of the message with this number.
-    fn delivery(&self, alloc: Global, number: u64) -> Result<What, OutOfMemory>
+    fn delivery(&self, alloc: Global, number: u64) -> Result<EventKind, OutOfMemory>
         requires number { number < 100 }
         requires before { self.now.before < 10_000_000 }
         ensures { IfOk result (λ what. what ≡ episodes.delivery self.now.number self.now.before number) }
@@ -120,7 +120,7 @@ impl Episode {
         let reply = Subject::from(texts::reply(alloc, sequence, number)?);
         let mut message = plain(alloc, texts::decimal(alloc, sequence)?)?;
         message.reply = Some(reply);
-        Ok(What::Arrival {
+        Ok(EventKind::Arrival {
             inbox: self.number,
             message: Boxed::new(alloc, message)?,
         })
@@ -167,11 +167,11 @@ fn plain(alloc: Global, payload: String) -> Result<Message, OutOfMemory>
 }
 
 /// The answer to a request.
-fn answer(alloc: Global, request: u64, payload: String) -> Result<What, OutOfMemory>
+fn answer(alloc: Global, request: u64, payload: String) -> Result<EventKind, OutOfMemory>
     ensures { IfOk result (λ what. what ≡ episodes.answer request (string_bytes payload)) }
 {
     let message = plain(alloc, payload)?;
-    Ok(What::Answer {
+    Ok(EventKind::Answer {
         request,
         reply: Some(Boxed::new(alloc, message)?),
     })
@@ -193,7 +193,7 @@ fn push_answer(
 }
 
 /// Adds what happens, a millisecond after the event before it.
-fn push(events: &mut Vec<Event>, what: What) -> Result<(), OutOfMemory>
+fn push(events: &mut Vec<Event>, what: EventKind) -> Result<(), OutOfMemory>
     requires { length events.old.items < 2_000_000 }
     ensures { OnOk result (events.new.items ≡ events.old.items
         ++ record { at = (length events.old.items + 1) * 1_000_000; what = what } ∷ []) }

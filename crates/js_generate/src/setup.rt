@@ -6,7 +6,7 @@ use crate::texts;
 use js_base::{OutOfMemory, Text};
 use js_json::consumer::Info;
 use js_json::{Response, pull, response_as};
-use js_table::{Given, OrderedSetup, Settings};
+use js_table::{OrderedSetup, ReplayInput, Settings};
 use std::alloc::Global;
 
 /// All at their defaults.
@@ -40,10 +40,10 @@ fn first_info(alloc: Global) -> Result<Info, OutOfMemory>
 /// # Errors
 ///
 /// Want of memory.
-pub fn given(alloc: Global) -> Result<Given, OutOfMemory>
+pub fn given(alloc: Global) -> Result<ReplayInput, OutOfMemory>
     ensures { IfOk result (λ given. given ≡ transcript.given) }
 {
-    Ok(Given {
+    Ok(ReplayInput {
         settings: settings(alloc)?,
         setup: OrderedSetup::Pull(pull::OrderedConfig::new(alloc)),
         first: first_info(alloc)?,

@@ -19,8 +19,8 @@ pub(crate) fn decimal(alloc: Global, number: u64) -> Result<String, AllocError>
 }
 
 /// The name of the consumer that the recreation with this serial makes.
-pub(crate) fn name(alloc: Global, serial: u64) -> Result<String, AllocError>
-    ensures { IfOk result (λ text. string_bytes text ≡ episodes.name_of serial) }
+pub(crate) fn name(alloc: Global, recreation_count: u64) -> Result<String, AllocError>
+    ensures { IfOk result (λ text. string_bytes text ≡ episodes.name_of recreation_count) }
 {
     format!(in alloc; "gen_{serial}")
 }

@@ -2,7 +2,7 @@
 use Rattle.std.proofs.Common.{◌≡◌, ℕ, zero, suc, ◌+◌, ◌<◌, ◌==◌, Bool, List, [], ◌∷◌, length, get_or, take, drop, true, false, refl, arith, add-one}
 use Rattle.std.proofs.Common.{◌++◌, append_assoc, append-nil, if◌then◌else◌, Option, None, Some, MatchOption, IfSome, ap, sym, ◌∙◌, length-append, ◌≤◌, ◌-◌}
 use Rattle.std.proofs.lemmas.List.{drop-drop, length-drop}
-use Rattle.js_ends.specs.Pieces.{EndsLine}
+use Rattle.js_io.specs.Pieces.{EndsLine}
 use Rattle.js_lines.specs.Lines.{lines_of, onto_first}
 
 is_false : (b : Bool) → (b ≡ true → ⊥) → b ≡ false

@@ -3,7 +3,7 @@
 ghost use Rattle.std.specs.Prelude.{◌≡◌, ◌<◌, ◌≤◌, ◌+◌, ◌-◌, ◌++◌, [], ◌∷◌, length, take, drop, IfSome, MatchOption};
 ghost use Rattle.js_lines.specs.Lines.{lines_of};
 
-use js_ends::Pieces;
+use js_io::Pieces;
 use memchr::memchr;
 use std::alloc::Global;
 

@@ -4,7 +4,7 @@ ghost use Rattle.std.specs.Prelude.{◌≡◌, ◌≤◌, length};
 ghost use Rattle.js_lines.specs.Lines.{lines_of, IsRead};
 
 use crate::cut::{line_at, next_piece};
-use js_ends::Pieces;
+use js_io::Pieces;
 use std::alloc::Global;
 use std::marker::Model;
 

@@ -7,10 +7,10 @@ use crate::error::{GetStreamByNameError, GetStreamByNameErrorKind};
 use crate::rest::first_of;
 use bytes::Bytes;
 use js_base::{Error, OutOfMemory, Source, Text, is_valid_subject};
-use js_call::{ApiScope, Call, Failure, Meaning};
+use js_call::{ApiCall, ApiScope, Call, Failure};
 use js_fields::{ReadError, ToValue};
 use js_json::{Response, response_as};
-use js_stream::stream::{NamesRequest, Page};
+use js_stream_json::stream::{NamesRequest, Page};
 use std::alloc::Global;
 
 /// The row of `stream_by_subject`.
@@ -33,7 +33,7 @@ fn find_refusal(subject: &str) -> Option<GetStreamByNameErrorKind>
     }
 }
 
-impl Meaning for FindingStream {
+impl ApiCall for FindingStream {
     type Reply = Response<Page<Text>>;
 
     type Answer = Result<Text, GetStreamByNameError>;

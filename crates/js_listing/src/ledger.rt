@@ -5,7 +5,7 @@ ghost use Rattle.js_listing.specs.Polls.{loaded, HandsOut, fresh_ledger};
 use crate::error::StreamsError;
 use crate::rest::Rest;
 use js_base::Next;
-use js_stream::stream::Page;
+use js_stream_json::stream::Page;
 use std::alloc::Global;
 
 /// What was received and not handed out, and where the next page begins.

@@ -6,7 +6,7 @@ ghost use Rattle.js_listing.specs.Pages.{Lists, names_list, infos_list};
 
 use js_base::Text;
 use js_fields::{Member, ReadError, ToValue};
-use js_stream::stream::{Info, ListRequest, NamesRequest};
+use js_stream_json::stream::{Info, ListRequest, NamesRequest};
 use std::alloc::Global;
 
 /// An item of a list of the API.

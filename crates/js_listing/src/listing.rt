@@ -11,7 +11,7 @@ use crate::page::{AskingPage, ask_page};
 use js_base::{Moment, Next, OutOfMemory, Text, TryClone, Turn};
 use js_call::{ApiScope, Call, State};
 use js_link::Link;
-use js_stream::stream::{Info, Page};
+use js_stream_json::stream::{Info, Page};
 use std::alloc::Global;
 
 /// A list of the API, which is asked for page by page. Each page is handed out from its end.

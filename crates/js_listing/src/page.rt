@@ -7,10 +7,10 @@ use crate::error::{StreamsError, StreamsErrorKind};
 use crate::listed::Listed;
 use bytes::Bytes;
 use js_base::{Error, OutOfMemory, Source};
-use js_call::{ApiScope, Call, Failure, Meaning};
+use js_call::{ApiCall, ApiScope, Call, Failure};
 use js_fields::ReadError;
 use js_json::{Response, response_as};
-use js_stream::stream::Page;
+use js_stream_json::stream::Page;
 use std::alloc::Global;
 use std::marker::PhantomData;
 
@@ -20,7 +20,7 @@ pub struct AskingPage<T> {
     of: PhantomData<T>,
 }
 
-impl<T: Listed> Meaning for AskingPage<T> {
+impl<T: Listed> ApiCall for AskingPage<T> {
     type Reply = Response<Page<T>>;
 
     type Answer = Result<Page<T>, StreamsError>;

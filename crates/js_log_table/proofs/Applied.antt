@@ -20,7 +20,7 @@ yielded_append [] second = refl
 yielded_append (out.Yield sequence number subject payload ∷ first) second =
     ap (λ (es : List Entry). record { subject = subject; sequence = sequence; payload = payload } ∷ es) (yielded_append first second)
 yielded_append (out.Item kind ∷ first) second = yielded_append first second
-yielded_append (out.Recreate serial start ∷ first) second = yielded_append first second
+yielded_append (out.Recreate recreation_count start ∷ first) second = yielded_append first second
 yielded_append (out.Request number subject payload ∷ first) second = yielded_append first second
 yielded_append (out.Publish subject reply payload ∷ first) second = yielded_append first second
 yielded_append (out.Subscribe inbox subject ∷ first) second = yielded_append first second

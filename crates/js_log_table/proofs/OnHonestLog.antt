@@ -6,7 +6,7 @@ use Rattle.std.specs.List.{AllByRecursion}
 use Rattle.js_base.specs.declared.message.Entry.{Entry}
 use Rattle.js_base.specs.Match.{filters_match}
 use Rattle.js_project.specs.Table.{RisesAbove, last_sequence, up_to}
-use Rattle.js_table.specs.declared.consumer.Given.{Given}
+use Rattle.js_table.specs.declared.consumer.ReplayInput.{ReplayInput}
 use Rattle.js_table.specs.declared.event.Event.{Event}
 use Rattle.js_table.specs.declared.setup.OrderedSetup.{OrderedSetup}
 use Rattle.js_table.specs.Fold.{fold as run_of}
@@ -262,12 +262,12 @@ module _ (s : Server) (setup : OrderedSetup) (ys : List gapless.Entry) (gapless_
           (λ x among. among_between setup s.log start last x (yield_between x among)) covered
 
 -- the yields of a run have the table of an honest server's log
-pub run_has_table : (g : Given) (start : ℕ) (es : List Event) → HasLogsTable g.setup es (run_of g start es) (yielded (all_outputs (run_of g start es)))
+pub run_has_table : (g : ReplayInput) (start : ℕ) (es : List Event) → HasLogsTable g.setup es (run_of g start es) (yielded (all_outputs (run_of g start es)))
 run_has_table g start es s from honest configured overtaken =
     let ys = yields (all_outputs (run_of g start es)) in
     let leaves_no_gap : IsGapless s g.setup ys = replay_gapless g start es s honest in
     has_table (matching_between g.setup s.log from (last_sequence (map as_entry ys))) (map as_entry ys) (yields_keep s g.setup ys leaves_no_gap from configured overtaken)
 
 -- and rise
-pub run_rises : (g : Given) (start : ℕ) (es : List Event) (s : Server) → IsHonest s g.setup es (run_of g start es) → RisesAbove 0 (yielded (all_outputs (run_of g start es)))
+pub run_rises : (g : ReplayInput) (start : ℕ) (es : List Event) (s : Server) → IsHonest s g.setup es (run_of g start es) → RisesAbove 0 (yielded (all_outputs (run_of g start es)))
 run_rises g start es s honest = gapless_rises s g.setup (yields (all_outputs (run_of g start es))) (replay_gapless g start es s honest)

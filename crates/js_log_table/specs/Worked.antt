@@ -3,7 +3,7 @@ use Rattle.std.specs.Prelude.{◌≡◌, ℕ, List, [], ◌∷◌, Some, codes}
 use Rattle.std.specs.Global.{Global}
 use Rattle.js_base.specs.declared.message.Entry.{Entry}
 use Rattle.js_project.specs.Table.{last_sequence, table}
-use Rattle.js_table.specs.declared.consumer.Given.{Given}
+use Rattle.js_table.specs.declared.consumer.ReplayInput.{ReplayInput}
 use Rattle.js_table.specs.declared.event.Event.{Event}
 use Rattle.js_table.specs.Fold.{fold}
 use Rattle.js_table.specs.Texts.{configured_start}
@@ -13,7 +13,7 @@ use Rattle.js_log_table.specs.Yielded.{yielded}
 use Rattle.js_log_table.specs.Honest.{matching_between, AreOvertaken}
 
 -- a consumer of all messages from sequence 1 on
-abbrev pub from_one : Given
+abbrev pub from_one : ReplayInput
 from_one = pull_from 1
 
 -- it is sent two messages, of which the second has sequence 3
@@ -49,7 +49,7 @@ abbrev pub entry : ℕ → List ℕ → List ℕ → Entry
 entry sequence subject payload = record { subject = subject; sequence = sequence; payload = payload }
 
 -- the server is honest in the run of these events, whose yields have one table, and the log another
-pub record HasTables (s : Server) (g : Given) (es : Global → List Event) (start last : ℕ) (of_yields of_log : List Entry) : Type 0 where
+pub record HasTables (s : Server) (g : ReplayInput) (es : Global → List Event) (start last : ℕ) (of_yields of_log : List Entry) : Type 0 where
   pub honest : (heap : Global) → IsHonest s g.setup (es heap) (fold g 0 (es heap))
   pub starts : configured_start g.setup ≡ Some start
   pub ends : (heap : Global) → last_sequence (yielded (all_outputs (fold g 0 (es heap)))) ≡ last
@@ -57,11 +57,11 @@ pub record HasTables (s : Server) (g : Given) (es : Global → List Event) (star
   pub logs_table : table (matching_between g.setup s.log start last) ≡ of_log
 
 -- what was removed was overtaken, and the two tables are one
-pub record IsTheLogs (s : Server) (g : Given) (es : Global → List Event) (start last : ℕ) (rows : List Entry) : Type 0 where
+pub record IsTheLogs (s : Server) (g : ReplayInput) (es : Global → List Event) (start last : ℕ) (rows : List Entry) : Type 0 where
   pub tables : HasTables s g es start last rows rows
   pub overtaken : AreOvertaken g.setup s start last
 
 -- it was not, and the log has another table
-pub record IsAnother (s : Server) (g : Given) (es : Global → List Event) (start last : ℕ) (of_yields of_log : List Entry) : Type 0 where
+pub record IsAnother (s : Server) (g : ReplayInput) (es : Global → List Event) (start last : ℕ) (of_yields of_log : List Entry) : Type 0 where
   pub tables : HasTables s g es start last of_yields of_log
   pub left_behind : AreOvertaken g.setup s start last → ⊥

@@ -2,7 +2,7 @@
 
 ghost use Rattle.std.specs.Prelude.{◌≡◌, [], ◌++◌, ◌∷◌, List, ℕ, take, Err, IfOk, OnOk, OnErr};
 ghost use Rattle.js_project.specs.declared.error.ApplyError.TheVariants as refusal;
-ghost use Rattle.js_table.specs.declared.consumer.Given.{Given};
+ghost use Rattle.js_table.specs.declared.consumer.ReplayInput.{ReplayInput};
 ghost use Rattle.js_table.specs.declared.event.Event as events;
 ghost use Rattle.js_table.specs.declared.run.Output as declared;
 ghost use Rattle.js_table.specs.Fold.{fold};
@@ -102,9 +102,9 @@ impl RunProjection {
 /// server's run never meets it. The other refusal is want of memory.
 pub fn project(alloc: Global, run: &Run) -> Result<Projection, ApplyError>
     ensures applied { IsProjected (yielded (all_outputs run.now)) result }
-    ensures log { (g : Given) → (start : ℕ) → (es : List events.Event) → run.now ≡ fold g start es
+    ensures log { (g : ReplayInput) → (start : ℕ) → (es : List events.Event) → run.now ≡ fold g start es
         → IfOk result (λ entries. HasLogsTable g.setup es run.now entries) }
-    ensures risen { (g : Given) → (start : ℕ) → (es : List events.Event) → (s : Server) → run.now ≡ fold g start es → IsHonest s g.setup es run.now
+    ensures risen { (g : ReplayInput) → (start : ℕ) → (es : List events.Event) → (s : Server) → run.now ≡ fold g start es → IsHonest s g.setup es run.now
         → (last : ℕ) → result ≡ Err (refusal.NotRising last) → ⊥ }
 {
     let mut projection = RunProjection::new(alloc);

@@ -15,7 +15,7 @@ use Rattle.js_message.specs.declared.stream_message.StreamMessageErrorKind.TheVa
 use Rattle.js_message.specs.declared.stream_message.HeaderFault.{HeaderFault}
 use Rattle.js_message.specs.declared.stream_message.StreamHeader.{StreamHeader}
 use Rattle.js_message.specs.declared.stream_message.StreamHeader.TheVariants.{Sequence, TimeStamp, Subject}
-use Rattle.js_message.specs.declared.stream_message.Told as declared
+use Rattle.js_message.specs.declared.stream_message.MessageFields as declared
 
 -- how each kind is printed
 abbrev pub kind_text : StreamMessageErrorKind → List ℕ
@@ -28,7 +28,7 @@ abbrev pub time_of : List ℕ → Option ℤ
 time_of text = result_ok (parse_timestamp text)
 
 -- what headers say of a message: its subject, its sequence and its time
-pub record Told : Type 0 where
+pub record MessageFields : Type 0 where
   pub subject : List ℕ
   pub sequence : ℕ
   pub time : ℤ
@@ -53,7 +53,7 @@ or_fault None fault next = Err fault
 or_fault (Some value) fault next = next value
 
 -- what the headers say, read in this order
-abbrev pub told_in : List Header → Result Told HeaderFault
+abbrev pub told_in : List Header → Result MessageFields HeaderFault
 told_in headers =
     or_fault (last_value (name_of Sequence) headers) (is_missing Sequence) (λ sequence_text.
     or_fault (u64_of sequence_text) (is_unreadable Sequence) (λ sequence.
@@ -63,7 +63,7 @@ told_in headers =
     Ok (record { subject = subject; sequence = sequence; time = time }))))))
 
 -- what was read, as plain values
-abbrev pub told_by : Result declared.Told HeaderFault → Result Told HeaderFault
+abbrev pub told_by : Result declared.MessageFields HeaderFault → Result MessageFields HeaderFault
 told_by result = result_map_both (λ t. record { subject = t.subject.now; sequence = t.sequence; time = t.time.nanosecond }) (λ fault. fault) result
 
 -- the message that was read says what the headers say, and has them and the body
@@ -77,7 +77,7 @@ abbrev pub IsRefusal : HeaderFault → Error StreamMessageErrorKind → Type 0
 IsRefusal fault error = (error ≡ caused fault.kind (source.Text (name_of fault.header))) ⊎ (error ≡ plain OutOfMemory)
 
 -- refusing what was read of the headers: their fault is told, or memory ran out
-abbrev pub RefusesAs : Result Told HeaderFault → Error StreamMessageErrorKind → Type 0
+abbrev pub RefusesAs : Result MessageFields HeaderFault → Error StreamMessageErrorKind → Type 0
 RefusesAs (Err fault) error = IsRefusal fault error
 RefusesAs (Ok told) error = error ≡ plain OutOfMemory
 

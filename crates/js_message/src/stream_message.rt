@@ -84,7 +84,7 @@ struct HeaderFault {
 
 /// What the headers say of a message of a stream.
 #[derive(Clone, Copy)]
-struct Told<'a> {
+struct MessageFields<'a> {
     subject: &'a str,
     sequence: u64,
     time: Timestamp,
@@ -114,7 +114,7 @@ fn unreadable(header: StreamHeader) -> HeaderFault
     }
 }
 
-fn read_headers(headers: &HeaderMap) -> Result<Told<'_>, HeaderFault>
+fn read_headers(headers: &HeaderMap) -> Result<MessageFields<'_>, HeaderFault>
     ensures { told_by result ≡ told_in headers.now }
 {
     let sequence = headers
@@ -128,7 +128,7 @@ fn read_headers(headers: &HeaderMap) -> Result<Told<'_>, HeaderFault>
     let subject = headers
         .get_last(StreamHeader::Subject.name())
         .ok_or(missing(StreamHeader::Subject))?;
-    Ok(Told {
+    Ok(MessageFields {
         subject,
         sequence,
         time,

@@ -1,26 +1,26 @@
 -- One event more: what a course has come to, and its end.
 use Rattle.std.proofs.Common.{◌≡◌, ℕ, suc, ◌+◌, ◌∙◌, Bool, true, false, List, [], ◌∷◌, ◌++◌, Option, Some, None, refl, sym, ap, map, length, length-append, arith, nat_lt}
 use Rattle.std.specs.Prelude.{Ok, option_map, if◌then◌else◌, not}
-use Rattle.js_table.specs.declared.consumer.Given.{Given}
+use Rattle.js_table.specs.declared.consumer.ReplayInput.{ReplayInput}
 use Rattle.js_table.specs.declared.event.Event as events
-use Rattle.js_table.specs.declared.world.World.{World}
+use Rattle.js_table.specs.declared.replay_state.ReplayState.{ReplayState}
 use Rattle.js_table.specs.declared.run.Step.{Step}
 use Rattle.js_table.specs.declared.run.ReplayError.{ReplayError}
 use Rattle.js_table.specs.declared.run.ReplayError.TheVariants as error
-use Rattle.js_ordered.specs.declared.course.Course.{Course}
+use Rattle.js_ordered.specs.declared.incremental_replay.IncrementalReplay.{IncrementalReplay}
 use Rattle.js_table.specs.Fold.{Ran, event, run_events, opening, is_over, last_world, step_of, fold}
 use Rattle.js_table.specs.Refusal.{first_of, unless, bad_field, lacks_subject, is_exhausted, first_early, first_exhausted, refuse_input, refuse}
-use Rattle.js_ordered.specs.Course.{course_given, last_moment, last_ran, last, HasCome, IsEnd}
+use Rattle.js_ordered.specs.IncrementalReplay.{course_given, last_moment, last_ran, last, HasCome, IsEnd}
 
 -- ---- lists of events
 
 -- one event more is passed last
-pub run_on : (g : Given) (es : List events.Event) (e : events.Event) (w : World) → run_events g (es ++ e ∷ []) w ≡ run_events g es w ++ event g e (last_world w (run_events g es w)) ∷ []
+pub run_on : (g : ReplayInput) (es : List events.Event) (e : events.Event) (w : ReplayState) → run_events g (es ++ e ∷ []) w ≡ run_events g es w ++ event g e (last_world w (run_events g es w)) ∷ []
 unfolding run_events
 run_on g [] e w = refl
 run_on g (x ∷ es) e w = ap (λ (rans : List Ran). event g x w ∷ rans) (run_on g es e (event g x w).world)
 
-count_run : (g : Given) (es : List events.Event) (w : World) → length (run_events g es w) ≡ length es
+count_run : (g : ReplayInput) (es : List events.Event) (w : ReplayState) → length (run_events g es w) ≡ length es
 unfolding run_events
 count_run g [] w = refl
 count_run g (x ∷ es) w = ap (λ (n : ℕ). suc n) (count_run g es (event g x w).world)
@@ -72,17 +72,17 @@ exhausted_on place (x ∷ rans) ran =
 
 -- ---- what a course has come to
 
-last_is : (g : Given) (start : ℕ) (es : List events.Event) → (last g start es).world ≡ last_world (opening g start).world (run_events g es (opening g start).world)
+last_is : (g : ReplayInput) (start : ℕ) (es : List events.Event) → (last g start es).world ≡ last_world (opening g start).world (run_events g es (opening g start).world)
 unfolding last
 last_is g start es = last_world_is (opening g start) (run_events g es (opening g start).world)
 
-last_on : (g : Given) (start : ℕ) (es : List events.Event) (e : events.Event) → last g start (es ++ e ∷ []) ≡ event g e (last g start es).world
+last_on : (g : ReplayInput) (start : ℕ) (es : List events.Event) (e : events.Event) → last g start (es ++ e ∷ []) ≡ event g e (last g start es).world
 unfolding last
 last_on g start es e =
     let first : Ran = opening g start in
     ap (λ (rans : List Ran). last_ran first rans) (run_on g es e first.world)
     ∙ last_of_more first (run_events g es first.world) (event g e (last_world first.world (run_events g es first.world)))
-    ∙ ap (λ (w : World). event g e w) (sym (last_world_is first (run_events g es first.world)))
+    ∙ ap (λ (w : ReplayState). event g e w) (sym (last_world_is first (run_events g es first.world)))
 
 noted : (found found' : Option ℕ) (test test' : Bool) (place place' : ℕ) → found ≡ found' → test ≡ test' → place ≡ place' → first_of found (here test place) ≡ first_of found' (here test' place')
 noted found found' test test' place place' same_found same_test same_place =
@@ -97,14 +97,14 @@ length_on : (es : List events.Event) (e : events.Event) → length (es ++ e ∷ 
 length_on es e = simp length-append (omega arith)
 
 -- with no events
-pub comes_first : (g : Given) (start : ℕ) (c : Course) → course_given c ≡ g → c.count ≡ 0 → c.moment ≡ start → c.early ≡ None → c.exhausted ≡ None
+pub comes_first : (g : ReplayInput) (start : ℕ) (c : IncrementalReplay) → course_given c ≡ g → c.count ≡ 0 → c.moment ≡ start → c.early ≡ None → c.exhausted ≡ None
     → c.world ≡ (opening g start).world → c.outputs ≡ (opening g start).outputs → c.has_failed ≡ false → HasCome g start [] c
 unfolding last run_events
 comes_first g start c given count moment early exhausted world outputs sound =
     record { given = given; count = count; moment = moment; early = early; exhausted = exhausted; world = world; outputs = outputs; sound = sound }
 
 -- with one event more
-pub comes_on : (g : Given) (start : ℕ) (es : List events.Event) (e : events.Event) (c next : Course) → HasCome g start es c
+pub comes_on : (g : ReplayInput) (start : ℕ) (es : List events.Event) (e : events.Event) (c next : IncrementalReplay) → HasCome g start es c
     → course_given next ≡ course_given c → next.count ≡ c.count + 1 → next.moment ≡ e.at
     → next.early ≡ first_of c.early (if nat_lt e.at c.moment then Some c.count else None)
     → next.exhausted ≡ first_of c.exhausted (if is_exhausted next.world.consumer.phase then Some c.count else None)
@@ -116,9 +116,9 @@ comes_on g start es e c next come given count moment early exhausted world outpu
     let ran : Ran = event (course_given c) e c.world in
     let last_one : Ran = event g e (last_world first.world rans) in
     let before : c.world ≡ last_world first.world rans = come.world ∙ last_is g start es in
-    let passed : ran ≡ last_one = ap (λ (by : Given). event by e c.world) come.given ∙ ap (λ (w : World). event g e w) before in
+    let passed : ran ≡ last_one = ap (λ (by : ReplayInput). event by e c.world) come.given ∙ ap (λ (w : ReplayState). event g e w) before in
     let same : ran ≡ last g start (es ++ e ∷ []) =
-    ap (λ (by : Given). event by e c.world) come.given ∙ ap (λ (w : World). event g e w) come.world ∙ sym (last_on g start es e) in
+    ap (λ (by : ReplayInput). event by e c.world) come.given ∙ ap (λ (w : ReplayState). event g e w) come.world ∙ sym (last_on g start es e) in
     record {
       given = given ∙ come.given;
       count = count ∙ ap (λ (n : ℕ). n + 1) come.count ∙ sym (length_on es e);
@@ -129,7 +129,7 @@ comes_on g start es e c next come given count moment early exhausted world outpu
           ∙ sym (early_on 0 start es e);
       exhausted =
           exhausted ∙ noted c.exhausted (first_exhausted 0 rans) (is_exhausted next.world.consumer.phase) (is_exhausted last_one.world.consumer.phase) c.count (0 + length rans)
-          come.exhausted (ap (λ (w : World). is_exhausted w.consumer.phase) (world ∙ ap (λ (r : Ran). r.world) passed)) (come.count ∙ sym (count_run g es first.world) ∙ zero_more (length rans))
+          come.exhausted (ap (λ (w : ReplayState). is_exhausted w.consumer.phase) (world ∙ ap (λ (r : Ran). r.world) passed)) (come.count ∙ sym (count_run g es first.world) ∙ zero_more (length rans))
           ∙ sym (exhausted_on 0 rans last_one) ∙ ap (λ (all : List Ran). first_exhausted 0 all) (sym (run_on g es e first.world));
       world = world ∙ ap (λ (r : Ran). r.world) same;
       outputs = outputs ∙ ap (λ (r : Ran). r.outputs) same;
@@ -145,7 +145,7 @@ parts None (Some b) three four = refl
 parts None None three four = refl
 
 -- what is refused is so by the input with no events, or at the first early event, or at the end of the sequences
-pub refusals : (g : Given) (start at : ℕ) (es : List events.Event)
+pub refusals : (g : ReplayInput) (start at : ℕ) (es : List events.Event)
     → refuse g start es ≡ first_of (refuse_input g at []) (first_of (option_map error.BadEvent (first_early 0 start es)) (option_map error.SequenceEnd (first_exhausted 0 (run_events g es (opening g start).world))))
 unfolding refuse refuse_input
 refusals g start at es =
@@ -153,38 +153,38 @@ refusals g start at es =
     (option_map error.BadEvent (first_early 0 start es)) (option_map error.SequenceEnd (first_exhausted 0 (run_events g es (opening g start).world)))
 
 -- the fold ends as its last world does
-pub ends_as : (g : Given) (start : ℕ) (es : List events.Event) → (fold g start es).ended ≡ is_over (last g start es).world.consumer.phase
+pub ends_as : (g : ReplayInput) (start : ℕ) (es : List events.Event) → (fold g start es).ended ≡ is_over (last g start es).world.consumer.phase
 unfolding fold
-ends_as g start es = ap (λ (w : World). is_over w.consumer.phase) (sym (last_is g start es))
+ends_as g start es = ap (λ (w : ReplayState). is_over w.consumer.phase) (sym (last_is g start es))
 
 -- ---- the run
 
 -- with no events there are no steps
-pub no_steps : (g : Given) (start : ℕ) → (fold g start []).steps ≡ []
+pub no_steps : (g : ReplayInput) (start : ℕ) → (fold g start []).steps ≡ []
 unfolding fold run_events
 no_steps g start = refl
 
 -- each event adds the step that it puts out
-pub steps_on : (g : Given) (start : ℕ) (es : List events.Event) (e : events.Event) → (fold g start (es ++ e ∷ [])).steps ≡ (fold g start es).steps ++ step_of (last g start (es ++ e ∷ [])) ∷ []
+pub steps_on : (g : ReplayInput) (start : ℕ) (es : List events.Event) (e : events.Event) → (fold g start (es ++ e ∷ [])).steps ≡ (fold g start es).steps ++ step_of (last g start (es ++ e ∷ [])) ∷ []
 unfolding fold
 steps_on g start es e =
-    let first : World = (opening g start).world in
+    let first : ReplayState = (opening g start).world in
     ap (λ (rans : List Ran). map step_of rans) (run_on g es e first)
     ∙ map_on (run_events g es first) (event g e (last_world first (run_events g es first)))
     ∙ ap (λ (ran : Ran). map step_of (run_events g es first) ++ step_of ran ∷ [])
-    (ap (λ (w : World). event g e w) (sym (last_is g start es)) ∙ sym (last_on g start es e))
+    (ap (λ (w : ReplayState). event g e w) (sym (last_is g start es)) ∙ sym (last_on g start es e))
   where
     map_on : (rans : List Ran) (ran : Ran) → map step_of (rans ++ ran ∷ []) ≡ map step_of rans ++ step_of ran ∷ []
     map_on [] ran = refl
     map_on (x ∷ rans) ran = ap (λ (steps : List Step). step_of x ∷ steps) (map_on rans ran)
 
 -- and the opening stays
-pub opening_is : (g : Given) (start : ℕ) (es : List events.Event) → (fold g start es).opening ≡ step_of (last g start [])
+pub opening_is : (g : ReplayInput) (start : ℕ) (es : List events.Event) → (fold g start es).opening ≡ step_of (last g start [])
 unfolding fold last run_events
 opening_is g start es = refl
 
 -- there is a step for each event
-pub steps_count : (g : Given) (start : ℕ) (es : List events.Event) → length (fold g start es).steps ≡ length es
+pub steps_count : (g : ReplayInput) (start : ℕ) (es : List events.Event) → length (fold g start es).steps ≡ length es
 unfolding fold
 steps_count g start es = counted (run_events g es (opening g start).world) ∙ count_run g es (opening g start).world
   where
@@ -195,29 +195,29 @@ steps_count g start es = counted (run_events g es (opening g start).world) ∙ c
 -- ---- what the end answers
 
 -- the input is refused with no events,
-pub ends_input : (g : Given) (start : ℕ) (es : List events.Event) (c : Course) (refusal : ReplayError) → HasCome g start es c → refuse_input (course_given c) c.moment [] ≡ Some refusal
+pub ends_input : (g : ReplayInput) (start : ℕ) (es : List events.Event) (c : IncrementalReplay) (refusal : ReplayError) → HasCome g start es c → refuse_input (course_given c) c.moment [] ≡ Some refusal
     → refuse g start es ≡ Some refusal
 ends_input g start es c refusal come refused =
-    let input : refuse_input g c.moment [] ≡ Some refusal = ap (λ (by : Given). refuse_input by c.moment []) (sym come.given) ∙ refused in
+    let input : refuse_input g c.moment [] ≡ Some refusal = ap (λ (by : ReplayInput). refuse_input by c.moment []) (sym come.given) ∙ refused in
     refusals g start c.moment es ∙ ap (λ (first : Option ReplayError). first_of first (first_of (option_map error.BadEvent (first_early 0 start es)) (option_map error.SequenceEnd (first_exhausted 0 (run_events g es (opening g start).world))))) input
 
-rest : (g : Given) (start : ℕ) (es : List events.Event) (c : Course) → HasCome g start es c → refuse_input (course_given c) c.moment [] ≡ None
+rest : (g : ReplayInput) (start : ℕ) (es : List events.Event) (c : IncrementalReplay) → HasCome g start es c → refuse_input (course_given c) c.moment [] ≡ None
     → refuse g start es ≡ first_of (option_map error.BadEvent c.early) (option_map error.SequenceEnd c.exhausted)
 rest g start es c come accepted =
-    let input : refuse_input g c.moment [] ≡ None = ap (λ (by : Given). refuse_input by c.moment []) (sym come.given) ∙ accepted in
+    let input : refuse_input g c.moment [] ≡ None = ap (λ (by : ReplayInput). refuse_input by c.moment []) (sym come.given) ∙ accepted in
     refusals g start c.moment es
     ∙ ap (λ (first : Option ReplayError). first_of first (first_of (option_map error.BadEvent (first_early 0 start es)) (option_map error.SequenceEnd (first_exhausted 0 (run_events g es (opening g start).world))))) input
     ∙ ap (λ (early : Option ℕ). first_of (option_map error.BadEvent early) (option_map error.SequenceEnd (first_exhausted 0 (run_events g es (opening g start).world)))) (sym come.early)
     ∙ ap (λ (end : Option ℕ). first_of (option_map error.BadEvent c.early) (option_map error.SequenceEnd end)) (sym come.exhausted)
 
 -- or an event is early,
-pub ends_early : (g : Given) (start : ℕ) (es : List events.Event) (c : Course) (place : ℕ) → HasCome g start es c → refuse_input (course_given c) c.moment [] ≡ None → c.early ≡ Some place
+pub ends_early : (g : ReplayInput) (start : ℕ) (es : List events.Event) (c : IncrementalReplay) (place : ℕ) → HasCome g start es c → refuse_input (course_given c) c.moment [] ≡ None → c.early ≡ Some place
     → refuse g start es ≡ Some (error.BadEvent place)
 ends_early g start es c place come accepted early =
     rest g start es c come accepted ∙ ap (λ (early : Option ℕ). first_of (option_map error.BadEvent early) (option_map error.SequenceEnd c.exhausted)) early
 
 -- or the sequences end,
-pub ends_exhausted : (g : Given) (start : ℕ) (es : List events.Event) (c : Course) (place : ℕ) → HasCome g start es c → refuse_input (course_given c) c.moment [] ≡ None → c.early ≡ None → c.exhausted ≡ Some place
+pub ends_exhausted : (g : ReplayInput) (start : ℕ) (es : List events.Event) (c : IncrementalReplay) (place : ℕ) → HasCome g start es c → refuse_input (course_given c) c.moment [] ≡ None → c.early ≡ None → c.exhausted ≡ Some place
     → refuse g start es ≡ Some (error.SequenceEnd place)
 ends_exhausted g start es c place come accepted early exhausted =
     rest g start es c come accepted
@@ -225,11 +225,11 @@ ends_exhausted g start es c place come accepted early exhausted =
     ∙ ap (λ (end : Option ℕ). option_map error.SequenceEnd end) exhausted
 
 -- or nothing is refused
-pub ends_run : (g : Given) (start : ℕ) (es : List events.Event) (c : Course) (ended : Bool) → HasCome g start es c → refuse_input (course_given c) c.moment [] ≡ None → c.early ≡ None → c.exhausted ≡ None
+pub ends_run : (g : ReplayInput) (start : ℕ) (es : List events.Event) (c : IncrementalReplay) (ended : Bool) → HasCome g start es c → refuse_input (course_given c) c.moment [] ≡ None → c.early ≡ None → c.exhausted ≡ None
     → ended ≡ is_over c.world.consumer.phase → IsEnd g start es (Ok ended)
 ends_run g start es c ended come accepted early exhausted over = (
   rest g start es c come accepted
       ∙ ap (λ (early : Option ℕ). first_of (option_map error.BadEvent early) (option_map error.SequenceEnd c.exhausted)) early
       ∙ ap (λ (end : Option ℕ). option_map error.SequenceEnd end) exhausted,
-  over ∙ ap (λ (w : World). is_over w.consumer.phase) come.world ∙ sym (ends_as g start es),
+  over ∙ ap (λ (w : ReplayState). is_over w.consumer.phase) come.world ∙ sym (ends_as g start es),
 )

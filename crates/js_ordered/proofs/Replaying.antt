@@ -2,7 +2,7 @@
 use Rattle.std.proofs.Common.{◌≡◌, ◌≢◌, ℕ, ◌+◌, ◌<◌, ◌≤◌, Bool, true, false, List, [], ◌∷◌, ◌++◌, Option, Some, None, refl, sym, ap, ◌∙◌, map, drop, length, get_or, append_assoc, append-nil}
 use Rattle.std.proofs.lemmas.List.{drop_more, drop_all}
 use Rattle.std.specs.Prelude.{Ok, Err, option_map}
-use Rattle.js_table.specs.declared.consumer.Given.{Given}
+use Rattle.js_table.specs.declared.consumer.ReplayInput.{ReplayInput}
 use Rattle.js_table.specs.declared.event.Event as events
 use Rattle.js_pull.specs.declared.reader.Row.TheVariants as read
 use Rattle.js_table.specs.declared.consumer.Phase.TheVariants.{Pulls, Pushes, Idle}
@@ -11,7 +11,7 @@ use Rattle.js_table.specs.declared.setup.OrderedSetup.TheVariants.{Pull, Push}
 use Rattle.js_table.specs.Kept.{IsPull, IsPush}
 use Rattle.js_table.specs.Reading.{armed}
 use Rattle.js_table.specs.declared.row.Row.TheVariants.{Event, Read}
-use Rattle.js_table.specs.declared.world.World.{World}
+use Rattle.js_table.specs.declared.replay_state.ReplayState.{ReplayState}
 use Rattle.js_table.specs.declared.run.Output.{Output}
 use Rattle.js_table.specs.declared.run.Run.{Run}
 use Rattle.js_table.specs.declared.run.Step.{Step}
@@ -25,57 +25,57 @@ use Rattle.js_ordered.proofs.Rans.{no_more, two_rows}
 
 -- ---- the opening
 
-opens_pull : (g : Given) (start : ℕ) (setup : OrderedSetup) → IsPull setup
+opens_pull : (g : ReplayInput) (start : ℕ) (setup : OrderedSetup) → IsPull setup
     → pass_each (ran g start tick) (opening_rows setup) (at (first_phase g start setup) (first_world g start))
     ≡ then_row g start tick (Read read.Arm) (ran g start tick (Read read.Threshold) (at (Pulls (first_reader_of g)) (at Idle (first_world g start))))
 opens_pull g start (Pull setup) pulls = two_rows g start tick (Read read.Threshold) (Read read.Arm) (at (Pulls (first_reader_of g)) (first_world g start))
 opens_pull g start (Push setup) pulls = absurd pulls
 
-opens_push : (g : Given) (start : ℕ) (setup : OrderedSetup) → IsPush setup
+opens_push : (g : ReplayInput) (start : ℕ) (setup : OrderedSetup) → IsPush setup
     → pass_each (ran g start tick) (opening_rows setup) (at (first_phase g start setup) (first_world g start)) ≡ stays (at (Pushes 0 (armed start)) (at Idle (first_world g start)))
 opens_push g start (Pull setup) pushes = absurd pushes
 opens_push g start (Push setup) pushes = refl
 
 -- pull asks at once, and arms its heartbeat
-pub opening_asks : (g : Given) (start : ℕ) → IsPull g.setup
+pub opening_asks : (g : ReplayInput) (start : ℕ) → IsPull g.setup
     → opening g start ≡ then_row g start tick (Read read.Arm) (ran g start tick (Read read.Threshold) (at (Pulls (first_reader_of g)) (at Idle (first_world g start))))
 unfolding opening ran
 opening_asks g start pulls = opens_pull g start g.setup pulls
 
 -- push arms its heartbeat
-pub opening_listens : (g : Given) (start : ℕ) → IsPush g.setup → opening g start ≡ stays (at (Pushes 0 (armed start)) (at Idle (first_world g start)))
+pub opening_listens : (g : ReplayInput) (start : ℕ) → IsPush g.setup → opening g start ≡ stays (at (Pushes 0 (armed start)) (at Idle (first_world g start)))
 unfolding opening ran
 opening_listens g start pushes = opens_push g start g.setup pushes
 
 -- ---- events
 
 -- an event is one row
-pub event_passes : (g : Given) (e : events.Event) (w : World) → event g e w ≡ ran g e.at (matter_of e.what) Event (record w { up = link_after e.what w.up })
+pub event_passes : (g : ReplayInput) (e : events.Event) (w : ReplayState) → event g e w ≡ ran g e.at (matter_of e.what) Event (record w { up = link_after e.what w.up })
 unfolding event ran
 event_passes g e w = no_more (ran g e.at (matter_of e.what) Event (record w { up = link_after e.what w.up }))
 
-pub run_events_none : (g : Given) (w : World) → run_events g [] w ≡ []
+pub run_events_none : (g : ReplayInput) (w : ReplayState) → run_events g [] w ≡ []
 unfolding run_events
 run_events_none g w = refl
 
 -- the first event, and then the others in the world after it
-pub run_events_cons : (g : Given) (e : events.Event) (es : List events.Event) (w : World) → run_events g (e ∷ es) w ≡ event g e w ∷ run_events g es (event g e w).world
+pub run_events_cons : (g : ReplayInput) (e : events.Event) (es : List events.Event) (w : ReplayState) → run_events g (e ∷ es) w ≡ event g e w ∷ run_events g es (event g e w).world
 unfolding run_events
 run_events_cons g e es w = refl
 
 -- ---- the loop over the events
 
 -- the steps so far and those of what is left are those of all, and what is left ends and refuses as the whole does
-pub record Goes (g : Given) (es : List events.Event) (first : World) (place : ℕ) (w : World) (steps : List Step) : Type 0 where
+pub record Goes (g : ReplayInput) (es : List events.Event) (first : ReplayState) (place : ℕ) (w : ReplayState) (steps : List Step) : Type 0 where
   pub so_far : steps ++ map step_of (run_events g (drop place es) w) ≡ map step_of (run_events g es first)
   pub world : last_world w (run_events g (drop place es) w) ≡ last_world first (run_events g es first)
   pub refused : first_exhausted place (run_events g (drop place es) w) ≡ first_exhausted 0 (run_events g es first)
 
 -- at first
-pub goes_first : (g : Given) (es : List events.Event) (first : World) → Goes g es first 0 first []
+pub goes_first : (g : ReplayInput) (es : List events.Event) (first : ReplayState) → Goes g es first 0 first []
 goes_first g es first = record { so_far = refl; world = refl; refused = refl }
 
-next : (g : Given) (es : List events.Event) (place : ℕ) (w : World) (e : events.Event) → place < length es → e ≡ get_or es place e
+next : (g : ReplayInput) (es : List events.Event) (place : ℕ) (w : ReplayState) (e : events.Event) → place < length es → e ≡ get_or es place e
     → run_events g (drop place es) w ≡ event g e w ∷ run_events g (drop (place + 1) es) (event g e w).world
 next g es place w e below is =
     let left : drop place es ≡ e ∷ drop (place + 1) es = drop_more es place e below ∙ ap (λ (x : events.Event). x ∷ drop (place + 1) es) (sym is) in
@@ -85,23 +85,23 @@ refused_next : (ran : Ran) (rans : List Ran) (place : ℕ) → is_exhausted ran.
 refused_next ran rans place open_still = rw open_still refl
 
 -- after one more event
-pub goes_on : (g : Given) (es : List events.Event) (first : World) (place : ℕ) (w after : World) (steps grown : List Step) (e : events.Event) (step : Step) → Goes g es first place w steps
+pub goes_on : (g : ReplayInput) (es : List events.Event) (first : ReplayState) (place : ℕ) (w after : ReplayState) (steps grown : List Step) (e : events.Event) (step : Step) → Goes g es first place w steps
     → place < length es → e ≡ get_or es place e → step ≡ step_of (event g e w) → after ≡ (event g e w).world
     → is_exhausted after.consumer.phase ≡ false → grown ≡ steps ++ step ∷ [] → Goes g es first (place + 1) after grown
 goes_on g es first place w after steps grown e step goes below is steps_as comes open_still grows =
     let ran : Ran = event g e w in
-    let left : World → List Ran = λ v. run_events g (drop (place + 1) es) v in
-    let one : run_events g (drop place es) w ≡ ran ∷ left after = next g es place w e below is ∙ ap (λ (v : World). ran ∷ left v) (sym comes) in
-    let stays : is_exhausted ran.world.consumer.phase ≡ false = ap (λ (v : World). is_exhausted v.consumer.phase) (sym comes) ∙ open_still in
+    let left : ReplayState → List Ran = λ v. run_events g (drop (place + 1) es) v in
+    let one : run_events g (drop place es) w ≡ ran ∷ left after = next g es place w e below is ∙ ap (λ (v : ReplayState). ran ∷ left v) (sym comes) in
+    let stays : is_exhausted ran.world.consumer.phase ≡ false = ap (λ (v : ReplayState). is_exhausted v.consumer.phase) (sym comes) ∙ open_still in
     record {
       so_far = ap (λ (done : List Step). done ++ map step_of (left after)) (grows ∙ ap (λ (s : Step). steps ++ s ∷ []) steps_as)
           ∙ append_assoc steps (step_of ran ∷ []) (map step_of (left after)) ∙ ap (λ (rans : List Ran). steps ++ map step_of rans) (sym one) ∙ goes.so_far;
-      world = ap (λ (v : World). last_world v (left after)) comes ∙ ap (λ (rans : List Ran). last_world w rans) (sym one) ∙ goes.world;
+      world = ap (λ (v : ReplayState). last_world v (left after)) comes ∙ ap (λ (rans : List Ran). last_world w rans) (sym one) ∙ goes.world;
       refused = sym (refused_next ran (left after) place stays) ∙ ap (λ (rans : List Ran). first_exhausted place rans) (sym one) ∙ goes.refused;
     }
 
 -- at an event after which the sequences are at their end
-pub goes_no_further : (g : Given) (es : List events.Event) (first : World) (place : ℕ) (w : World) (steps : List Step) (e : events.Event) → Goes g es first place w steps
+pub goes_no_further : (g : ReplayInput) (es : List events.Event) (first : ReplayState) (place : ℕ) (w : ReplayState) (steps : List Step) (e : events.Event) → Goes g es first place w steps
     → place < length es → e ≡ get_or es place e → is_exhausted (event g e w).world.consumer.phase ≡ true
     → refuse_end (run_events g es first) ≡ Some (error.SequenceEnd place)
 goes_no_further g es first place w steps e goes below is exhausted =
@@ -111,25 +111,25 @@ goes_no_further g es first place w steps e goes below is exhausted =
     ap (λ (end : Option ℕ). option_map error.SequenceEnd end)
     (sym goes.refused ∙ ap (λ (rans : List Ran). first_exhausted place rans) (next g es place w e below is) ∙ here)
 
-none_left : (g : Given) (es : List events.Event) (place : ℕ) (w : World) → length es ≤ place → run_events g (drop place es) w ≡ []
+none_left : (g : ReplayInput) (es : List events.Event) (place : ℕ) (w : ReplayState) → length es ≤ place → run_events g (drop place es) w ≡ []
 none_left g es place w over = ap (λ (rest : List events.Event). run_events g rest w) (drop_all place es over) ∙ run_events_none g w
 
 -- after all of them
-pub steps_all : (g : Given) (es : List events.Event) (first : World) (place : ℕ) (w : World) (steps : List Step) → Goes g es first place w steps → length es ≤ place → steps ≡ map step_of (run_events g es first)
+pub steps_all : (g : ReplayInput) (es : List events.Event) (first : ReplayState) (place : ℕ) (w : ReplayState) (steps : List Step) → Goes g es first place w steps → length es ≤ place → steps ≡ map step_of (run_events g es first)
 steps_all g es first place w steps goes over =
     sym (append-nil steps) ∙ ap (λ (rans : List Ran). steps ++ map step_of rans) (sym (none_left g es place w over)) ∙ goes.so_far
 
-pub world_last : (g : Given) (es : List events.Event) (first : World) (place : ℕ) (w : World) (steps : List Step) → Goes g es first place w steps → length es ≤ place → w ≡ last_world first (run_events g es first)
+pub world_last : (g : ReplayInput) (es : List events.Event) (first : ReplayState) (place : ℕ) (w : ReplayState) (steps : List Step) → Goes g es first place w steps → length es ≤ place → w ≡ last_world first (run_events g es first)
 world_last g es first place w steps goes over = ap (λ (rans : List Ran). last_world w rans) (sym (none_left g es place w over)) ∙ goes.world
 
-pub none_refused : (g : Given) (es : List events.Event) (first : World) (place : ℕ) (w : World) (steps : List Step) → Goes g es first place w steps → length es ≤ place → refuse_end (run_events g es first) ≡ None
+pub none_refused : (g : ReplayInput) (es : List events.Event) (first : ReplayState) (place : ℕ) (w : ReplayState) (steps : List Step) → Goes g es first place w steps → length es ≤ place → refuse_end (run_events g es first) ≡ None
 none_refused g es first place w steps goes over =
     ap (λ (end : Option ℕ). option_map error.SequenceEnd end)
     (sym goes.refused ∙ ap (λ (rans : List Ran). first_exhausted place rans) (none_left g es place w over))
 
 -- ---- what is answered
 
-refused_as : (g : Given) (start : ℕ) (es : List events.Event) (e : ReplayError) → (e ≢ error.OutOfMemory → refuse g start es ≡ Some e) → IsFolded g start es (Err e)
+refused_as : (g : ReplayInput) (start : ℕ) (es : List events.Event) (e : ReplayError) → (e ≢ error.OutOfMemory → refuse g start es ≡ Some e) → IsFolded g start es (Err e)
 refused_as g start es error.OutOfMemory refused = tt
 refused_as g start es error.NoDeliverSubject refused = refused (λ same. cc)
 refused_as g start es (error.BadSettings field) refused = refused (λ same. cc)
@@ -137,12 +137,12 @@ refused_as g start es (error.BadEvent place) refused = refused (λ same. cc)
 refused_as g start es (error.SequenceEnd place) refused = refused (λ same. cc)
 
 -- bad input is refused
-pub input_folded : (g : Given) (start : ℕ) (es : List events.Event) (e : ReplayError) → refuse_input g start es ≡ Some e → IsFolded g start es (Err e)
+pub input_folded : (g : ReplayInput) (start : ℕ) (es : List events.Event) (e : ReplayError) → refuse_input g start es ≡ Some e → IsFolded g start es (Err e)
 unfolding refuse
 input_folded g start es e refused = refused_as g start es e (λ other. rw refused refl)
 
 -- and so is the end of the sequences
-pub end_folded : (g : Given) (start : ℕ) (es : List events.Event) (e : ReplayError) → refuse_input g start es ≡ None
+pub end_folded : (g : ReplayInput) (start : ℕ) (es : List events.Event) (e : ReplayError) → refuse_input g start es ≡ None
     → (e ≢ error.OutOfMemory → refuse_end (run_events g es (opening g start).world) ≡ Some e) → IsFolded g start es (Err e)
 unfolding refuse
 end_folded g start es e accepted refused = refused_as g start es e (λ other. rw accepted (refused other))
@@ -151,18 +151,18 @@ abbrev built : Step → List Step → Bool → Run
 built opening steps ended = record { opening = opening; steps = steps; ended = ended }
 
 -- otherwise there is a run
-pub run_folded : (g : Given) (start : ℕ) (es : List events.Event) (first last : World) (run : Run) → refuse_input g start es ≡ None
+pub run_folded : (g : ReplayInput) (start : ℕ) (es : List events.Event) (first last : ReplayState) (run : Run) → refuse_input g start es ≡ None
     → first ≡ (opening g start).world → run.opening.outputs ≡ (opening g start).outputs
     → run.steps ≡ map step_of (run_events g es first) → last ≡ last_world first (run_events g es first)
     → refuse_end (run_events g es first) ≡ None → run.ended ≡ is_over last.consumer.phase
     → IsFolded g start es (Ok run)
 unfolding refuse fold
 run_folded g start es first last run accepted opens opened stepped ends goes_on ended =
-    let rest : World → List Ran = λ w. run_events g es w in
-    let refused : refuse_end (rest (opening g start).world) ≡ None = ap (λ (w : World). refuse_end (rest w)) (sym opens) ∙ goes_on in
-    let steps : run.steps ≡ map step_of (rest (opening g start).world) = stepped ∙ ap (λ (w : World). map step_of (rest w)) opens in
+    let rest : ReplayState → List Ran = λ w. run_events g es w in
+    let refused : refuse_end (rest (opening g start).world) ≡ None = ap (λ (w : ReplayState). refuse_end (rest w)) (sym opens) ∙ goes_on in
+    let steps : run.steps ≡ map step_of (rest (opening g start).world) = stepped ∙ ap (λ (w : ReplayState). map step_of (rest w)) opens in
     let over : run.ended ≡ is_over (last_world (opening g start).world (rest (opening g start).world)).consumer.phase =
-    ended ∙ ap (λ (w : World). is_over w.consumer.phase) ends ∙ ap (λ (w : World). is_over (last_world w (rest w)).consumer.phase) opens in (
+    ended ∙ ap (λ (w : ReplayState). is_over w.consumer.phase) ends ∙ ap (λ (w : ReplayState). is_over (last_world w (rest w)).consumer.phase) opens in (
       rw accepted refused,
       ap (λ (outputs : List Output). built (record { outputs = outputs }) run.steps run.ended) opened
           ∙ ap (λ (steps : List Step). built (step_of (opening g start)) steps run.ended) steps

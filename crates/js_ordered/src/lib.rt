@@ -1,16 +1,16 @@
 //! The replay of an ordered consumer over a list of events, or over one event after another.
 #![tactic(auto)]
 
-mod course;
+mod incremental_replay;
 mod passing;
 mod reading;
 mod recreation;
 mod replay;
 
-pub use course::Course;
+pub use incremental_replay::IncrementalReplay;
 pub use js_table::{
-    Arrival, Consumer, Event, Field, Given, ItemKind, Opened, OrderedSetup, Output, Phase,
-    PushKind, Recreation, ReplayError, Row, Run, Settings, Stage, Start, Step, What, World,
-    push_kind,
+    Arrival, Consumer, Event, EventKind, Field, ItemKind, Opened, OrderedSetup, Output, Phase,
+    PushKind, Recreation, ReplayError, ReplayInput, ReplayState, Row, Run, Settings, Stage, Start,
+    Step, push_kind,
 };
 pub use replay::replay_ordered;

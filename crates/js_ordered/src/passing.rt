@@ -10,7 +10,9 @@ ghost use Rattle.js_table.specs.declared.row.Row.TheVariants as row;
 use crate::reading::{pull, push};
 use crate::recreation;
 use js_base::{Items, OutOfMemory, State, Timer};
-use js_table::{Change, ItemKind, OrderedSetup, Output, Phase, Turn, What, World, change_of};
+use js_table::{
+    Change, EventContext, EventKind, ItemKind, OrderedSetup, Output, Phase, ReplayState, change_of,
+};
 use std::alloc::Global;
 use std::mem;
 
@@ -60,8 +62,8 @@ pub(crate) fn is_over(phase: &Phase) -> bool
 #[tactic(auto, using(std::proofs::lemmas::Grind::common_steps, crate::proofs::Turning::goes_on_idle, crate::proofs::Turning::goes_on_recreating, crate::proofs::Turning::goes_on_pulling, crate::proofs::Turning::goes_on_pushing, crate::proofs::Turning::goes_on_ended, crate::proofs::Turning::goes_on_exhausted))]
 fn go_on(
     alloc: Global,
-    turn: &Turn<'_>,
-    world: &mut World,
+    turn: &EventContext<'_>,
+    world: &mut ReplayState,
     phase: Phase,
     outputs: &mut Items<Output>,
 ) -> Result<(), OutOfMemory>
@@ -73,9 +75,10 @@ fn go_on(
             recreation::progress::go_on(alloc, turn, world, recreation, outputs)
         }
         Phase::Pulls(reader) => pull::begin(alloc, turn, world, reader, None, outputs),
-        Phase::Pushes { inbox, silence } => {
-            push::check_arrival(alloc, turn, world, inbox, silence, outputs)
-        }
+        Phase::Pushes {
+            inbox,
+            heartbeat_timer,
+        } => { push::check_arrival(alloc, turn, world, inbox, heartbeat_timer, outputs) }
         Phase::Ended => {
             world.enter(Phase::Ended);
             Ok(())
@@ -91,14 +94,14 @@ fn go_on(
 #[tactic(auto, using(std::proofs::lemmas::Grind::common_steps, crate::proofs::Turning::push_restarts, crate::proofs::Turning::push_goes_on))]
 fn change_push(
     alloc: Global,
-    turn: &Turn<'_>,
-    world: &mut World,
+    turn: &EventContext<'_>,
+    world: &mut ReplayState,
     state: State,
     inbox: u64,
-    silence: Timer,
+    heartbeat_timer: Timer,
     outputs: &mut Items<Output>,
 ) -> Result<(), OutOfMemory>
-    ensures { OnOk result (Changes turn.now state (Phase.Pushes inbox silence) world.old world.new outputs.old outputs.new) }
+    ensures { OnOk result (Changes turn.now state (Phase.Pushes inbox heartbeat_timer) world.old world.new outputs.old outputs.new) }
 {
     let old = world.consumer.connection;
     world.consumer.connection = state;
@@ -109,7 +112,10 @@ fn change_push(
         alloc,
         turn,
         world,
-        Phase::Pushes { inbox, silence },
+        Phase::Pushes {
+            inbox,
+            heartbeat_timer,
+        },
         outputs,
     )
 }
@@ -118,8 +124,8 @@ fn change_push(
 #[tactic(auto, using(std::proofs::lemmas::Grind::common_steps, crate::proofs::Turning::pull_changes, crate::proofs::Turning::idle_changes, crate::proofs::Turning::recreation_changes, crate::proofs::Turning::ended_changes, crate::proofs::Turning::exhausted_changes))]
 fn change_state(
     alloc: Global,
-    turn: &Turn<'_>,
-    world: &mut World,
+    turn: &EventContext<'_>,
+    world: &mut ReplayState,
     state: State,
     phase: Phase,
     outputs: &mut Items<Output>,
@@ -127,9 +133,10 @@ fn change_state(
     ensures { OnOk result (Changes turn.now state phase world.old world.new outputs.old outputs.new) }
 {
     match phase {
-        Phase::Pushes { inbox, silence } => {
-            change_push(alloc, turn, world, state, inbox, silence, outputs)
-        }
+        Phase::Pushes {
+            inbox,
+            heartbeat_timer,
+        } => { change_push(alloc, turn, world, state, inbox, heartbeat_timer, outputs) }
         Phase::Pulls(reader) => {
             world.consumer.connection = state;
             pull::begin(alloc, turn, world, reader, Some(state), outputs)
@@ -154,7 +161,7 @@ fn change_state(
 }
 
 /// The consumer's phase, to be passed on. Another one takes its place at once.
-fn take_phase(world: &mut World) -> Phase
+fn take_phase(world: &mut ReplayState) -> Phase
     ensures phase { result ≡ world.old.consumer.phase }
     ensures world { world.new ≡ at Phase.Idle world.old }
 {
@@ -164,8 +171,8 @@ fn take_phase(world: &mut World) -> Phase
 /// The end of the watcher ends push.
 #[tactic(auto, using(std::proofs::lemmas::Grind::common_steps, crate::proofs::Turning::event_watcher_push))]
 fn end_push(
-    turn: &Turn<'_>,
-    world: &mut World,
+    turn: &EventContext<'_>,
+    world: &mut ReplayState,
     outputs: &mut Items<Output>,
 ) -> Result<(), OutOfMemory>
     requires over { has_ended world.old.consumer.phase ≡ false }
@@ -183,8 +190,8 @@ fn end_push(
 #[tactic(auto, using(std::proofs::lemmas::Grind::common_steps, crate::proofs::Turning::event_over, crate::proofs::Turning::event_goes_on, crate::proofs::Turning::event_same_state, crate::proofs::Turning::event_changes, crate::proofs::Turning::event_watcher_pull))]
 pub(crate) fn pass_event(
     alloc: Global,
-    turn: &Turn<'_>,
-    world: &mut World,
+    turn: &EventContext<'_>,
+    world: &mut ReplayState,
     outputs: &mut Items<Output>,
 ) -> Result<(), OutOfMemory>
     ensures { OnOk result (Passes turn.now row.Event world.old world.new outputs.old outputs.new) }

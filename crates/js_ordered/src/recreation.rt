@@ -12,8 +12,8 @@ use bytes::Bytes;
 use js_base::{Items, Moment, OutOfMemory, Timer, TryClone};
 use js_pull::retry_wait;
 use js_table::{
-    Consumer, ItemKind, Opened, OrderedSetup, Output, Phase, Recreation, Stage, Start, Turn, World,
-    texts,
+    Consumer, EventContext, ItemKind, Opened, OrderedSetup, Output, Phase, Recreation, ReplayState,
+    Stage, Start, texts,
 };
 use std::alloc::Global;
 use std::mem;
@@ -37,7 +37,7 @@ fn start_after(setup: &OrderedSetup, last: u64) -> Start
 /// The consumer has accepted nothing of the new one, and takes its name.
 fn begin(
     alloc: Global,
-    turn: &Turn<'_>,
+    turn: &EventContext<'_>,
     consumer: &mut Consumer,
     start: Start,
 ) -> Result<Recreation, OutOfMemory>
@@ -46,12 +46,12 @@ fn begin(
     ensures consumer { OnOk result (record consumer.new { phase = Phase.Idle }
         ≡ record (restarted (given_of turn.now) consumer.old) { phase = Phase.Idle }) }
 {
-    let serial = consumer.serial.saturating_add(1);
-    let name = texts::consumer_name(alloc, turn, serial)?;
+    let recreation_count = consumer.recreation_count.saturating_add(1);
+    let name = texts::consumer_name(alloc, turn, recreation_count)?;
     let new_name = name.try_clone()?;
     let old_name = mem::replace(&mut consumer.name, name);
-    consumer.num = 0;
-    consumer.serial = serial;
+    consumer.consumer_sequence = 0;
+    consumer.recreation_count = recreation_count;
     Ok(Recreation {
         old_name,
         new_name,
@@ -66,8 +66,8 @@ fn begin(
 #[tactic(auto, using(std::proofs::lemmas::Grind::common_steps, crate::proofs::Recreating::start_exhausted, crate::proofs::Recreating::start_goes_on))]
 pub(crate) fn start(
     alloc: Global,
-    turn: &Turn<'_>,
-    world: &mut World,
+    turn: &EventContext<'_>,
+    world: &mut ReplayState,
     outputs: &mut Items<Output>,
 ) -> Result<(), OutOfMemory>
     ensures { OnOk result (Passes turn.now row.Start world.old world.new outputs.old outputs.new) }
@@ -80,7 +80,7 @@ pub(crate) fn start(
     let start = start_after(turn.setup, last);
     let recreation = begin(alloc, turn, &mut world.consumer, start)?;
     outputs.push(Output::Recreate {
-        serial: world.consumer.serial,
+        recreation_count: world.consumer.recreation_count,
         start,
     })?;
     delete(alloc, turn, world, recreation, outputs)
@@ -89,7 +89,7 @@ pub(crate) fn start(
 // ---- a try
 
 /// The bound on an answer that is waited for from now on.
-fn timeout(turn: &Turn<'_>) -> Timer
+fn timeout(turn: &EventContext<'_>) -> Timer
     ensures { result ≡ timeout_at (given_of turn.now) turn.now.moment }
 {
     Timer {
@@ -102,8 +102,8 @@ fn timeout(turn: &Turn<'_>) -> Timer
 #[tactic(auto, using(crate::proofs::Recreating::try_sent, crate::proofs::Recreating::try_passed_over))]
 pub(crate) fn delete(
     alloc: Global,
-    turn: &Turn<'_>,
-    world: &mut World,
+    turn: &EventContext<'_>,
+    world: &mut ReplayState,
     mut recreation: Recreation,
     outputs: &mut Items<Output>,
 ) -> Result<(), OutOfMemory>
@@ -129,16 +129,16 @@ pub(crate) fn delete(
 /// The next inbox is opened for the create, and holds nothing yet.
 fn open_inbox(
     alloc: Global,
-    turn: &Turn<'_>,
-    world: &mut World,
+    turn: &EventContext<'_>,
+    world: &mut ReplayState,
     recreation: &mut Recreation,
 ) -> Result<Output, OutOfMemory>
-    ensures output { IfOk result (λ output. output ≡ Output.Subscribe world.old.made (inbox_subject (given_of turn.now) world.old.made)) }
+    ensures output { IfOk result (λ output. output ≡ Output.Subscribe world.old.inboxes_opened (inbox_subject (given_of turn.now) world.old.inboxes_opened)) }
     ensures recreation { OnOk result (recreation.new
-        ≡ record recreation.old { opened = Some (opened_as world.old.made (inbox_subject (given_of turn.now) world.old.made)) }) }
-    ensures world { OnOk result (world.new ≡ record world.old { made = world.old.made + 1 }) }
+        ≡ record recreation.old { opened = Some (opened_as world.old.inboxes_opened (inbox_subject (given_of turn.now) world.old.inboxes_opened)) }) }
+    ensures world { OnOk result (world.new ≡ record world.old { inboxes_opened = world.old.inboxes_opened + 1 }) }
 {
-    let subject = texts::inbox_subject(alloc, turn, world.made)?;
+    let subject = texts::inbox_subject(alloc, turn, world.inboxes_opened)?;
     let inbox = world.number_inbox()?;
     recreation.opened = Some(Opened {
         inbox,
@@ -152,8 +152,8 @@ fn open_inbox(
 #[tactic(auto, using(std::proofs::lemmas::Grind::common_steps, crate::proofs::Recreating::create_subscribes, crate::proofs::Recreating::create_fails))]
 fn create_push(
     alloc: Global,
-    turn: &Turn<'_>,
-    world: &mut World,
+    turn: &EventContext<'_>,
+    world: &mut ReplayState,
     mut recreation: Recreation,
     outputs: &mut Items<Output>,
 ) -> Result<(), OutOfMemory>
@@ -172,8 +172,8 @@ fn create_push(
 #[tactic(auto, using(crate::proofs::Recreating::create_pull))]
 pub(crate) fn create(
     alloc: Global,
-    turn: &Turn<'_>,
-    world: &mut World,
+    turn: &EventContext<'_>,
+    world: &mut ReplayState,
     recreation: Recreation,
     outputs: &mut Items<Output>,
 ) -> Result<(), OutOfMemory>
@@ -189,8 +189,8 @@ pub(crate) fn create(
 #[tactic(auto, using(crate::proofs::Recreating::ask_sent, crate::proofs::Recreating::ask_fails))]
 fn ask(
     alloc: Global,
-    turn: &Turn<'_>,
-    world: &mut World,
+    turn: &EventContext<'_>,
+    world: &mut ReplayState,
     mut recreation: Recreation,
     outputs: &mut Items<Output>,
 ) -> Result<(), OutOfMemory>
@@ -233,8 +233,8 @@ fn rest(recreation: &mut Recreation, now: Moment)
 /// A try has failed: after more failures than retries an item closes the recreation, otherwise the next try waits.
 #[tactic(auto, using(std::proofs::lemmas::Grind::common_steps, crate::proofs::Recreating::fail_closes, crate::proofs::Recreating::fail_waits))]
 pub(crate) fn fail(
-    turn: &Turn<'_>,
-    world: &mut World,
+    turn: &EventContext<'_>,
+    world: &mut ReplayState,
     mut recreation: Recreation,
     outputs: &mut Items<Output>,
 ) -> Result<(), OutOfMemory>

@@ -4,7 +4,7 @@ ghost use Rattle.js_table.specs.Fold as fold;
 ghost use Rattle.js_table.specs.Passes.{Comes, at, first_reader_of, given_of};
 ghost use Rattle.js_table.specs.Refusal.{is_exhausted, refuse_end, refuse_input};
 ghost use Rattle.js_table.specs.Valid.{IsAnswer, IsFolded, IsValid};
-ghost use Rattle.js_table.specs.declared.event.What.TheVariants.{Tick};
+ghost use Rattle.js_table.specs.declared.event.EventKind.TheVariants.{Tick};
 
 use crate::passing::{is_over, pass_event};
 use crate::reading::{pull, push};
@@ -12,8 +12,8 @@ use js_base::{Items, Moment, OutOfMemory, State, TryClone};
 use js_json::consumer::Info;
 use js_pull::Reader;
 use js_table::{
-    Consumer, Event, OrderedSetup, Output, Phase, ReplayError, Run, Settings, Step, Turn, What,
-    World, refuse_input, texts,
+    Consumer, Event, EventContext, EventKind, OrderedSetup, Output, Phase, ReplayError,
+    ReplayState, Run, Settings, Step, refuse_input, texts,
 };
 use std::alloc::Global;
 use std::mem;
@@ -21,7 +21,7 @@ use std::mem;
 // ---- the opening
 
 /// The reader of the first inbox.
-fn first_reader(alloc: Global, turn: &Turn<'_>) -> Result<Reader, OutOfMemory>
+fn first_reader(alloc: Global, turn: &EventContext<'_>) -> Result<Reader, OutOfMemory>
     ensures { IfOk result (λ reader. reader ≡ first_reader_of (given_of turn.now)) }
 {
     let subject = texts::inbox_subject(alloc, turn, 0)?;
@@ -29,23 +29,23 @@ fn first_reader(alloc: Global, turn: &Turn<'_>) -> Result<Reader, OutOfMemory>
 }
 
 /// Nothing was asked or yielded yet, and no inbox is read.
-fn first_world(turn: &Turn<'_>) -> Result<World, OutOfMemory>
+fn first_world(turn: &EventContext<'_>) -> Result<ReplayState, OutOfMemory>
     ensures { IfOk result (λ world. world ≡ at Phase.Idle (fold.first_world (given_of turn.now) turn.now.moment)) }
 {
-    Ok(World {
+    Ok(ReplayState {
         consumer: Consumer {
             phase: Phase::Idle,
-            num: 0,
+            consumer_sequence: 0,
             last: 0,
-            serial: 0,
+            recreation_count: 0,
             name: turn.first.name.try_clone()?,
             missed: false,
             limited: false,
             connection: State::Connected,
         },
         up: true,
-        asked: 0,
-        made: 1,
+        requests_sent: 0,
+        inboxes_opened: 1,
     })
 }
 
@@ -53,9 +53,9 @@ fn first_world(turn: &Turn<'_>) -> Result<World, OutOfMemory>
 #[tactic(auto, using(std::proofs::lemmas::Grind::common_steps, crate::proofs::Replaying::opening_asks, crate::proofs::Replaying::opening_listens))]
 pub(crate) fn open(
     alloc: Global,
-    turn: &Turn<'_>,
+    turn: &EventContext<'_>,
     outputs: &mut Items<Output>,
-) -> Result<World, OutOfMemory>
+) -> Result<ReplayState, OutOfMemory>
     requires tick { turn.now.what.now ≡ Tick }
     requires empty { outputs.old ≡ [] }
     ensures world { IfOk result (λ world. world ≡ (fold.opening (given_of turn.now) turn.now.moment).world) }
@@ -78,11 +78,11 @@ pub(crate) fn open(
 // ---- one event
 
 /// The link after an event.
-fn link_after(what: &What, was: bool) -> bool
+fn link_after(what: &EventKind, was: bool) -> bool
     ensures { result ≡ fold.link_after what.now was }
 {
     match what {
-        What::Link { up } => *up,
+        EventKind::Link { up } => *up,
         _ => was,
     }
 }
@@ -91,15 +91,15 @@ fn link_after(what: &What, was: bool) -> bool
 #[tactic(auto, using(crate::proofs::Replaying::event_passes))]
 pub(crate) fn pass(
     alloc: Global,
-    turn: &Turn<'_>,
+    turn: &EventContext<'_>,
     event: &Event,
-    world: &mut World,
+    world: &mut ReplayState,
     outputs: &mut Items<Output>,
 ) -> Result<(), OutOfMemory>
     ensures { OnOk result (Comes (fold.event (given_of turn.now) event.now world.old) world.new outputs.old outputs.new) }
 {
     world.up = link_after(&event.what, world.up);
-    let turn = Turn {
+    let turn = EventContext {
         settings: turn.settings,
         setup: turn.setup,
         first: turn.first,
@@ -126,9 +126,9 @@ fn take_step(alloc: Global, outputs: &mut Items<Output>) -> Result<Step, OutOfMe
 /// The step of one event.
 fn step(
     alloc: Global,
-    turn: &Turn<'_>,
+    turn: &EventContext<'_>,
     event: &Event,
-    world: &mut World,
+    world: &mut ReplayState,
     outputs: &mut Items<Output>,
 ) -> Result<Step, OutOfMemory>
     requires { outputs.old ≡ [] }
@@ -160,8 +160,8 @@ fn steps_for(alloc: Global, events: &[Event]) -> Result<Items<Step>, OutOfMemory
 #[tactic(auto, using(crate::proofs::Replaying::goes_first, crate::proofs::Replaying::goes_no_further, crate::proofs::Replaying::steps_all, crate::proofs::Replaying::world_last, crate::proofs::Replaying::none_refused))]
 fn steps_of(
     alloc: Global,
-    turn: &Turn<'_>,
-    world: &mut World,
+    turn: &EventContext<'_>,
+    world: &mut ReplayState,
     outputs: &mut Items<Output>,
     events: &[Event],
 ) -> Result<Items<Step>, ReplayError>
@@ -188,7 +188,7 @@ fn steps_of(
 
 /// The run of the events of input that is not refused.
 #[tactic(auto, using(crate::proofs::Replaying::run_folded, crate::proofs::Replaying::end_folded))]
-fn run(alloc: Global, turn: &Turn<'_>, events: &[Event]) -> Result<Run, ReplayError>
+fn run(alloc: Global, turn: &EventContext<'_>, events: &[Event]) -> Result<Run, ReplayError>
     requires tick { turn.now.what.now ≡ Tick }
     requires accepted { refuse_input (given_of turn.now) turn.now.moment events.now ≡ None }
     ensures { IsFolded (given_of turn.now) turn.now.moment events.now result }
@@ -206,7 +206,7 @@ fn run(alloc: Global, turn: &Turn<'_>, events: &[Event]) -> Result<Run, ReplayEr
 
 /// The run, or the refusal that applies.
 #[tactic(auto, using(crate::proofs::Replaying::input_folded))]
-fn replay(alloc: Global, turn: &Turn<'_>, events: &[Event]) -> Result<Run, ReplayError>
+fn replay(alloc: Global, turn: &EventContext<'_>, events: &[Event]) -> Result<Run, ReplayError>
     requires { turn.now.what.now ≡ Tick }
     ensures { IsFolded (given_of turn.now) turn.now.moment events.now result }
 {
@@ -256,8 +256,8 @@ pub fn replay_ordered(
     ensures valid { IsValid (record { settings = settings.now; setup = setup.now; first = first.now }) start events.now
         → IfErr result (λ refusal. refusal ≡ ReplayError.OutOfMemory) }
 {
-    let tick = What::Tick;
-    let turn = Turn {
+    let tick = EventKind::Tick;
+    let turn = EventContext {
         settings,
         setup,
         first,

@@ -13,10 +13,10 @@ use Rattle.js_pull.specs.declared.kind.Kind.TheVariants.{Delivered, Quiet, Delet
 use Rattle.js_pull.specs.Kind.{pull_kind}
 use Rattle.js_pull.specs.declared.reader.Reader.{Reader}
 use Rattle.js_pull.specs.Reader as rows
-use Rattle.js_pull.specs.declared.reader.Inquiry.{Inquiry}
-use Rattle.js_pull.specs.declared.reader.Inquiry.TheVariants.{NoInquiry, Asked, Resting}
+use Rattle.js_pull.specs.declared.reader.InfoRequest.{InfoRequest}
+use Rattle.js_pull.specs.declared.reader.InfoRequest.TheVariants.{NoInfoRequest, Asked, Resting}
 use Rattle.js_pull.specs.declared.reader.Row.{Row}
-use Rattle.js_pull.specs.declared.reader.Row.TheVariants.{Begin, Ask, Threshold, Arm, Inquire, FailInquiry, CheckInquiry, Answered, CheckExpiry, CheckArrival, CheckSilence}
+use Rattle.js_pull.specs.declared.reader.Row.TheVariants.{Begin, Ask, Threshold, Arm, Inquire, FailInfoRequest, CheckInfoRequest, Answered, CheckExpiry, CheckArrival, CheckSilence}
 use Rattle.js_pull.proofs.Cases.{if_each, if_known, half_pending}
 
 -- where the mark rises, at most half of a batch is pending
@@ -61,8 +61,8 @@ asked_left : (p : Passing) (timeout : Option Timer) (failures : ℕ) (reply : Op
 asked_left p timeout failures (Some reply) r = refl
 asked_left p timeout failures None r = refl
 
-inquiry_left : (p : Passing) (answer : Option rows.Answer) (inquiry : Inquiry) (r : Reader) → Left r (rows.check_inquiry p answer inquiry r)
-inquiry_left p answer NoInquiry r = refl
+inquiry_left : (p : Passing) (answer : Option rows.Answer) (inquiry : InfoRequest) (r : Reader) → Left r (rows.check_inquiry p answer inquiry r)
+inquiry_left p answer NoInfoRequest r = refl
 inquiry_left p answer (Asked request timeout failures) r = asked_left p timeout failures (rows.reply_to request answer) r
 inquiry_left p answer (Resting wait failures) r = refl
 
@@ -84,9 +84,9 @@ mark_rises p answer arrival Threshold r none = if_known (RisesLow r) (rows.is_lo
     never e = cc
 mark_rises p answer arrival Arm r none = left r (rows.quietly r []) refl
 mark_rises p answer arrival (Inquire failures) r none = if_each (RisesLow r) p.up _ _ (λ _. left r (rows.quietly r []) refl) (λ _. left r (rows.quietly r []) refl)
-mark_rises p answer arrival (FailInquiry failures) r none = if_each (RisesLow r) (nat_lt (failures + 1) 6) _ _ (λ _. left r (rows.quietly r []) refl) (λ _. left r (rows.quietly r []) refl)
-mark_rises p answer arrival CheckInquiry r none = left r (rows.check_inquiry p answer r.inquiry r) (inquiry_left p answer r.inquiry r)
+mark_rises p answer arrival (FailInfoRequest failures) r none = if_each (RisesLow r) (nat_lt (failures + 1) 6) _ _ (λ _. left r (rows.quietly r []) refl) (λ _. left r (rows.quietly r []) refl)
+mark_rises p answer arrival CheckInfoRequest r none = left r (rows.check_inquiry p answer r.inquiry r) (inquiry_left p answer r.inquiry r)
 mark_rises p answer arrival (Answered reply failures) r none = left r (rows.answered failures (rows.info_of_reply reply) r) (answered_left failures (rows.info_of_reply reply) r)
 mark_rises p answer arrival CheckExpiry r none = left r (rows.quietly r []) refl
 mark_rises p answer arrival CheckArrival r none = left r (rows.check_arrival p arrival r) (arrival_left p arrival r)
-mark_rises p answer arrival CheckSilence r none = if_each (RisesLow r) (is_any_due r.silence p.now) _ _ (λ _. left r (rows.quietly r []) refl) (λ _. left r (rows.quietly r []) refl)
+mark_rises p answer arrival CheckSilence r none = if_each (RisesLow r) (is_any_due r.heartbeat_timer p.now) _ _ (λ _. left r (rows.quietly r []) refl) (λ _. left r (rows.quietly r []) refl)

@@ -9,10 +9,10 @@ use Rattle.js_link.specs.Passing.{Passing}
 use Rattle.js_link.specs.Met.{Met, Wish, Unasked, Gone_out, Refused, Dropped, Requested, Opened, Empty, Shut, Took, Waiting, Gone, Got, Stands, Watch_over, passing_of, message_of, reply_of}
 use Rattle.js_pull.specs.declared.reader.Reader.{Reader}
 use Rattle.js_pull.specs.declared.reader.Reason.{Reason}
-use Rattle.js_pull.specs.declared.reader.Inquiry.{Inquiry}
-use Rattle.js_pull.specs.declared.reader.Inquiry.TheVariants.{NoInquiry, Asked, Resting}
+use Rattle.js_pull.specs.declared.reader.InfoRequest.{InfoRequest}
+use Rattle.js_pull.specs.declared.reader.InfoRequest.TheVariants.{NoInfoRequest, Asked, Resting}
 use Rattle.js_pull.specs.declared.reader.Row.{Row}
-use Rattle.js_pull.specs.declared.reader.Row.TheVariants.{Ask, Inquire, FailInquiry, Answered}
+use Rattle.js_pull.specs.declared.reader.Row.TheVariants.{Ask, Inquire, FailInfoRequest, Answered}
 use Rattle.js_pull.specs.declared.rows.Due.{Due}
 use Rattle.js_pull.specs.declared.rows.Due.TheVariants as due
 use Rattle.js_pull.specs.declared.rows.Notice.TheVariants as notice
@@ -88,14 +88,14 @@ steps_quietly : (passed : rows.Passed) (met : Met) (step : Step) (next : Option 
 steps_quietly passed met step next r is e =
     subst (λ (p : rows.Passed). StepsTo p met step r) e (rw is (record { reader = refl; told = refl; next = refl }))
 
-info_known : (now : ℕ) (met : Met) (inquiry : Inquiry) (step : Step) (next : Option Due) (r : Reader) → r.inquiry ≡ inquiry → step ≡ record { told = notice.Nothing; next = next }
+info_known : (now : ℕ) (met : Met) (inquiry : InfoRequest) (step : Step) (next : Option Due) (r : Reader) → r.inquiry ≡ inquiry → step ≡ record { told = notice.Nothing; next = next }
     → rows.quietly r (row_list (reply_met met) next) ≡ inquiry_row now met inquiry r → StepsTo (inquiry_row now met r.inquiry r) met step r
 info_known now met inquiry step next r at is e =
-    subst (λ (i : Inquiry). StepsTo (inquiry_row now met i r) met step r) (sym at) (steps_quietly (inquiry_row now met inquiry r) met step next r is e)
+    subst (λ (i : InfoRequest). StepsTo (inquiry_row now met i r) met step r) (sym at) (steps_quietly (inquiry_row now met inquiry r) met step next r is e)
 
-pub no_info : (now : ℕ) (met : Met) (step : Step) (r : Reader) → r.inquiry ≡ NoInquiry → step ≡ record { told = notice.Nothing; next = None }
+pub no_info : (now : ℕ) (met : Met) (step : Step) (r : Reader) → r.inquiry ≡ NoInfoRequest → step ≡ record { told = notice.Nothing; next = None }
     → StepsTo (inquiry_row now met r.inquiry r) met step r
-no_info now met step r at is = info_known now met NoInquiry step None r at is refl
+no_info now met step r at is = info_known now met NoInfoRequest step None r at is refl
 
 -- an answer that was met is the answer to the request
 answer_read : (p : Passing) (timeout : Option Timer) (failures request : ℕ) (o : Option (Option Message)) (r : Reader) → true ≡ is_some o
@@ -120,7 +120,7 @@ follows_if false reply due = refl
 
 -- without an answer the timeout is looked at
 no_answer : (p : Passing) (timeout : Option Timer) (failures request : ℕ) (o : Option (Option Message)) (r : Reader) → false ≡ is_some o
-    → rows.quietly r (if is_any_due timeout p.now then FailInquiry failures ∷ [] else [])
+    → rows.quietly r (if is_any_due timeout p.now then FailInfoRequest failures ∷ [] else [])
     ≡ rows.check_asked p timeout failures (rows.reply_to request (option_map (λ (reply : Option Message). record { request = request; reply = reply }) o)) r
 no_answer p timeout failures request None r e = refl
 no_answer p timeout failures request (Some reply) r e = absurd (never e)
@@ -130,12 +130,12 @@ no_answer p timeout failures request (Some reply) r e = absurd (never e)
 
 pub info_waits : (now request failures : ℕ) (timeout : Option Timer) (met : Met) (b over : Bool) (next : Option Due) (step : Step) (r : Reader) → r.inquiry ≡ Asked request timeout failures
     → step ≡ record { told = notice.Nothing; next = next } → b ≡ is_some (reply_of met) → b ≡ false
-    → over ≡ is_any_due timeout now → next ≡ (if over then Some (due.FailInquiry failures) else None)
+    → over ≡ is_any_due timeout now → next ≡ (if over then Some (due.FailInfoRequest failures) else None)
     → StepsTo (inquiry_row now met r.inquiry r) met step r
 info_waits now request failures timeout met b over next step r at is told has due_now follows =
     info_known now met (Asked request timeout failures) step next r at is
-    (ap (λ (x : Option Due). rows.quietly r (row_list (reply_met met) x)) (follows ∙ ap (λ (x : Bool). if x then Some (due.FailInquiry failures) else None) due_now)
-    ∙ ap (rows.quietly r) (follows_if (is_any_due timeout now) (reply_met met) (due.FailInquiry failures))
+    (ap (λ (x : Option Due). rows.quietly r (row_list (reply_met met) x)) (follows ∙ ap (λ (x : Bool). if x then Some (due.FailInfoRequest failures) else None) due_now)
+    ∙ ap (rows.quietly r) (follows_if (is_any_due timeout now) (reply_met met) (due.FailInfoRequest failures))
     ∙ no_answer (passing_at now met) timeout failures request (reply_of met) r (sym has ∙ told))
 
 pub info_rests : (now failures : ℕ) (wait : Timer) (met : Met) (over : Bool) (next : Option Due) (step : Step) (r : Reader) → r.inquiry ≡ Resting wait failures

@@ -16,11 +16,11 @@ use Rattle.js_pull.specs.declared.kind.Kind.TheVariants.{Delivered, Quiet, Delet
 use Rattle.js_pull.specs.Kind.{pull_kind}
 use Rattle.js_pull.specs.declared.reader.Reader.{Reader}
 use Rattle.js_pull.specs.Reader as rows
-use Rattle.js_pull.specs.declared.reader.Inquiry.{Inquiry}
-use Rattle.js_pull.specs.declared.reader.Inquiry.TheVariants.{NoInquiry, Asked, Resting}
+use Rattle.js_pull.specs.declared.reader.InfoRequest.{InfoRequest}
+use Rattle.js_pull.specs.declared.reader.InfoRequest.TheVariants.{NoInfoRequest, Asked, Resting}
 use Rattle.js_pull.specs.declared.reader.Reason.{Reason}
 use Rattle.js_pull.specs.declared.reader.Row.{Row}
-use Rattle.js_pull.specs.declared.reader.Row.TheVariants.{Begin, Ask, Threshold, Arm, Inquire, FailInquiry, CheckInquiry, Answered, CheckExpiry, CheckArrival, CheckSilence}
+use Rattle.js_pull.specs.declared.reader.Row.TheVariants.{Begin, Ask, Threshold, Arm, Inquire, FailInfoRequest, CheckInfoRequest, Answered, CheckExpiry, CheckArrival, CheckSilence}
 use Rattle.js_pull.proofs.Cases.{if_each}
 
 -- ---- what is asked is sent
@@ -53,8 +53,8 @@ asked_silent : (p : Passing) (timeout : Option Timer) (failures : ℕ) (reply : 
 asked_silent p timeout failures None r = refl
 asked_silent p timeout failures (Some reply) r = refl
 
-inquiry_sends : (p : Passing) (answer : Option rows.Answer) (inquiry : Inquiry) (r : Reader) → Sends (rows.awaited inquiry) p (rows.check_inquiry p answer inquiry r)
-inquiry_sends p answer NoInquiry r = refl
+inquiry_sends : (p : Passing) (answer : Option rows.Answer) (inquiry : InfoRequest) (r : Reader) → Sends (rows.awaited inquiry) p (rows.check_inquiry p answer inquiry r)
+inquiry_sends p answer NoInfoRequest r = refl
 inquiry_sends p answer (Asked request timeout failures) r = asked_silent p timeout failures (rows.reply_to request answer) r
 inquiry_sends p answer (Resting wait failures) r = refl
 
@@ -74,12 +74,12 @@ row_sends p answer arrival (Ask reason) r = both (λ (passed : rows.Passed). pas
 row_sends p answer arrival Threshold r = if_each Silent (rows.is_low r && not r.waiting) _ _ (λ _. refl) (λ _. refl)
 row_sends p answer arrival Arm r = refl
 row_sends p answer arrival (Inquire failures) r = both (λ (passed : rows.Passed). passed.sent) p.up _ _ _ _ refl refl
-row_sends p answer arrival (FailInquiry failures) r = if_each Silent (nat_lt (failures + 1) 6) _ _ (λ _. refl) (λ _. refl)
-row_sends p answer arrival CheckInquiry r = inquiry_sends p answer r.inquiry r
+row_sends p answer arrival (FailInfoRequest failures) r = if_each Silent (nat_lt (failures + 1) 6) _ _ (λ _. refl) (λ _. refl)
+row_sends p answer arrival CheckInfoRequest r = inquiry_sends p answer r.inquiry r
 row_sends p answer arrival (Answered reply failures) r = answered_silent failures (rows.info_of_reply reply) r
 row_sends p answer arrival CheckExpiry r = refl
 row_sends p answer arrival CheckArrival r = arrival_silent p arrival r
-row_sends p answer arrival CheckSilence r = if_each Silent (is_any_due r.silence p.now) _ _ (λ _. refl) (λ _. refl)
+row_sends p answer arrival CheckSilence r = if_each Silent (is_any_due r.heartbeat_timer p.now) _ _ (λ _. refl) (λ _. refl)
 
 -- ---- what is asked is all that is told
 
@@ -96,8 +96,8 @@ begin_told p q (Some Pending) r same = rw same refl
 begin_told p q (Some Disconnected) r same = rw same refl
 
 -- a row at its inbox, with the answer to any request
-abbrev pub Told : Givings → Option rows.Answer → Row → Reader → Type 0
-Told x answer row r =
+abbrev pub ReaderOutput : Givings → Option rows.Answer → Row → Reader → Type 0
+ReaderOutput x answer row r =
     rows.row x.passing answer (x.arrivals r.source.inbox) row r
     ≡ rows.row (passing_of x.passing.now (given x (rows.wish row r))) (rows.answer_of (rows.wish row r) (given x (rows.wish row r))) (message_of (given x (rows.wish row r))) row r
 
@@ -120,10 +120,10 @@ now_kept now None = refl
 now_kept now (Some None) = refl
 now_kept now (Some (Some reply)) = refl
 
-inquiry_told : (x : Givings) (answer : Option rows.Answer) → ((request : ℕ) → x.answers request ≡ rows.reply_to request answer) → (inquiry : Inquiry) (r : Reader)
+inquiry_told : (x : Givings) (answer : Option rows.Answer) → ((request : ℕ) → x.answers request ≡ rows.reply_to request answer) → (inquiry : InfoRequest) (r : Reader)
     → rows.check_inquiry x.passing answer inquiry r
     ≡ rows.check_inquiry (passing_of x.passing.now (given x (rows.awaited inquiry))) (rows.answer_of (rows.awaited inquiry) (given x (rows.awaited inquiry))) inquiry r
-inquiry_told x answer answers NoInquiry r = refl
+inquiry_told x answer answers NoInfoRequest r = refl
 inquiry_told x answer answers (Asked request timeout failures) r =
     asked_told x.passing (passing_of x.passing.now (got (x.answers request))) timeout failures (rows.reply_to request answer)
     (rows.reply_to request (rows.answer_of (Awaits request) (got (x.answers request)))) r
@@ -135,14 +135,14 @@ arrival_told p None r = refl
 arrival_told p (Some message) r = refl
 
 -- each row takes from its link no more than what it asks for
-pub row_told : (x : Givings) (answer : Option rows.Answer) → ((request : ℕ) → x.answers request ≡ rows.reply_to request answer) → (row : Row) (r : Reader) → Told x answer row r
+pub row_told : (x : Givings) (answer : Option rows.Answer) → ((request : ℕ) → x.answers request ≡ rows.reply_to request answer) → (row : Row) (r : Reader) → ReaderOutput x answer row r
 row_told x answer answers (Begin change) r = begin_told x.passing (passing_of x.passing.now (given x (rows.wish (Begin change) r))) change r refl
 row_told x answer answers (Ask reason) r = by_up x.passing.now x.passing.up x.passing.request x.passing.inbox x.passing.subject x refl reason r
 row_told x answer answers Threshold r = refl
 row_told x answer answers Arm r = refl
 row_told x answer answers (Inquire failures) r = inquire_told x.passing.now x.passing.up x.passing.request x.passing.inbox x.passing.subject x refl failures r
-row_told x answer answers (FailInquiry failures) r = refl
-row_told x answer answers CheckInquiry r = inquiry_told x answer answers r.inquiry r
+row_told x answer answers (FailInfoRequest failures) r = refl
+row_told x answer answers CheckInfoRequest r = inquiry_told x answer answers r.inquiry r
 row_told x answer answers (Answered reply failures) r = refl
 row_told x answer answers CheckExpiry r = refl
 row_told x answer answers CheckArrival r = arrival_told x.passing (x.arrivals r.source.inbox) r

@@ -27,15 +27,15 @@ use Rattle.js_pull.specs.declared.reader.Source.{Source}
 use Rattle.js_pull.specs.declared.reader.Reader.{Reader}
 use Rattle.js_pull.specs.declared.reader.MessagesErrorKind.{MessagesErrorKind}
 use Rattle.js_pull.specs.declared.reader.MessagesErrorKind.TheVariants as error
-use Rattle.js_pull.specs.declared.reader.Inquiry.{Inquiry}
-use Rattle.js_pull.specs.declared.reader.Inquiry.TheVariants.{NoInquiry, Asked, Resting}
+use Rattle.js_pull.specs.declared.reader.InfoRequest.{InfoRequest}
+use Rattle.js_pull.specs.declared.reader.InfoRequest.TheVariants.{NoInfoRequest, Asked, Resting}
 use Rattle.js_pull.specs.declared.reader.Reason.{Reason}
 use Rattle.js_pull.specs.declared.reader.Reason.TheVariants.{Low, Expired, Informed}
 use Rattle.js_pull.specs.declared.reader.Row.{Row}
-use Rattle.js_pull.specs.declared.reader.Row.TheVariants.{Begin, Ask, Threshold, Arm, Inquire, FailInquiry, CheckInquiry, Answered, CheckExpiry, CheckArrival, CheckSilence}
-use Rattle.js_pull.specs.declared.reader.Told.{Told}
+use Rattle.js_pull.specs.declared.reader.Row.TheVariants.{Begin, Ask, Threshold, Arm, Inquire, FailInfoRequest, CheckInfoRequest, Answered, CheckExpiry, CheckArrival, CheckSilence}
+use Rattle.js_pull.specs.declared.reader.ReaderOutput.{ReaderOutput}
 use Rattle.js_subjects.specs.Subjects.{under, of_consumer}
-use Rattle.js_pull.specs.declared.reader.Told.TheVariants.{Nothing, Hands, Tells}
+use Rattle.js_pull.specs.declared.reader.ReaderOutput.TheVariants.{Nothing, Hands, Tells}
 
 -- a reader that has asked for nothing yet
 abbrev pub new_reader : Source → Reader
@@ -44,11 +44,11 @@ new_reader source = record {
   pending = 0;
   pending_bytes = 0;
   waiting = false;
-  extra = 0;
+  unreset_requests = 0;
   pin = None;
   expiry = None;
-  silence = None;
-  inquiry = NoInquiry;
+  heartbeat_timer = None;
+  inquiry = NoInfoRequest;
   ended = false;
 }
 
@@ -61,7 +61,7 @@ pub record Answer : Type 0 where
 pub record Passed : Type 0 where
   pub reader : Reader
   pub sent : List Sent
-  pub told : Told
+  pub told : ReaderOutput
   pub next : List Row
 
 -- nothing goes out, and nothing is told
@@ -124,7 +124,7 @@ with_expiry now r = record r { expiry = armed_expiry now r.source.config.expires
 
 -- the heartbeat is armed
 abbrev pub with_silence : ℕ → Reader → Reader
-with_silence now r = record r { silence = armed_silence now r.source.config.idle_heartbeat }
+with_silence now r = record r { heartbeat_timer = armed_silence now r.source.config.idle_heartbeat }
 
 -- ---- the ledger
 
@@ -140,9 +140,9 @@ raised reset amount pending = if reset then amount else min (pending + amount) u
 
 -- the count of extra requests after a request
 abbrev pub extra_after : Reason → ℕ → ℕ
-extra_after Low extra = extra
-extra_after Expired extra = 0
-extra_after (Informed reset) extra = if reset then 0 else min (extra + 1) u64_max
+extra_after Low unreset_requests = unreset_requests
+extra_after Expired unreset_requests = 0
+extra_after (Informed reset) unreset_requests = if reset then 0 else min (unreset_requests + 1) u64_max
 
 -- a request has gone out
 abbrev pub asked : Reason → Reader → Reader
@@ -150,7 +150,7 @@ asked reason r = record r {
   pending = raised (resets reason) r.source.config.batch r.pending;
   pending_bytes = raised (resets reason) r.source.config.max_bytes r.pending_bytes;
   waiting = false;
-  extra = extra_after reason r.extra;
+  unreset_requests = extra_after reason r.unreset_requests;
 }
 
 -- a pull request; the expiry is armed whether it goes out or not
@@ -167,8 +167,8 @@ ask p reason r =
     else tell error.Pull armed []
 
 -- an info is open
-abbrev pub is_asking : Inquiry → Bool
-is_asking NoInquiry = false
+abbrev pub is_asking : InfoRequest → Bool
+is_asking NoInfoRequest = false
 is_asking _ = true
 
 -- at most half of the messages are pending, or of the bytes where they are limited
@@ -191,12 +191,12 @@ abbrev pub inquire : Passing → ℕ → Reader → Passed
 inquire p failures r =
     if p.up
     then record {
-      reader = record r { inquiry = Asked p.request (timeout_from p.now r.source.patience) failures };
+      reader = record r { inquiry = Asked p.request (timeout_from p.now r.source.info_timeout) failures };
       sent = Request p.request (info_subject r.source) None (codes "{}") ∷ [];
       told = Nothing;
       next = [];
     }
-    else quietly r (FailInquiry failures ∷ [])
+    else quietly r (FailInfoRequest failures ∷ [])
 
 -- the sixth failure ends it
 abbrev pub fail_inquiry : Passing → ℕ → Reader → Passed
@@ -204,7 +204,7 @@ fail_inquiry p failures r =
     let n = failures + 1 in
     if nat_lt n 6
     then quietly (record r { inquiry = Resting (record { set = p.now; wait = retry_wait n }) n }) []
-    else tell error.Pull (record r { inquiry = NoInquiry }) (Ask (Informed false) ∷ [])
+    else tell error.Pull (record r { inquiry = NoInfoRequest }) (Ask (Informed false) ∷ [])
 
 -- nobody listens to the subject of a request
 abbrev pub is_unheard : Option StatusCode → Bool
@@ -228,8 +228,8 @@ info_of_reply (Some message) = if is_unheard message.status then None else respo
 
 -- a good answer brings a request, with reset where no pull request waits
 abbrev pub answered : ℕ → Option Info → Reader → Passed
-answered failures None r = quietly r (FailInquiry failures ∷ [])
-answered failures (Some info) r = quietly (record r { inquiry = NoInquiry }) (Ask (Informed (info.num_waiting == 0)) ∷ [])
+answered failures None r = quietly r (FailInfoRequest failures ∷ [])
+answered failures (Some info) r = quietly (record r { inquiry = NoInfoRequest }) (Ask (Informed (info.num_waiting == 0)) ∷ [])
 
 -- the reply to a request, if this answers it
 abbrev pub reply_to : ℕ → Option Answer → Option (Option Message)
@@ -239,11 +239,11 @@ reply_to request (Some answer) = if request == answer.request then Some answer.r
 -- an answer, which is read next, or the timeout
 abbrev pub check_asked : Passing → Option Timer → ℕ → Option (Option Message) → Reader → Passed
 check_asked p timeout failures (Some reply) r = quietly r (Answered reply failures ∷ [])
-check_asked p timeout failures None r = quietly r (if is_any_due timeout p.now then FailInquiry failures ∷ [] else [])
+check_asked p timeout failures None r = quietly r (if is_any_due timeout p.now then FailInfoRequest failures ∷ [] else [])
 
 -- an open info looks at its answer before its clock
-abbrev pub check_inquiry : Passing → Option Answer → Inquiry → Reader → Passed
-check_inquiry p answer NoInquiry r = quietly r []
+abbrev pub check_inquiry : Passing → Option Answer → InfoRequest → Reader → Passed
+check_inquiry p answer NoInfoRequest r = quietly r []
 check_inquiry p answer (Asked request timeout failures) r = check_asked p timeout failures (reply_to request answer) r
 check_inquiry p answer (Resting wait failures) r = quietly r (if is_due wait p.now then Inquire failures ∷ [] else [])
 
@@ -296,7 +296,7 @@ check_arrival p (Some message) r = hear message (pull_kind message) (with_pin me
 
 -- a heartbeat that is missing is told, and armed anew
 abbrev pub check_silence : Passing → Reader → Passed
-check_silence p r = if is_any_due r.silence p.now then tell error.MissingHeartbeat (with_silence p.now r) [] else quietly r []
+check_silence p r = if is_any_due r.heartbeat_timer p.now then tell error.MissingHeartbeat (with_silence p.now r) [] else quietly r []
 
 -- ---- an event
 
@@ -311,7 +311,7 @@ begin_change p (Some Disconnected) r = quietly (with_expiry p.now r) (CheckArriv
 abbrev pub begin_row : Passing → Option State → Reader → Passed
 begin_row p change r =
     if r.ended then quietly r [] else (
-    if is_asking r.inquiry then quietly r (CheckInquiry ∷ CheckArrival ∷ []) else begin_change p change r)
+    if is_asking r.inquiry then quietly r (CheckInfoRequest ∷ CheckArrival ∷ []) else begin_change p change r)
 
 -- what a new reader does first: it asks at once, and arms its heartbeat
 abbrev pub opening : List Row
@@ -326,8 +326,8 @@ row p answer arrival (Ask reason) r = ask p reason r
 row p answer arrival Threshold r = threshold r
 row p answer arrival Arm r = quietly (with_silence p.now r) []
 row p answer arrival (Inquire failures) r = inquire p failures r
-row p answer arrival (FailInquiry failures) r = fail_inquiry p failures r
-row p answer arrival CheckInquiry r = check_inquiry p answer r.inquiry r
+row p answer arrival (FailInfoRequest failures) r = fail_inquiry p failures r
+row p answer arrival CheckInfoRequest r = check_inquiry p answer r.inquiry r
 row p answer arrival (Answered reply failures) r = answered failures (info_of_reply reply) r
 row p answer arrival CheckExpiry r = quietly r (if is_any_due r.expiry p.now then Ask Expired ∷ [] else [])
 row p answer arrival CheckArrival r = check_arrival p arrival r
@@ -336,7 +336,7 @@ row p answer arrival CheckSilence r = check_silence p r
 -- ---- what a row asks of the link
 
 -- an open info that was asked for waits for its answer
-abbrev pub awaited : Inquiry → Wish
+abbrev pub awaited : InfoRequest → Wish
 awaited (Asked request timeout failures) = Awaits request
 awaited _ = link.Nothing
 
@@ -344,7 +344,7 @@ awaited _ = link.Nothing
 abbrev pub wish : Row → Reader → Wish
 wish (Ask reason) r = Publishes (pull_subject r.source) (Some r.source.subject) (pull_body r.pin r.source.config)
 wish (Inquire failures) r = Requests (info_subject r.source) (codes "{}")
-wish CheckInquiry r = awaited r.inquiry
+wish CheckInfoRequest r = awaited r.inquiry
 wish CheckArrival r = Reads r.source.inbox
 wish _ r = link.Nothing
 

@@ -12,12 +12,12 @@ use Rattle.js_pull.specs.declared.reader.Reason.{Reason}
 use Rattle.js_pull.specs.declared.reader.Reason.TheVariants.{Informed}
 use Rattle.js_pull.specs.declared.reader.Row.{Row}
 use Rattle.js_pull.specs.declared.reader.Row.TheVariants as row
-use Rattle.js_pull.specs.declared.reader.Told.{Told}
-use Rattle.js_pull.specs.declared.reader.Told.TheVariants as tells
+use Rattle.js_pull.specs.declared.reader.ReaderOutput.{ReaderOutput}
+use Rattle.js_pull.specs.declared.reader.ReaderOutput.TheVariants as tells
 use Rattle.js_pull.specs.Reader.{wish, answer_of, info_of_reply, pin_header}
 use Rattle.js_pull.specs.Reader as rows
 use Rattle.js_pull.specs.Passes.{publishing}
-use Rattle.js_pull.specs.declared.reader.Inquiry.{Inquiry}
+use Rattle.js_pull.specs.declared.reader.InfoRequest.{InfoRequest}
 use Rattle.js_pull.specs.declared.rows.Due.{Due}
 use Rattle.js_pull.specs.declared.rows.Due.TheVariants as due
 use Rattle.js_pull.specs.declared.rows.Todo.{Todo}
@@ -34,8 +34,8 @@ row_of reply (due.Ask reason) = row.Ask reason
 row_of reply due.Threshold = row.Threshold
 row_of reply due.Arm = row.Arm
 row_of reply (due.Inquire failures) = row.Inquire failures
-row_of reply (due.FailInquiry failures) = row.FailInquiry failures
-row_of reply due.CheckInquiry = row.CheckInquiry
+row_of reply (due.FailInfoRequest failures) = row.FailInfoRequest failures
+row_of reply due.CheckInfoRequest = row.CheckInfoRequest
 row_of reply (due.Answered failures) = row.Answered reply failures
 row_of reply due.CheckExpiry = row.CheckExpiry
 row_of reply due.CheckArrival = row.CheckArrival
@@ -53,7 +53,7 @@ rows_of reply (todo.One due) = row_of reply due ∷ []
 rows_of reply (todo.Two due later) = row_of reply due ∷ row_of None later ∷ []
 
 -- what is told, with the message that was taken
-abbrev pub told_shown : Notice → Option Message → Told
+abbrev pub told_shown : Notice → Option Message → ReaderOutput
 told_shown notice.Nothing message = tells.Nothing
 told_shown notice.Hands None = tells.Nothing
 told_shown notice.Hands (Some message) = tells.Hands message
@@ -85,7 +85,7 @@ requesting now None = publishing now false
 requesting now (Some request) = record { now = now; up = true; request = request; inbox = 0; subject = [] }
 
 -- the row that looks at an open info
-abbrev pub inquiry_row : ℕ → Met → Inquiry → Reader → rows.Passed
+abbrev pub inquiry_row : ℕ → Met → InfoRequest → Reader → rows.Passed
 inquiry_row now met inquiry r = rows.check_inquiry (passing_at now met) (answer_of (rows.awaited inquiry) met) inquiry r
 
 -- ---- what a row needs beside what it met

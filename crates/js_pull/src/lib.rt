@@ -13,8 +13,8 @@ pub use asking::{Met, Wish, ask, take};
 pub use kind::{HeaderNumber, Kind, header_number, pull_kind};
 pub use limits::{clamp_batch, clamp_expires, clamp_heartbeat, ordered_batch_config};
 pub use reader::{
-    Inquiry, MessagesErrorKind, Reader, Reason, Row, Source, Told, is_any_due, is_asking,
-    retry_wait, timeout_from,
+    InfoRequest, MessagesErrorKind, Reader, ReaderOutput, Reason, Row, Source, is_any_due,
+    is_asking, retry_wait, timeout_from,
 };
 pub use replies::info_of_reply;
 pub use rows::{Due, Notice, Spare, Step, Todo, informed_of};

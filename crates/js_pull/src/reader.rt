@@ -40,7 +40,7 @@ pub struct Source {
     /// and the subject of that.
     pub subject: Subject,
     /// How long the answer to an info request is waited for, where there is a bound. In nanoseconds.
-    pub patience: Option<Nanos>,
+    pub info_timeout: Option<Nanos>,
     /// What each pull request asks for.
     pub config: BatchConfig,
     /// One of several clients is pinned.
@@ -49,8 +49,8 @@ pub struct Source {
 
 /// The info that is asked for after a reconnection.
 #[derive(Clone, Copy, Debug, PartialEq, Eq)]
-pub enum Inquiry {
-    NoInquiry,
+pub enum InfoRequest {
+    NoInfoRequest,
     /// The answer is waited for.
     Asked {
         request: u64,
@@ -95,11 +95,11 @@ pub enum Row {
         failures: u64,
     },
     /// It has failed once more.
-    FailInquiry {
+    FailInfoRequest {
         failures: u64,
     },
     /// The answer that an open info waits for.
-    CheckInquiry,
+    CheckInfoRequest,
     /// An info request was answered: the reply is read. It is none where the replier is gone.
     Answered {
         reply: Option<Message>,
@@ -112,7 +112,7 @@ pub enum Row {
 
 /// What a row tells the reader's user.
 #[derive(Debug, PartialEq, Eq, Drop)]
-pub enum Told {
+pub enum ReaderOutput {
     Nothing,
     Hands(Message),
     Tells(MessagesErrorKind),
@@ -129,22 +129,22 @@ pub struct Reader {
     /// Little was pending, and no request has gone out since.
     pub waiting: bool,
     /// The requests that ended an info without a reset, since the last reset.
-    pub extra: u64,
+    pub unreset_requests: u64,
     /// The name of the pinned client.
     pub pin: Option<Text>,
     pub expiry: Option<Timer>,
-    pub silence: Option<Timer>,
-    pub inquiry: Inquiry,
+    pub heartbeat_timer: Option<Timer>,
+    pub inquiry: InfoRequest,
     pub ended: bool,
 }
 
 /// Whether an info is open: its answer is waited for, or its next try.
-pub fn is_asking(inquiry: &Inquiry) -> bool
+pub fn is_asking(inquiry: &InfoRequest) -> bool
     ensures { result ≡ rows.is_asking inquiry.now }
 {
     match inquiry {
-        Inquiry::NoInquiry => false,
-        Inquiry::Asked { .. } | Inquiry::Resting { .. } => true,
+        InfoRequest::NoInfoRequest => false,
+        InfoRequest::Asked { .. } | InfoRequest::Resting { .. } => true,
     }
 }
 
@@ -225,14 +225,14 @@ fn raised(reset: bool, amount: u64, pending: u64) -> u64
     }
 }
 
-fn extra_after(reason: Reason, extra: u64) -> u64
-    ensures { result ≡ rows.extra_after reason extra }
+fn extra_after(reason: Reason, unreset_requests: u64) -> u64
+    ensures { result ≡ rows.extra_after reason unreset_requests }
 {
     match reason {
-        Reason::Low => extra,
+        Reason::Low => unreset_requests,
         Reason::Expired => 0,
         Reason::Informed { reset: true } => 0,
-        Reason::Informed { reset: false } => extra.saturating_add(1),
+        Reason::Informed { reset: false } => unreset_requests.saturating_add(1),
     }
 }
 
@@ -246,11 +246,11 @@ impl Reader {
             pending: 0,
             pending_bytes: 0,
             waiting: false,
-            extra: 0,
+            unreset_requests: 0,
             pin: None,
             expiry: None,
-            silence: None,
-            inquiry: Inquiry::NoInquiry,
+            heartbeat_timer: None,
+            inquiry: InfoRequest::NoInfoRequest,
             ended: false,
         }
     }
@@ -287,7 +287,7 @@ impl Reader {
     pub fn arm_silence(&mut self, now: Moment)
         ensures { self.new ≡ rows.with_silence now self.old }
     {
-        self.silence = armed_silence(now, self.source.config.idle_heartbeat);
+        self.heartbeat_timer = armed_silence(now, self.source.config.idle_heartbeat);
     }
 
     /// So many messages and bytes are no longer to come.
@@ -309,6 +309,6 @@ impl Reader {
         self.pending = pending;
         self.pending_bytes = pending_bytes;
         self.waiting = false;
-        self.extra = extra_after(reason, self.extra);
+        self.unreset_requests = extra_after(reason, self.unreset_requests);
     }
 }

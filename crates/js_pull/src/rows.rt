@@ -16,7 +16,7 @@ ghost use Rattle.js_pull.specs.Steps.{IsInformed, Steps, StepsTo, informed_by, i
 use crate::asking::{Met, Wish};
 use crate::kind::{Kind, pull_kind};
 use crate::reader::{
-    Inquiry, MessagesErrorKind, Reader, Reason, is_any_due, is_asking, retry_wait, timeout_from,
+    InfoRequest, MessagesErrorKind, Reader, Reason, is_any_due, is_asking, retry_wait, timeout_from,
 };
 use crate::replies::{brought_pin, info_of_reply};
 use bytes::Bytes;
@@ -35,9 +35,9 @@ pub enum Due {
     /// An info request, after so many that failed.
     Inquire { failures: u64 },
     /// It has failed once more.
-    FailInquiry { failures: u64 },
+    FailInfoRequest { failures: u64 },
     /// The answer that an open info waits for.
-    CheckInquiry,
+    CheckInfoRequest,
     /// An info request was answered: the reply is read.
     Answered { failures: u64 },
     CheckExpiry,
@@ -116,8 +116,8 @@ pub fn informed_of(
         Due::Threshold => Ok(None),
         Due::Arm => Ok(None),
         Due::Inquire { .. } => Ok(None),
-        Due::FailInquiry { .. } => Ok(None),
-        Due::CheckInquiry => Ok(None),
+        Due::FailInfoRequest { .. } => Ok(None),
+        Due::CheckInfoRequest => Ok(None),
         Due::CheckExpiry => Ok(None),
         Due::CheckArrival => Ok(None),
         Due::CheckSilence => Ok(None),
@@ -148,13 +148,13 @@ impl Reader {
         match due {
             Due::Ask { .. } => self.pull_wish(alloc),
             Due::Inquire { .. } => self.info_wish(alloc),
-            Due::CheckInquiry => Ok(awaited(self.inquiry)),
+            Due::CheckInfoRequest => Ok(awaited(self.inquiry)),
             Due::CheckArrival => Ok(Wish::Reads {
                 inbox: self.source.inbox,
             }),
             Due::Threshold => Ok(Wish::Nothing),
             Due::Arm => Ok(Wish::Nothing),
-            Due::FailInquiry { .. } => Ok(Wish::Nothing),
+            Due::FailInfoRequest { .. } => Ok(Wish::Nothing),
             Due::Answered { .. } => Ok(Wish::Nothing),
             Due::CheckExpiry => Ok(Wish::Nothing),
             Due::CheckSilence => Ok(Wish::Nothing),
@@ -198,13 +198,13 @@ impl Reader {
 }
 
 /// An open info that was asked for waits for its answer.
-fn awaited(inquiry: Inquiry) -> Wish
+fn awaited(inquiry: InfoRequest) -> Wish
     ensures { wish_shown result ≡ rows.awaited inquiry }
 {
     match inquiry {
-        Inquiry::NoInquiry => Wish::Nothing,
-        Inquiry::Asked { request, .. } => Wish::Awaits { request },
-        Inquiry::Resting { .. } => Wish::Nothing,
+        InfoRequest::NoInfoRequest => Wish::Nothing,
+        InfoRequest::Asked { request, .. } => Wish::Awaits { request },
+        InfoRequest::Resting { .. } => Wish::Nothing,
     }
 }
 
@@ -220,7 +220,7 @@ impl Reader {
             return Todo::Nothing;
         }
         if is_asking(&self.inquiry) {
-            return Todo::Two(Due::CheckInquiry, Due::CheckArrival);
+            return Todo::Two(Due::CheckInfoRequest, Due::CheckArrival);
         }
         match change {
             None => Todo::Two(Due::CheckExpiry, Due::CheckArrival),
@@ -277,11 +277,11 @@ impl Reader {
         ensures { (met : LinkMet) → StepsTo (rows.inquire (requesting now request) failures self.old) met result self.new }
     {
         match request {
-            None => quietly(Some(Due::FailInquiry { failures })),
+            None => quietly(Some(Due::FailInfoRequest { failures })),
             Some(request) => {
-                self.inquiry = Inquiry::Asked {
+                self.inquiry = InfoRequest::Asked {
                     request,
-                    timeout: timeout_from(now, self.source.patience),
+                    timeout: timeout_from(now, self.source.info_timeout),
                     failures,
                 };
                 quietly(None)
@@ -294,7 +294,7 @@ impl Reader {
         ensures { (met : LinkMet) → StepsTo (rows.fail_inquiry (publishing now false) failures self.old) met result self.new }
     {
         if failures >= 5 {
-            self.inquiry = Inquiry::NoInquiry;
+            self.inquiry = InfoRequest::NoInfoRequest;
             return tells(
                 MessagesErrorKind::Pull,
                 Some(Due::Ask {
@@ -302,7 +302,7 @@ impl Reader {
                 }),
             );
         }
-        self.inquiry = Inquiry::Resting {
+        self.inquiry = InfoRequest::Resting {
             wait: Timer {
                 set: now,
                 wait: retry_wait(failures + 1),
@@ -317,8 +317,8 @@ impl Reader {
         ensures { StepsTo (inquiry_row now (met_shown met.now) self.old.inquiry self.old) (met_shown met.now) result self.new }
     {
         match self.inquiry {
-            Inquiry::NoInquiry => quietly(None),
-            Inquiry::Asked {
+            InfoRequest::NoInfoRequest => quietly(None),
+            InfoRequest::Asked {
                 timeout,
                 failures,
                 ..
@@ -329,7 +329,10 @@ impl Reader {
                     quietly(failed_if(is_any_due(&timeout, now), failures))
                 }
             }
-            Inquiry::Resting { wait, failures } => quietly(tried_if(wait.is_due(now), failures)),
+            InfoRequest::Resting { wait, failures } => quietly(tried_if(
+                wait.is_due(now),
+                failures,
+            )),
         }
     }
 
@@ -339,9 +342,9 @@ impl Reader {
             → StepsTo (rows.answered failures (rows.info_of_reply reply) self.old) met result self.new }
     {
         match informed {
-            None => quietly(Some(Due::FailInquiry { failures })),
+            None => quietly(Some(Due::FailInfoRequest { failures })),
             Some(reason) => {
-                self.inquiry = Inquiry::NoInquiry;
+                self.inquiry = InfoRequest::NoInfoRequest;
                 quietly(Some(Due::Ask { reason }))
             }
         }
@@ -366,7 +369,7 @@ impl Reader {
     pub fn pass_check_silence(&mut self, now: Moment) -> Step
         ensures { (met : LinkMet) → StepsTo (rows.check_silence (publishing now false) self.old) met result self.new }
     {
-        if is_any_due(&self.silence, now) {
+        if is_any_due(&self.heartbeat_timer, now) {
             self.arm_silence(now);
             tells(MessagesErrorKind::MissingHeartbeat, None)
         } else {
@@ -454,8 +457,8 @@ impl Reader {
             Due::Threshold => self.pass_threshold(),
             Due::Arm => self.pass_arm(now),
             Due::Inquire { failures } => self.pass_inquire(now, failures, met.request()),
-            Due::FailInquiry { failures } => self.pass_fail_inquiry(now, failures),
-            Due::CheckInquiry => self.pass_check_inquiry(now, met),
+            Due::FailInfoRequest { failures } => self.pass_fail_inquiry(now, failures),
+            Due::CheckInfoRequest => self.pass_check_inquiry(now, met),
             Due::Answered { failures } => self.pass_answered(failures, spare.informed),
             Due::CheckExpiry => self.pass_check_expiry(now),
             Due::CheckArrival => self.pass_check_arrival(now, met, spare.pin),
@@ -475,10 +478,10 @@ fn heard(told: Notice) -> Step
 }
 
 fn failed_if(is_due: bool, failures: u64) -> Option<Due>
-    ensures { result ≡ (if is_due then Some (Due.FailInquiry failures) else None) }
+    ensures { result ≡ (if is_due then Some (Due.FailInfoRequest failures) else None) }
 {
     if is_due {
-        Some(Due::FailInquiry { failures })
+        Some(Due::FailInfoRequest { failures })
     } else {
         None
     }

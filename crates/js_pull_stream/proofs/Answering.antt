@@ -11,7 +11,7 @@ use Rattle.js_link.specs.Meets.{Meets}
 use Rattle.js_pull.specs.declared.reader.Reader.{Reader}
 use Rattle.js_pull.specs.declared.reader.Row.{Row}
 use Rattle.js_pull.specs.declared.reader.MessagesErrorKind.{MessagesErrorKind}
-use Rattle.js_pull.specs.declared.reader.Told.TheVariants.{Nothing, Hands, Tells}
+use Rattle.js_pull.specs.declared.reader.ReaderOutput.TheVariants.{Nothing, Hands, Tells}
 use Rattle.js_pull_stream.specs.Stream.{Position, Stride, PollAnswer, HandsOut, Fails, Waits, Ends, Lacks, walk, step, IsWithin, IsOneEvent, IsQuietEvent, IsAdvance, IsPoll, IsOpen}
 use Rattle.js_pull_stream.specs.Turns.{PassesNext, ClosesAt, BeginsAt, begun, begun_with, is_took, rows_empty}
 use Rattle.js_pull_stream.proofs.Walking.{place, Strode, Walked, no_right, walked_none, walked_more, passes_next, begun_strode, call_hands, call_tells, call_stops, call_closes}

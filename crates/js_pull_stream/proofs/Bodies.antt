@@ -12,7 +12,7 @@ use Rattle.js_pull.specs.declared.reader.Source.{Source}
 use Rattle.js_pull.specs.Reader.{new_reader}
 use Rattle.js_pull.specs.Reader.{opening}
 use Rattle.js_pull_stream.specs.Stream.{Position, Stride, walk}
-use Rattle.js_pull.specs.declared.reader.Told.TheVariants as tells
+use Rattle.js_pull.specs.declared.reader.ReaderOutput.TheVariants as tells
 use Rattle.js_pull.specs.declared.reader.MessagesErrorKind.TheVariants as error
 
 -- what a worked row unfolds to be computed
@@ -27,7 +27,7 @@ source config = record {
   name = codes "c1";
   inbox = 0;
   subject = codes "_INBOX.t.0";
-  patience = None;
+  info_timeout = None;
   config = config;
   pinned = false;
 }

@@ -17,11 +17,11 @@ use Rattle.js_pull.specs.declared.kind.Kind.TheVariants as kinds
 use Rattle.js_pull.specs.Kind.{pull_kind}
 use Rattle.js_pull.specs.declared.reader.Source.{Source}
 use Rattle.js_pull.specs.declared.reader.Reader.{Reader}
-use Rattle.js_pull.specs.declared.reader.Inquiry.{Inquiry}
-use Rattle.js_pull.specs.declared.reader.Inquiry.TheVariants.{NoInquiry, Asked, Resting}
+use Rattle.js_pull.specs.declared.reader.InfoRequest.{InfoRequest}
+use Rattle.js_pull.specs.declared.reader.InfoRequest.TheVariants.{NoInfoRequest, Asked, Resting}
 use Rattle.js_pull.specs.declared.reader.Row.{Row}
-use Rattle.js_pull.specs.declared.reader.Row.TheVariants.{Begin, Ask, Threshold, Arm, Inquire, FailInquiry, CheckInquiry, Answered, CheckExpiry, CheckArrival, CheckSilence}
-use Rattle.js_pull.specs.declared.reader.Told.{Told}
+use Rattle.js_pull.specs.declared.reader.Row.TheVariants.{Begin, Ask, Threshold, Arm, Inquire, FailInfoRequest, CheckInfoRequest, Answered, CheckExpiry, CheckArrival, CheckSilence}
+use Rattle.js_pull.specs.declared.reader.ReaderOutput.{ReaderOutput}
 use Rattle.js_pull.specs.Passes.{publishing}
 use Rattle.js_pull.specs.Reader as rows
 use Rattle.js_pull.specs.Steps.{met_row}
@@ -65,20 +65,20 @@ read_counts i Empty v u m = rw m.0 (omega arith)
 read_counts i Shut v u m = rw m.0 (omega arith)
 read_counts i met v u m = absurd m
 
-inquiry_counts : (i : ℕ) (inquiry : Inquiry) (met : Met) (v u : LinkView) → Meets (rows.awaited inquiry) met v u → Counts i met v u
-inquiry_counts i NoInquiry met v u m = nothing_counts i met v u m
+inquiry_counts : (i : ℕ) (inquiry : InfoRequest) (met : Met) (v u : LinkView) → Meets (rows.awaited inquiry) met v u → Counts i met v u
+inquiry_counts i NoInfoRequest met v u m = nothing_counts i met v u m
 inquiry_counts i (Asked request timeout failures) met v u m = await_counts i request met v u m
 inquiry_counts i (Resting wait failures) met v u m = nothing_counts i met v u m
 
 row_counts : (row : Row) (met : Met) (r : Reader) (v u : LinkView) → Meets (rows.wish row r) met v u → Counts r.source.inbox met v u
 row_counts (Ask reason) met r v u m = publish_counts r.source.inbox _ _ _ met v u m
 row_counts (Inquire failures) met r v u m = request_counts r.source.inbox _ _ met v u m
-row_counts CheckInquiry met r v u m = inquiry_counts r.source.inbox r.inquiry met v u m
+row_counts CheckInfoRequest met r v u m = inquiry_counts r.source.inbox r.inquiry met v u m
 row_counts CheckArrival met r v u m = read_counts r.source.inbox met v u m
 row_counts (Begin change) met r v u m = nothing_counts r.source.inbox met v u m
 row_counts Threshold met r v u m = nothing_counts r.source.inbox met v u m
 row_counts Arm met r v u m = nothing_counts r.source.inbox met v u m
-row_counts (FailInquiry failures) met r v u m = nothing_counts r.source.inbox met v u m
+row_counts (FailInfoRequest failures) met r v u m = nothing_counts r.source.inbox met v u m
 row_counts (Answered reply failures) met r v u m = nothing_counts r.source.inbox met v u m
 row_counts CheckExpiry met r v u m = nothing_counts r.source.inbox met v u m
 row_counts CheckSilence met r v u m = nothing_counts r.source.inbox met v u m
@@ -91,8 +91,8 @@ rank (Ask reason) = 1
 rank Threshold = 2
 rank Arm = 1
 rank (Inquire failures) = 3
-rank (FailInquiry failures) = 2
-rank CheckInquiry = 4
+rank (FailInfoRequest failures) = 2
+rank CheckInfoRequest = 4
 rank (Answered reply failures) = 3
 rank CheckExpiry = 2
 rank CheckArrival = 3
@@ -146,8 +146,8 @@ asked_nears : (p : Passing) (timeout : Option Timer) (failures : ℕ) (reply : O
 asked_nears p timeout failures (Some reply) r = record { source = refl; lower = omega arith }
 asked_nears p timeout failures None r = record { source = refl; lower = if_each (NearsList 4) (is_any_due timeout p.now) _ _ (λ _. omega arith) (λ _. omega arith) }
 
-inquiry_nears : (p : Passing) (answer : Option rows.Answer) (inquiry : Inquiry) (r : Reader) → Nears 4 r (rows.check_inquiry p answer inquiry r)
-inquiry_nears p answer NoInquiry r = record { source = refl; lower = omega arith }
+inquiry_nears : (p : Passing) (answer : Option rows.Answer) (inquiry : InfoRequest) (r : Reader) → Nears 4 r (rows.check_inquiry p answer inquiry r)
+inquiry_nears p answer NoInfoRequest r = record { source = refl; lower = omega arith }
 inquiry_nears p answer (Asked request timeout failures) r = asked_nears p timeout failures (rows.reply_to request answer) r
 inquiry_nears p answer (Resting wait failures) r = record { source = refl; lower = if_each (NearsList 4) (is_due wait p.now) _ _ (λ _. omega arith) (λ _. omega arith) }
 
@@ -159,13 +159,13 @@ row_nears p answer arrival Threshold r = if_each (Nears 2 r) (rows.is_low r && n
     (λ _. record { source = refl; lower = omega arith })
 row_nears p answer arrival Arm r = record { source = refl; lower = omega arith }
 row_nears p answer arrival (Inquire failures) r = if_each (Nears 3 r) p.up _ _ (λ _. record { source = refl; lower = omega arith }) (λ _. record { source = refl; lower = omega arith })
-row_nears p answer arrival (FailInquiry failures) r = if_each (Nears 2 r) (nat_lt (failures + 1) 6) _ _
+row_nears p answer arrival (FailInfoRequest failures) r = if_each (Nears 2 r) (nat_lt (failures + 1) 6) _ _
     (λ _. record { source = refl; lower = omega arith }) (λ _. record { source = refl; lower = omega arith })
-row_nears p answer arrival CheckInquiry r = inquiry_nears p answer r.inquiry r
+row_nears p answer arrival CheckInfoRequest r = inquiry_nears p answer r.inquiry r
 row_nears p answer arrival (Answered reply failures) r = answered_nears failures (rows.info_of_reply reply) r
 row_nears p answer arrival CheckExpiry r = record { source = refl; lower = if_each (NearsList 2) (is_any_due r.expiry p.now) _ _ (λ _. omega arith) (λ _. omega arith) }
 row_nears p answer arrival CheckArrival r = arrival_nears p arrival r
-row_nears p answer arrival CheckSilence r = if_each (Nears 1 r) (is_any_due r.silence p.now) _ _
+row_nears p answer arrival CheckSilence r = if_each (Nears 1 r) (is_any_due r.heartbeat_timer p.now) _ _
     (λ _. record { source = refl; lower = omega arith }) (λ _. record { source = refl; lower = omega arith })
 
 -- ---- a row that was passed
@@ -176,7 +176,7 @@ pub record Falls (took : Bool) (old new : Position) (before after : LinkView) : 
   pub counts : after.count new.reader.source.inbox + taken took ≤ before.count old.reader.source.inbox
   pub lower : rank_of new.todo < rank_of old.todo
 
-pub next_falls : (now : ℕ) (told : Told) (text : Option (List ℕ)) (met : Met) (old new : Position) (v u : LinkView)
+pub next_falls : (now : ℕ) (told : ReaderOutput) (text : Option (List ℕ)) (met : Met) (old new : Position) (v u : LinkView)
     → PassesNext now told text met old new v u → Falls (is_took met) old new v u
 next_falls now told text met old new v u p =
     let nears = row_nears (passing_of now met) (rows.answer_of (rows.wish p.row old.reader) met) (message_of met) p.row old.reader in
@@ -249,13 +249,13 @@ took_smaller quiet old new v u falls =
     omega (arith, counts, lower)
 
 -- a row that took no message
-pub silent_smaller : (quiet : Bool) (now : ℕ) (told : Told) (text : Option (List ℕ)) (met : Met) (old new : Position) (v u : LinkView)
+pub silent_smaller : (quiet : Bool) (now : ℕ) (told : ReaderOutput) (text : Option (List ℕ)) (met : Met) (old new : Position) (v u : LinkView)
     → PassesNext now told text met old new v u → is_took met ≡ false → measure quiet new u < measure quiet old v
 silent_smaller quiet now told text met old new v u p is =
     row_smaller quiet old new v u (subst (λ (b : Bool). Falls b old new v u) is (next_falls now told text met old new v u p))
 
 -- a row that took one
-pub heard_smaller : (quiet : Bool) (now : ℕ) (told : Told) (text : Option (List ℕ)) (met : Met) (old new : Position) (v u : LinkView)
+pub heard_smaller : (quiet : Bool) (now : ℕ) (told : ReaderOutput) (text : Option (List ℕ)) (met : Met) (old new : Position) (v u : LinkView)
     → PassesNext now told text met old new v u → is_took met ≡ true → measure false new u < measure quiet old v
 heard_smaller quiet now told text met old new v u p is =
     took_smaller quiet old new v u (subst (λ (b : Bool). Falls b old new v u) is (next_falls now told text met old new v u p))

@@ -19,12 +19,12 @@ use Rattle.js_pull.specs.Reader.{new_reader}
 use Rattle.js_pull.specs.Reader as rows
 use Rattle.js_pull.proofs.Cases.{if_each, if_known, half_pending}
 use Rattle.js_pull_stream.specs.Stream.{Position, Stride, first_row, later_rows, passed_by, step, walk, closed_at, IsBounded, IsBoundedAt, IsLowRequest, IsReady}
-use Rattle.js_pull.specs.declared.reader.Inquiry.{Inquiry}
-use Rattle.js_pull.specs.declared.reader.Inquiry.TheVariants.{NoInquiry, Asked, Resting}
+use Rattle.js_pull.specs.declared.reader.InfoRequest.{InfoRequest}
+use Rattle.js_pull.specs.declared.reader.InfoRequest.TheVariants.{NoInfoRequest, Asked, Resting}
 use Rattle.js_pull.specs.declared.reader.Reason.{Reason}
 use Rattle.js_pull.specs.declared.reader.Reason.TheVariants.{Low, Expired, Informed}
 use Rattle.js_pull.specs.declared.reader.Row.{Row}
-use Rattle.js_pull.specs.declared.reader.Row.TheVariants.{Begin, Ask, Threshold, Arm, Inquire, FailInquiry, CheckInquiry, Answered, CheckExpiry, CheckArrival, CheckSilence}
+use Rattle.js_pull.specs.declared.reader.Row.TheVariants.{Begin, Ask, Threshold, Arm, Inquire, FailInfoRequest, CheckInfoRequest, Answered, CheckExpiry, CheckArrival, CheckSilence}
 
 -- no request of the threshold is among the rows
 abbrev NoneLow : List Row → Type 0
@@ -40,15 +40,15 @@ record Keeps (passed : rows.Passed) : Type 0 where
 
 -- ---- the bound in numbers
 
-one_more : (p batch extra : ℕ) → p ≤ batch + batch / 2 + extra * batch → p + batch ≤ batch + batch / 2 + suc extra * batch
-one_more p batch extra h = omega (arith, h, suc-mul extra batch)
+one_more : (p batch unreset_requests : ℕ) → p ≤ batch + batch / 2 + unreset_requests * batch → p + batch ≤ batch + batch / 2 + suc unreset_requests * batch
+one_more p batch unreset_requests h = omega (arith, h, suc-mul unreset_requests batch)
 
-stopped : (p batch extra most : ℕ) → p ≤ batch + batch / 2 + extra * batch → min (p + batch) most ≤ batch + batch / 2 + most * batch
-stopped p zero extra most h = omega (arith, h)
-stopped p (suc b) extra most h = omega (arith, mul-suc most b)
+stopped : (p batch unreset_requests most : ℕ) → p ≤ batch + batch / 2 + unreset_requests * batch → min (p + batch) most ≤ batch + batch / 2 + most * batch
+stopped p zero unreset_requests most h = omega (arith, h)
+stopped p (suc b) unreset_requests most h = omega (arith, mul-suc most b)
 
-more : (p batch extra most : ℕ) → p ≤ batch + batch / 2 + extra * batch → min (p + batch) most ≤ batch + batch / 2 + min (extra + 1) most * batch
-more p batch extra most h = by_cap (two most extra)
+more : (p batch unreset_requests most : ℕ) → p ≤ batch + batch / 2 + unreset_requests * batch → min (p + batch) most ≤ batch + batch / 2 + min (unreset_requests + 1) most * batch
+more p batch unreset_requests most h = by_cap (two most unreset_requests)
   where
     two : (a b : ℕ) → (a ≤ b) ⊎ (b < a)
     two a b = grind arith
@@ -59,9 +59,9 @@ more p batch extra most h = by_cap (two most extra)
     under : (a b : ℕ) → b < a → min (b + 1) a ≡ suc b
     under a b e = omega arith
 
-    by_cap : (most ≤ extra) ⊎ (extra < most) → min (p + batch) most ≤ batch + batch / 2 + min (extra + 1) most * batch
-    by_cap (inl capped) = subst (λ (n : ℕ). min (p + batch) most ≤ batch + batch / 2 + n * batch) (sym (at_most most extra capped)) (stopped p batch extra most h)
-    by_cap (inr below) = subst (λ (n : ℕ). min (p + batch) most ≤ batch + batch / 2 + n * batch) (sym (under most extra below)) (omega (arith, one_more p batch extra h))
+    by_cap : (most ≤ unreset_requests) ⊎ (unreset_requests < most) → min (p + batch) most ≤ batch + batch / 2 + min (unreset_requests + 1) most * batch
+    by_cap (inl capped) = subst (λ (n : ℕ). min (p + batch) most ≤ batch + batch / 2 + n * batch) (sym (at_most most unreset_requests capped)) (stopped p batch unreset_requests most h)
+    by_cap (inr below) = subst (λ (n : ℕ). min (p + batch) most ≤ batch + batch / 2 + n * batch) (sym (under most unreset_requests below)) (omega (arith, one_more p batch unreset_requests h))
 
 -- ---- a request
 
@@ -69,7 +69,7 @@ asked_bounded : (reason : Reason) (r : Reader) → IsBounded r → (reason ≡ L
 asked_bounded Low r k low = let h = low refl in record { bytes = k.bytes; pending = omega (arith, h) }
 asked_bounded Expired r k low = record { bytes = k.bytes; pending = omega arith }
 asked_bounded (Informed true) r k low = record { bytes = k.bytes; pending = omega arith }
-asked_bounded (Informed false) r k low = record { bytes = k.bytes; pending = more r.pending r.source.config.batch r.extra rows.u64_max k.pending }
+asked_bounded (Informed false) r k low = record { bytes = k.bytes; pending = more r.pending r.source.config.batch r.unreset_requests rows.u64_max k.pending }
 
 ask_keeps : (p : Passing) (reason : Reason) (r : Reader) → IsBounded r → (reason ≡ Low → r.pending ≤ r.source.config.batch / 2) → Keeps (rows.ask p reason r)
 ask_keeps p reason r k low = if_each Keeps p.up _ _
@@ -89,12 +89,12 @@ threshold_keeps r k = if_known Keeps (rows.is_low r && not r.waiting) _ _
 -- ---- all else leaves what is pending, or lowers it
 
 -- a reader that has no more pending
-no_more : (r s : Reader) → IsBounded r → s.source ≡ r.source → s.extra ≡ r.extra → s.pending ≤ r.pending → IsBounded s
-no_more r s k source extra less = record {
+no_more : (r s : Reader) → IsBounded r → s.source ≡ r.source → s.unreset_requests ≡ r.unreset_requests → s.pending ≤ r.pending → IsBounded s
+no_more r s k source unreset_requests less = record {
   bytes = ap (λ (x : Source). x.config.max_bytes) source ∙ k.bytes;
   pending =
       let bound = k.pending in
-      rw source (rw extra (omega (arith, bound, less)));
+      rw source (rw unreset_requests (omega (arith, bound, less)));
 }
 
 hear_keeps : (message : Message) (kind : Kind) (r : Reader) → IsBounded r → Keeps (rows.hear message kind r)
@@ -130,8 +130,8 @@ asked_keeps : (p : Passing) (timeout : Option Timer) (failures : ℕ) (reply : O
 asked_keeps p timeout failures (Some reply) r k = record { reader = k; next = ((λ low. absurd low), tt) }
 asked_keeps p timeout failures None r k = record { reader = k; next = if_each (IsReady r) (is_any_due timeout p.now) _ _ (λ _. ((λ low. absurd low), tt)) (λ _. tt) }
 
-inquiry_keeps : (p : Passing) (answer : Option rows.Answer) (inquiry : Inquiry) (r : Reader) → IsBounded r → Keeps (rows.check_inquiry p answer inquiry r)
-inquiry_keeps p answer NoInquiry r k = record { reader = k; next = tt }
+inquiry_keeps : (p : Passing) (answer : Option rows.Answer) (inquiry : InfoRequest) (r : Reader) → IsBounded r → Keeps (rows.check_inquiry p answer inquiry r)
+inquiry_keeps p answer NoInfoRequest r k = record { reader = k; next = tt }
 inquiry_keeps p answer (Asked request timeout failures) r k = asked_keeps p timeout failures (rows.reply_to request answer) r k
 inquiry_keeps p answer (Resting wait failures) r k = record { reader = k; next = if_each (IsReady r) (is_due wait p.now) _ _ (λ _. ((λ low. absurd low), tt)) (λ _. tt) }
 
@@ -146,14 +146,14 @@ row_keeps p answer arrival Threshold r k low = threshold_keeps r k
 row_keeps p answer arrival Arm r k low = record { reader = record { bytes = k.bytes; pending = k.pending }; next = tt }
 row_keeps p answer arrival (Inquire failures) r k low = if_each Keeps p.up _ _
     (λ _. record { reader = record { bytes = k.bytes; pending = k.pending }; next = tt }) (λ _. record { reader = k; next = ((λ low. absurd low), tt) })
-row_keeps p answer arrival (FailInquiry failures) r k low = if_each Keeps (nat_lt (failures + 1) 6) _ _
+row_keeps p answer arrival (FailInfoRequest failures) r k low = if_each Keeps (nat_lt (failures + 1) 6) _ _
     (λ _. record { reader = record { bytes = k.bytes; pending = k.pending }; next = tt })
     (λ _. record { reader = record { bytes = k.bytes; pending = k.pending }; next = ((λ low. absurd low), tt) })
-row_keeps p answer arrival CheckInquiry r k low = inquiry_keeps p answer r.inquiry r k
+row_keeps p answer arrival CheckInfoRequest r k low = inquiry_keeps p answer r.inquiry r k
 row_keeps p answer arrival (Answered reply failures) r k low = answered_keeps failures (rows.info_of_reply reply) r k
 row_keeps p answer arrival CheckExpiry r k low = record { reader = k; next = if_each (IsReady r) (is_any_due r.expiry p.now) _ _ (λ _. ((λ low. absurd low), tt)) (λ _. tt) }
 row_keeps p answer arrival CheckArrival r k low = arrival_keeps p arrival r k
-row_keeps p answer arrival CheckSilence r k low = if_each Keeps (is_any_due r.silence p.now) _ _
+row_keeps p answer arrival CheckSilence r k low = if_each Keeps (is_any_due r.heartbeat_timer p.now) _ _
     (λ _. record { reader = record { bytes = k.bytes; pending = k.pending }; next = tt }) (λ _. record { reader = k; next = tt })
 
 -- ---- a walk

@@ -7,10 +7,10 @@ use Rattle.js_link.specs.Calls.{Takes}
 use Rattle.js_link.specs.Met.{Met, Wish, Reads, Took, Empty, Shut, message_of}
 use Rattle.js_link.specs.Meets.{Meets}
 use Rattle.js_pull.specs.declared.reader.Reader.{Reader}
-use Rattle.js_pull.specs.declared.reader.Inquiry.{Inquiry}
-use Rattle.js_pull.specs.declared.reader.Inquiry.TheVariants.{NoInquiry, Asked, Resting}
+use Rattle.js_pull.specs.declared.reader.InfoRequest.{InfoRequest}
+use Rattle.js_pull.specs.declared.reader.InfoRequest.TheVariants.{NoInfoRequest, Asked, Resting}
 use Rattle.js_pull.specs.declared.reader.Row.{Row}
-use Rattle.js_pull.specs.declared.reader.Row.TheVariants.{Begin, Ask, Threshold, Arm, Inquire, FailInquiry, CheckInquiry, Answered, CheckExpiry, CheckArrival, CheckSilence}
+use Rattle.js_pull.specs.declared.reader.Row.TheVariants.{Begin, Ask, Threshold, Arm, Inquire, FailInfoRequest, CheckInfoRequest, Answered, CheckExpiry, CheckArrival, CheckSilence}
 use Rattle.js_pull.specs.declared.rows.Due.{Due}
 use Rattle.js_pull.specs.declared.rows.Due.TheVariants as due_of
 use Rattle.js_pull.specs.Asking.{met_shown}
@@ -21,9 +21,9 @@ use Rattle.js_pull_stream.specs.Turns.{IsMeeting}
 use Rattle.js_pull_stream.specs.Held.{seen}
 use Rattle.js_pull_stream.proofs.Holding.{nothing_is_seen, publish_is_seen, request_is_seen, await_is_seen, held_is_unread, held_is_last, held_is_replaced, held_is_lost}
 
-inquiry_is_seen : (inquiry : Inquiry) (met : Met) (held : Option Message) (inbox : ℕ) (v u : LinkView)
+inquiry_is_seen : (inquiry : InfoRequest) (met : Met) (held : Option Message) (inbox : ℕ) (v u : LinkView)
     → Meets (rows.awaited inquiry) met v u → Meets (rows.awaited inquiry) met (seen held inbox v) (seen held inbox u)
-inquiry_is_seen NoInquiry met held inbox v u m = nothing_is_seen met held inbox v u m
+inquiry_is_seen NoInfoRequest met held inbox v u m = nothing_is_seen met held inbox v u m
 inquiry_is_seen (Asked request timeout failures) met held inbox v u m = await_is_seen request met held inbox v u m
 inquiry_is_seen (Resting wait failures) met held inbox v u m = nothing_is_seen met held inbox v u m
 
@@ -31,12 +31,12 @@ row_is_seen : (row : Row) (met : Met) (r : Reader) (held : Option Message) (inbo
     → Meets (rows.wish row r) met v u → Meets (rows.wish row r) met (seen held inbox v) (seen held inbox u)
 row_is_seen (Ask reason) met r held inbox v u other m = publish_is_seen _ _ _ met held inbox v u m
 row_is_seen (Inquire failures) met r held inbox v u other m = request_is_seen _ _ met held inbox v u m
-row_is_seen CheckInquiry met r held inbox v u other m = inquiry_is_seen r.inquiry met held inbox v u m
+row_is_seen CheckInfoRequest met r held inbox v u other m = inquiry_is_seen r.inquiry met held inbox v u m
 row_is_seen CheckArrival met r held inbox v u other m = absurd (other refl)
 row_is_seen (Begin change) met r held inbox v u other m = nothing_is_seen met held inbox v u m
 row_is_seen Threshold met r held inbox v u other m = nothing_is_seen met held inbox v u m
 row_is_seen Arm met r held inbox v u other m = nothing_is_seen met held inbox v u m
-row_is_seen (FailInquiry failures) met r held inbox v u other m = nothing_is_seen met held inbox v u m
+row_is_seen (FailInfoRequest failures) met r held inbox v u other m = nothing_is_seen met held inbox v u m
 row_is_seen (Answered reply failures) met r held inbox v u other m = nothing_is_seen met held inbox v u m
 row_is_seen CheckExpiry met r held inbox v u other m = nothing_is_seen met held inbox v u m
 row_is_seen CheckSilence met r held inbox v u other m = nothing_is_seen met held inbox v u m
@@ -47,8 +47,8 @@ other_row (due_of.Ask reason) reply other e = cc
 other_row due_of.Threshold reply other e = cc
 other_row due_of.Arm reply other e = cc
 other_row (due_of.Inquire failures) reply other e = cc
-other_row (due_of.FailInquiry failures) reply other e = cc
-other_row due_of.CheckInquiry reply other e = cc
+other_row (due_of.FailInfoRequest failures) reply other e = cc
+other_row due_of.CheckInfoRequest reply other e = cc
 other_row (due_of.Answered failures) reply other e = cc
 other_row due_of.CheckExpiry reply other e = cc
 other_row due_of.CheckArrival reply other e = other refl

@@ -14,14 +14,14 @@ use Rattle.js_link.specs.Passing.{Passing}
 use Rattle.js_link.specs.declared.link.Watch.{Watch}
 use Rattle.js_pull.specs.Asking.{watch_met}
 use Rattle.js_pull.specs.declared.reader.Reader.{Reader}
-use Rattle.js_pull.specs.declared.reader.Inquiry.{Inquiry}
-use Rattle.js_pull.specs.declared.reader.Inquiry.TheVariants.{NoInquiry, Asked, Resting}
+use Rattle.js_pull.specs.declared.reader.InfoRequest.{InfoRequest}
+use Rattle.js_pull.specs.declared.reader.InfoRequest.TheVariants.{NoInfoRequest, Asked, Resting}
 use Rattle.js_pull.specs.declared.reader.Reason.TheVariants.{Expired}
 use Rattle.js_pull.specs.declared.reader.Row.{Row}
-use Rattle.js_pull.specs.declared.reader.Row.TheVariants.{Ask, Inquire, FailInquiry, CheckInquiry, CheckExpiry, CheckArrival, CheckSilence}
+use Rattle.js_pull.specs.declared.reader.Row.TheVariants.{Ask, Inquire, FailInfoRequest, CheckInfoRequest, CheckExpiry, CheckArrival, CheckSilence}
 use Rattle.js_pull.specs.declared.reader.MessagesErrorKind.TheVariants as error
-use Rattle.js_pull.specs.declared.reader.Told.{Told}
-use Rattle.js_pull.specs.declared.reader.Told.TheVariants.{Nothing}
+use Rattle.js_pull.specs.declared.reader.ReaderOutput.{ReaderOutput}
+use Rattle.js_pull.specs.declared.reader.ReaderOutput.TheVariants.{Nothing}
 use Rattle.js_pull.specs.Reader as rows
 use Rattle.js_pull_stream.specs.Stream.{Position, Stride, PollAnswer, HandsOut, Fails, Waits, Ends, Lacks, told_by, walk, step, passed_by, told_list, later_rows, connection_after, wish_next, closed_at, change_met, IsStride, IsMet, IsPoll}
 use Rattle.js_pull_stream.specs.Wakes.{IsLeftAlone, IsUnanswered, Sleeps, inquiry_due, timer_due}
@@ -35,7 +35,7 @@ data Stage : Type 0 where
 abbrev rows_at : Stage → List Row
 rows_at Rest = []
 rows_at Expiry = CheckExpiry ∷ CheckArrival ∷ []
-rows_at Info = CheckInquiry ∷ CheckArrival ∷ []
+rows_at Info = CheckInfoRequest ∷ CheckArrival ∷ []
 rows_at Arrival = CheckArrival ∷ []
 rows_at Silence = CheckSilence ∷ []
 
@@ -78,13 +78,13 @@ either_false true b e = absurd (never e)
     never e = cc
 either_false false b e = (refl, e)
 
-early_parts : (now : ℕ) (r : Reader) → r.ended ≡ false → timer_due now r ≡ false → (inquiry_due now r.inquiry r.expiry ≡ false) × (is_any_due r.silence now ≡ false)
+early_parts : (now : ℕ) (r : Reader) → r.ended ≡ false → timer_due now r ≡ false → (inquiry_due now r.inquiry r.expiry ≡ false) × (is_any_due r.heartbeat_timer now ≡ false)
 early_parts now r alive e =
-    either_false (inquiry_due now r.inquiry r.expiry) (is_any_due r.silence now)
-    (sym (ap (λ (b : Bool). if b then false else (inquiry_due now r.inquiry r.expiry || is_any_due r.silence now)) alive) ∙ e)
+    either_false (inquiry_due now r.inquiry r.expiry) (is_any_due r.heartbeat_timer now)
+    (sym (ap (λ (b : Bool). if b then false else (inquiry_due now r.inquiry r.expiry || is_any_due r.heartbeat_timer now)) alive) ∙ e)
 
-expiry_early : (now : ℕ) (inquiry : Inquiry) (expiry : Option Timer) → rows.is_asking inquiry ≡ false → inquiry_due now inquiry expiry ≡ false → is_any_due expiry now ≡ false
-expiry_early now NoInquiry expiry none e = e
+expiry_early : (now : ℕ) (inquiry : InfoRequest) (expiry : Option Timer) → rows.is_asking inquiry ≡ false → inquiry_due now inquiry expiry ≡ false → is_any_due expiry now ≡ false
+expiry_early now NoInfoRequest expiry none e = e
 expiry_early now (Asked request timeout failures) expiry none e = cc
 expiry_early now (Resting wait failures) expiry none e = cc
 
@@ -99,14 +99,14 @@ begun_idle : (p : Passing) (r : Reader) (b : Bool) → rows.is_asking r.inquiry 
 begun_idle p r true asks alive = (
   Info,
   tt,
-  ap (λ (e : Bool). if e then rows.quietly r [] else (if rows.is_asking r.inquiry then rows.quietly r (CheckInquiry ∷ CheckArrival ∷ []) else rows.begin_change p None r)) alive
-      ∙ ap (λ (b : Bool). if b then rows.quietly r (CheckInquiry ∷ CheckArrival ∷ []) else rows.begin_change p None r) asks,
+  ap (λ (e : Bool). if e then rows.quietly r [] else (if rows.is_asking r.inquiry then rows.quietly r (CheckInfoRequest ∷ CheckArrival ∷ []) else rows.begin_change p None r)) alive
+      ∙ ap (λ (b : Bool). if b then rows.quietly r (CheckInfoRequest ∷ CheckArrival ∷ []) else rows.begin_change p None r) asks,
 )
 begun_idle p r false asks alive = (
   Expiry,
   asks,
-  ap (λ (e : Bool). if e then rows.quietly r [] else (if rows.is_asking r.inquiry then rows.quietly r (CheckInquiry ∷ CheckArrival ∷ []) else rows.begin_change p None r)) alive
-      ∙ ap (λ (b : Bool). if b then rows.quietly r (CheckInquiry ∷ CheckArrival ∷ []) else rows.begin_change p None r) asks,
+  ap (λ (e : Bool). if e then rows.quietly r [] else (if rows.is_asking r.inquiry then rows.quietly r (CheckInfoRequest ∷ CheckArrival ∷ []) else rows.begin_change p None r)) alive
+      ∙ ap (λ (b : Bool). if b then rows.quietly r (CheckInfoRequest ∷ CheckArrival ∷ []) else rows.begin_change p None r) asks,
 )
 
 unchanged : (c : State) (met : Met) (v u : LinkView) → change_met c (watch_met v.watch) ≡ None → Meets Watches met v u → (change_met c met ≡ None) × (u ≡ v)
@@ -114,13 +114,13 @@ unchanged c (Stands state) v u same m = (ap (λ (w : Watch). change_met c (watch
 unchanged c Watch_over v u same m = (refl, m.0)
 unchanged c met v u same m = absurd m
 
-inquiry_idle : (now : ℕ) (p : Passing) (answer : Option rows.Answer) (inquiry : Inquiry) (r : Reader) (met : Met) (v u : LinkView) → p.now ≡ now → answer ≡ rows.answer_of (rows.awaited inquiry) met
+inquiry_idle : (now : ℕ) (p : Passing) (answer : Option rows.Answer) (inquiry : InfoRequest) (r : Reader) (met : Met) (v u : LinkView) → p.now ≡ now → answer ≡ rows.answer_of (rows.awaited inquiry) met
     → Meets (rows.awaited inquiry) met v u → IsUnanswered inquiry v → inquiry_due now inquiry r.expiry ≡ false
     → (rows.check_inquiry p answer inquiry r ≡ rows.quietly r []) × (u ≡ v)
-inquiry_idle now p answer NoInquiry r met v u at is m waits early = (refl, nothing_same met v u m)
+inquiry_idle now p answer NoInfoRequest r met v u at is m waits early = (refl, nothing_same met v u m)
 inquiry_idle now p answer (Asked request timeout failures) r Waiting v u at is m waits early = (
   ap (λ (a : Option rows.Answer). rows.check_asked p timeout failures (rows.reply_to request a) r) is
-      ∙ ap (λ (b : Bool). rows.quietly r (if b then FailInquiry failures ∷ [] else [])) (ap (is_any_due timeout) at ∙ early),
+      ∙ ap (λ (b : Bool). rows.quietly r (if b then FailInfoRequest failures ∷ [] else [])) (ap (is_any_due timeout) at ∙ early),
   m.0,
 )
 inquiry_idle now p answer (Asked request timeout failures) r Gone v u at is m waits early = absurd (never (sym waits ∙ m.1))
@@ -173,7 +173,7 @@ idle_step now r c v u alone Silence at s met is meets =
     let early = early_parts now r alone.alive alone.early in
     let moment : s.passing.now ≡ now = ap (λ (p : Passing). p.now) is.passing ∙ sym (passing_now now met) in
     stays_by r c Silence s v u Rest [] tt
-    (ap (λ (b : Bool). if b then rows.tell error.MissingHeartbeat (rows.with_silence s.passing.now r) [] else rows.quietly r []) (ap (is_any_due r.silence) moment ∙ early.1)) refl refl
+    (ap (λ (b : Bool). if b then rows.tell error.MissingHeartbeat (rows.with_silence s.passing.now r) [] else rows.quietly r []) (ap (is_any_due r.heartbeat_timer) moment ∙ early.1)) refl refl
     (nothing_same met v u meets)
 
 -- ---- row after row
@@ -194,7 +194,7 @@ idle_walk now r c (s ∷ strides) v u alone stage at (met, between, is, meets, r
     record {
       stage = more.stage;
       leads = ap (λ (p : Position). (walk strides p).position) one.leads ∙ more.leads;
-      told = ap (λ (x : Told). told_list x ++ (walk strides (step s (place r (rows_at stage) c))).told) one.told ∙ ap (λ (p : Position). (walk strides p).told) one.leads ∙ more.told;
+      told = ap (λ (x : ReaderOutput). told_list x ++ (walk strides (step s (place r (rows_at stage) c))).told) one.told ∙ ap (λ (p : Position). (walk strides p).told) one.leads ∙ more.told;
       same = more.same ∙ one.same;
     }
 
@@ -205,8 +205,8 @@ never_closed r c Rest v u is_open closes = closes
 never_closed r c Expiry v u is_open closes = closes
 never_closed r c Info v u is_open closes = by_inquiry r.inquiry closes
   where
-    by_inquiry : (inquiry : Inquiry) → IsClosing Meets (rows.awaited inquiry) true v u → ⊥
-    by_inquiry NoInquiry m = m
+    by_inquiry : (inquiry : InfoRequest) → IsClosing Meets (rows.awaited inquiry) true v u → ⊥
+    by_inquiry NoInfoRequest m = m
     by_inquiry (Asked request timeout failures) m = m
     by_inquiry (Resting wait failures) m = m
 never_closed r c Arrival v u is_open closes = never (sym closes.1 ∙ is_open)
@@ -229,11 +229,11 @@ left_at r c stage true at new v u is_open is leads closes =
 answers_by : (answer : PollAnswer) → [] ≡ told_by answer → (answer ≡ Ends → ⊥) → (answer ≡ Waits) ⊎ (answer ≡ Lacks)
 answers_by (HandsOut message) told ended = absurd (never told)
   where
-    never : {t : Told} → [] ≡ t ∷ [] → ⊥
+    never : {t : ReaderOutput} → [] ≡ t ∷ [] → ⊥
     never e = cc
 answers_by (Fails kind text) told ended = absurd (never told)
   where
-    never : {t : Told} → [] ≡ t ∷ [] → ⊥
+    never : {t : ReaderOutput} → [] ≡ t ∷ [] → ⊥
     never e = cc
 answers_by Waits told ended = inl refl
 answers_by Ends told ended = absurd (ended refl)

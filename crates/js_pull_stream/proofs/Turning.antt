@@ -9,14 +9,14 @@ use Rattle.js_link.specs.Meets.{Meets}
 use Rattle.js_pull.specs.Asking.{is_shut, reply_met}
 use Rattle.js_pull.specs.declared.reader.Source.{Source}
 use Rattle.js_pull.specs.declared.reader.Reader.{Reader}
-use Rattle.js_pull.specs.declared.reader.Inquiry.{Inquiry}
-use Rattle.js_pull.specs.declared.reader.Inquiry.TheVariants.{NoInquiry, Asked, Resting}
+use Rattle.js_pull.specs.declared.reader.InfoRequest.{InfoRequest}
+use Rattle.js_pull.specs.declared.reader.InfoRequest.TheVariants.{NoInfoRequest, Asked, Resting}
 use Rattle.js_pull.specs.declared.reader.MessagesErrorKind.{MessagesErrorKind}
 use Rattle.js_pull.specs.declared.reader.MessagesErrorKind.TheVariants.{MissingHeartbeat, ConsumerDeleted, Pull, Other, NoResponders, RequestLimitExceeded, PushBasedConsumer}
 use Rattle.js_pull.specs.declared.reader.Row.{Row}
-use Rattle.js_pull.specs.declared.reader.Row.TheVariants.{Begin, Ask, Threshold, Arm, Inquire, FailInquiry, CheckInquiry, Answered, CheckExpiry, CheckArrival, CheckSilence}
-use Rattle.js_pull.specs.declared.reader.Told.{Told}
-use Rattle.js_pull.specs.declared.reader.Told.TheVariants.{Nothing, Hands, Tells}
+use Rattle.js_pull.specs.declared.reader.Row.TheVariants.{Begin, Ask, Threshold, Arm, Inquire, FailInfoRequest, CheckInfoRequest, Answered, CheckExpiry, CheckArrival, CheckSilence}
+use Rattle.js_pull.specs.declared.reader.ReaderOutput.{ReaderOutput}
+use Rattle.js_pull.specs.declared.reader.ReaderOutput.TheVariants.{Nothing, Hands, Tells}
 use Rattle.js_pull.specs.declared.rows.Due.{Due}
 use Rattle.js_pull.specs.declared.rows.Notice.{Notice}
 use Rattle.js_pull.specs.declared.rows.Notice.TheVariants as notice
@@ -35,7 +35,7 @@ use Rattle.js_pull_stream.proofs.Holding.{watch_is_seen}
 use Rattle.js_pull_stream.proofs.Walking.{place}
 
 -- the next row of a position, but for the text that it tells
-record Next (now : ℕ) (what : Told) (met : Met) (old new : Position) (before after : LinkView) : Type 0 where
+record Next (now : ℕ) (what : ReaderOutput) (met : Met) (old new : Position) (before after : LinkView) : Type 0 where
   row : Row
   later : List Row
   todo : old.todo ≡ row ∷ later
@@ -46,7 +46,7 @@ record Next (now : ℕ) (what : Told) (met : Met) (old new : Position) (before a
   told : what ≡ (met_row now row met old.reader).told
   meets : Meets (wish row old.reader) met before after
 
-with_text : (now : ℕ) (told : Told) (text : Option (List ℕ)) (met : Met) (old new : Position) (v u : LinkView) → IsText told text (message_of met)
+with_text : (now : ℕ) (told : ReaderOutput) (text : Option (List ℕ)) (met : Met) (old new : Position) (v u : LinkView) → IsText told text (message_of met)
     → Next now told met old new v u → PassesNext now told text met old new v u
 with_text now told text met old new v u is p =
     record { row = p.row; later = p.later; todo = p.todo; reader = p.reader; left = p.left; connection = p.connection; is_open = p.is_open; told = p.told; text = is; meets = p.meets }
@@ -111,11 +111,11 @@ only_arrivals (Ask reason) r v u m = absurd m
 only_arrivals Threshold r v u m = absurd m
 only_arrivals Arm r v u m = absurd m
 only_arrivals (Inquire failures) r v u m = absurd m
-only_arrivals (FailInquiry failures) r v u m = absurd m
-only_arrivals CheckInquiry r v u m = absurd (by_inquiry r.inquiry m)
+only_arrivals (FailInfoRequest failures) r v u m = absurd m
+only_arrivals CheckInfoRequest r v u m = absurd (by_inquiry r.inquiry m)
   where
-    by_inquiry : (inquiry : Inquiry) → Meets (rows.awaited inquiry) Shut v u → ⊥
-    by_inquiry NoInquiry m = m
+    by_inquiry : (inquiry : InfoRequest) → Meets (rows.awaited inquiry) Shut v u → ⊥
+    by_inquiry NoInfoRequest m = m
     by_inquiry (Asked request timeout failures) m = m
     by_inquiry (Resting wait failures) m = m
 only_arrivals (Answered reply failures) r v u m = absurd m
@@ -139,7 +139,7 @@ passes_closed due reply later met shut old new v u at is_shut_by is leads meets 
 
 -- ---- a row keeps the inbox
 
-kept_by : (now : ℕ) (told : Told) (text : Option (List ℕ)) (met : Met) (old new : Position) (v u : LinkView) → PassesNext now told text met old new v u → new.reader.source ≡ old.reader.source
+kept_by : (now : ℕ) (told : ReaderOutput) (text : Option (List ℕ)) (met : Met) (old new : Position) (v u : LinkView) → PassesNext now told text met old new v u → new.reader.source ≡ old.reader.source
 kept_by now told text met old new v u p =
     ap (λ (x : Reader). x.source) p.reader ∙ (row_nears (passing_of now met) (rows.answer_of (wish p.row old.reader) met) (message_of met) p.row old.reader).source
 

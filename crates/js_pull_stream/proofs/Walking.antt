@@ -11,13 +11,13 @@ use Rattle.js_link.specs.Met as link
 use Rattle.js_link.specs.Meets.{Meets}
 use Rattle.js_pull.specs.declared.reader.Reader.{Reader}
 use Rattle.js_pull.specs.declared.reader.Row.{Row}
-use Rattle.js_pull.specs.declared.reader.Row.TheVariants.{Begin, Ask, Threshold, Arm, Inquire, FailInquiry, CheckInquiry, Answered, CheckExpiry, CheckArrival, CheckSilence}
-use Rattle.js_pull.specs.declared.reader.Inquiry.{Inquiry}
-use Rattle.js_pull.specs.declared.reader.Inquiry.TheVariants.{NoInquiry, Asked, Resting}
+use Rattle.js_pull.specs.declared.reader.Row.TheVariants.{Begin, Ask, Threshold, Arm, Inquire, FailInfoRequest, CheckInfoRequest, Answered, CheckExpiry, CheckArrival, CheckSilence}
+use Rattle.js_pull.specs.declared.reader.InfoRequest.{InfoRequest}
+use Rattle.js_pull.specs.declared.reader.InfoRequest.TheVariants.{NoInfoRequest, Asked, Resting}
 use Rattle.js_pull.specs.declared.reader.MessagesErrorKind.{MessagesErrorKind}
 use Rattle.js_pull.specs.declared.reader.MessagesErrorKind.TheVariants.{MissingHeartbeat, ConsumerDeleted, Pull, Other, NoResponders, RequestLimitExceeded, PushBasedConsumer}
-use Rattle.js_pull.specs.declared.reader.Told.{Told}
-use Rattle.js_pull.specs.declared.reader.Told.TheVariants.{Nothing, Hands, Tells}
+use Rattle.js_pull.specs.declared.reader.ReaderOutput.{ReaderOutput}
+use Rattle.js_pull.specs.declared.reader.ReaderOutput.TheVariants.{Nothing, Hands, Tells}
 use Rattle.js_pull.specs.Passes.{publishing}
 use Rattle.js_pull.specs.Reader.{wish, answer_of, begin_row, is_asking, begin_change}
 use Rattle.js_pull.specs.Reader as rows
@@ -35,7 +35,7 @@ abbrev pub stride_of : ℕ → Wish → Met → Option State → Stride
 stride_of now wish met change = record { passing = passing_of now met; change = change; answer = answer_of wish met; arrival = message_of met }
 
 -- one row of a walk, which told this
-pub record Strode (now : ℕ) (begins : Wish) (what : Told) (met : Met) (old new : Position) (before after : LinkView) : Type 0 where
+pub record Strode (now : ℕ) (begins : Wish) (what : ReaderOutput) (met : Met) (old new : Position) (before after : LinkView) : Type 0 where
   pub stride : Stride
   pub is : IsStride now old.connection (wish_next begins old) met stride
   pub meets : Meets (wish_next begins old) met before after
@@ -44,7 +44,7 @@ pub record Strode (now : ℕ) (begins : Wish) (what : Told) (met : Met) (old new
   pub arrival : stride.arrival ≡ message_of met
 
 -- a row that the code has passed, as a stride; no event begins at it
-pub record Passed (now : ℕ) (begins : Wish) (told : Told) (met : Met) (old new : Position) (before after : LinkView) : Type 0 where
+pub record Passed (now : ℕ) (begins : Wish) (told : ReaderOutput) (met : Met) (old new : Position) (before after : LinkView) : Type 0 where
   pub strode : Strode now begins told met old new before after
   pub busy : old.todo ≡ [] → ⊥
 
@@ -55,8 +55,8 @@ pub three_parts : (r s : Reader) (xs ys : List Row) (c d : State) → r ≡ s �
 three_parts r s xs ys c d e f h = ap (λ (x : Reader). place x xs c) e ∙ ap (λ (x : List Row). place s x c) f ∙ ap (λ (x : State). place s ys x) h
 
 -- no row watches the connection but one that begins an event
-unwatched_inquiry : (inquiry : Inquiry) → rows.awaited inquiry ≡ Watches → ⊥
-unwatched_inquiry NoInquiry e = cc
+unwatched_inquiry : (inquiry : InfoRequest) → rows.awaited inquiry ≡ Watches → ⊥
+unwatched_inquiry NoInfoRequest e = cc
 unwatched_inquiry (Asked request timeout failures) e = cc
 unwatched_inquiry (Resting wait failures) e = cc
 
@@ -66,14 +66,14 @@ unwatched (Ask reason) r e = cc
 unwatched Threshold r e = cc
 unwatched Arm r e = cc
 unwatched (Inquire failures) r e = cc
-unwatched (FailInquiry failures) r e = cc
-unwatched CheckInquiry r e = unwatched_inquiry r.inquiry e
+unwatched (FailInfoRequest failures) r e = cc
+unwatched CheckInfoRequest r e = unwatched_inquiry r.inquiry e
 unwatched (Answered reply failures) r e = cc
 unwatched CheckExpiry r e = cc
 unwatched CheckArrival r e = cc
 unwatched CheckSilence r e = cc
 
-row_strode : (now : ℕ) (begins : Wish) (told : Told) (text : Option (List ℕ)) (met : Met) (r : Reader) (todo : List Row) (last : State) (new : Position) (v u : LinkView)
+row_strode : (now : ℕ) (begins : Wish) (told : ReaderOutput) (text : Option (List ℕ)) (met : Met) (r : Reader) (todo : List Row) (last : State) (new : Position) (v u : LinkView)
     (row : Row) (later : List Row) → todo ≡ row ∷ later → new.reader ≡ (met_row now row met r).reader → new.todo ≡ (met_row now row met r).next ++ later
     → new.connection ≡ last → told ≡ (met_row now row met r).told → IsOpen met → Meets (wish row r) met v u
     → Passed now begins told met (place r todo last) new v u
@@ -92,7 +92,7 @@ row_strode now begins told text met r todo last new v u row later at reader left
     never : (row : Row) (later : List Row) → row ∷ later ≡ [] → ⊥
     never row later e = cc
 
-pub passes_next : (now : ℕ) (begins : Wish) (told : Told) (text : Option (List ℕ)) (met : Met) (old new : Position) (v u : LinkView)
+pub passes_next : (now : ℕ) (begins : Wish) (told : ReaderOutput) (text : Option (List ℕ)) (met : Met) (old new : Position) (v u : LinkView)
     → PassesNext now told text met old new v u → Passed now begins told met old new v u
 passes_next now begins told text met old new v u p =
     row_strode now begins told text met old.reader old.todo old.connection new v u p.row p.later p.todo p.reader p.left p.connection p.told p.is_open p.meets
@@ -151,16 +151,16 @@ walk_more (x ∷ strides) s at = walk_more strides s (step x at)
 pub told_more : (strides : List Stride) (s : Stride) (at : Position) → (walk (strides ++ s ∷ []) at).told ≡ (walk strides at).told ++ told_list (passed_by s (walk strides at).position).told
 told_more [] s at = append_nil (told_list (passed_by s at).told)
   where
-    append_nil : (xs : List Told) → xs ++ [] ≡ xs
+    append_nil : (xs : List ReaderOutput) → xs ++ [] ≡ xs
     append_nil [] = refl
-    append_nil (x ∷ xs) = ap (λ (ys : List Told). x ∷ ys) (append_nil xs)
+    append_nil (x ∷ xs) = ap (λ (ys : List ReaderOutput). x ∷ ys) (append_nil xs)
 told_more (x ∷ strides) s at =
-    ap (λ (ys : List Told). told_list (passed_by x at).told ++ ys) (told_more strides s (step x at))
+    ap (λ (ys : List ReaderOutput). told_list (passed_by x at).told ++ ys) (told_more strides s (step x at))
     ∙ sym (append_told (told_list (passed_by x at).told) (walk strides (step x at)).told (told_list (passed_by s (walk strides (step x at)).position).told))
   where
-    append_told : (xs ys zs : List Told) → (xs ++ ys) ++ zs ≡ xs ++ (ys ++ zs)
+    append_told : (xs ys zs : List ReaderOutput) → (xs ++ ys) ++ zs ≡ xs ++ (ys ++ zs)
     append_told [] ys zs = refl
-    append_told (x ∷ xs) ys zs = ap (λ (ws : List Told). x ∷ ws) (append_told xs ys zs)
+    append_told (x ∷ xs) ys zs = ap (λ (ws : List ReaderOutput). x ∷ ws) (append_told xs ys zs)
 
 pub met_more : (now : ℕ) (begins : Wish) (strides : List Stride) (s : Stride) (met : Met) (at : Position) (v u w : LinkView)
     → IsMet now Meets begins strides at v u
@@ -175,12 +175,12 @@ last_more [] s = refl
 last_more (x ∷ []) s = refl
 last_more (x ∷ y ∷ strides) s = last_more (y ∷ strides) s
 
-no_left : (t : Told) (xs : List Told) → told_list t ++ xs ≡ [] → t ≡ Nothing
+no_left : (t : ReaderOutput) (xs : List ReaderOutput) → told_list t ++ xs ≡ [] → t ≡ Nothing
 no_left Nothing xs e = refl
 no_left (Hands message) xs e = cc
 no_left (Tells kind) xs e = cc
 
-pub no_right : (xs ys : List Told) → xs ++ ys ≡ [] → ys ≡ []
+pub no_right : (xs ys : List ReaderOutput) → xs ++ ys ≡ [] → ys ≡ []
 no_right [] ys e = e
 no_right (x ∷ xs) ys e = cc
 
@@ -205,7 +205,7 @@ stops_silent (x ∷ y ∷ strides) at e = (
 abbrev pub walked_none : (now : ℕ) (begins : Wish) (old : Position) (v : LinkView) → Walked now begins old old v v
 walked_none now begins old v = record { strides = []; leads = refl; met = refl; told = refl }
 
-pub strode_at : (now : ℕ) (begins : Wish) (told : Told) (met : Met) (at bt new : Position) (v u : LinkView) → at ≡ bt → (s : Strode now begins told met at new v u)
+pub strode_at : (now : ℕ) (begins : Wish) (told : ReaderOutput) (met : Met) (at bt new : Position) (v u : LinkView) → at ≡ bt → (s : Strode now begins told met at new v u)
     → IsStride now bt.connection (wish_next begins bt) met s.stride × Meets (wish_next begins bt) met v u × (new ≡ step s.stride bt) × (told ≡ (passed_by s.stride bt).told)
 strode_at now begins told met at bt new v u e s =
     subst (λ (p : Position). IsStride now p.connection (wish_next begins p) met s.stride × Meets (wish_next begins p) met v u × (new ≡ step s.stride p) × (told ≡ (passed_by s.stride p).told)) e
@@ -220,7 +220,7 @@ walked_more now begins met old at new v u w walked s =
       strides = walked.strides ++ s.stride ∷ [];
       leads = at_end.2 ∙ sym (walk_more walked.strides s.stride old);
       met = met_more now begins walked.strides s.stride met old v u w walked.met at_end.0 at_end.1;
-      told = told_more walked.strides s.stride old ∙ ap (λ (xs : List Told). xs ++ told_list (passed_by s.stride (walk walked.strides old).position).told) walked.told
+      told = told_more walked.strides s.stride old ∙ ap (λ (xs : List ReaderOutput). xs ++ told_list (passed_by s.stride (walk walked.strides old).position).told) walked.told
           ∙ ap told_list (sym at_end.3);
     }
 
@@ -237,11 +237,11 @@ has_text NoResponders text message strides is last = tt
 has_text PushBasedConsumer text message strides is last = tt
 
 -- a call that ends with a row that tells something
-abbrev pub strides_last : (now : ℕ) (begins : Wish) (told : Told) (met : Met) (old at new : Position) (v u w : LinkView)
+abbrev pub strides_last : (now : ℕ) (begins : Wish) (told : ReaderOutput) (met : Met) (old at new : Position) (v u w : LinkView)
     → Walked now begins old at v u → Strode now begins told met at new u w → List Stride
 strides_last now begins told met old at new v u w walked s = walked.strides ++ s.stride ∷ []
 
-call_last : (now : ℕ) (begins : Wish) (told : Told) (answer : PollAnswer) (met : Met) (old at new : Position) (v u w : LinkView)
+call_last : (now : ℕ) (begins : Wish) (told : ReaderOutput) (answer : PollAnswer) (met : Met) (old at new : Position) (v u w : LinkView)
     → (walked : Walked now begins old at v u) (s : Strode now begins told met at new u w)
     → told_list told ≡ told_by answer → HasText answer (walked.strides ++ s.stride ∷ [])
     → IsCall Meets now begins (walked.strides ++ s.stride ∷ []) false old new v w answer
@@ -253,7 +253,7 @@ call_last now begins told answer met old at new v u w walked s same text =
       between = w;
       met = met_more now begins walked.strides s.stride met old v u w walked.met at_end.0 at_end.1;
       closing = refl;
-      told = told_more walked.strides s.stride old ∙ ap (λ (xs : List Told). xs ++ told_list (passed_by s.stride (walk walked.strides old).position).told) walked.told
+      told = told_more walked.strides s.stride old ∙ ap (λ (xs : List ReaderOutput). xs ++ told_list (passed_by s.stride (walk walked.strides old).position).told) walked.told
           ∙ ap told_list (sym at_end.3) ∙ same;
       stops = stops_more walked.strides s.stride old walked.told;
       text = text;

@@ -15,9 +15,9 @@ use Rattle.js_pull.specs.declared.reader.Row.{Row}
 use Rattle.js_pull.specs.declared.reader.Row.TheVariants.{Begin, Ask}
 use Rattle.js_pull.specs.declared.reader.MessagesErrorKind.{MessagesErrorKind}
 use Rattle.js_pull.specs.declared.reader.MessagesErrorKind.TheVariants as error
-use Rattle.js_pull.specs.declared.reader.Told.{Told}
-use Rattle.js_pull.specs.declared.reader.Told.TheVariants as tells
-use Rattle.js_pull.specs.declared.reader.Told.TheVariants.{Nothing}
+use Rattle.js_pull.specs.declared.reader.ReaderOutput.{ReaderOutput}
+use Rattle.js_pull.specs.declared.reader.ReaderOutput.TheVariants as tells
+use Rattle.js_pull.specs.declared.reader.ReaderOutput.TheVariants.{Nothing}
 
 -- where a stream stands: the rows of its event that are still to be passed, and the state that was last told of its connection. A new one
 -- begins with the rows of the opening
@@ -37,7 +37,7 @@ pub record Stride : Type 0 where
 pub record Moved : Type 0 where
   pub position : Position
   pub sent : List Sent
-  pub told : List Told
+  pub told : List ReaderOutput
 
 -- an event begins where nothing is left to do
 abbrev pub first_row : Option State → List Row → Row
@@ -50,7 +50,7 @@ later_rows [] = []
 later_rows (row ∷ rows) = rows
 
 -- what a row told, if it told something
-abbrev pub told_list : Told → List Told
+abbrev pub told_list : ReaderOutput → List ReaderOutput
 told_list Nothing = []
 told_list told = told ∷ []
 
@@ -87,7 +87,7 @@ closed_at false at = at
 -- a batch and a half, and a batch for each request that ended an info without a reset
 pub record IsBounded (r : Reader) : Type 0 where
   pub bytes : r.source.config.max_bytes ≡ 0
-  pub pending : r.pending ≤ r.source.config.batch + r.source.config.batch / 2 + r.extra * r.source.config.batch
+  pub pending : r.pending ≤ r.source.config.batch + r.source.config.batch / 2 + r.unreset_requests * r.source.config.batch
 
 -- a request that the threshold brings is passed next, while little is pending
 abbrev pub IsLowRequest : Row → Type 0
@@ -114,7 +114,7 @@ pub data PollAnswer : Type 0 where
   Waits Ends Lacks : PollAnswer
 
 -- what an answer hands out
-abbrev pub told_by : PollAnswer → List Told
+abbrev pub told_by : PollAnswer → List ReaderOutput
 told_by (HandsOut message) = tells.Hands message ∷ []
 told_by (Fails kind text) = tells.Tells kind ∷ []
 told_by _ = []

@@ -21,8 +21,8 @@ use Rattle.js_pull.specs.declared.reader.Row.{Row}
 use Rattle.js_pull.specs.declared.reader.Row.TheVariants.{CheckArrival}
 use Rattle.js_pull.specs.declared.reader.MessagesErrorKind.{MessagesErrorKind}
 use Rattle.js_pull.specs.declared.reader.MessagesErrorKind.TheVariants as error
-use Rattle.js_pull.specs.declared.reader.Told.{Told}
-use Rattle.js_pull.specs.declared.reader.Told.TheVariants as tells
+use Rattle.js_pull.specs.declared.reader.ReaderOutput.{ReaderOutput}
+use Rattle.js_pull.specs.declared.reader.ReaderOutput.TheVariants as tells
 use Rattle.js_pull_stream.specs.declared.stream.Advance.{Advance}
 use Rattle.js_pull_stream.specs.declared.stream.Advance.TheVariants as advance
 use Rattle.js_pull_stream.specs.declared.stream.Stream.{Stream}
@@ -96,7 +96,7 @@ abbrev pub is_took : Met → Bool
 is_took met = is_some (message_of met)
 
 -- a limit is told with the server's description
-abbrev pub IsText : Told → Option (List ℕ) → Option Message → Type 0
+abbrev pub IsText : ReaderOutput → Option (List ℕ) → Option Message → Type 0
 IsText (tells.Tells error.RequestLimitExceeded) text message = text ≡ description_of message
 IsText told text message = ⊤
 
@@ -113,7 +113,7 @@ turned_by notice.Hands (Some message) = turns.Hands message
 turned_by (notice.Tells kind) message = turns.Tells kind (text_of kind message)
 
 -- the next row of a position was passed with what was met
-pub record PassesNext (now : ℕ) (what : Told) (words : Option (List ℕ)) (met : Met) (old new : Position) (before after : LinkView) : Type 0 where
+pub record PassesNext (now : ℕ) (what : ReaderOutput) (words : Option (List ℕ)) (met : Met) (old new : Position) (before after : LinkView) : Type 0 where
   pub row : Row
   pub later : List Row
   pub todo : old.todo ≡ row ∷ later
@@ -173,8 +173,8 @@ poll_answer next.OutOfMemory = Lacks
 
 -- a stream that reads this inbox
 abbrev pub opened_at : List ℕ → List ℕ → List ℕ → Option ℕ → BatchConfig → Bool → ℕ → List ℕ → Position
-opened_at api stream name patience config pinned inbox subject = record {
-  reader = new_reader (record { api = api; stream = stream; name = name; inbox = inbox; subject = subject; patience = patience; config = config; pinned = pinned });
+opened_at api stream name info_timeout config pinned inbox subject = record {
+  reader = new_reader (record { api = api; stream = stream; name = name; inbox = inbox; subject = subject; info_timeout = info_timeout; config = config; pinned = pinned });
   todo = opening;
   connection = Connected;
 }
@@ -183,5 +183,5 @@ opened_at api stream name patience config pinned inbox subject = record {
 abbrev pub OpensStream : Result Stream LinkError → (consumer : Consumer) → BatchConfig → Bool → LinkView → LinkView → Type 0
 OpensStream (Ok stream) consumer config pinned old new =
     (inbox : ℕ) × (subject : List ℕ) × OpensOwn inbox subject old new × (stream.held ≡ None)
-    × (position_of stream ≡ opened_at consumer.api.now consumer.stream.now consumer.name.now consumer.patience config pinned inbox subject)
+    × (position_of stream ≡ opened_at consumer.api.now consumer.stream.now consumer.name.now consumer.info_timeout config pinned inbox subject)
 OpensStream (Err e) consumer config pinned old new = RefusedSend e old new

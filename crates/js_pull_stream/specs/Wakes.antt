@@ -6,8 +6,8 @@ use Rattle.js_link.specs.LinkView.{LinkView}
 use Rattle.js_link.specs.LinkView as link
 use Rattle.js_pull.specs.Asking.{watch_met}
 use Rattle.js_pull.specs.declared.reader.Reader.{Reader}
-use Rattle.js_pull.specs.declared.reader.Inquiry.{Inquiry}
-use Rattle.js_pull.specs.declared.reader.Inquiry.TheVariants.{NoInquiry, Asked, Resting}
+use Rattle.js_pull.specs.declared.reader.InfoRequest.{InfoRequest}
+use Rattle.js_pull.specs.declared.reader.InfoRequest.TheVariants.{NoInfoRequest, Asked, Resting}
 use Rattle.js_pull_stream.specs.Stream.{Position, PollAnswer, Waits, Lacks, change_met}
 
 -- a moment has come, if there is one
@@ -16,17 +16,17 @@ has_come None now = false
 has_come (Some moment) now = nat_le moment now
 
 -- an open info looks at its clock; without one the expiry is looked at
-abbrev pub inquiry_due : ℕ → Inquiry → Option Timer → Bool
-inquiry_due now NoInquiry expiry = is_any_due expiry now
+abbrev pub inquiry_due : ℕ → InfoRequest → Option Timer → Bool
+inquiry_due now NoInfoRequest expiry = is_any_due expiry now
 inquiry_due now (Asked request timeout failures) expiry = is_any_due timeout now
 inquiry_due now (Resting wait failures) expiry = is_due wait now
 
 -- a timer of a reader is due
 abbrev pub timer_due : ℕ → Reader → Bool
-timer_due now r = if r.ended then false else (inquiry_due now r.inquiry r.expiry || is_any_due r.silence now)
+timer_due now r = if r.ended then false else (inquiry_due now r.inquiry r.expiry || is_any_due r.heartbeat_timer now)
 
 -- no answer has come to the info that is asked for
-abbrev pub IsUnanswered : Inquiry → LinkView → Type 0
+abbrev pub IsUnanswered : InfoRequest → LinkView → Type 0
 IsUnanswered (Asked request timeout failures) v = v.status request ≡ link.Waits
 IsUnanswered _ v = ⊤
 

@@ -59,7 +59,7 @@ pub struct Consumer<'a> {
     pub stream: &'a str,
     pub name: &'a str,
     /// How long the answer to an info request is waited for, where there is a bound. In nanoseconds.
-    pub patience: Option<Nanos>,
+    pub info_timeout: Option<Nanos>,
 }
 
 /// A pull stream.
@@ -189,7 +189,7 @@ impl Stream {
             name,
             inbox: inbox.0,
             subject,
-            patience: consumer.patience,
+            info_timeout: consumer.info_timeout,
             config,
             pinned,
         };

@@ -4,7 +4,7 @@ ghost use Rattle.js_base.specs.Clock.{is_any_due};
 ghost use Rattle.js_pull_stream.specs.Wakes.{has_come, inquiry_due, timer_due};
 
 use js_base::{Moment, Timer};
-use js_pull::{Inquiry, Reader};
+use js_pull::{InfoRequest, Reader};
 
 /// The moment from which on a wait is over.
 fn end_of(timer: &Option<Timer>) -> Option<Moment>
@@ -30,13 +30,13 @@ fn earlier(first: Option<Moment>, second: Option<Moment>) -> Option<Moment>
 }
 
 /// When an open info has something to do; without one the expiry of the pull requests counts.
-fn inquiry_end(inquiry: &Inquiry, expiry: &Option<Timer>) -> Option<Moment>
+fn inquiry_end(inquiry: &InfoRequest, expiry: &Option<Timer>) -> Option<Moment>
     ensures { (now : ℕ) → now < 2 ^ 64 → has_come result now ≡ inquiry_due now inquiry.now expiry.now }
 {
     match inquiry {
-        Inquiry::NoInquiry => end_of(expiry),
-        Inquiry::Asked { timeout, .. } => end_of(timeout),
-        Inquiry::Resting { wait, .. } => end_of(&Some(*wait)),
+        InfoRequest::NoInfoRequest => end_of(expiry),
+        InfoRequest::Asked { timeout, .. } => end_of(timeout),
+        InfoRequest::Resting { wait, .. } => end_of(&Some(*wait)),
     }
 }
 
@@ -49,6 +49,6 @@ pub(crate) fn wakes_at(reader: &Reader) -> Option<Moment>
     }
     earlier(
         inquiry_end(&reader.inquiry, &reader.expiry),
-        end_of(&reader.silence),
+        end_of(&reader.heartbeat_timer),
     )
 }

@@ -7,7 +7,7 @@ use Rattle.js_json.specs.declared.pull.OrderedConfig.{OrderedConfig}
 use Rattle.js_table.specs.declared.setup.Settings.{Settings}
 use Rattle.js_table.specs.declared.setup.OrderedSetup.{OrderedSetup}
 use Rattle.js_table.specs.declared.setup.OrderedSetup.TheVariants.{Pull}
-use Rattle.js_table.specs.declared.consumer.Given.{Given}
+use Rattle.js_table.specs.declared.consumer.ReplayInput.{ReplayInput}
 use Rattle.js_table.specs.declared.run.Run.{Run}
 use Rattle.js_table.specs.declared.run.ReplayError.{ReplayError}
 use Rattle.js_table.specs.declared.run.ReplayError.TheVariants as error
@@ -27,17 +27,17 @@ module _ (stream name : List ℕ) (is_stream : is_name stream ≡ true) (is : is
       subst (λ (run : Run). Gives (map handed es) (all_outputs run) []) (sym replay.folded) (gives settings config first stream name is_stream is es fit)
 
   -- the outputs of each replay hand out the entries
-  pub replay_gives : (g : Given) (run : Run) → IsReader g → IsReplay g 0 (relayed stream name 1 es) run → Gives (map handed es) (all_outputs run) []
+  pub replay_gives : (g : ReplayInput) (run : Run) → IsReader g → IsReplay g 0 (relayed stream name 1 es) run → Gives (map handed es) (all_outputs run) []
   replay_gives g run r replay =
       let P : OrderedSetup → Type 0 = λ s. IsReplay (record { settings = g.settings; setup = s; first = g.first }) 0 (relayed stream name 1 es) run → Gives (map handed es) (all_outputs run) [] in
       subst P (sym r.pull) (run_gives g.settings r.config g.first run) replay
 
-  reader_accepts : (g : Given) → IsReader g → refuse g 0 (relayed stream name 1 es) ≡ None
+  reader_accepts : (g : ReplayInput) → IsReader g → refuse g 0 (relayed stream name 1 es) ≡ None
   reader_accepts g r =
       let P : OrderedSetup → Type 0 = λ s. bad_field (record { settings = g.settings; setup = s; first = g.first }) ≡ None → refuse (record { settings = g.settings; setup = s; first = g.first }) 0 (relayed stream name 1 es) ≡ None in
       subst P (sym r.pull) (accepted g.settings r.config g.first stream name is_stream is es fit) r.fields
 
-  answers : (g : Given) (answer : Result Run ReplayError) → IsReader g → IsAnswer g 0 (relayed stream name 1 es) answer → refuse g 0 (relayed stream name 1 es) ≡ None → AnswersWith es answer
+  answers : (g : ReplayInput) (answer : Result Run ReplayError) → IsReader g → IsAnswer g 0 (relayed stream name 1 es) answer → refuse g 0 (relayed stream name 1 es) ≡ None → AnswersWith es answer
   answers g (Ok run) r a none =
       let out = replay_gives g run r a in
       record { yielded = gives_all (map handed es) (all_outputs run) out; calm = gives_calm (map handed es) (all_outputs run) [] out }

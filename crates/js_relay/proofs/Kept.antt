@@ -7,7 +7,7 @@ use Rattle.js_base.specs.Match.{filters_match}
 use Rattle.js_codes.specs.Names.{is_name}
 use Rattle.js_message.specs.Ack.{Place}
 use Rattle.js_mirror.specs.Mirrored.{Mirrored}
-use Rattle.js_table.specs.declared.consumer.Given.{Given}
+use Rattle.js_table.specs.declared.consumer.ReplayInput.{ReplayInput}
 use Rattle.js_table.specs.declared.event.Event.{Event}
 use Rattle.js_table.specs.declared.run.Run.{Run}
 use Rattle.js_table.specs.declared.setup.OrderedSetup.{OrderedSetup}
@@ -28,7 +28,7 @@ pub record IsTrueCopy (s : Server) (setup : OrderedSetup) (mirror : Mirrored) : 
   pub whole : IsWhole setup s.log s.removed mirror.start (sequences (map handed mirror.entries))
   pub logged : AllByRecursion (IsLogged s.log) (map handed mirror.entries)
 
-pub true_copy : (s : Server) (mirror : Mirrored) (first : Given) (start : ℕ) (es : List Event) (run : Run)
+pub true_copy : (s : Server) (mirror : Mirrored) (first : ReplayInput) (start : ℕ) (es : List Event) (run : Run)
     → IsReplay first start es run → IsHonest s first.setup es run → IsCopy first.setup run mirror → IsTrueCopy s first.setup mirror
 true_copy s mirror first start es run replay honest copy =
     let gapless : IsGapless s first.setup (map handed mirror.entries) = subst (λ (entries : List Entry). IsGapless s first.setup entries) (sym copy.entries) (replay.gapless s honest) in

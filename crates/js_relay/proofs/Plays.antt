@@ -10,10 +10,10 @@ use Rattle.js_json.specs.declared.pull.OrderedConfig.{OrderedConfig}
 use Rattle.js_message.specs.Ack.{Place}
 use Rattle.js_pull.specs.declared.reader.Source.{Source}
 use Rattle.js_table.specs.declared.setup.Settings.{Settings}
-use Rattle.js_table.specs.declared.consumer.Given.{Given}
+use Rattle.js_table.specs.declared.consumer.ReplayInput.{ReplayInput}
 use Rattle.js_table.specs.declared.event.Event as events
 use Rattle.js_table.specs.declared.run.Output.{Output}
-use Rattle.js_table.specs.declared.world.World.{World}
+use Rattle.js_table.specs.declared.replay_state.ReplayState.{ReplayState}
 use Rattle.js_table.specs.Fold.{Ran, stays, and_then, event, run_events, opening, fold, step_of}
 use Rattle.js_table.specs.Refusal.{bad_field, first_early, first_exhausted, is_exhausted, refuse, refuse_input, first_of}
 use Rattle.js_table.specs.declared.run.Field.{Field}
@@ -29,14 +29,14 @@ use Rattle.js_relay.proofs.Steps.{Course, IsOn, Leads, leads_then, leads_weaker}
 -- ---- lists of events
 
 -- what they lead to
-abbrev pub plays : Given → List events.Event → World → Ran
+abbrev pub plays : ReplayInput → List events.Event → ReplayState → Ran
 plays g [] w = stays w
 plays g (e ∷ es) w = let ran = event g e w in and_then ran.outputs (plays g es ran.world)
 
 abbrev pub outputs_of : List Ran → List Output
 outputs_of rans = joined (map step_of rans)
 
-plays_outputs : (g : Given) (es : List events.Event) (w : World) → (plays g es w).outputs ≡ outputs_of (run_events g es w)
+plays_outputs : (g : ReplayInput) (es : List events.Event) (w : ReplayState) → (plays g es w).outputs ≡ outputs_of (run_events g es w)
 unfolding run_events
 plays_outputs g [] w = refl
 plays_outputs g (e ∷ es) w =
@@ -48,54 +48,54 @@ abbrev Fit : List base.Entry → Type 0
 Fit entries = AllByRecursion (λ (e : base.Entry). e.sequence < 2 ^ 64) entries
 
 -- the first inbox is read up to a number
-pub record IsReading (number : ℕ) (w : World) : Type 0 where
+pub record IsReading (number : ℕ) (w : ReplayState) : Type 0 where
   pub source : Source
   pub c : Course
-  pub asked : ℕ
-  pub made : ℕ
-  pub on : IsOn source c asked made w
+  pub requests_sent : ℕ
+  pub inboxes_opened : ℕ
+  pub on : IsOn source c requests_sent inboxes_opened w
   pub inbox_is : source.inbox ≡ 0
-  pub num_is : c.num ≡ number
+  pub num_is : c.consumer_sequence ≡ number
 
 equal : (a b : ℕ) → a ≡ b → eqb a b ≡ true
 equal a b e = (Decides-eqb a b).1 e
 
-goes_on : (w : World) (number : ℕ) → IsReading number w → is_exhausted w.consumer.phase ≡ false
-goes_on w number r = ap (λ (w : World). is_exhausted w.consumer.phase) r.on.1
+goes_on : (w : ReplayState) (number : ℕ) → IsReading number w → is_exhausted w.consumer.phase ≡ false
+goes_on w number r = ap (λ (w : ReplayState). is_exhausted w.consumer.phase) r.on.1
 
 module _ (settings : Settings) (config : OrderedConfig) (first : Info) (stream name : List ℕ) (is_stream : is_name stream ≡ true) (is : is_name name ≡ true) where
-  abbrev given : Given
+  abbrev given : ReplayInput
   given = at.given settings config first
 
-  one : (e : base.Entry) (number : ℕ) (left : List Entry) (w : World) → e.sequence < 2 ^ 64 → number + 1 < 2 ^ 64 → IsReading number w
+  one : (e : base.Entry) (number : ℕ) (left : List Entry) (w : ReplayState) → e.sequence < 2 ^ 64 → number + 1 < 2 ^ 64 → IsReading number w
       → Leads (handed e ∷ left) (IsReading (number + 1)) left (event given (arrival stream name (number + 1) e) w)
   one e number left w s n r =
       let place : Place = record { sequence = e.sequence; number = number + 1 } in
-      at.heard settings config first (number + 1) (handed e ∷ left) r.source r.c r.asked r.made 0 e.subject (reply stream name e.sequence (number + 1)) e.payload left (IsReading (number + 1))
-      (λ l. leads_weaker (handed e ∷ left) left (IsOn r.source (at.accepted settings config first place r.c) (r.asked + 0) (r.made + 0)) (IsReading (number + 1)) _
+      at.heard settings config first (number + 1) (handed e ∷ left) r.source r.c r.requests_sent r.inboxes_opened 0 e.subject (reply stream name e.sequence (number + 1)) e.payload left (IsReading (number + 1))
+      (λ l. leads_weaker (handed e ∷ left) left (IsOn r.source (at.accepted settings config first place r.c) (r.requests_sent + 0) (r.inboxes_opened + 0)) (IsReading (number + 1)) _
       (λ w on. record {
         source = r.source;
         c = at.accepted settings config first place r.c;
-        asked = r.asked + 0;
-        made = r.made + 0;
+        requests_sent = r.requests_sent + 0;
+        inboxes_opened = r.inboxes_opened + 0;
         on = on;
         inbox_is = r.inbox_is;
         num_is = refl;
       })
-      (at.yields settings config first (number + 1) left r.source r.c (r.asked + 0) (r.made + 0) 0 e.subject (reply stream name e.sequence (number + 1)) e.payload place 6 l
-      (equal r.source.inbox 0 r.inbox_is) (reply_reads stream name e.sequence (number + 1) is_stream is s n) (equal (number + 1) (r.c.num + 1) (let k = r.num_is in omega arith))))
+      (at.yields settings config first (number + 1) left r.source r.c (r.requests_sent + 0) (r.inboxes_opened + 0) 0 e.subject (reply stream name e.sequence (number + 1)) e.payload place 6 l
+      (equal r.source.inbox 0 r.inbox_is) (reply_reads stream name e.sequence (number + 1) is_stream is s n) (equal (number + 1) (r.c.consumer_sequence + 1) (let k = r.num_is in omega arith))))
       w r.on
 
-  all : (es : List base.Entry) (number : ℕ) (w : World) → Fit es → number + length es < 2 ^ 64 → IsReading number w
+  all : (es : List base.Entry) (number : ℕ) (w : ReplayState) → Fit es → number + length es < 2 ^ 64 → IsReading number w
       → Leads (map handed es) (IsReading (number + length es)) [] (plays given (relayed stream name (number + 1) es) w)
   all [] number w fit n r = record { world = subst (λ (k : ℕ). IsReading k w) (omega arith) r; outputs = refl }
   all (e ∷ es) number w fit n r =
       leads_then (map handed (e ∷ es)) (map handed es) [] (IsReading (number + 1)) (IsReading (number + length (e ∷ es)))
-      (event given (arrival stream name (number + 1) e) w) (λ (w : World). plays given (relayed stream name (number + 1 + 1) es) w)
+      (event given (arrival stream name (number + 1) e) w) (λ (w : ReplayState). plays given (relayed stream name (number + 1 + 1) es) w)
       (one e number (map handed es) w fit.0 (omega (arith, n)) r)
       (λ w r. subst (λ (k : ℕ). Leads (map handed es) (IsReading k) [] (plays given (relayed stream name (number + 1 + 1) es) w)) (omega arith) (all es (number + 1) w fit.1 (omega (arith, n)) r))
 
-  never_exhausted : (es : List base.Entry) (number place : ℕ) (w : World) → Fit es → number + length es < 2 ^ 64 → IsReading number w
+  never_exhausted : (es : List base.Entry) (number place : ℕ) (w : ReplayState) → Fit es → number + length es < 2 ^ 64 → IsReading number w
       → first_exhausted place (run_events given (relayed stream name (number + 1) es) w) ≡ None
   unfolding run_events
   never_exhausted [] number place w fit n r = refl
@@ -108,12 +108,12 @@ module _ (settings : Settings) (config : OrderedConfig) (first : Info) (stream n
   -- ---- from the opening on
 
   begins : IsReading 0 (opening given 0).world
-  begins = record { source = _; c = _; asked = 0; made = 1; on = (at.opened settings config first 0 []).world; inbox_is = refl; num_is = refl }
+  begins = record { source = _; c = _; requests_sent = 0; inboxes_opened = 1; on = (at.opened settings config first 0 []).world; inbox_is = refl; num_is = refl }
 
   pub gives : (es : List base.Entry) → AllFit es → Gives (map handed es) (all_outputs (fold given 0 (relayed stream name 1 es))) []
   unfolding fold
   gives es fit =
-      let w : World = (opening given 0).world in
+      let w : ReplayState = (opening given 0).world in
       gives_append (map handed es) (opening given 0).outputs (outputs_of (run_events given (relayed stream name 1 es) w)) (map handed es) []
       (at.opened settings config first 0 (map handed es)).outputs
       (subst (λ (outputs : List Output). Gives (map handed es) outputs []) (plays_outputs given (relayed stream name 1 es) w) (all es 0 w fit.sequences (let n = fit.number in omega (arith, n)) begins).outputs)
@@ -127,7 +127,7 @@ module _ (settings : Settings) (config : OrderedConfig) (first : Info) (stream n
   pub accepted : (es : List base.Entry) → AllFit es → bad_field given ≡ None → refuse given 0 (relayed stream name 1 es) ≡ None
   unfolding refuse refuse_input
   accepted es fit good =
-      let w : World = (opening given 0).world in
+      let w : ReplayState = (opening given 0).world in
       let all : List events.Event = relayed stream name 1 es in
       let early : first_early 0 0 all ≡ None = not_early es 1 0 0 (omega arith) in
       let late : first_exhausted 0 (run_events given all w) ≡ None = never_exhausted es 0 0 w fit.sequences (let n = fit.number in omega (arith, n)) begins in

@@ -14,17 +14,17 @@ use Rattle.js_pull.specs.declared.reader.Source.{Source}
 use Rattle.js_pull.specs.declared.reader.Reader.{Reader}
 use Rattle.js_pull.specs.declared.reader.Reason.{Reason}
 use Rattle.js_pull.specs.declared.reader.Reason.TheVariants.{Low, Expired}
-use Rattle.js_pull.specs.declared.reader.Inquiry.TheVariants.{NoInquiry}
+use Rattle.js_pull.specs.declared.reader.InfoRequest.TheVariants.{NoInfoRequest}
 use Rattle.js_pull.specs.declared.reader.Row.TheVariants as read
 use Rattle.js_table.specs.declared.setup.Settings.{Settings}
 use Rattle.js_table.specs.declared.setup.OrderedSetup.TheVariants.{Pull}
-use Rattle.js_table.specs.declared.consumer.Given.{Given}
+use Rattle.js_table.specs.declared.consumer.ReplayInput.{ReplayInput}
 use Rattle.js_table.specs.declared.consumer.Phase.{Phase}
 use Rattle.js_table.specs.declared.consumer.Phase.TheVariants.{Pulls}
-use Rattle.js_table.specs.declared.event.What.TheVariants as what
+use Rattle.js_table.specs.declared.event.EventKind.TheVariants as what
 use Rattle.js_table.specs.declared.row.Row.TheVariants.{Event, Read}
 use Rattle.js_table.specs.Texts.{inbox_subject, source_of}
-use Rattle.js_table.specs.declared.world.World.{World}
+use Rattle.js_table.specs.declared.replay_state.ReplayState.{ReplayState}
 use Rattle.js_table.specs.State.{Matter}
 use Rattle.js_table.specs.Reading.{read_row}
 use Rattle.js_table.specs.Gapless.{Entry}
@@ -38,10 +38,10 @@ pub record Ledger : Type 0 where
   pub pending : ℕ
   pub pending_bytes : ℕ
   pub waiting : Bool
-  pub extra : ℕ
+  pub unreset_requests : ℕ
   pub pin : Option (List ℕ)
   pub expiry : Option Timer
-  pub silence : Option Timer
+  pub heartbeat_timer : Option Timer
 
 abbrev pub reader : Source → Ledger → Reader
 reader source l = record {
@@ -49,57 +49,57 @@ reader source l = record {
   pending = l.pending;
   pending_bytes = l.pending_bytes;
   waiting = l.waiting;
-  extra = l.extra;
+  unreset_requests = l.unreset_requests;
   pin = l.pin;
   expiry = l.expiry;
-  silence = l.silence;
-  inquiry = NoInquiry;
+  heartbeat_timer = l.heartbeat_timer;
+  inquiry = NoInfoRequest;
   ended = false;
 }
 
 -- what a consumer keeps of what it heard
 pub record Course : Type 0 where
-  pub num : ℕ
+  pub consumer_sequence : ℕ
   pub last : ℕ
-  pub serial : ℕ
+  pub recreation_count : ℕ
   pub name : List ℕ
   pub missed : Bool
   pub limited : Bool
   pub connection : State
 
-abbrev pub world_at : Phase → Course → ℕ → ℕ → World
-world_at phase c asked made = record {
+abbrev pub world_at : Phase → Course → ℕ → ℕ → ReplayState
+world_at phase c requests_sent inboxes_opened = record {
   consumer = record {
     phase = phase;
-    num = c.num;
+    consumer_sequence = c.consumer_sequence;
     last = c.last;
-    serial = c.serial;
+    recreation_count = c.recreation_count;
     name = c.name;
     missed = c.missed;
     limited = c.limited;
     connection = c.connection;
   };
   up = true;
-  asked = asked;
-  made = made;
+  requests_sent = requests_sent;
+  inboxes_opened = inboxes_opened;
 }
 
-same_counts : (phase : Phase) (c : Course) (asked made asked_now made_now : ℕ) → asked ≡ asked_now → made ≡ made_now
-    → world_at phase c asked made ≡ world_at phase c asked_now made_now
-same_counts phase c asked made asked_now made_now a m = ap₂ (λ (asked made : ℕ). world_at phase c asked made) a m
+same_counts : (phase : Phase) (c : Course) (requests_sent inboxes_opened asked_now made_now : ℕ) → requests_sent ≡ asked_now → inboxes_opened ≡ made_now
+    → world_at phase c requests_sent inboxes_opened ≡ world_at phase c asked_now made_now
+same_counts phase c requests_sent inboxes_opened asked_now made_now a m = ap₂ (λ (requests_sent inboxes_opened : ℕ). world_at phase c requests_sent inboxes_opened) a m
 
 -- the reader reads
-abbrev pub IsOn : Source → Course → ℕ → ℕ → World → Type 0
-IsOn source c asked made w = (l : Ledger) × (w ≡ world_at (Pulls (reader source l)) c asked made)
+abbrev pub IsOn : Source → Course → ℕ → ℕ → ReplayState → Type 0
+IsOn source c requests_sent inboxes_opened w = (l : Ledger) × (w ≡ world_at (Pulls (reader source l)) c requests_sent inboxes_opened)
 
-recounted : (source : Source) (c : Course) (asked made asked_now made_now : ℕ) → asked ≡ asked_now → made ≡ made_now
-    → (w : World) → IsOn source c asked made w → IsOn source c asked_now made_now w
-recounted source c asked made asked_now made_now a m w on =
-    (on.0, on.1 ∙ same_counts (Pulls (reader source on.0)) c asked made asked_now made_now a m)
+recounted : (source : Source) (c : Course) (requests_sent inboxes_opened asked_now made_now : ℕ) → requests_sent ≡ asked_now → inboxes_opened ≡ made_now
+    → (w : ReplayState) → IsOn source c requests_sent inboxes_opened w → IsOn source c asked_now made_now w
+recounted source c requests_sent inboxes_opened asked_now made_now a m w on =
+    (on.0, on.1 ∙ same_counts (Pulls (reader source on.0)) c requests_sent inboxes_opened asked_now made_now a m)
 
 -- a reader that has asked for nothing yet
 abbrev new : Ledger
-new = record { pending = 0; pending_bytes = 0; waiting = false; extra = 0; pin = None; expiry = None; silence = None }
+new = record { pending = 0; pending_bytes = 0; waiting = false; unreset_requests = 0; pin = None; expiry = None; heartbeat_timer = None }
 
 if_both : {A : Type 0} (P : A → Type 0) (b : Bool) (x y : A) → P x → P y → P (if b then x else y)
 if_both P true x y px py = px
@@ -108,23 +108,23 @@ if_both P false x y px py = py
 -- ---- what is put out
 
 -- outputs that hand out entries, and a world of some kind
-pub record Leads (left : List Entry) (next : World → Type 0) (left_now : List Entry) (ran : Ran) : Type 0 where
+pub record Leads (left : List Entry) (next : ReplayState → Type 0) (left_now : List Entry) (ran : Ran) : Type 0 where
   pub world : next ran.world
   pub outputs : Gives left ran.outputs left_now
 
-pub leads_weaker : (left left_now : List Entry) (next other : World → Type 0) (ran : Ran)
-    → ((w : World) → next w → other w) → Leads left next left_now ran → Leads left other left_now ran
+pub leads_weaker : (left left_now : List Entry) (next other : ReplayState → Type 0) (ran : Ran)
+    → ((w : ReplayState) → next w → other w) → Leads left next left_now ran → Leads left other left_now ran
 leads_weaker left left_now next other ran f h = record { world = f ran.world h.world; outputs = h.outputs }
 
-pub leads_alone : (left left_now : List Entry) (next : World → Type 0) (ran : Ran)
+pub leads_alone : (left left_now : List Entry) (next : ReplayState → Type 0) (ran : Ran)
     → Leads left next left_now ran → Leads left next left_now (and_then ran.outputs (stays ran.world))
 leads_alone left left_now next ran h = record {
   world = h.world;
   outputs = subst (λ outputs. Gives left outputs left_now) (sym (append-nil ran.outputs)) h.outputs;
 }
 
-pub leads_then : (left left_then left_now : List Entry) (next other : World → Type 0) (ran : Ran) (rest : World → Ran)
-    → Leads left next left_then ran → ((w : World) → next w → Leads left_then other left_now (rest w))
+pub leads_then : (left left_then left_now : List Entry) (next other : ReplayState → Type 0) (ran : Ran) (rest : ReplayState → Ran)
+    → Leads left next left_then ran → ((w : ReplayState) → next w → Leads left_then other left_now (rest w))
     → Leads left other left_now (and_then ran.outputs (rest ran.world))
 leads_then left left_then left_now next other ran rest h more =
     let after_it : Leads left_then other left_now (rest ran.world) = more ran.world h.world in
@@ -136,69 +136,69 @@ leads_then left left_then left_now next other ran rest h more =
 -- ---- the rows of a reader
 
 module _ (settings : Settings) (config : OrderedConfig) (first : Info) where
-  abbrev pub given : Given
+  abbrev pub given : ReplayInput
   given = record { settings = settings; setup = Pull config; first = first }
 
   -- what follows a reader's row
-  abbrev done : ℕ → Matter → ℕ → World → pull.Passed → Ran
+  abbrev done : ℕ → Matter → ℕ → ReplayState → pull.Passed → Ran
   done now m depth w passed =
       let row = read_row passed w.consumer in
       and_then row.outputs (pass_each (pass_to given now m depth) row.next (after w row))
 
-  module _ (now : ℕ) (m : Matter) (left : List Entry) (source : Source) (c : Course) (asked made : ℕ) where
+  module _ (now : ℕ) (m : Matter) (left : List Entry) (source : Source) (c : Course) (requests_sent inboxes_opened : ℕ) where
     asks : (depth : ℕ) (l : Ledger) (reason : Reason)
-        → Leads left (IsOn source c asked made) left (pass_to given now m (suc depth) (Read (read.Ask reason)) (world_at (Pulls (reader source l)) c asked made))
+        → Leads left (IsOn source c requests_sent inboxes_opened) left (pass_to given now m (suc depth) (Read (read.Ask reason)) (world_at (Pulls (reader source l)) c requests_sent inboxes_opened))
     asks depth l reason = record {
       world = (
         record {
           pending = pull.raised (pull.resets reason) source.config.batch l.pending;
           pending_bytes = pull.raised (pull.resets reason) source.config.max_bytes l.pending_bytes;
           waiting = false;
-          extra = pull.extra_after reason l.extra;
+          unreset_requests = pull.extra_after reason l.unreset_requests;
           pin = l.pin;
           expiry = pull.armed_expiry now source.config.expires;
-          silence = l.silence;
+          heartbeat_timer = l.heartbeat_timer;
         },
         same_counts _ _ _ _ _ _ (omega arith) (omega arith),
       );
       outputs = refl;
     }
 
-    stays_on : (l : Ledger) → Leads left (IsOn source c asked made) left (stays (world_at (Pulls (reader source l)) c asked made))
+    stays_on : (l : Ledger) → Leads left (IsOn source c requests_sent inboxes_opened) left (stays (world_at (Pulls (reader source l)) c requests_sent inboxes_opened))
     stays_on l = record { world = (l, refl); outputs = refl }
 
     arms : (depth : ℕ) (l : Ledger)
-        → Leads left (IsOn source c asked made) left (pass_to given now m (suc depth) (Read read.Arm) (world_at (Pulls (reader source l)) c asked made))
+        → Leads left (IsOn source c requests_sent inboxes_opened) left (pass_to given now m (suc depth) (Read read.Arm) (world_at (Pulls (reader source l)) c requests_sent inboxes_opened))
     arms depth l = record {
-      world = (record l { silence = pull.armed_silence now source.config.idle_heartbeat }, same_counts _ _ _ _ _ _ (omega arith) (omega arith));
+      world = (record l { heartbeat_timer = pull.armed_silence now source.config.idle_heartbeat }, same_counts _ _ _ _ _ _ (omega arith) (omega arith));
       outputs = refl;
     }
 
     asks_if : (depth : ℕ) (l : Ledger) (reason : Reason) (b : Bool)
-        → Leads left (IsOn source c asked made) left (pass_each (pass_to given now m (suc depth)) (map Read (if b then read.Ask reason ∷ [] else [])) (world_at (Pulls (reader source l)) c asked made))
+        → Leads left (IsOn source c requests_sent inboxes_opened) left (pass_each (pass_to given now m (suc depth)) (map Read (if b then read.Ask reason ∷ [] else [])) (world_at (Pulls (reader source l)) c requests_sent inboxes_opened))
     asks_if depth l reason true =
-        leads_alone left left (IsOn source c asked made)
-        (pass_to given now m (suc depth) (Read (read.Ask reason)) (world_at (Pulls (reader source l)) c asked made)) (asks depth l reason)
+        leads_alone left left (IsOn source c requests_sent inboxes_opened)
+        (pass_to given now m (suc depth) (Read (read.Ask reason)) (world_at (Pulls (reader source l)) c requests_sent inboxes_opened)) (asks depth l reason)
     asks_if depth l reason false = stays_on l
 
-  module _ (now : ℕ) (m : Matter) (left : List Entry) (source : Source) (c : Course) (asked made : ℕ) where
-    again : (ran : Ran) → Leads left (IsOn source c (asked + 0) (made + 0)) left ran → Leads left (IsOn source c asked made) left ran
-    again ran = leads_weaker left left (IsOn source c (asked + 0) (made + 0)) (IsOn source c asked made) ran
-        (recounted source c (asked + 0) (made + 0) asked made (omega arith) (omega arith))
+  module _ (now : ℕ) (m : Matter) (left : List Entry) (source : Source) (c : Course) (requests_sent inboxes_opened : ℕ) where
+    again : (ran : Ran) → Leads left (IsOn source c (requests_sent + 0) (inboxes_opened + 0)) left ran → Leads left (IsOn source c requests_sent inboxes_opened) left ran
+    again ran = leads_weaker left left (IsOn source c (requests_sent + 0) (inboxes_opened + 0)) (IsOn source c requests_sent inboxes_opened) ran
+        (recounted source c (requests_sent + 0) (inboxes_opened + 0) requests_sent inboxes_opened (omega arith) (omega arith))
 
     expires : (depth : ℕ) (l : Ledger)
-        → Leads left (IsOn source c asked made) left (pass_to given now m (suc (suc depth)) (Read read.CheckExpiry) (world_at (Pulls (reader source l)) c asked made))
-    expires depth l = again _ (asks_if now m left source c (asked + 0) (made + 0) depth l Expired (is_any_due l.expiry now))
+        → Leads left (IsOn source c requests_sent inboxes_opened) left (pass_to given now m (suc (suc depth)) (Read read.CheckExpiry) (world_at (Pulls (reader source l)) c requests_sent inboxes_opened))
+    expires depth l = again _ (asks_if now m left source c (requests_sent + 0) (inboxes_opened + 0) depth l Expired (is_any_due l.expiry now))
 
     refills : (depth : ℕ) (l : Ledger)
-        → Leads left (IsOn source c asked made) left (pass_to given now m (suc (suc depth)) (Read read.Threshold) (world_at (Pulls (reader source l)) c asked made))
+        → Leads left (IsOn source c requests_sent inboxes_opened) left (pass_to given now m (suc (suc depth)) (Read read.Threshold) (world_at (Pulls (reader source l)) c requests_sent inboxes_opened))
     refills depth l =
-        if_both (λ (passed : pull.Passed). Leads left (IsOn source c asked made) left (done now m (suc depth) (world_at (Pulls (reader source l)) c asked made) passed))
+        if_both (λ (passed : pull.Passed). Leads left (IsOn source c requests_sent inboxes_opened) left (done now m (suc depth) (world_at (Pulls (reader source l)) c requests_sent inboxes_opened) passed))
         (pull.is_low (reader source l) && not l.waiting)
         (pull.quietly (record (reader source l) { waiting = true }) (read.Ask Low ∷ []))
         (pull.quietly (reader source l) [])
-        (again _ (asks_if now m left source c (asked + 0) (made + 0) depth (record l { waiting = true }) Low true))
-        (again _ (stays_on now m left source c (asked + 0) (made + 0) l))
+        (again _ (asks_if now m left source c (requests_sent + 0) (inboxes_opened + 0) depth (record l { waiting = true }) Low true))
+        (again _ (stays_on now m left source c (requests_sent + 0) (inboxes_opened + 0) l))
 
   -- ---- an arrival on the inbox that is read
 
@@ -207,13 +207,13 @@ module _ (settings : Settings) (config : OrderedConfig) (first : Info) where
 
   -- the course after a yield
   abbrev pub accepted : Place → Course → Course
-  accepted place c = record c { num = place.number; last = place.sequence; missed = false; limited = false }
+  accepted place c = record c { consumer_sequence = place.number; last = place.sequence; missed = false; limited = false }
 
-  module _ (now : ℕ) (left : List Entry) (source : Source) (c : Course) (asked made inbox : ℕ) (subject reply payload : List ℕ) (place : Place) where
+  module _ (now : ℕ) (left : List Entry) (source : Source) (c : Course) (requests_sent inboxes_opened inbox : ℕ) (subject reply payload : List ℕ) (place : Place) where
     abbrev arrives : Matter
     arrives = matter_of (what.Arrival inbox (message subject reply payload))
 
-    abbrev heard_world : ℕ → ℕ → Ledger → World
+    abbrev heard_world : ℕ → ℕ → Ledger → ReplayState
     heard_world a m l = world_at (Pulls (reader source l)) (accepted place c) a m
 
     -- after the message the reader has this
@@ -222,58 +222,58 @@ module _ (settings : Settings) (config : OrderedConfig) (first : Info) where
       pending = l.pending - 1;
       pending_bytes = l.pending_bytes - length payload;
       waiting = l.waiting;
-      extra = l.extra;
+      unreset_requests = l.unreset_requests;
       pin = (if source.pinned then pull.pin_after (message subject reply payload) None l.pin else None);
       expiry = l.expiry;
-      silence = pull.armed_silence now source.config.idle_heartbeat;
+      heartbeat_timer = pull.armed_silence now source.config.idle_heartbeat;
     }
 
-    goes_on : (depth : ℕ) (l : Ledger) → Leads left (IsOn source (accepted place c) asked made) left
-        (pass_each (pass_to given now arrives (suc (suc depth))) (Read read.Threshold ∷ []) (heard_world (asked + 0) (made + 0) (kept l)))
+    goes_on : (depth : ℕ) (l : Ledger) → Leads left (IsOn source (accepted place c) requests_sent inboxes_opened) left
+        (pass_each (pass_to given now arrives (suc (suc depth))) (Read read.Threshold ∷ []) (heard_world (requests_sent + 0) (inboxes_opened + 0) (kept l)))
     goes_on depth l =
-        again now arrives left source (accepted place c) asked made _
-        (leads_alone left left (IsOn source (accepted place c) (asked + 0) (made + 0))
-        (pass_to given now arrives (suc (suc depth)) (Read read.Threshold) (heard_world (asked + 0) (made + 0) (kept l)))
-        (refills now arrives left source (accepted place c) (asked + 0) (made + 0) depth (kept l)))
+        again now arrives left source (accepted place c) requests_sent inboxes_opened _
+        (leads_alone left left (IsOn source (accepted place c) (requests_sent + 0) (inboxes_opened + 0))
+        (pass_to given now arrives (suc (suc depth)) (Read read.Threshold) (heard_world (requests_sent + 0) (inboxes_opened + 0) (kept l)))
+        (refills now arrives left source (accepted place c) (requests_sent + 0) (inboxes_opened + 0) depth (kept l)))
 
     -- the next message is yielded
-    pub yields : (depth : ℕ) (l : Ledger) → (source.inbox == inbox) ≡ true → readable_as (Some reply) ≡ Some place → (place.number == c.num + 1) ≡ true
-        → Leads (record { subject = subject; sequence = place.sequence; payload = payload } ∷ left) (IsOn source (accepted place c) asked made) left
-        (pass_to given now arrives (suc (suc (suc depth))) (Read read.CheckArrival) (world_at (Pulls (reader source l)) c asked made))
+    pub yields : (depth : ℕ) (l : Ledger) → (source.inbox == inbox) ≡ true → readable_as (Some reply) ≡ Some place → (place.number == c.consumer_sequence + 1) ≡ true
+        → Leads (record { subject = subject; sequence = place.sequence; payload = payload } ∷ left) (IsOn source (accepted place c) requests_sent inboxes_opened) left
+        (pass_to given now arrives (suc (suc (suc depth))) (Read read.CheckArrival) (world_at (Pulls (reader source l)) c requests_sent inboxes_opened))
     yields depth l here reads next =
         rw (here, reads, next) (record { world = (goes_on depth l).world; outputs = (left, refl, (goes_on depth l).outputs) })
 
   -- ---- the whole event of an arrival
 
-  module _ (now : ℕ) (left : List Entry) (source : Source) (c : Course) (asked made inbox : ℕ) (subject reply payload : List ℕ) (left_now : List Entry) (next : World → Type 0) where
+  module _ (now : ℕ) (left : List Entry) (source : Source) (c : Course) (requests_sent inboxes_opened inbox : ℕ) (subject reply payload : List ℕ) (left_now : List Entry) (next : ReplayState → Type 0) where
     abbrev comes : Matter
     comes = matter_of (what.Arrival inbox (message subject reply payload))
 
-    heard_then : ((l : Ledger) → Leads left next left_now (pass_to given now comes 9 (Read read.CheckArrival) (world_at (Pulls (reader source l)) c (asked + 0) (made + 0))))
-        → (w : World) → IsOn source c (asked + 0) (made + 0) w → Leads left next left_now (pass_each (pass_to given now comes 9) (Read read.CheckArrival ∷ []) w)
-    heard_then row w on = subst (λ (w : World). Leads left next left_now (pass_each (pass_to given now comes 9) (Read read.CheckArrival ∷ []) w)) (sym on.1)
-        (leads_alone left left_now next (pass_to given now comes 9 (Read read.CheckArrival) (world_at (Pulls (reader source on.0)) c (asked + 0) (made + 0))) (row on.0))
+    heard_then : ((l : Ledger) → Leads left next left_now (pass_to given now comes 9 (Read read.CheckArrival) (world_at (Pulls (reader source l)) c (requests_sent + 0) (inboxes_opened + 0))))
+        → (w : ReplayState) → IsOn source c (requests_sent + 0) (inboxes_opened + 0) w → Leads left next left_now (pass_each (pass_to given now comes 9) (Read read.CheckArrival ∷ []) w)
+    heard_then row w on = subst (λ (w : ReplayState). Leads left next left_now (pass_each (pass_to given now comes 9) (Read read.CheckArrival ∷ []) w)) (sym on.1)
+        (leads_alone left left_now next (pass_to given now comes 9 (Read read.CheckArrival) (world_at (Pulls (reader source on.0)) c (requests_sent + 0) (inboxes_opened + 0))) (row on.0))
 
-    pub heard : ((l : Ledger) → Leads left next left_now (pass_to given now comes 9 (Read read.CheckArrival) (world_at (Pulls (reader source l)) c (asked + 0) (made + 0))))
-        → (w : World) → IsOn source c asked made w → Leads left next left_now (event given (record { at = now; what = what.Arrival inbox (message subject reply payload) }) w)
+    pub heard : ((l : Ledger) → Leads left next left_now (pass_to given now comes 9 (Read read.CheckArrival) (world_at (Pulls (reader source l)) c (requests_sent + 0) (inboxes_opened + 0))))
+        → (w : ReplayState) → IsOn source c requests_sent inboxes_opened w → Leads left next left_now (event given (record { at = now; what = what.Arrival inbox (message subject reply payload) }) w)
     unfolding event
-    heard row w on = subst (λ (w : World). Leads left next left_now (event given (record { at = now; what = what.Arrival inbox (message subject reply payload) }) w)) (sym on.1)
-        (leads_alone left left_now next (pass_to given now comes 10 Event (world_at (Pulls (reader source on.0)) c asked made))
-        (leads_then left left left_now (IsOn source c (asked + 0) (made + 0)) next
-        (pass_to given now comes 9 (Read read.CheckExpiry) (world_at (Pulls (reader source on.0)) c (asked + 0) (made + 0)))
-        (λ (w : World). pass_each (pass_to given now comes 9) (Read read.CheckArrival ∷ []) w)
-        (expires now comes left source c (asked + 0) (made + 0) 7 on.0) (heard_then row)))
+    heard row w on = subst (λ (w : ReplayState). Leads left next left_now (event given (record { at = now; what = what.Arrival inbox (message subject reply payload) }) w)) (sym on.1)
+        (leads_alone left left_now next (pass_to given now comes 10 Event (world_at (Pulls (reader source on.0)) c requests_sent inboxes_opened))
+        (leads_then left left left_now (IsOn source c (requests_sent + 0) (inboxes_opened + 0)) next
+        (pass_to given now comes 9 (Read read.CheckExpiry) (world_at (Pulls (reader source on.0)) c (requests_sent + 0) (inboxes_opened + 0)))
+        (λ (w : ReplayState). pass_each (pass_to given now comes 9) (Read read.CheckArrival ∷ []) w)
+        (expires now comes left source c (requests_sent + 0) (inboxes_opened + 0) 7 on.0) (heard_then row)))
 
   -- ---- the opening
 
-  pub opened : (start : ℕ) (left : List Entry) → Leads left (IsOn (source_of given 0 0 (inbox_subject given 0) first) (record { num = 0; last = 0; serial = 0; name = first.name; missed = false; limited = false; connection = Connected }) 0 1) left (opening given start)
+  pub opened : (start : ℕ) (left : List Entry) → Leads left (IsOn (source_of given 0 0 (inbox_subject given 0) first) (record { consumer_sequence = 0; last = 0; recreation_count = 0; name = first.name; missed = false; limited = false; connection = Connected }) 0 1) left (opening given start)
   unfolding opening
   opened start left =
       let source : Source = source_of given 0 0 (inbox_subject given 0) first in
-      let c : Course = record { num = 0; last = 0; serial = 0; name = first.name; missed = false; limited = false; connection = Connected } in
+      let c : Course = record { consumer_sequence = 0; last = 0; recreation_count = 0; name = first.name; missed = false; limited = false; connection = Connected } in
       leads_then left left left (IsOn source c 0 1) (IsOn source c 0 1)
       (pass_to given start tick 2 (Read read.Threshold) (world_at (Pulls (reader source new)) c 0 1))
-      (λ (w : World). pass_each (λ row. pass_to given start tick (suc (rank row)) row) (Read read.Arm ∷ []) w)
+      (λ (w : ReplayState). pass_each (λ row. pass_to given start tick (suc (rank row)) row) (Read read.Arm ∷ []) w)
       (refills start tick left source c 0 1 0 new)
-      (λ w on. subst (λ (w : World). Leads left (IsOn source c 0 1) left (pass_each (λ row. pass_to given start tick (suc (rank row)) row) (Read read.Arm ∷ []) w)) (sym on.1)
+      (λ w on. subst (λ (w : ReplayState). Leads left (IsOn source c 0 1) left (pass_each (λ row. pass_to given start tick (suc (rank row)) row) (Read read.Arm ∷ []) w)) (sym on.1)
       (leads_alone left left (IsOn source c 0 1) (pass_to given start tick 1 (Read read.Arm) (world_at (Pulls (reader source on.0)) c 0 1)) (arms start tick left source c 0 1 0 on.0)))

@@ -2,7 +2,7 @@
 use Rattle.std.specs.Prelude.{◌≡◌, ℕ, List, map, Contains, Some}
 use Rattle.js_base.specs.declared.message.Entry as base
 use Rattle.js_mirror.specs.Mirrored.{Mirrored, message, hole, slot}
-use Rattle.js_table.specs.declared.consumer.Given.{Given}
+use Rattle.js_table.specs.declared.consumer.ReplayInput.{ReplayInput}
 use Rattle.js_table.specs.declared.event.Event.{Event}
 use Rattle.js_table.specs.declared.run.Run.{Run}
 use Rattle.js_table.specs.declared.setup.OrderedSetup.{OrderedSetup}
@@ -34,14 +34,14 @@ server_of s mirror = record {
 -- Let a server have been honest in a run, and the mirror be one of that run. Then the events are honest for the same log and the same removed ones in each replay by a consumer with the same filters that is configured to start where the mirror does.
 abbrev pub StaysHonest : Mirrored → List Event → Type 0
 StaysHonest mirror es =
-    (s : Server) (first : Given) (start : ℕ) (first_events : List Event) (first_run : Run)
+    (s : Server) (first : ReplayInput) (start : ℕ) (first_events : List Event) (first_run : Run)
     → IsReplay first start first_events first_run → IsHonest s first.setup first_events first_run → IsCopy first.setup first_run mirror
-    → (g : Given) (run : Run) → IsReader g → configured_start g.setup ≡ Some mirror.start → filters g.setup ≡ filters first.setup → IsReplay g 0 es run
+    → (g : ReplayInput) (run : Run) → IsReader g → configured_start g.setup ≡ Some mirror.start → filters g.setup ≡ filters first.setup → IsReplay g 0 es run
     → IsHonest (server_of s mirror) g.setup es run
 
 -- and the mirror's slots show the log of each server that was honest in the run
 abbrev pub ShowsEachLog : Mirrored → Type 0
 ShowsEachLog mirror =
-    (s : Server) (first : Given) (start : ℕ) (first_events : List Event) (first_run : Run)
+    (s : Server) (first : ReplayInput) (start : ℕ) (first_events : List Event) (first_run : Run)
     → IsReplay first start first_events first_run → IsHonest s first.setup first_events first_run → IsCopy first.setup first_run mirror
     → ShowsLog s first.setup mirror

@@ -8,7 +8,7 @@ use Rattle.js_json.specs.declared.pull.OrderedConfig.{OrderedConfig}
 use Rattle.js_json.specs.PullConfig.{new_ordered_pull_config}
 use Rattle.js_table.specs.declared.setup.Settings.{Settings}
 use Rattle.js_table.specs.declared.setup.OrderedSetup.TheVariants.{Pull}
-use Rattle.js_table.specs.declared.consumer.Given.{Given}
+use Rattle.js_table.specs.declared.consumer.ReplayInput.{ReplayInput}
 use Rattle.js_table.specs.declared.event.Event.{Event}
 use Rattle.js_table.specs.declared.run.Run.{Run}
 use Rattle.js_table.specs.declared.run.ReplayError.{ReplayError}
@@ -26,7 +26,7 @@ handed entry = record { subject = entry.subject; sequence = entry.sequence; payl
 -- neither an error item nor a recreation
 abbrev pub IsCalm : Output → Type 0
 IsCalm (out.Item kind) = ⊥
-IsCalm (out.Recreate serial start) = ⊥
+IsCalm (out.Recreate recreation_count start) = ⊥
 IsCalm _ = ⊤
 
 -- a run hands out these entries and no others, in order, without an error item and without a recreation
@@ -41,14 +41,14 @@ AnswersWith entries (Err error.OutOfMemory) = ⊤
 AnswersWith entries (Err refusal) = ⊥
 
 -- a pull consumer, no field of which is bad
-pub record IsReader (g : Given) : Type 0 where
+pub record IsReader (g : ReplayInput) : Type 0 where
   pub config : OrderedConfig
   pub pull : g.setup ≡ Pull config
   pub fields : bad_field g ≡ None
 
 -- each such consumer that replays the events from the start 0 hands out these entries
 abbrev pub Replays : List base.Entry → List Event → Type 0
-Replays entries es = (g : Given) (answer : Result Run ReplayError) → IsReader g → IsAnswer g 0 es answer → AnswersWith entries answer
+Replays entries es = (g : ReplayInput) (answer : Result Run ReplayError) → IsReader g → IsAnswer g 0 es answer → AnswersWith entries answer
 
 -- ---- with all settings at their defaults
 
@@ -62,7 +62,7 @@ default_settings = record {
 }
 
 -- a pull consumer that starts at a sequence and asks for nothing else, of which the server told this
-abbrev pub default_reader : ℕ → Info → Given
+abbrev pub default_reader : ℕ → Info → ReplayInput
 default_reader start first = record {
   settings = default_settings;
   setup = Pull (record new_ordered_pull_config { deliver_policy = policy.ByStartSequence start });

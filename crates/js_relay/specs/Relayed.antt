@@ -4,7 +4,7 @@ use Rattle.std.specs.List.{AllByRecursion}
 use Rattle.js_base.specs.declared.message.Entry.{Entry}
 use Rattle.js_base.specs.declared.message.Message.{Message}
 use Rattle.js_table.specs.declared.event.Event.{Event}
-use Rattle.js_table.specs.declared.event.What.TheVariants as what
+use Rattle.js_table.specs.declared.event.EventKind.TheVariants as what
 
 -- the acknowledgement subject of the message with this sequence and number, of this stream and this consumer
 abbrev pub reply : List ℕ → List ℕ → ℕ → ℕ → List ℕ

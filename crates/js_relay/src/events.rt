@@ -9,7 +9,7 @@ ghost use Rattle.js_relay.specs.Copied.{StaysHonest, ShowsEachLog};
 
 use js_base::{Boxed, Entry, Message, OutOfMemory, Subject, TryClone};
 use js_mirror::Mirror;
-use js_table::{Event, What};
+use js_table::{Event, EventKind};
 use std::alloc::{AllocError, Global};
 
 /// The acknowledgement subject of the message with this sequence and number.
@@ -62,7 +62,7 @@ fn arrival(
     let message = Boxed::new(alloc, message(alloc, stream, name, number, entry)?)?;
     Ok(Event {
         at: number,
-        what: What::Arrival { inbox: 0, message },
+        what: EventKind::Arrival { inbox: 0, message },
     })
 }
 

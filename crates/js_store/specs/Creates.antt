@@ -5,7 +5,7 @@ use Rattle.js_base.specs.Errors.{caused, kind_of}
 use Rattle.js_base.specs.declared.error.Error.{Error}
 use Rattle.js_buckets.specs.KeyValues.{stream_config}
 use Rattle.js_buckets.specs.declared.kv.Config.{Config}
-use Rattle.js_stream.specs.declared.stream.info.Info.{Info}
+use Rattle.js_stream_json.specs.declared.stream.info.Info.{Info}
 use Rattle.js_call.specs.declared.call.Call.{Call}
 use Rattle.js_call.specs.declared.scope.ApiScope.{ApiScope}
 use Rattle.js_call.specs.declared.then.Then.{Then}

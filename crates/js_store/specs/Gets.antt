@@ -4,8 +4,8 @@ use Rattle.js_base.specs.Errors.{plain, caused}
 use Rattle.js_base.specs.declared.error.Error.{Error}
 use Rattle.js_buckets.specs.Names.{is_bucket_name}
 use Rattle.js_buckets.specs.Origins.{stream_name}
-use Rattle.js_stream.specs.declared.stream.delete_status.DeleteStatus.{DeleteStatus}
-use Rattle.js_stream.specs.declared.stream.info.Info.{Info}
+use Rattle.js_stream_json.specs.declared.stream.delete_status.DeleteStatus.{DeleteStatus}
+use Rattle.js_stream_json.specs.declared.stream.info.Info.{Info}
 use Rattle.js_call.specs.declared.call.Call.{Call}
 use Rattle.js_call.specs.declared.scope.ApiScope.{ApiScope}
 use Rattle.js_call.specs.Table.{refused_by}

@@ -18,11 +18,11 @@ pub record Row (Self X E Needs Answer : Type 0) : Type 0 where
 
 -- a call whose other call is not answered
 abbrev pub asking : {S X E M : Type 0} → M → S → BucketCall S X E M
-asking meaning asked = record { meaning = meaning; stage = Asking asked }
+asking meaning asked = record { meaning = api_call; stage = Asking asked }
 
 -- a call whose other call has answered, which is not told yet
 abbrev pub answered : {S X E M : Type 0} → M → Result X E → BucketCall S X E M
-answered meaning given = record { meaning = meaning; stage = Answered given }
+answered meaning given = record { meaning = api_call; stage = Answered given }
 
 -- what the call answers to what the other call answered
 abbrev pub means : {M X E N A : Type 0} → Row M X E N A → (E → Source) → M → Result X E → A

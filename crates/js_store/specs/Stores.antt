@@ -1,7 +1,7 @@
 -- What is known of a bucket of keys.
 use Rattle.std.specs.Prelude.{ℕ, List}
-use Rattle.js_stream.specs.declared.stream.config.Config.{Config}
-use Rattle.js_stream.specs.declared.stream.info.Info.{Info}
+use Rattle.js_stream_json.specs.declared.stream.config.Config.{Config}
+use Rattle.js_stream_json.specs.declared.stream.info.Info.{Info}
 use Rattle.js_stream_calls.specs.declared.handle.StreamHandle.{StreamHandle}
 use Rattle.js_store.specs.declared.store.Store.{Store}
 use Rattle.js_store.specs.declared.store.StoreNames.{StoreNames}

@@ -14,11 +14,11 @@ use crate::store::{Store, StoreNames, answered_names, store_of};
 use js_base::{Error, OutOfMemory, Source, Text, TryClone};
 use js_buckets::kv;
 use js_call::{ApiScope, Then};
-use js_stream::stream::Info;
 use js_stream_calls::{
     CreateOrUpdateStream, CreateStreamError, CreateStreamErrorKind, StreamHandle, UpdateStream,
     UpdateStreamError, create_or_update_stream, update_stream,
 };
+use js_stream_json::stream::Info;
 use std::alloc::Global;
 
 /// The bucket of keys that is changed: its name, and what is known of its stream before it answers.

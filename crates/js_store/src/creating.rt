@@ -12,10 +12,10 @@ use crate::store::{Store, StoreNames, answered_names, store_of};
 use js_base::{Error, OutOfMemory, Source, Text, TryClone};
 use js_buckets::kv;
 use js_call::{ApiScope, Then};
-use js_stream::stream::Info;
 use js_stream_calls::{
     CreateStream, CreateStreamError, CreateStreamErrorKind, StreamHandle, create_stream,
 };
+use js_stream_json::stream::Info;
 use std::alloc::Global;
 
 /// The row of the second call of `create_key_value`.

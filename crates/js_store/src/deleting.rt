@@ -8,8 +8,8 @@ use crate::outcome::{BucketCall, Outcome};
 use js_base::{Error, OutOfMemory, Source, Text};
 use js_buckets::kv;
 use js_call::ApiScope;
-use js_stream::DeleteStatus;
 use js_stream_calls::{DeleteStream, DeleteStreamError, delete_stream};
+use js_stream_json::DeleteStatus;
 use std::alloc::Global;
 
 /// The row of `delete_key_value`.

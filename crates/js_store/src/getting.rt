@@ -9,8 +9,8 @@ use crate::store::{Store, StoreNames, store_of};
 use js_base::{Error, OutOfMemory, Source, Text};
 use js_buckets::{is_valid_bucket_name, kv};
 use js_call::ApiScope;
-use js_stream::stream::Info;
 use js_stream_calls::{GetStream, GetStreamError, StreamHandle, get_stream};
+use js_stream_json::stream::Info;
 use std::alloc::Global;
 
 /// The row of `get_key_value`.

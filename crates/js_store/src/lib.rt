@@ -16,7 +16,7 @@ mod outcome;
 mod places;
 mod refusal;
 mod store;
-mod told;
+mod to_source;
 
 pub use calls::StoreCalls;
 pub use changing::{
@@ -42,4 +42,4 @@ pub use outcome::{BucketCall, Outcome};
 pub use places::Places;
 pub use refusal::{OfRefusal, Refusal, Refused};
 pub use store::{ObjectStore, Store, StoreNames};
-pub use told::Told;
+pub use to_source::ToSource;

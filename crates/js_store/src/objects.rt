@@ -13,12 +13,12 @@ use crate::store::ObjectStore;
 use js_base::{Error, OutOfMemory, Source, Text, TryClone};
 use js_buckets::{is_valid_bucket_name, object_store};
 use js_call::ApiScope;
-use js_stream::DeleteStatus;
-use js_stream::stream::Info;
 use js_stream_calls::{
     CreateStream, CreateStreamError, DeleteStream, DeleteStreamError, GetStream, GetStreamError,
     StreamHandle, create_stream, delete_stream, get_stream,
 };
+use js_stream_json::DeleteStatus;
+use js_stream_json::stream::Info;
 use std::alloc::Global;
 
 /// The row of `get_object_store`.

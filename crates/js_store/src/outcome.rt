@@ -3,7 +3,7 @@ ghost use Rattle.std.specs.Prelude.{◌≡◌, IfOk, Result};
 ghost use Rattle.js_base.specs.declared.turn.Turn.{Turn};
 ghost use Rattle.js_store.specs.Outcomes.{Row, answered, asking, AnswersOf, Polled, TurnsTo};
 
-use crate::told::Told;
+use crate::to_source::ToSource;
 use js_base::{Moment, OutOfMemory, Source, Turn};
 use js_call::State;
 use js_link::Link;
@@ -44,7 +44,7 @@ pub trait Outcome<X, E>: Drop {
 /// Refused arguments are answered before anything is sent. An answer for which no memory is left is kept, and told at the next poll.
 #[derive(Drop)]
 pub struct BucketCall<S, X, E, M> {
-    meaning: M,
+    api_call: M,
     stage: Stage<S, X, E>,
 }
 
@@ -58,7 +58,7 @@ pub(crate) enum Stage<S, X, E> {
 
 impl<S, X, E, M> BucketCall<S, X, E, M> {
     /// A call that stands on this one.
-    pub(crate) fn new(meaning: M, asked: S) -> BucketCall<S, X, E, M>
+    pub(crate) fn new(api_call: M, asked: S) -> BucketCall<S, X, E, M>
         ensures { result ≡ asking meaning asked }
     {
         BucketCall {
@@ -67,7 +67,7 @@ impl<S, X, E, M> BucketCall<S, X, E, M> {
         }
     }
 
-    fn answered(meaning: M, given: Result<X, E>) -> BucketCall<S, X, E, M>
+    fn answered(api_call: M, given: Result<X, E>) -> BucketCall<S, X, E, M>
         ensures { result ≡ answered meaning given }
     {
         BucketCall {
@@ -78,29 +78,29 @@ impl<S, X, E, M> BucketCall<S, X, E, M> {
 }
 
 /// Tells what the call that it stands on has answered, which is kept where memory runs out.
-fn tell<S: Drop, X: Drop, E: Told, M: Outcome<X, E>>(
+fn tell<S: Drop, X: Drop, E: ToSource, M: Outcome<X, E>>(
     alloc: Global,
-    meaning: M,
+    api_call: M,
     given: Result<X, E>,
 ) -> Turn<BucketCall<S, X, E, M>, M::Answer>
     ensures { AnswersOf M.table E.told meaning given result }
 {
     match given {
-        Ok(given) => match meaning.needs(alloc, &given) {
-            Ok(needs) => Turn::Ready(meaning.accept(given, needs)),
+        Ok(given) => match api_call.needs(alloc, &given) {
+            Ok(needs) => Turn::Ready(api_call.accept(given, needs)),
             Err(OutOfMemory) => Turn::OutOfMemory(BucketCall::answered(meaning, Ok(given))),
         },
         Err(error) => match error.to_source(alloc) {
-            Ok(source) => Turn::Ready(meaning.refuse(error, source)),
+            Ok(source) => Turn::Ready(api_call.refuse(error, source)),
             Err(OutOfMemory) => Turn::OutOfMemory(BucketCall::answered(meaning, Err(error))),
         },
     }
 }
 
 /// What the call answers to what the call that it stands on does.
-fn turn<S: Drop, X: Drop, E: Told, M: Outcome<X, E>>(
+fn turn<S: Drop, X: Drop, E: ToSource, M: Outcome<X, E>>(
     alloc: Global,
-    meaning: M,
+    api_call: M,
     asked: Turn<S, Result<X, E>>,
 ) -> Turn<BucketCall<S, X, E, M>, M::Answer>
     ensures { TurnsTo M.table E.told meaning asked result }
@@ -112,14 +112,14 @@ fn turn<S: Drop, X: Drop, E: Told, M: Outcome<X, E>>(
     }
 }
 
-impl<S: State<Answer = Result<X, E>>, X: Drop, E: Told, M: Outcome<X, E>> State
+impl<S: State<Answer = Result<X, E>>, X: Drop, E: ToSource, M: Outcome<X, E>> State
     for BucketCall<S, X, E, M> {
     type Answer = M::Answer;
 
     ghost polled = { Polled M.table E.told S.polled };
 
     fn poll<L: Link>(self, alloc: Global, link: &mut L, now: Moment) -> Turn<Self, Self::Answer> {
-        if let Some(answer) = self.meaning.refusal() {
+        if let Some(answer) = self.api_call.refusal() {
             return Turn::Ready(answer);
         }
         let BucketCall { meaning, stage } = self;

@@ -4,8 +4,8 @@ ghost use Rattle.js_store.specs.Stores.{answered_names as answered_in, store_of}
 
 use crate::places::{Places, places_of};
 use js_base::{OutOfMemory, Text, TryClone};
-use js_stream::stream::{Config, Info};
 use js_stream_calls::StreamHandle;
+use js_stream_json::stream::{Config, Info};
 use std::alloc::Global;
 
 /// A bucket of keys and their values: the stream that it is, and where its values are.

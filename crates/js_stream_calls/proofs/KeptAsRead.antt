@@ -6,10 +6,10 @@ use Rattle.std.proofs.lemmas.Slice.Eq.{bytes_eq-Decides}
 use Rattle.serde_json.specs.Data.{Data}
 use Rattle.serde_json.specs.Written.{has_float, compact_text}
 use Rattle.js_fields.specs.declared.error.ReadError.{ReadError}
-use Rattle.js_stream.specs.StreamConfig.{config_value}
+use Rattle.js_stream_json.specs.StreamConfig.{config_value}
 use Rattle.js_stream_calls.specs.Over.{is_same}
-use Rattle.js_stream.specs.declared.stream.config.Config.{Config}
-use Rattle.js_stream.specs.declared.stream.info.Info.{Info}
+use Rattle.js_stream_json.specs.declared.stream.config.Config.{Config}
+use Rattle.js_stream_json.specs.declared.stream.info.Info.{Info}
 use Rattle.js_call.specs.declared.call.Call.{Call}
 use Rattle.js_call.specs.declared.raw_call.RawCall.{RawCall}
 use Rattle.js_call.specs.declared.scope.ApiScope.{ApiScope}

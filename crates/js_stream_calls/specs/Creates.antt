@@ -7,10 +7,10 @@ use Rattle.js_fields.specs.Rows.{text_of}
 use Rattle.js_json.specs.Response.{response_of}
 use Rattle.js_json.specs.declared.response.Response.{Response}
 use Rattle.js_json.specs.declared.response.Response.TheVariants as response
-use Rattle.js_stream.specs.StreamConfig.{config_value}
-use Rattle.js_stream.specs.StreamInfo.{info_fields}
-use Rattle.js_stream.specs.declared.stream.config.Config.{Config}
-use Rattle.js_stream.specs.declared.stream.info.Info.{Info}
+use Rattle.js_stream_json.specs.StreamConfig.{config_value}
+use Rattle.js_stream_json.specs.StreamInfo.{info_fields}
+use Rattle.js_stream_json.specs.declared.stream.config.Config.{Config}
+use Rattle.js_stream_json.specs.declared.stream.info.Info.{Info}
 use Rattle.js_call.specs.declared.call.Call.{Call}
 use Rattle.js_call.specs.declared.raw_call.RawCall.{RawCall}
 use Rattle.js_call.specs.declared.scope.ApiScope.{ApiScope}

@@ -6,9 +6,9 @@ use Rattle.js_fields.specs.Reading.{float_free}
 use Rattle.js_json.specs.Response.{response_of}
 use Rattle.js_json.specs.declared.response.Response.{Response}
 use Rattle.js_json.specs.declared.response.Response.TheVariants as response
-use Rattle.js_stream.specs.DeleteStatus.{delete_status_fields}
-use Rattle.js_stream.specs.declared.stream.delete_status.DeleteStatus.{DeleteStatus}
-use Rattle.js_stream.specs.declared.stream.info.Info.{Info}
+use Rattle.js_stream_json.specs.DeleteStatus.{delete_status_fields}
+use Rattle.js_stream_json.specs.declared.stream.delete_status.DeleteStatus.{DeleteStatus}
+use Rattle.js_stream_json.specs.declared.stream.info.Info.{Info}
 use Rattle.js_call.specs.declared.call.Call.{Call}
 use Rattle.js_call.specs.declared.scope.ApiScope.{ApiScope}
 use Rattle.js_call.specs.Calls.{calling}

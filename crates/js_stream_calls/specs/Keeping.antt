@@ -3,9 +3,9 @@ use Rattle.std.specs.Prelude.{ℕ, ◌≡◌, Bool, true, false, Option, Some, N
 use Rattle.serde_json.specs.Data.{Data}
 use Rattle.serde_json.specs.Read.{read}
 use Rattle.serde_json.specs.Written.{has_float, compact_text}
-use Rattle.js_stream.specs.StreamConfig.{config_value}
-use Rattle.js_stream.specs.declared.stream.config.Config.{Config}
-use Rattle.js_stream.specs.declared.stream.info.Info.{Info}
+use Rattle.js_stream_json.specs.StreamConfig.{config_value}
+use Rattle.js_stream_json.specs.declared.stream.config.Config.{Config}
+use Rattle.js_stream_json.specs.declared.stream.info.Info.{Info}
 use Rattle.js_call.specs.declared.call.Call.{Call}
 use Rattle.js_call.specs.declared.raw_call.RawCall.{RawCall}
 use Rattle.js_call.specs.declared.scope.ApiScope.{ApiScope}

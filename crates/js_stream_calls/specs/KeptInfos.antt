@@ -6,7 +6,7 @@ use Rattle.js_fields.specs.Reading.{◌>>=◌, Reads, required}
 use Rattle.js_fields.specs.declared.error.ReadError.{ReadError}
 use Rattle.js_fields.specs.declared.error.ReadError.TheVariants.{Float}
 use Rattle.js_fields.specs.declared.key.Key.TheVariants as key
-use Rattle.js_stream.specs.StreamInfo.{info_fields}
+use Rattle.js_stream_json.specs.StreamInfo.{info_fields}
 use Rattle.js_stream_calls.specs.declared.kept.Kept.{Kept}
 use Rattle.js_stream_calls.specs.declared.kept.KeptInfo.{KeptInfo}
 

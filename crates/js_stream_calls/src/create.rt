@@ -8,10 +8,10 @@ use crate::name::create_refusal;
 use crate::places::{place_all, two_places};
 use bytes::Bytes;
 use js_base::{Error, OutOfMemory, Source, Text, TryClone};
-use js_call::{ApiScope, Call, Failure, Meaning, RawCall};
+use js_call::{ApiCall, ApiScope, Call, Failure, RawCall};
 use js_fields::{ReadError, ToValue};
 use js_json::{Response, response_as};
-use js_stream::stream::{Config, Info};
+use js_stream_json::stream::{Config, Info};
 use std::alloc::Global;
 
 /// The row of `create_stream`: what the call keeps of its arguments.
@@ -26,7 +26,7 @@ pub struct CreatingStream {
 /// The state of `create_stream`.
 pub type CreateStream = Call<CreatingStream>;
 
-impl Meaning for CreatingStream {
+impl ApiCall for CreatingStream {
     type Reply = Response<Info>;
 
     type Answer = Result<StreamHandle<Info>, CreateStreamError>;

@@ -8,10 +8,10 @@ use crate::name::create_refusal;
 use crate::places::two_places;
 use crate::update::{UpdateStream, told, update_stream};
 use js_base::{Error, OutOfMemory, Source, Text, TryClone};
-use js_call::{ApiScope, Call, Decision, Failure, Meaning, Then};
+use js_call::{ApiCall, ApiScope, Call, Decision, Failure, Then};
 use js_fields::ReadError;
 use js_json::{Response, response_as};
-use js_stream::stream::{Config, Info};
+use js_stream_json::stream::{Config, Info};
 use std::alloc::Global;
 
 /// The row of the second call of `create_or_update_stream`.
@@ -25,7 +25,7 @@ pub struct CreatingInfo {
 /// The state of `create_or_update_stream`.
 pub type CreateOrUpdateStream = Then<UpdateStream, Call<CreatingInfo>, IfNotFound>;
 
-impl Meaning for CreatingInfo {
+impl ApiCall for CreatingInfo {
     type Reply = Response<Info>;
 
     type Answer = Result<Info, CreateStreamError>;

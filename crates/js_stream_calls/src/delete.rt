@@ -6,10 +6,10 @@ use crate::error::{DeleteStreamError, DeleteStreamErrorKind};
 use crate::name::get_refusal;
 use bytes::Bytes;
 use js_base::{Error, OutOfMemory, Source, Text};
-use js_call::{ApiScope, Call, Failure, Meaning};
+use js_call::{ApiCall, ApiScope, Call, Failure};
 use js_fields::ReadError;
 use js_json::{Response, response_as};
-use js_stream::DeleteStatus;
+use js_stream_json::DeleteStatus;
 use std::alloc::Global;
 
 /// The row of `delete_stream`.
@@ -21,7 +21,7 @@ pub struct DeletingStream {
 /// The state of `delete_stream`.
 pub type DeleteStream = Call<DeletingStream>;
 
-impl Meaning for DeletingStream {
+impl ApiCall for DeletingStream {
     type Reply = Response<DeleteStatus>;
 
     type Answer = Result<DeleteStatus, DeleteStreamError>;

@@ -8,10 +8,10 @@ use crate::kept::KeptInfo;
 use crate::name::get_refusal;
 use bytes::Bytes;
 use js_base::{Error, OutOfMemory, Source, Text, TryClone};
-use js_call::{ApiScope, Call, Failure, Meaning};
+use js_call::{ApiCall, ApiScope, Call, Failure};
 use js_fields::ReadError;
 use js_json::{Response, response_as};
-use js_stream::stream::Info;
+use js_stream_json::stream::Info;
 use std::alloc::Global;
 
 /// The row of `get_stream`.
@@ -24,7 +24,7 @@ pub struct GettingStream {
 /// The state of `get_stream`.
 pub type GetStream = Call<GettingStream>;
 
-impl Meaning for GettingStream {
+impl ApiCall for GettingStream {
     type Reply = Response<KeptInfo>;
 
     type Answer = Result<StreamHandle<Info>, GetStreamError>;

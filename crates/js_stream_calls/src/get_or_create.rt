@@ -9,10 +9,10 @@ use crate::handle::StreamHandle;
 use crate::name::name_refusal;
 use bytes::Bytes;
 use js_base::{Error, OutOfMemory, Source, Text, TryClone};
-use js_call::{ApiScope, Call, Failure, IfAbsent, Meaning, RawCall, Then};
+use js_call::{ApiCall, ApiScope, Call, Failure, IfAbsent, RawCall, Then};
 use js_fields::ReadError;
 use js_json::{Response, response_as};
-use js_stream::stream::{Config, Info};
+use js_stream_json::stream::{Config, Info};
 use std::alloc::Global;
 
 /// The row of the first call of `get_or_create_stream`.
@@ -25,7 +25,7 @@ pub struct FindingStream {
 /// The state of `get_or_create_stream`.
 pub type GetOrCreateStream = Then<Call<FindingStream>, CreateStream, IfAbsent>;
 
-impl Meaning for FindingStream {
+impl ApiCall for FindingStream {
     type Reply = Response<Info>;
 
     type Answer = Result<Option<StreamHandle<Info>>, CreateStreamError>;

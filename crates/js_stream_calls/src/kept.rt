@@ -4,7 +4,7 @@ ghost use Rattle.js_stream_calls.specs.KeptInfos.{kept_info_fields, whole};
 
 use js_base::Text;
 use js_fields::{FromValue, Key, Member, ReadError, has_float, required};
-use js_stream::stream::Info;
+use js_stream_json::stream::Info;
 use serde_json::Value;
 use std::alloc::Global;
 

@@ -4,7 +4,7 @@ ghost use Rattle.std.specs.List.{list_any};
 ghost use Rattle.js_stream_calls.specs.Places.{has_two_places as has_two_places_in, mirror_has_two_places, a_source_has_two_places, two_places as two_places_in, domain_prefix as domain_prefix_in, in_domain, external_of, placed, placed_in};
 
 use js_base::{Items, OutOfMemory, Text, TryClone};
-use js_stream::stream::{Config, External, Source};
+use js_stream_json::stream::{Config, External, Source};
 use std::alloc::{AllocError, Global};
 
 fn has_two_places(source: &Source) -> bool

@@ -6,10 +6,10 @@ use crate::create::ask_with;
 use crate::error::{CreateStreamError, UpdateStreamError, api_error, create_failure};
 use crate::name::name_refusal;
 use js_base::{Error, OutOfMemory, Source, Text};
-use js_call::{ApiScope, Call, Failure, Meaning, RawCall};
+use js_call::{ApiCall, ApiScope, Call, Failure, RawCall};
 use js_fields::ReadError;
 use js_json::{Response, response_as};
-use js_stream::stream::{Config, Info};
+use js_stream_json::stream::{Config, Info};
 use std::alloc::Global;
 
 /// The row of `update_stream`.
@@ -31,7 +31,7 @@ pub(crate) fn told(reply: Response<Info>) -> Result<Info, CreateStreamError>
     }
 }
 
-impl Meaning for UpdatingStream {
+impl ApiCall for UpdatingStream {
     type Reply = Response<Info>;
 
     type Answer = Result<Info, UpdateStreamError>;

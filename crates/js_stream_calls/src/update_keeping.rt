@@ -13,7 +13,7 @@ use bytes::Bytes;
 use js_base::OutOfMemory;
 use js_call::{ApiScope, RawCall};
 use js_fields::{ReadError, ToValue, has_float};
-use js_stream::stream::{Config, Info};
+use js_stream_json::stream::{Config, Info};
 use serde_json::Value;
 use std::alloc::Global;
 

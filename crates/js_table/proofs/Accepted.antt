@@ -2,11 +2,11 @@
 use Rattle.std.proofs.Common.{◌≡◌, ℕ, zero, suc, ◌+◌, Bool, false, List, [], ◌∷◌, Option, Some, None, refl, arith}
 use Rattle.std.specs.Prelude.{not, option_map, if◌then◌else◌}
 use Rattle.std.specs.List.{AllByRecursion}
-use Rattle.js_table.specs.declared.world.World.{World}
+use Rattle.js_table.specs.declared.replay_state.ReplayState.{ReplayState}
 use Rattle.js_table.specs.State.{Matter, Passed}
 use Rattle.js_table.specs.declared.row.Row.{Row}
 use Rattle.js_table.specs.declared.row.Row.TheVariants.{Event}
-use Rattle.js_table.specs.declared.consumer.Given.{Given}
+use Rattle.js_table.specs.declared.consumer.ReplayInput.{ReplayInput}
 use Rattle.js_table.specs.declared.consumer.Phase.{Phase}
 use Rattle.js_table.specs.declared.consumer.Phase.TheVariants.{Pulls, Pushes, Recreates, Idle, Ended, Exhausted}
 use Rattle.js_table.specs.Turn.{pass}
@@ -16,30 +16,30 @@ use Rattle.js_table.specs.Valid.{IsEventBelowEnd, IsValid}
 use Rattle.js_table.specs.declared.setup.OrderedSetup.{OrderedSetup}
 use Rattle.js_table.specs.declared.setup.OrderedSetup.TheVariants.{Pull, Push}
 use Rattle.js_table.specs.declared.event.Event as events
-use Rattle.js_table.specs.declared.event.What.{What}
-use Rattle.js_table.specs.declared.event.What.TheVariants as what
+use Rattle.js_table.specs.declared.event.EventKind.{EventKind}
+use Rattle.js_table.specs.declared.event.EventKind.TheVariants as what
 use Rattle.js_table.specs.declared.run.Field.{Field}
 use Rattle.js_table.specs.declared.run.ReplayError.TheVariants as error
 use Rattle.js_table.proofs.Open.{IsOpen, IsOpenPhase, IsOpenRow, IsOpenMatter, Opens, pass_opens}
 
-abbrev OneOpens : (Row → World → Ran) → Type 0
-OneOpens one = (row : Row) (w : World) → IsOpen w.consumer → IsOpenRow row → IsOpen (one row w).world.consumer
+abbrev OneOpens : (Row → ReplayState → Ran) → Type 0
+OneOpens one = (row : Row) (w : ReplayState) → IsOpen w.consumer → IsOpenRow row → IsOpen (one row w).world.consumer
 
-each_opens : (one : Row → World → Ran) → OneOpens one → (rows : List Row) (w : World) → IsOpen w.consumer → AllByRecursion IsOpenRow rows → IsOpen (pass_each one rows w).world.consumer
+each_opens : (one : Row → ReplayState → Ran) → OneOpens one → (rows : List Row) (w : ReplayState) → IsOpen w.consumer → AllByRecursion IsOpenRow rows → IsOpen (pass_each one rows w).world.consumer
 each_opens one opens [] w k h = k
 each_opens one opens (row ∷ rows) w k h = each_opens one opens rows (one row w).world (opens row w k h.0) h.1
 
-row_open : (g : Given) (now : ℕ) (m : Matter) → IsOpenMatter m → (depth : ℕ) → OneOpens (pass_to g now m depth)
+row_open : (g : ReplayInput) (now : ℕ) (m : Matter) → IsOpenMatter m → (depth : ℕ) → OneOpens (pass_to g now m depth)
 row_open g now m hm zero row w k h = k
 row_open g now m hm (suc depth) row w k h =
     let passed : Passed = pass g (passing g now w) m row w.consumer in
     let one : Opens passed = pass_opens g (passing g now w) m row w.consumer k hm h in
     each_opens (pass_to g now m depth) (row_open g now m hm depth) passed.next (after w passed) one.consumer one.rows
 
-rows_open : (g : Given) (now : ℕ) (m : Matter) → IsOpenMatter m → (rows : List Row) (w : World) → IsOpen w.consumer → AllByRecursion IsOpenRow rows → IsOpen (pass_all g now m rows w).world.consumer
+rows_open : (g : ReplayInput) (now : ℕ) (m : Matter) → IsOpenMatter m → (rows : List Row) (w : ReplayState) → IsOpen w.consumer → AllByRecursion IsOpenRow rows → IsOpen (pass_all g now m rows w).world.consumer
 rows_open g now m hm rows w k h = each_opens (λ row. pass_to g now m (suc (rank row)) row) (λ row. row_open g now m hm (suc (rank row)) row) rows w k h
 
-matter_open : (w : What) → IsEventBelowEnd w → IsOpenMatter (matter_of w)
+matter_open : (w : EventKind) → IsEventBelowEnd w → IsOpenMatter (matter_of w)
 matter_open what.Tick h = tt
 matter_open (what.Arrival inbox message) h = h
 matter_open (what.Answer request reply) h = tt
@@ -49,13 +49,13 @@ matter_open what.WatcherEnded h = tt
 
 not_exhausted : (phase : Phase) → IsOpenPhase phase → (place : ℕ) (rest : Option ℕ) → rest ≡ None → (if is_exhausted phase then Some place else rest) ≡ None
 not_exhausted (Pulls reader) k place rest none = none
-not_exhausted (Pushes inbox silence) k place rest none = none
+not_exhausted (Pushes inbox heartbeat_timer) k place rest none = none
 not_exhausted (Recreates r) k place rest none = none
 not_exhausted Idle k place rest none = none
 not_exhausted Ended k place rest none = none
 not_exhausted Exhausted k place rest none = absurd k
 
-events_open : (g : Given) (es : List events.Event) (w : World) → IsOpen w.consumer → AllByRecursion (λ (e : events.Event). IsEventBelowEnd e.what) es
+events_open : (g : ReplayInput) (es : List events.Event) (w : ReplayState) → IsOpen w.consumer → AllByRecursion (λ (e : events.Event). IsEventBelowEnd e.what) es
     → (place : ℕ) → first_exhausted place (run_events g es w) ≡ None
 unfolding event run_events
 events_open g [] w k h place = refl
@@ -64,7 +64,7 @@ events_open g (e ∷ es) w k h place =
     let next : IsOpen ran.world.consumer = rows_open g e.at (matter_of e.what) (matter_open e.what h.0) (Event ∷ []) (record w { up = link_after e.what w.up }) k (tt, tt) in
     not_exhausted ran.world.consumer.phase next.phase place (first_exhausted (place + 1) (run_events g es ran.world)) (events_open g es ran.world next h.1 (place + 1))
 
-first_open : (g : Given) (start : ℕ) (setup : OrderedSetup) → IsOpenPhase (first_phase g start setup)
+first_open : (g : ReplayInput) (start : ℕ) (setup : OrderedSetup) → IsOpenPhase (first_phase g start setup)
 first_open g start (Pull setup) = tt
 first_open g start (Push setup) = tt
 
@@ -77,7 +77,7 @@ none_of : (lacks : Bool) (field : Option Field) (early end : Option ℕ) → lac
 none_of lacks field early end has_subject good_settings rises never = rw has_subject (rw good_settings (rw rises (rw never refl)))
 
 -- no valid input is refused; so none meets the end of the sequences
-pub valid_accepted : (g : Given) (start : ℕ) (es : List events.Event) → IsValid g start es → refuse g start es ≡ None
+pub valid_accepted : (g : ReplayInput) (start : ℕ) (es : List events.Event) → IsValid g start es → refuse g start es ≡ None
 unfolding refuse refuse_input opening
 valid_accepted g start es valid =
     let k : IsOpen (first_world g start).consumer = record { last = λ end. absurd (omega arith); phase = first_open g start g.setup } in

@@ -112,14 +112,14 @@ none_first : (setup : OrderedSetup) (s : Server) (sequence last : ℕ) → 0 < l
 none_first setup s sequence last some none configured = absurd (omega (arith, some, none))
 
 -- the next message of an inbox joins the last yield
-pub joins_next : (setup : OrderedSetup) (s : Server) (num last serial inbox number : ℕ) (entry : Entry)
+pub joins_next : (setup : OrderedSetup) (s : Server) (consumer_sequence last recreation_count inbox number : ℕ) (entry : Entry)
     → IsWhole setup s.log s.removed (s.starts inbox) (s.lists inbox)
-    → IsKeptOn setup s num last serial inbox → IsDelivery s inbox number entry → number ≡ num + 1
+    → IsKeptOn setup s consumer_sequence last recreation_count inbox → IsDelivery s inbox number entry → number ≡ consumer_sequence + 1
     → Joins setup s last entry
-joins_next setup s num last serial inbox number entry whole kept delivery next =
-    let here : slice_index (s.lists inbox) num ≡ entry.sequence =
-    subst (λ (n : ℕ). slice_index (s.lists inbox) n ≡ entry.sequence) (before number num next) delivery.listed in
-    by_number (number_cases num) here
+joins_next setup s consumer_sequence last recreation_count inbox number entry whole kept delivery next =
+    let here : slice_index (s.lists inbox) consumer_sequence ≡ entry.sequence =
+    subst (λ (n : ℕ). slice_index (s.lists inbox) n ≡ entry.sequence) (before number consumer_sequence next) delivery.listed in
+    by_number (number_cases consumer_sequence) here
   where
     before : (n m : ℕ) → n ≡ m + 1 → n - 1 ≡ m
     before n m e = omega arith
@@ -127,17 +127,17 @@ joins_next setup s num last serial inbox number entry whole kept delivery next =
     number_cases : (n : ℕ) → (n ≡ 0) ⊎ (0 < n)
     number_cases n = grind arith
 
-    inside : num < length (s.lists inbox)
+    inside : consumer_sequence < length (s.lists inbox)
     inside = let w = delivery.within in omega arith
 
-    matches : slice_index (s.lists inbox) num ≡ entry.sequence → IsMatching setup s.log entry.sequence
-    matches here = subst (λ (q : ℕ). IsMatching setup s.log q) here (whole.matching num inside)
+    matches : slice_index (s.lists inbox) consumer_sequence ≡ entry.sequence → IsMatching setup s.log entry.sequence
+    matches here = subst (λ (q : ℕ). IsMatching setup s.log q) here (whole.matching consumer_sequence inside)
 
-    first : slice_index (s.lists inbox) num ≡ entry.sequence → num ≡ 0 → slice_index (s.lists inbox) 0 ≡ entry.sequence
+    first : slice_index (s.lists inbox) consumer_sequence ≡ entry.sequence → consumer_sequence ≡ 0 → slice_index (s.lists inbox) 0 ≡ entry.sequence
     first here none = subst (λ (n : ℕ). slice_index (s.lists inbox) n ≡ entry.sequence) none here
 
     -- the first inbox, and nothing yielded yet
-    at_first : slice_index (s.lists inbox) num ≡ entry.sequence → num ≡ 0 → serial ≡ 0 → Joins setup s last entry
+    at_first : slice_index (s.lists inbox) consumer_sequence ≡ entry.sequence → consumer_sequence ≡ 0 → recreation_count ≡ 0 → Joins setup s last entry
     at_first here none zero_serial =
         let unread : IsUnread setup s last inbox = kept.first none zero_serial in
         let nothing : last ≡ 0 = unread.none in
@@ -152,7 +152,7 @@ joins_next setup s num last serial inbox number entry whole kept delivery next =
         }
 
     -- a later inbox, which starts past the last yield
-    at_later : slice_index (s.lists inbox) num ≡ entry.sequence → num ≡ 0 → 0 < serial → Joins setup s last entry
+    at_later : slice_index (s.lists inbox) consumer_sequence ≡ entry.sequence → consumer_sequence ≡ 0 → 0 < recreation_count → Joins setup s last entry
     at_later here none later =
         let start : s.starts inbox ≡ next_start setup last = kept.later none later in
         let one : slice_index (s.lists inbox) 0 ≡ entry.sequence = first here none in
@@ -176,10 +176,10 @@ joins_next setup s num last serial inbox number entry whole kept delivery next =
         later_above (inr some) start past one above = omega (arith, next_after setup last some, start, past, one)
 
     -- the same inbox
-    at_same : slice_index (s.lists inbox) num ≡ entry.sequence → (m : ℕ) → num ≡ m + 1 → Joins setup s last entry
+    at_same : slice_index (s.lists inbox) consumer_sequence ≡ entry.sequence → (m : ℕ) → consumer_sequence ≡ m + 1 → Joins setup s last entry
     at_same here m e =
         let last_is : slice_index (s.lists inbox) m ≡ last =
-        subst (λ (n : ℕ). slice_index (s.lists inbox) n ≡ last) (before num m e) (kept.reached (omega arith)).1 in
+        subst (λ (n : ℕ). slice_index (s.lists inbox) n ≡ last) (before consumer_sequence m e) (kept.reached (omega arith)).1 in
         let here' : slice_index (s.lists inbox) (m + 1) ≡ entry.sequence =
         subst (λ (n : ℕ). slice_index (s.lists inbox) n ≡ entry.sequence) e here in
         let within : m + 1 < length (s.lists inbox) = omega (arith, inside) in
@@ -197,19 +197,19 @@ joins_next setup s num last serial inbox number entry whole kept delivery next =
           first = λ nothing. none_first setup s entry.sequence last some_last nothing (configured_start setup);
         }
 
-    by_serial : (serial ≡ 0) ⊎ (0 < serial) → slice_index (s.lists inbox) num ≡ entry.sequence → num ≡ 0 → Joins setup s last entry
+    by_serial : (recreation_count ≡ 0) ⊎ (0 < recreation_count) → slice_index (s.lists inbox) consumer_sequence ≡ entry.sequence → consumer_sequence ≡ 0 → Joins setup s last entry
     by_serial (inl zero_serial) here none = at_first here none zero_serial
     by_serial (inr later) here none = at_later here none later
 
-    by_number : (num ≡ 0) ⊎ (0 < num) → slice_index (s.lists inbox) num ≡ entry.sequence → Joins setup s last entry
-    by_number (inl none) here = by_serial (number_cases serial) here none
-    by_number (inr some) here = at_same here (num - 1) (omega arith)
+    by_number : (consumer_sequence ≡ 0) ⊎ (0 < consumer_sequence) → slice_index (s.lists inbox) consumer_sequence ≡ entry.sequence → Joins setup s last entry
+    by_number (inl none) here = by_serial (number_cases recreation_count) here none
+    by_number (inr some) here = at_same here (consumer_sequence - 1) (omega arith)
 
 -- and is the last one from then on
-pub kept_next : (setup : OrderedSetup) (s : Server) (num last serial inbox number : ℕ) (entry : Entry)
-    → IsDelivery s inbox number entry → number ≡ num + 1
-    → IsKeptOn setup s number entry.sequence serial inbox
-kept_next setup s num last serial inbox number entry delivery next = record {
+pub kept_next : (setup : OrderedSetup) (s : Server) (consumer_sequence last recreation_count inbox number : ℕ) (entry : Entry)
+    → IsDelivery s inbox number entry → number ≡ consumer_sequence + 1
+    → IsKeptOn setup s number entry.sequence recreation_count inbox
+kept_next setup s consumer_sequence last recreation_count inbox number entry delivery next = record {
   reached = λ some. (delivery.within, delivery.listed);
   first = λ none. absurd (omega arith);
   later = λ none. absurd (omega arith);

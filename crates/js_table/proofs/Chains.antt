@@ -19,7 +19,7 @@ chain_of : (setup : OrderedSetup) (s : Server) (before after : ℕ) (outputs : L
 chain_of setup s before after [] e = tt
 chain_of setup s before after (out.Yield sequence number subject payload ∷ outputs) e = (e.0, chain_of setup s sequence after outputs e.1)
 chain_of setup s before after (out.Item kind ∷ outputs) e = chain_of setup s before after outputs e
-chain_of setup s before after (out.Recreate serial start ∷ outputs) e = chain_of setup s before after outputs e
+chain_of setup s before after (out.Recreate recreation_count start ∷ outputs) e = chain_of setup s before after outputs e
 chain_of setup s before after (out.Request number subject payload ∷ outputs) e = chain_of setup s before after outputs e
 chain_of setup s before after (out.Publish subject reply payload ∷ outputs) e = chain_of setup s before after outputs e
 chain_of setup s before after (out.Subscribe inbox subject ∷ outputs) e = chain_of setup s before after outputs e
@@ -138,7 +138,7 @@ extends_append setup s before between after [] second e f = subst (λ (n : ℕ).
 extends_append setup s before between after (out.Yield sequence number subject payload ∷ first) second e f =
     (e.0, extends_append setup s sequence between after first second e.1 f)
 extends_append setup s before between after (out.Item kind ∷ first) second e f = extends_append setup s before between after first second e f
-extends_append setup s before between after (out.Recreate serial start ∷ first) second e f = extends_append setup s before between after first second e f
+extends_append setup s before between after (out.Recreate recreation_count start ∷ first) second e f = extends_append setup s before between after first second e f
 extends_append setup s before between after (out.Request number subject payload ∷ first) second e f = extends_append setup s before between after first second e f
 extends_append setup s before between after (out.Publish subject reply payload ∷ first) second e f = extends_append setup s before between after first second e f
 extends_append setup s before between after (out.Subscribe inbox subject ∷ first) second e f = extends_append setup s before between after first second e f

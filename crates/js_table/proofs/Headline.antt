@@ -2,13 +2,13 @@
 use Rattle.std.proofs.Common.{◌≡◌, ℕ, zero, suc, List, [], ◌∷◌, ◌++◌, map, refl, sym, subst, arith}
 use Rattle.std.specs.Prelude.{IfSome}
 use Rattle.std.specs.List.{AllByRecursion}
-use Rattle.js_table.specs.declared.world.World.{World}
+use Rattle.js_table.specs.declared.replay_state.ReplayState.{ReplayState}
 use Rattle.js_table.specs.Texts.{configured_start}
 use Rattle.js_table.specs.declared.consumer.Consumer.{Consumer}
 use Rattle.js_table.specs.State.{Matter, Passed}
 use Rattle.js_table.specs.declared.row.Row.{Row}
 use Rattle.js_table.specs.declared.row.Row.TheVariants.{Event}
-use Rattle.js_table.specs.declared.consumer.Given.{Given}
+use Rattle.js_table.specs.declared.consumer.ReplayInput.{ReplayInput}
 use Rattle.js_table.specs.Turn.{pass}
 use Rattle.js_table.specs.Fold.{Ran, passing, after, pass_all, pass_each, pass_to, rank, tick, matter_of, link_after, event, run_events, first_phase, opening_rows, first_world, opening, fold, step_of}
 use Rattle.js_table.specs.Gapless.{Server, IsWhole, IsHonest, IsHonestEvent, FollowsStarts, IsGapless, joined, all_outputs, yields}
@@ -16,29 +16,29 @@ use Rattle.js_table.specs.Kept.{IsKept, IsKeptAt, IsKeptOn, IsPull, IsPush, IsHo
 use Rattle.js_table.specs.declared.setup.OrderedSetup.{OrderedSetup}
 use Rattle.js_table.specs.declared.setup.OrderedSetup.TheVariants.{Pull, Push}
 use Rattle.js_table.specs.declared.event.Event as events
-use Rattle.js_table.specs.declared.event.What.{What}
-use Rattle.js_table.specs.declared.event.What.TheVariants as what
+use Rattle.js_table.specs.declared.event.EventKind.{EventKind}
+use Rattle.js_table.specs.declared.event.EventKind.TheVariants as what
 use Rattle.js_table.specs.declared.run.Output.{Output}
 use Rattle.js_table.proofs.Keeps.{Keeps, pass_keeps}
 use Rattle.js_table.proofs.Asks.{from_after, from_append, follows_first, follows_second, AsksFrom, opens_from, row_asks}
 use Rattle.js_table.proofs.Chains.{extends_append, extends_gapless}
 
-abbrev Lists : Given → Server → Type 0
+abbrev Lists : ReplayInput → Server → Type 0
 Lists g s = (inbox : ℕ) → IsWhole g.setup s.log s.removed (s.starts inbox) (s.lists inbox)
 
 -- what a list of rows keeps
-record KeepsRan (g : Given) (s : Server) (last from : ℕ) (ran : Ran) : Type 0 where
+record KeepsRan (g : ReplayInput) (s : Server) (last from : ℕ) (ran : Ran) : Type 0 where
   kept : IsKept g.setup s ran.world.consumer
   asks : AsksFrom ran.world.consumer.phase (from_after from ran.outputs)
   extends : Extends g.setup s last ran.outputs ran.world.consumer.last
 
 -- what one row keeps with all that follows it
-abbrev OneKeeps : Given → Server → (Row → World → Ran) → Type 0
-OneKeeps g s one = (row : Row) (w : World) (from : ℕ)
+abbrev OneKeeps : ReplayInput → Server → (Row → ReplayState → Ran) → Type 0
+OneKeeps g s one = (row : Row) (w : ReplayState) (from : ℕ)
     → IsKept g.setup s w.consumer → IsHonestRow g.setup s row → AsksFrom w.consumer.phase from
     → FollowsStarts s.starts from (one row w).outputs → KeepsRan g s w.consumer.last from (one row w)
 
-each_keeps : (g : Given) (s : Server) (one : Row → World → Ran) → OneKeeps g s one → (rows : List Row) (w : World) (from : ℕ)
+each_keeps : (g : ReplayInput) (s : Server) (one : Row → ReplayState → Ran) → OneKeeps g s one → (rows : List Row) (w : ReplayState) (from : ℕ)
     → IsKept g.setup s w.consumer → AllByRecursion (IsHonestRow g.setup s) rows → AsksFrom w.consumer.phase from
     → FollowsStarts s.starts from (pass_each one rows w).outputs → KeepsRan g s w.consumer.last from (pass_each one rows w)
 each_keeps g s one keeps [] w from k honest asks follows = record { kept = k; asks = asks; extends = refl }
@@ -54,7 +54,7 @@ each_keeps g s one keeps (row ∷ rows) w from k honest asks follows =
       extends = extends_append g.setup s w.consumer.last ran.world.consumer.last rest.world.consumer.last ran.outputs rest.outputs first.extends more.extends;
     }
 
-row_keep : (g : Given) (s : Server) → Lists g s → (now : ℕ) (m : Matter) → IsHonestMatter g.setup s m → (depth : ℕ) → OneKeeps g s (pass_to g now m depth)
+row_keep : (g : ReplayInput) (s : Server) → Lists g s → (now : ℕ) (m : Matter) → IsHonestMatter g.setup s m → (depth : ℕ) → OneKeeps g s (pass_to g now m depth)
 row_keep g s whole now m matter zero row w from k honest asks follows = record { kept = k; asks = asks; extends = refl }
 row_keep g s whole now m matter (suc depth) row w from k honest asks follows =
     let passed : Passed = pass g (passing g now w) m row w.consumer in
@@ -71,15 +71,15 @@ row_keep g s whole now m matter (suc depth) row w from k honest asks follows =
       extends = extends_append g.setup s w.consumer.last passed.consumer.last rest.world.consumer.last passed.outputs rest.outputs one.extends more.extends;
     }
 
-rows_keep : (g : Given) (s : Server) → Lists g s → (now : ℕ) (m : Matter) → IsHonestMatter g.setup s m
-    → (rows : List Row) (w : World) (from : ℕ)
+rows_keep : (g : ReplayInput) (s : Server) → Lists g s → (now : ℕ) (m : Matter) → IsHonestMatter g.setup s m
+    → (rows : List Row) (w : ReplayState) (from : ℕ)
     → IsKept g.setup s w.consumer → AllByRecursion (IsHonestRow g.setup s) rows → AsksFrom w.consumer.phase from
     → FollowsStarts s.starts from (pass_all g now m rows w).outputs
     → KeepsRan g s w.consumer.last from (pass_all g now m rows w)
 rows_keep g s whole now m matter rows w from k honest asks follows =
     each_keeps g s (λ row. pass_to g now m (suc (rank row)) row) (λ row. row_keep g s whole now m matter (suc (rank row)) row) rows w from k honest asks follows
 
-matter_honest : (setup : OrderedSetup) (s : Server) (w : What) → IsHonestEvent setup s w → IsHonestMatter setup s (matter_of w)
+matter_honest : (setup : OrderedSetup) (s : Server) (w : EventKind) → IsHonestEvent setup s w → IsHonestMatter setup s (matter_of w)
 matter_honest setup s what.Tick honest = tt
 matter_honest setup s (what.Arrival inbox message) honest = honest
 matter_honest setup s (what.Answer request reply) honest = tt
@@ -91,7 +91,7 @@ matter_honest setup s what.WatcherEnded honest = tt
 abbrev outputs_of : List Ran → List Output
 outputs_of rans = joined (map step_of rans)
 
-events_keep : (g : Given) (s : Server) → Lists g s → (es : List events.Event) (w : World) (from : ℕ)
+events_keep : (g : ReplayInput) (s : Server) → Lists g s → (es : List events.Event) (w : ReplayState) (from : ℕ)
     → IsKept g.setup s w.consumer → AsksFrom w.consumer.phase from
     → AllByRecursion (λ e. IsHonestEvent g.setup s e.what) es
     → FollowsStarts s.starts from (outputs_of (run_events g es w))
@@ -108,35 +108,35 @@ events_keep g s whole (e ∷ es) w from k asks honest follows =
     events_keep g s whole es ran.world (from_after from ran.outputs) one.kept one.asks honest.1 (follows_second s.starts from ran.outputs rest follows) in
     (more.0, extends_append g.setup s w.consumer.last ran.world.consumer.last more.0 ran.outputs rest one.extends more.1)
 
-unread : (g : Given) (s : Server) → IfSome (configured_start g.setup) (λ sequence. s.starts 0 ≡ sequence)
-    → (c : Consumer) → c.num ≡ 0 → c.last ≡ 0 → c.serial ≡ 0 → IsKeptOn g.setup s c.num c.last c.serial 0
-unread g s begins c num last serial = record {
+unread : (g : ReplayInput) (s : Server) → IfSome (configured_start g.setup) (λ sequence. s.starts 0 ≡ sequence)
+    → (c : Consumer) → c.consumer_sequence ≡ 0 → c.last ≡ 0 → c.recreation_count ≡ 0 → IsKeptOn g.setup s c.consumer_sequence c.last c.recreation_count 0
+unread g s begins c consumer_sequence last recreation_count = record {
   reached = λ some. absurd (omega arith);
   first = λ _ _. record { none = last; start = begins };
   later = λ _ later. absurd (omega arith);
 }
 
-first_kept : (g : Given) (s : Server) (start : ℕ) → IfSome (configured_start g.setup) (λ sequence. s.starts 0 ≡ sequence)
-    → (setup : OrderedSetup) → g.setup ≡ setup → (c : Consumer) → c.num ≡ 0 → c.last ≡ 0 → c.serial ≡ 0
+first_kept : (g : ReplayInput) (s : Server) (start : ℕ) → IfSome (configured_start g.setup) (λ sequence. s.starts 0 ≡ sequence)
+    → (setup : OrderedSetup) → g.setup ≡ setup → (c : Consumer) → c.consumer_sequence ≡ 0 → c.last ≡ 0 → c.recreation_count ≡ 0
     → IsKeptAt g.setup s c (first_phase g start setup)
-first_kept g s start begins (Pull setup) same c num last serial = (subst IsPull (sym same) tt, unread g s begins c num last serial)
-first_kept g s start begins (Push setup) same c num last serial = (subst IsPush (sym same) tt, unread g s begins c num last serial)
+first_kept g s start begins (Pull setup) same c consumer_sequence last recreation_count = (subst IsPull (sym same) tt, unread g s begins c consumer_sequence last recreation_count)
+first_kept g s start begins (Push setup) same c consumer_sequence last recreation_count = (subst IsPush (sym same) tt, unread g s begins c consumer_sequence last recreation_count)
 
-first_asks : (g : Given) (start : ℕ) (setup : OrderedSetup) → AsksFrom (first_phase g start setup) 0
+first_asks : (g : ReplayInput) (start : ℕ) (setup : OrderedSetup) → AsksFrom (first_phase g start setup) 0
 first_asks g start (Pull setup) = tt
 first_asks g start (Push setup) = tt
 
-opening_honest : (g : Given) (s : Server) (setup : OrderedSetup) → AllByRecursion (IsHonestRow g.setup s) (opening_rows setup)
+opening_honest : (g : ReplayInput) (s : Server) (setup : OrderedSetup) → AllByRecursion (IsHonestRow g.setup s) (opening_rows setup)
 opening_honest g s (Pull setup) = (tt, (tt, tt))
 opening_honest g s (Push setup) = tt
 
-pub replay_gapless : (g : Given) (start : ℕ) (es : List events.Event) (s : Server)
+pub replay_gapless : (g : ReplayInput) (start : ℕ) (es : List events.Event) (s : Server)
     → IsHonest s g.setup es (fold g start es) → IsGapless s g.setup (yields (all_outputs (fold g start es)))
 unfolding opening fold
 replay_gapless g start es s honest =
     let first : Ran = opening g start in
     let rest : List Output = outputs_of (run_events g es first.world) in
-    let w : World = first_world g start in
+    let w : ReplayState = first_world g start in
     let one : KeepsRan g s 0 0 first =
     rows_keep g s honest.lists start tick tt (opening_rows g.setup) w 0
     (first_kept g s start honest.first g.setup refl w.consumer refl refl refl) (opening_honest g s g.setup) (first_asks g start g.setup)

@@ -12,7 +12,7 @@ use Rattle.js_table.specs.Fold.{fold}
 use Rattle.js_table.specs.Gapless.{Logged, Server, entry_at, IsMatching, IsWhole, IsDelivery, IsHonestArrival, IsHonest, entry_of, yields, sequences, all_outputs}
 use Rattle.js_table.specs.declared.setup.OrderedSetup.{OrderedSetup}
 use Rattle.js_table.specs.declared.event.Event as events
-use Rattle.js_table.specs.declared.consumer.Given.{Given}
+use Rattle.js_table.specs.declared.consumer.ReplayInput.{ReplayInput}
 use Rattle.js_table.specs.Worked.{LeavesNoGap, numbered, by_pull, by_push, by_filter, count_from, in_order, server_in_order, gap, server_gap, held, server_held, removed, left, server_removed, filtered, chosen, server_filtered}
 use Rattle.js_table.proofs.OnLiterals.{replays_on_literals}
 use Rattle.js_table.proofs.Headline.{replay_gapless}
@@ -238,7 +238,7 @@ filtered_honest heap = record {
 
 -- ---- so the worked runs leave no gap
 
-leaves_no_gap : (s : Server) (g : Given) (es : Global → List events.Event) (yielded : List ℕ) → ((heap : Global) → IsHonest s g.setup (es heap) (fold g 0 (es heap)))
+leaves_no_gap : (s : Server) (g : ReplayInput) (es : Global → List events.Event) (yielded : List ℕ) → ((heap : Global) → IsHonest s g.setup (es heap) (fold g 0 (es heap)))
     → ((heap : Global) → sequences (yields (all_outputs (fold g 0 (es heap)))) ≡ yielded) → LeavesNoGap s g es yielded
 leaves_no_gap s g es yielded honest are = record { honest = honest; yields_these = are; gapless = λ heap. replay_gapless g 0 (es heap) s (honest heap) }
 

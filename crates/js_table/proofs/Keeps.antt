@@ -18,12 +18,12 @@ use Rattle.js_pull.specs.declared.kind.Kind.{Kind}
 use Rattle.js_pull.specs.declared.kind.Kind.TheVariants as kind
 use Rattle.js_pull.specs.Reader as pull
 use Rattle.js_pull.specs.declared.reader.Row.TheVariants as read
-use Rattle.js_pull.specs.declared.reader.Inquiry.TheVariants as inquiries
-use Rattle.js_pull.specs.declared.reader.Told.TheVariants as tells
+use Rattle.js_pull.specs.declared.reader.InfoRequest.TheVariants as inquiries
+use Rattle.js_pull.specs.declared.reader.ReaderOutput.TheVariants as tells
 use Rattle.js_pull.specs.declared.reader.Reader.{Reader as PullReader}
 use Rattle.js_pull.specs.declared.reader.Row.{Row as PullRow}
-use Rattle.js_pull.specs.declared.reader.Told.{Told as PullTold}
-use Rattle.js_pull.specs.declared.reader.Inquiry.{Inquiry}
+use Rattle.js_pull.specs.declared.reader.ReaderOutput.{ReaderOutput as PullTold}
+use Rattle.js_pull.specs.declared.reader.InfoRequest.{InfoRequest}
 use Rattle.js_pull.specs.declared.reader.Source.{Source}
 use Rattle.js_pull.specs.declared.reader.MessagesErrorKind.TheVariants as error
 use Rattle.js_table.specs.declared.consumer.Consumer.{Consumer}
@@ -33,7 +33,7 @@ use Rattle.js_table.specs.declared.row.Row.{Row}
 use Rattle.js_table.specs.declared.row.Row.TheVariants.{Event, Start, Try, Create, Ask, Await, Answered, Hold, Succeed, Fail, CheckArrival, Hear, CheckSilence, Arm, Read}
 use Rattle.js_table.specs.declared.consumer.Recreation.{Recreation}
 use Rattle.js_table.specs.declared.consumer.Opened.{Opened}
-use Rattle.js_table.specs.declared.consumer.Given.{Given}
+use Rattle.js_table.specs.declared.consumer.ReplayInput.{ReplayInput}
 use Rattle.js_table.specs.declared.consumer.Stage.{Stage}
 use Rattle.js_table.specs.declared.consumer.Phase.{Phase}
 use Rattle.js_table.specs.declared.consumer.Stage.TheVariants.{Between, Deleting, Creating, Waiting}
@@ -60,21 +60,21 @@ pub record Keeps (setup : OrderedSetup) (s : Server) (last : ℕ) (passed : Pass
 
 -- ---- recreations
 
-start_keeps : (g : Given) (s : Server) (c : Consumer) → Keeps g.setup s c.last (start_row g c)
+start_keeps : (g : ReplayInput) (s : Server) (c : Consumer) → Keeps g.setup s c.last (start_row g c)
 start_keeps g s c = if_each (Keeps g.setup s c.last) (c.last == pull.u64_max) _ _
     (λ _. record { kept = tt; rows = tt; extends = refl })
-    (λ _. record { kept = record { start = refl; fresh = refl; later = risen c.serial; opened = tt }; rows = (tt, tt); extends = refl })
+    (λ _. record { kept = record { start = refl; fresh = refl; later = risen c.recreation_count; opened = tt }; rows = (tt, tt); extends = refl })
   where
     risen : (n : ℕ) → 0 < min (n + 1) (2 ^ 64 - 1)
     risen n = omega arith
 
-try_keeps : (g : Given) (s : Server) (p : Passing) (r : Recreation) (c : Consumer) → IsKeptIn g.setup s c.num c.last c.serial r
+try_keeps : (g : ReplayInput) (s : Server) (p : Passing) (r : Recreation) (c : Consumer) → IsKeptIn g.setup s c.consumer_sequence c.last c.recreation_count r
     → Keeps g.setup s c.last (try_row g p r (at_phase (Recreates r) c))
 try_keeps g s p r c k = if_each (Keeps g.setup s c.last) p.up _ _
     (λ _. record { kept = record { start = k.start; fresh = k.fresh; later = k.later; opened = k.opened }; rows = tt; extends = refl })
     (λ _. record { kept = k; rows = (tt, tt); extends = refl })
 
-create_keeps : (g : Given) (setup : OrderedSetup) (s : Server) (p : Passing) (r : Recreation) (c : Consumer) → IsKeptIn g.setup s c.num c.last c.serial r
+create_keeps : (g : ReplayInput) (setup : OrderedSetup) (s : Server) (p : Passing) (r : Recreation) (c : Consumer) → IsKeptIn g.setup s c.consumer_sequence c.last c.recreation_count r
     → FollowsStarts s.starts (start_sequence r.start) (create_row setup p r (at_phase (Recreates r) c)).outputs
     → Keeps g.setup s c.last (create_row setup p r (at_phase (Recreates r) c))
 create_keeps g (Pull setup) s p r c k opens = record { kept = k; rows = (tt, tt); extends = refl }
@@ -88,31 +88,31 @@ create_keeps g (Push setup) s p r c k opens =
     (λ starts. record { kept = k; rows = (tt, tt); extends = refl })
     opens
 
-ask_keeps : (g : Given) (s : Server) (p : Passing) (r : Recreation) (c : Consumer) → IsKeptIn g.setup s c.num c.last c.serial r
+ask_keeps : (g : ReplayInput) (s : Server) (p : Passing) (r : Recreation) (c : Consumer) → IsKeptIn g.setup s c.consumer_sequence c.last c.recreation_count r
     → Keeps g.setup s c.last (ask_row g p r (at_phase (Recreates r) c))
 ask_keeps g s p r c k = if_each (Keeps g.setup s c.last) p.up _ _
     (λ _. record { kept = record { start = k.start; fresh = k.fresh; later = k.later; opened = k.opened }; rows = tt; extends = refl })
     (λ _. record { kept = k; rows = (tt, tt); extends = refl })
 
-fail_keeps : (g : Given) (s : Server) (p : Passing) (r : Recreation) (c : Consumer) → IsKeptIn g.setup s c.num c.last c.serial r
+fail_keeps : (g : ReplayInput) (s : Server) (p : Passing) (r : Recreation) (c : Consumer) → IsKeptIn g.setup s c.consumer_sequence c.last c.recreation_count r
     → Keeps g.setup s c.last (fail_row g p r (at_phase (Recreates r) c))
 fail_keeps g s p r c k = if_each (Keeps g.setup s c.last) (nat_lt g.settings.retries (r.failures + 1)) _ _
     (λ _. record { kept = tt; rows = tt; extends = refl })
     (λ _. record { kept = record { start = k.start; fresh = k.fresh; later = k.later; opened = tt }; rows = tt; extends = refl })
 
 -- a new inbox that starts past the last yield
-fresh_inbox : (setup : OrderedSetup) (s : Server) (c : Consumer) (r : Recreation) (inbox : ℕ) → IsKeptIn setup s c.num c.last c.serial r
-    → s.starts inbox ≡ start_sequence r.start → IsKeptOn setup s c.num c.last c.serial inbox
+fresh_inbox : (setup : OrderedSetup) (s : Server) (c : Consumer) (r : Recreation) (inbox : ℕ) → IsKeptIn setup s c.consumer_sequence c.last c.recreation_count r
+    → s.starts inbox ≡ start_sequence r.start → IsKeptOn setup s c.consumer_sequence c.last c.recreation_count inbox
 fresh_inbox setup s c r inbox k starts =
-    let fresh : c.num ≡ 0 = k.fresh in
-    let later : 0 < c.serial = k.later in
+    let fresh : c.consumer_sequence ≡ 0 = k.fresh in
+    let later : 0 < c.recreation_count = k.later in
     record {
       reached = λ some. absurd (omega (arith, fresh, some));
       first = λ _ zero_serial. absurd (omega (arith, later, zero_serial));
       later = λ _ _. starts ∙ ap start_sequence k.start;
     }
 
-succeed_pull_keeps : (g : Given) (s : Server) (p : Passing) (info : Info) (r : Recreation) (c : Consumer) → IsPull g.setup → IsKeptIn g.setup s c.num c.last c.serial r
+succeed_pull_keeps : (g : ReplayInput) (s : Server) (p : Passing) (info : Info) (r : Recreation) (c : Consumer) → IsPull g.setup → IsKeptIn g.setup s c.consumer_sequence c.last c.recreation_count r
     → FollowsStarts s.starts (start_sequence r.start) (succeed_pull g p info (at_phase (Recreates r) c)).outputs
     → Keeps g.setup s c.last (succeed_pull g p info (at_phase (Recreates r) c))
 succeed_pull_keeps g s p info r c mode k =
@@ -126,7 +126,7 @@ held_rows : (setup : OrderedSetup) (s : Server) (inbox : ℕ) (held : List Messa
 held_rows setup s inbox [] honest = (tt, tt)
 held_rows setup s inbox (message ∷ held) honest = (honest.0, held_rows setup s inbox held honest.1)
 
-succeed_push_keeps : (g : Given) (s : Server) (p : Passing) (opened : Option Opened) (r : Recreation) (c : Consumer) → IsPush g.setup → IsKeptIn g.setup s c.num c.last c.serial r
+succeed_push_keeps : (g : ReplayInput) (s : Server) (p : Passing) (opened : Option Opened) (r : Recreation) (c : Consumer) → IsPush g.setup → IsKeptIn g.setup s c.consumer_sequence c.last c.recreation_count r
     → IfSome opened (IsKeptOpened g.setup s r.start)
     → Keeps g.setup s c.last (succeed_push p opened (at_phase (Recreates r) c))
 succeed_push_keeps g s p None r c mode k ko = record { kept = k; rows = tt; extends = refl }
@@ -136,7 +136,7 @@ succeed_push_keeps g s p (Some opened) r c mode k ko = record {
   extends = refl;
 }
 
-succeed_keeps : (g : Given) (setup : OrderedSetup) → g.setup ≡ setup → (s : Server) (p : Passing) (info : Info) (r : Recreation) (c : Consumer) → IsKeptIn g.setup s c.num c.last c.serial r
+succeed_keeps : (g : ReplayInput) (setup : OrderedSetup) → g.setup ≡ setup → (s : Server) (p : Passing) (info : Info) (r : Recreation) (c : Consumer) → IsKeptIn g.setup s c.consumer_sequence c.last c.recreation_count r
     → FollowsStarts s.starts (start_sequence r.start) (succeed_row setup g p info r (at_phase (Recreates r) c)).outputs
     → Keeps g.setup s c.last (succeed_row setup g p info r (at_phase (Recreates r) c))
 succeed_keeps g (Pull setup) same s p info r c k opens = succeed_pull_keeps g s p info r c (subst IsPull (sym same) tt) k opens
@@ -173,18 +173,18 @@ answered_row : (setup : OrderedSetup) (s : Server) (mode : OrderedSetup) (info :
 answered_row setup s mode None = tt
 answered_row setup s mode (Some info) = if_each (IsHonestRow setup s) (has_subject mode info) (Succeed info) Fail (λ _. tt) (λ _. tt)
 
-created_rows : (g : Given) (s : Server) (p : Passing) (timeout : Timer) (reply : Option (Option Message)) → AllByRecursion (IsHonestRow g.setup s) (created g p timeout reply)
+created_rows : (g : ReplayInput) (s : Server) (p : Passing) (timeout : Timer) (reply : Option (Option Message)) → AllByRecursion (IsHonestRow g.setup s) (created g p timeout reply)
 created_rows g s p timeout (Some reply) = (tt, tt)
 created_rows g s p timeout None = if_each (AllByRecursion (IsHonestRow g.setup s)) (is_due timeout p.now) _ _ (λ _. (tt, tt)) (λ _. tt)
 
-rows_of_stage : (g : Given) (s : Server) (p : Passing) (m : Matter) (stage : Stage) → AllByRecursion (IsHonestRow g.setup s) (stage_rows g p m stage)
+rows_of_stage : (g : ReplayInput) (s : Server) (p : Passing) (m : Matter) (stage : Stage) → AllByRecursion (IsHonestRow g.setup s) (stage_rows g p m stage)
 rows_of_stage g s p m Between = tt
 rows_of_stage g s p m (Deleting request timeout) =
     if_each (AllByRecursion (IsHonestRow g.setup s)) (is_some (pull.reply_to request m.answer)) _ _ (λ _. (tt, tt)) (λ _. if_each (AllByRecursion (IsHonestRow g.setup s)) (is_due timeout p.now) _ _ (λ _. (tt, tt)) (λ _. tt))
 rows_of_stage g s p m (Creating request timeout) = created_rows g s p timeout (pull.reply_to request m.answer)
 rows_of_stage g s p m (Waiting wait) = if_each (AllByRecursion (IsHonestRow g.setup s)) (is_due wait p.now) _ _ (λ _. (tt, tt)) (λ _. tt)
 
-hold_row_keeps : (g : Given) (s : Server) (m : Matter) (r : Recreation) (c : Consumer) → IsKeptIn g.setup s c.num c.last c.serial r
+hold_row_keeps : (g : ReplayInput) (s : Server) (m : Matter) (r : Recreation) (c : Consumer) → IsKeptIn g.setup s c.consumer_sequence c.last c.recreation_count r
     → IsHonestMatter g.setup s m → Keeps g.setup s c.last (hold_row m r (at_phase (Recreates r) c))
 hold_row_keeps g s m r c k honest = record {
   kept = record { start = k.start; fresh = k.fresh; later = k.later; opened = held_keeps g.setup s r.start m.arrival r.opened k.opened honest };
@@ -203,19 +203,19 @@ DeliveredAs setup s inbox o message = (place : Place) → o ≡ Some place → I
 
 -- at a phase whose current inbox is this one
 message_keeps : (setup : OrderedSetup) (s : Server) (inbox : ℕ) (phase : Phase)
-    → ((c : Consumer) → IsKeptOn setup s c.num c.last c.serial inbox → IsKeptAt setup s c phase)
+    → ((c : Consumer) → IsKeptOn setup s c.consumer_sequence c.last c.recreation_count inbox → IsKeptAt setup s c phase)
     → IsWhole setup s.log s.removed (s.starts inbox) (s.lists inbox)
-    → (c : Consumer) → IsKeptOn setup s c.num c.last c.serial inbox
+    → (c : Consumer) → IsKeptOn setup s c.consumer_sequence c.last c.recreation_count inbox
     → (o : Option Place) (message : Message) → DeliveredAs setup s inbox o message
     → Keeps setup s c.last (message_row o message (at_phase phase c))
 message_keeps setup s inbox phase at whole c k None message delivered = record { kept = at (at_phase phase c) k; rows = tt; extends = refl }
 message_keeps setup s inbox phase at whole c k (Some place) message delivered =
-    if_with (Keeps setup s c.last) (place.number == c.num + 1) _ _
+    if_with (Keeps setup s c.last) (place.number == c.consumer_sequence + 1) _ _
     (λ same. record {
-      kept = at (record (at_phase phase c) { num = place.number; last = place.sequence; limited = false })
-          (kept_next setup s c.num c.last c.serial inbox place.number (entry_of place message) (delivered place refl) (eqb-true place.number (c.num + 1) same));
+      kept = at (record (at_phase phase c) { consumer_sequence = place.number; last = place.sequence; limited = false })
+          (kept_next setup s c.consumer_sequence c.last c.recreation_count inbox place.number (entry_of place message) (delivered place refl) (eqb-true place.number (c.consumer_sequence + 1) same));
       rows = tt;
-      extends = (joins_next setup s c.num c.last c.serial inbox place.number (entry_of place message) whole k (delivered place refl) (eqb-true place.number (c.num + 1) same), refl);
+      extends = (joins_next setup s c.consumer_sequence c.last c.recreation_count inbox place.number (entry_of place message) whole k (delivered place refl) (eqb-true place.number (c.consumer_sequence + 1) same), refl);
     })
     (record { kept = at (at_phase phase c) k; rows = (tt, tt); extends = refl })
 
@@ -253,8 +253,8 @@ asked_read : (p : Passing) (arrival : Option Message) (timeout : Option Timer) (
 asked_read p arrival timeout failures None r = record { source = refl; hands = tt }
 asked_read p arrival timeout failures (Some reply) r = record { source = refl; hands = tt }
 
-inquiry_read : (p : Passing) (arrival : Option Message) (answer : Option pull.Answer) (inquiry : Inquiry) (r : PullReader) → IsRead r arrival (pull.check_inquiry p answer inquiry r)
-inquiry_read p arrival answer inquiries.NoInquiry r = record { source = refl; hands = tt }
+inquiry_read : (p : Passing) (arrival : Option Message) (answer : Option pull.Answer) (inquiry : InfoRequest) (r : PullReader) → IsRead r arrival (pull.check_inquiry p answer inquiry r)
+inquiry_read p arrival answer inquiries.NoInfoRequest r = record { source = refl; hands = tt }
 inquiry_read p arrival answer (inquiries.Asked request timeout failures) r = asked_read p arrival timeout failures (pull.reply_to request answer) r
 inquiry_read p arrival answer (inquiries.Resting wait failures) r = record { source = refl; hands = tt }
 
@@ -278,14 +278,14 @@ row_read p answer arrival (read.Begin change) r = begin_read p arrival change r
 row_read p answer arrival read.Threshold r = threshold_read arrival r
 row_read p answer arrival read.Arm r = record { source = refl; hands = tt }
 row_read p answer arrival (read.Inquire failures) r = if_each (IsRead r arrival) p.up _ _ (λ _. record { source = refl; hands = tt }) (λ _. record { source = refl; hands = tt })
-row_read p answer arrival (read.FailInquiry failures) r =
+row_read p answer arrival (read.FailInfoRequest failures) r =
     if_each (IsRead r arrival) (nat_lt (failures + 1) 6) _ _ (λ _. record { source = refl; hands = tt }) (λ _. record { source = refl; hands = tt })
-row_read p answer arrival read.CheckInquiry r = inquiry_read p arrival answer r.inquiry r
+row_read p answer arrival read.CheckInfoRequest r = inquiry_read p arrival answer r.inquiry r
 row_read p answer arrival (read.Answered reply failures) r = answered_read arrival failures (pull.info_of_reply reply) r
 row_read p answer arrival read.CheckExpiry r = record { source = refl; hands = tt }
 row_read p answer arrival read.CheckArrival r = arrival_read p arrival r
 row_read p answer arrival read.CheckSilence r =
-    if_each (IsRead r arrival) (is_any_due r.silence p.now) _ _ (λ _. record { source = refl; hands = tt }) (λ _. record { source = refl; hands = tt })
+    if_each (IsRead r arrival) (is_any_due r.heartbeat_timer p.now) _ _ (λ _. record { source = refl; hands = tt }) (λ _. record { source = refl; hands = tt })
 
 -- what was sent is no yield, and the reader's rows hold no arrival
 sent_extends : (setup : OrderedSetup) (s : Server) (before after : ℕ) (sent : List Sent) (outputs : List Output) → Extends setup s before outputs after
@@ -307,9 +307,9 @@ with_sent_keeps setup s last sent rows passed keeps = record {
   extends = sent_extends setup s last passed.consumer.last sent passed.outputs keeps.extends;
 }
 
-told_keeps : (g : Given) (s : Server) (setup : OrderedSetup) (reader : PullReader) (c : Consumer) (arrival : Option Message) (t : PullTold)
+told_keeps : (g : ReplayInput) (s : Server) (setup : OrderedSetup) (reader : PullReader) (c : Consumer) (arrival : Option Message) (t : PullTold)
     → IsWhole setup s.log s.removed (s.starts reader.source.inbox) (s.lists reader.source.inbox)
-    → IsPull setup → IsKeptOn setup s c.num c.last c.serial reader.source.inbox
+    → IsPull setup → IsKeptOn setup s c.consumer_sequence c.last c.recreation_count reader.source.inbox
     → HandsOnly arrival t
     → ((message : Message) → arrival ≡ Some message → pull_kind message ≡ kind.Delivered → DeliveredAs setup s reader.source.inbox (readable_as message.reply) message)
     → Keeps setup s c.last (told t (at_phase (Pulls reader) c))
@@ -329,31 +329,31 @@ told_keeps g s setup reader c arrival (tells.Tells error.Other) whole mode k han
 
 -- ---- push
 
-silence_keeps : (setup : OrderedSetup) (s : Server) (p : Passing) (silence : Timer) (inbox : ℕ) (c : Consumer) → IsPush setup → IsKeptOn setup s c.num c.last c.serial inbox
-    → Keeps setup s c.last (silence_row p silence (at_phase (Pushes inbox silence) c))
-silence_keeps setup s p silence inbox c mode k =
-    if_each (Keeps setup s c.last) (is_due silence p.now) _ _ (λ _. record { kept = (mode, k); rows = (tt, tt); extends = refl }) (λ _. record { kept = (mode, k); rows = tt; extends = refl })
+silence_keeps : (setup : OrderedSetup) (s : Server) (p : Passing) (heartbeat_timer : Timer) (inbox : ℕ) (c : Consumer) → IsPush setup → IsKeptOn setup s c.consumer_sequence c.last c.recreation_count inbox
+    → Keeps setup s c.last (silence_row p heartbeat_timer (at_phase (Pushes inbox heartbeat_timer) c))
+silence_keeps setup s p heartbeat_timer inbox c mode k =
+    if_each (Keeps setup s c.last) (is_due heartbeat_timer p.now) _ _ (λ _. record { kept = (mode, k); rows = (tt, tt); extends = refl }) (λ _. record { kept = (mode, k); rows = tt; extends = refl })
 
 beat_extends : (setup : OrderedSetup) (s : Server) (last : ℕ) (up : Bool) (reply : Option (List ℕ)) → Extends setup s last (beat_answer up reply) last
 beat_extends setup s last up None = refl
 beat_extends setup s last true (Some reply) = refl
 beat_extends setup s last false (Some reply) = refl
 
-beat_rows_honest : (setup : OrderedSetup) (s : Server) (beat : Option ℕ) (num : ℕ) → AllByRecursion (IsHonestRow setup s) (beat_rows beat num)
-beat_rows_honest setup s None num = tt
-beat_rows_honest setup s (Some n) num = if_each (AllByRecursion (IsHonestRow setup s)) (n == num) _ _ (λ _. tt) (λ _. (tt, tt))
+beat_rows_honest : (setup : OrderedSetup) (s : Server) (beat : Option ℕ) (consumer_sequence : ℕ) → AllByRecursion (IsHonestRow setup s) (beat_rows beat consumer_sequence)
+beat_rows_honest setup s None consumer_sequence = tt
+beat_rows_honest setup s (Some n) consumer_sequence = if_each (AllByRecursion (IsHonestRow setup s)) (n == consumer_sequence) _ _ (λ _. tt) (λ _. (tt, tt))
 
-hear_kind_keeps : (setup : OrderedSetup) (s : Server) (p : Passing) (inbox : ℕ) (silence : Timer) (c : Consumer) (message : Message) (k : PushKind)
+hear_kind_keeps : (setup : OrderedSetup) (s : Server) (p : Passing) (inbox : ℕ) (heartbeat_timer : Timer) (c : Consumer) (message : Message) (k : PushKind)
     → IsWhole setup s.log s.removed (s.starts inbox) (s.lists inbox)
-    → IsPush setup → IsKeptOn setup s c.num c.last c.serial inbox
+    → IsPush setup → IsKeptOn setup s c.consumer_sequence c.last c.recreation_count inbox
     → (k ≡ Delivered → DeliveredAs setup s inbox (readable_as message.reply) message)
-    → Keeps setup s c.last (hear_kind p message k (at_phase (Pushes inbox silence) c))
-hear_kind_keeps setup s p inbox silence c message Delivered whole mode k delivered =
-    message_keeps setup s inbox (Pushes inbox silence) (λ c' kept. (mode, kept)) whole c k (readable_as message.reply) message (delivered refl)
-hear_kind_keeps setup s p inbox silence c message Quiet whole mode k delivered = record { kept = (mode, k); rows = tt; extends = refl }
-hear_kind_keeps setup s p inbox silence c message Bad whole mode k delivered = record { kept = (mode, k); rows = tt; extends = refl }
-hear_kind_keeps setup s p inbox silence c message (Beat n) whole mode k delivered =
-    record { kept = (mode, k); rows = beat_rows_honest setup s n c.num; extends = beat_extends setup s c.last p.up message.reply }
+    → Keeps setup s c.last (hear_kind p message k (at_phase (Pushes inbox heartbeat_timer) c))
+hear_kind_keeps setup s p inbox heartbeat_timer c message Delivered whole mode k delivered =
+    message_keeps setup s inbox (Pushes inbox heartbeat_timer) (λ c' kept. (mode, kept)) whole c k (readable_as message.reply) message (delivered refl)
+hear_kind_keeps setup s p inbox heartbeat_timer c message Quiet whole mode k delivered = record { kept = (mode, k); rows = tt; extends = refl }
+hear_kind_keeps setup s p inbox heartbeat_timer c message Bad whole mode k delivered = record { kept = (mode, k); rows = tt; extends = refl }
+hear_kind_keeps setup s p inbox heartbeat_timer c message (Beat n) whole mode k delivered =
+    record { kept = (mode, k); rows = beat_rows_honest setup s n c.consumer_sequence; extends = beat_extends setup s c.last p.up message.reply }
 
 -- ---- a mode's messages
 
@@ -367,9 +367,9 @@ push_message (Push setup) message mode is = is
 
 -- ---- reading
 
-reader_keeps : (g : Given) (s : Server) (p : Passing) (m : Matter) (row : PullRow) (reader : PullReader) (c : Consumer)
+reader_keeps : (g : ReplayInput) (s : Server) (p : Passing) (m : Matter) (row : PullRow) (reader : PullReader) (c : Consumer)
     → ((inbox : ℕ) → IsWhole g.setup s.log s.removed (s.starts inbox) (s.lists inbox))
-    → IsPull g.setup → IsKeptOn g.setup s c.num c.last c.serial reader.source.inbox → IsHonestMatter g.setup s m
+    → IsPull g.setup → IsKeptOn g.setup s c.consumer_sequence c.last c.recreation_count reader.source.inbox → IsHonestMatter g.setup s m
     → Keeps g.setup s c.last (reader_row p m row reader c)
 reader_keeps g s p m row reader c whole mode k honest =
     let arrival : Option Message = message_on reader.source.inbox m.arrival in
@@ -378,7 +378,7 @@ reader_keeps g s p m row reader c whole mode k honest =
     let same : reader.source.inbox ≡ passed.reader.source.inbox = sym (ap (λ (source : Source). source.inbox) read.source) in
     with_sent_keeps g.setup s c.last passed.sent passed.next (told passed.told (at_phase (Pulls passed.reader) c))
     (told_keeps g s g.setup passed.reader c arrival passed.told (whole passed.reader.source.inbox) mode
-    (subst (λ (i : ℕ). IsKeptOn g.setup s c.num c.last c.serial i) same k) read.hands
+    (subst (λ (i : ℕ). IsKeptOn g.setup s c.consumer_sequence c.last c.recreation_count i) same k) read.hands
     (λ message is kind_is place place_is.
     subst (λ (i : ℕ). IsDelivery s i place.number (entry_of place message)) same
     (delivery arrival (on_inbox g.setup s reader.source.inbox m.arrival honest) message is kind_is place place_is)))
@@ -391,11 +391,11 @@ reader_keeps g s p m row reader c whole mode k honest =
         subst (λ (o : Option Message). IfSome o (λ message. IsHonestArrival g.setup s (record { inbox = reader.source.inbox; message = message }))) is h in
         h' place (pull_message g.setup message mode kind_is) place_is
 
-hear_keeps : (g : Given) (s : Server) (p : Passing) (arrival : Arrival) (inbox : ℕ) (silence : Timer) (c : Consumer)
+hear_keeps : (g : ReplayInput) (s : Server) (p : Passing) (arrival : Arrival) (inbox : ℕ) (heartbeat_timer : Timer) (c : Consumer)
     → ((inbox : ℕ) → IsWhole g.setup s.log s.removed (s.starts inbox) (s.lists inbox))
-    → IsPush g.setup → IsKeptOn g.setup s c.num c.last c.serial inbox → IsHonestArrival g.setup s arrival
-    → Keeps g.setup s c.last (hear_row p arrival inbox (at_phase (Pushes inbox silence) c))
-hear_keeps g s p arrival inbox silence c whole mode k honest =
+    → IsPush g.setup → IsKeptOn g.setup s c.consumer_sequence c.last c.recreation_count inbox → IsHonestArrival g.setup s arrival
+    → Keeps g.setup s c.last (hear_row p arrival inbox (at_phase (Pushes inbox heartbeat_timer) c))
+hear_keeps g s p arrival inbox heartbeat_timer c whole mode k honest =
     if_with (Keeps g.setup s c.last) (arrival.inbox == inbox) _ _
     (λ same. hear_kind_keeps g.setup s p inbox (armed p.now) c arrival.message (push_kind arrival.message) (whole inbox) mode k
     (λ kind_is place place_is.
@@ -410,21 +410,21 @@ push_rows_honest : (setup : OrderedSetup) (s : Server) (inbox : ℕ) (o : Option
 push_rows_honest setup s inbox None honest = (tt, tt)
 push_rows_honest setup s inbox (Some message) honest = (honest, tt)
 
-go_on_keeps : (g : Given) (s : Server) (whole : (inbox : ℕ) → IsWhole g.setup s.log s.removed (s.starts inbox) (s.lists inbox)) (p : Passing) (m : Matter) (phase : Phase) (c : Consumer) → IsKeptAt g.setup s c phase → IsHonestMatter g.setup s m
+go_on_keeps : (g : ReplayInput) (s : Server) (whole : (inbox : ℕ) → IsWhole g.setup s.log s.removed (s.starts inbox) (s.lists inbox)) (p : Passing) (m : Matter) (phase : Phase) (c : Consumer) → IsKeptAt g.setup s c phase → IsHonestMatter g.setup s m
     → Keeps g.setup s c.last (go_on g p m phase (at_phase phase c))
 go_on_keeps g s whole p m Idle c k honest = record { kept = tt; rows = (tt, tt); extends = refl }
 go_on_keeps g s whole p m (Recreates r) c k honest = record { kept = k; rows = recreation_honest g.setup s r.opened; extends = refl }
 go_on_keeps g s whole p m (Pulls reader) c k honest = reader_keeps g s p m (read.Begin None) reader c whole k.0 k.1 honest
-go_on_keeps g s whole p m (Pushes inbox silence) c k honest = record { kept = k; rows = (tt, tt); extends = refl }
+go_on_keeps g s whole p m (Pushes inbox heartbeat_timer) c k honest = record { kept = k; rows = (tt, tt); extends = refl }
 go_on_keeps g s whole p m Ended c k honest = record { kept = tt; rows = tt; extends = refl }
 go_on_keeps g s whole p m Exhausted c k honest = record { kept = tt; rows = tt; extends = refl }
 
-changed_keeps : (g : Given) (s : Server) (whole : (inbox : ℕ) → IsWhole g.setup s.log s.removed (s.starts inbox) (s.lists inbox)) (p : Passing) (m : Matter) (old new : State) (phase : Phase) (c : Consumer) → IsKeptAt g.setup s c phase → IsHonestMatter g.setup s m
+changed_keeps : (g : ReplayInput) (s : Server) (whole : (inbox : ℕ) → IsWhole g.setup s.log s.removed (s.starts inbox) (s.lists inbox)) (p : Passing) (m : Matter) (old new : State) (phase : Phase) (c : Consumer) → IsKeptAt g.setup s c phase → IsHonestMatter g.setup s m
     → Keeps g.setup s c.last (changed g p m old new phase (at_phase phase c))
 changed_keeps g s whole p m old new (Pulls reader) c k honest = reader_keeps g s p m (read.Begin (Some new)) reader (record c { connection = new }) whole k.0 k.1 honest
-changed_keeps g s whole p m old new (Pushes inbox silence) c k honest =
+changed_keeps g s whole p m old new (Pushes inbox heartbeat_timer) c k honest =
     if_both (Keeps g.setup s c.last) (is_connected old || is_connected new) _ _
-    (record { kept = k; rows = (tt, tt); extends = refl }) (go_on_keeps g s whole p m (Pushes inbox silence) (record c { connection = new }) k honest)
+    (record { kept = k; rows = (tt, tt); extends = refl }) (go_on_keeps g s whole p m (Pushes inbox heartbeat_timer) (record c { connection = new }) k honest)
 changed_keeps g s whole p m old new (Recreates r) c k honest =
     go_on_keeps g s whole p m (Recreates r) (record c { connection = new }) k honest
 changed_keeps g s whole p m old new Idle c k honest =
@@ -434,30 +434,30 @@ changed_keeps g s whole p m old new Ended c k honest =
 changed_keeps g s whole p m old new Exhausted c k honest =
     go_on_keeps g s whole p m Exhausted (record c { connection = new }) k honest
 
-watcher_keeps : (g : Given) (s : Server) (whole : (inbox : ℕ) → IsWhole g.setup s.log s.removed (s.starts inbox) (s.lists inbox)) (p : Passing) (m : Matter) (setup : OrderedSetup) (phase : Phase) (c : Consumer) → IsKeptAt g.setup s c phase → IsHonestMatter g.setup s m
+watcher_keeps : (g : ReplayInput) (s : Server) (whole : (inbox : ℕ) → IsWhole g.setup s.log s.removed (s.starts inbox) (s.lists inbox)) (p : Passing) (m : Matter) (setup : OrderedSetup) (phase : Phase) (c : Consumer) → IsKeptAt g.setup s c phase → IsHonestMatter g.setup s m
     → Keeps g.setup s c.last (watcher_ended g p m setup (at_phase phase c))
 watcher_keeps g s whole p m (Pull setup) phase c k honest = go_on_keeps g s whole p m phase c k honest
 watcher_keeps g s whole p m (Push setup) phase c k honest = record { kept = tt; rows = tt; extends = refl }
 
-change_keeps : (g : Given) (s : Server) (whole : (inbox : ℕ) → IsWhole g.setup s.log s.removed (s.starts inbox) (s.lists inbox)) (p : Passing) (m : Matter) (change : Change) (phase : Phase) (c : Consumer) → IsKeptAt g.setup s c phase → IsHonestMatter g.setup s m
+change_keeps : (g : ReplayInput) (s : Server) (whole : (inbox : ℕ) → IsWhole g.setup s.log s.removed (s.starts inbox) (s.lists inbox)) (p : Passing) (m : Matter) (change : Change) (phase : Phase) (c : Consumer) → IsKeptAt g.setup s c phase → IsHonestMatter g.setup s m
     → Keeps g.setup s c.last (event_change g p m change (at_phase phase c))
 change_keeps g s whole p m Unchanged phase c k honest = go_on_keeps g s whole p m phase c k honest
 change_keeps g s whole p m (Becomes state) phase c k honest =
     if_both (Keeps g.setup s c.last) (same_state c.connection state) _ _ (go_on_keeps g s whole p m phase c k honest) (changed_keeps g s whole p m c.connection state phase c k honest)
 change_keeps g s whole p m WatcherEnds phase c k honest = watcher_keeps g s whole p m g.setup phase c k honest
 
-event_keeps : (g : Given) (s : Server) (whole : (inbox : ℕ) → IsWhole g.setup s.log s.removed (s.starts inbox) (s.lists inbox)) (p : Passing) (m : Matter) (phase : Phase) (c : Consumer) → IsKeptAt g.setup s c phase → IsHonestMatter g.setup s m
+event_keeps : (g : ReplayInput) (s : Server) (whole : (inbox : ℕ) → IsWhole g.setup s.log s.removed (s.starts inbox) (s.lists inbox)) (p : Passing) (m : Matter) (phase : Phase) (c : Consumer) → IsKeptAt g.setup s c phase → IsHonestMatter g.setup s m
     → Keeps g.setup s c.last (event_row g p m phase (at_phase phase c))
 event_keeps g s whole p m Ended c k honest = record { kept = tt; rows = tt; extends = refl }
 event_keeps g s whole p m Exhausted c k honest = record { kept = tt; rows = tt; extends = refl }
 event_keeps g s whole p m (Pulls reader) c k honest = change_keeps g s whole p m m.change (Pulls reader) c k honest
-event_keeps g s whole p m (Pushes inbox silence) c k honest = change_keeps g s whole p m m.change (Pushes inbox silence) c k honest
+event_keeps g s whole p m (Pushes inbox heartbeat_timer) c k honest = change_keeps g s whole p m m.change (Pushes inbox heartbeat_timer) c k honest
 event_keeps g s whole p m (Recreates r) c k honest = change_keeps g s whole p m m.change (Recreates r) c k honest
 event_keeps g s whole p m Idle c k honest = change_keeps g s whole p m m.change Idle c k honest
 
 -- ---- every row
 
-pub row_keeps : (g : Given) (s : Server) → ((inbox : ℕ) → IsWhole g.setup s.log s.removed (s.starts inbox) (s.lists inbox))
+pub row_keeps : (g : ReplayInput) (s : Server) → ((inbox : ℕ) → IsWhole g.setup s.log s.removed (s.starts inbox) (s.lists inbox))
     → (p : Passing) (m : Matter) (row : Row) (phase : Phase) (c : Consumer)
     → IsKeptAt g.setup s c phase → IsHonestMatter g.setup s m → IsHonestRow g.setup s row
     → OpensAsAsked s phase (row_at g p m row phase (at_phase phase c)).outputs
@@ -472,15 +472,15 @@ row_keeps g s whole p m (Answered reply) (Recreates r) c k matter honest opens =
 row_keeps g s whole p m Hold (Recreates r) c k matter honest opens = hold_row_keeps g s m r c k matter
 row_keeps g s whole p m (Succeed info) (Recreates r) c k matter honest opens = succeed_keeps g g.setup refl s p info r c k opens
 row_keeps g s whole p m Fail (Recreates r) c k matter honest opens = fail_keeps g s p r c k
-row_keeps g s whole p m CheckArrival (Pushes inbox silence) c k matter honest opens = record { kept = k; rows = push_rows_honest g.setup s inbox (message_on inbox m.arrival) (on_inbox g.setup s inbox m.arrival matter); extends = refl }
-row_keeps g s whole p m (Hear arrival) (Pushes inbox silence) c k matter honest opens = hear_keeps g s p arrival inbox silence c whole k.0 k.1 honest
-row_keeps g s whole p m CheckSilence (Pushes inbox silence) c k matter honest opens = silence_keeps g.setup s p silence inbox c k.0 k.1
-row_keeps g s whole p m Arm (Pushes inbox silence) c k matter honest opens = record { kept = k; rows = tt; extends = refl }
+row_keeps g s whole p m CheckArrival (Pushes inbox heartbeat_timer) c k matter honest opens = record { kept = k; rows = push_rows_honest g.setup s inbox (message_on inbox m.arrival) (on_inbox g.setup s inbox m.arrival matter); extends = refl }
+row_keeps g s whole p m (Hear arrival) (Pushes inbox heartbeat_timer) c k matter honest opens = hear_keeps g s p arrival inbox heartbeat_timer c whole k.0 k.1 honest
+row_keeps g s whole p m CheckSilence (Pushes inbox heartbeat_timer) c k matter honest opens = silence_keeps g.setup s p heartbeat_timer inbox c k.0 k.1
+row_keeps g s whole p m Arm (Pushes inbox heartbeat_timer) c k matter honest opens = record { kept = k; rows = tt; extends = refl }
 row_keeps g s whole p m (Read row) (Pulls reader) c k matter honest opens = reader_keeps g s p m row reader c whole k.0 k.1 matter
 row_keeps g s whole p m _ phase c k matter honest opens = record { kept = k; rows = tt; extends = refl }
 
 -- a row that is passed keeps what is known of its consumer
-pub pass_keeps : (g : Given) (s : Server) → ((inbox : ℕ) → IsWhole g.setup s.log s.removed (s.starts inbox) (s.lists inbox))
+pub pass_keeps : (g : ReplayInput) (s : Server) → ((inbox : ℕ) → IsWhole g.setup s.log s.removed (s.starts inbox) (s.lists inbox))
     → (p : Passing) (m : Matter) (row : Row) (c : Consumer)
     → IsKept g.setup s c → IsHonestMatter g.setup s m → IsHonestRow g.setup s row
     → OpensAsAsked s c.phase (pass g p m row c).outputs

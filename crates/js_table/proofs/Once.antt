@@ -15,17 +15,17 @@ use Rattle.js_pull.specs.declared.reader.Reader.{Reader as PullReader}
 use Rattle.js_pull.specs.Reader as pull
 use Rattle.js_pull.specs.declared.reader.Row.{Row as PullRow}
 use Rattle.js_pull.specs.declared.reader.Row.TheVariants as read
-use Rattle.js_pull.specs.declared.reader.Told.{Told as PullTold}
-use Rattle.js_pull.specs.declared.reader.Told.TheVariants as tells
+use Rattle.js_pull.specs.declared.reader.ReaderOutput.{ReaderOutput as PullTold}
+use Rattle.js_pull.specs.declared.reader.ReaderOutput.TheVariants as tells
 use Rattle.js_pull.specs.declared.reader.MessagesErrorKind.TheVariants as error
-use Rattle.js_table.specs.declared.world.World.{World}
+use Rattle.js_table.specs.declared.replay_state.ReplayState.{ReplayState}
 use Rattle.js_table.specs.declared.consumer.Consumer.{Consumer}
 use Rattle.js_table.specs.State.{Matter, Change, Unchanged, Becomes, WatcherEnds, Passed, at_phase, output_of}
 use Rattle.js_table.specs.declared.consumer.Recreation.{Recreation}
 use Rattle.js_table.specs.declared.consumer.Opened.{Opened}
 use Rattle.js_table.specs.declared.row.Row.{Row}
 use Rattle.js_table.specs.declared.row.Row.TheVariants.{Event, Start, Try, Create, Ask, Await, Answered, Hold, Succeed, Fail, CheckArrival, Hear, CheckSilence, Arm, Read}
-use Rattle.js_table.specs.declared.consumer.Given.{Given}
+use Rattle.js_table.specs.declared.consumer.ReplayInput.{ReplayInput}
 use Rattle.js_table.specs.declared.consumer.Stage.{Stage}
 use Rattle.js_table.specs.declared.consumer.Stage.TheVariants.{Between, Deleting, Creating, Waiting}
 use Rattle.js_table.specs.declared.consumer.Phase.{Phase}
@@ -48,7 +48,7 @@ use Rattle.js_table.proofs.Rewritten.{if_both, if_each}
 
 recreations_append : (first second : List Output) → recreations (first ++ second) ≡ recreations first + recreations second
 recreations_append [] second = omega arith
-recreations_append (out.Recreate serial start ∷ first) second = let h = recreations_append first second in omega (arith, h)
+recreations_append (out.Recreate recreation_count start ∷ first) second = let h = recreations_append first second in omega (arith, h)
 recreations_append (out.Yield sequence number subject payload ∷ first) second = recreations_append first second
 recreations_append (out.Item kind ∷ first) second = recreations_append first second
 recreations_append (out.Request number subject payload ∷ first) second = recreations_append first second
@@ -109,7 +109,7 @@ Heads P (row ∷ rows) = P row × AreLater rows
 -- no reader is current
 abbrev IsStill : Phase → Type 0
 IsStill (Pulls reader) = ⊥
-IsStill (Pushes inbox silence) = ⊥
+IsStill (Pushes inbox heartbeat_timer) = ⊥
 IsStill _ = ⊤
 
 heads_in_place : (P : Row → Type 0) → ((row : Row) → IsLater row → P row) → (first second : List Row) → Heads P first → AreLater second → Heads P (in_place_of first second)
@@ -168,35 +168,35 @@ record Rests (passed : Passed) : Type 0 where
 
 -- ---- rows without a reader
 
-try_rests : (g : Given) (p : Passing) (r : Recreation) (c : Consumer) → Rests (try_row g p r (at_phase (Recreates r) c))
+try_rests : (g : ReplayInput) (p : Passing) (r : Recreation) (c : Consumer) → Rests (try_row g p r (at_phase (Recreates r) c))
 try_rests g p r c = if_each Rests p.up _ _ (λ _. record { none = refl; next = tt; still = tt }) (λ _. record { none = refl; next = (tt, tt); still = tt })
 
 create_rests : (setup : OrderedSetup) (p : Passing) (r : Recreation) (c : Consumer) → Rests (create_row setup p r (at_phase (Recreates r) c))
 create_rests (Pull setup) p r c = record { none = refl; next = (tt, tt); still = tt }
 create_rests (Push setup) p r c = if_each Rests p.up _ _ (λ _. record { none = refl; next = (tt, tt); still = tt }) (λ _. record { none = refl; next = (tt, tt); still = tt })
 
-ask_rests : (g : Given) (p : Passing) (r : Recreation) (c : Consumer) → Rests (ask_row g p r (at_phase (Recreates r) c))
+ask_rests : (g : ReplayInput) (p : Passing) (r : Recreation) (c : Consumer) → Rests (ask_row g p r (at_phase (Recreates r) c))
 ask_rests g p r c = if_each Rests p.up _ _ (λ _. record { none = refl; next = tt; still = tt }) (λ _. record { none = refl; next = (tt, tt); still = tt })
 
-fail_rests : (g : Given) (p : Passing) (r : Recreation) (c : Consumer) → Rests (fail_row g p r (at_phase (Recreates r) c))
+fail_rests : (g : ReplayInput) (p : Passing) (r : Recreation) (c : Consumer) → Rests (fail_row g p r (at_phase (Recreates r) c))
 fail_rests g p r c = if_each Rests (nat_lt g.settings.retries (r.failures + 1)) _ _ (λ _. record { none = refl; next = tt; still = tt }) (λ _. record { none = refl; next = tt; still = tt })
 
 -- a later row without a reader
-rests : (g : Given) (p : Passing) (m : Matter) (row : Row) (phase : Phase) (c : Consumer) → IsLater row → IsStill phase → Rests (row_at g p m row phase (at_phase phase c))
+rests : (g : ReplayInput) (p : Passing) (m : Matter) (row : Row) (phase : Phase) (c : Consumer) → IsLater row → IsStill phase → Rests (row_at g p m row phase (at_phase phase c))
 rests g p m Try (Recreates r) c l s = try_rests g p r c
 rests g p m Create (Recreates r) c l s = create_rests g.setup p r c
 rests g p m Ask (Recreates r) c l s = ask_rests g p r c
 rests g p m Fail (Recreates r) c l s = fail_rests g p r c
 rests g p m Hold (Recreates r) c l s = record { none = refl; next = tt; still = tt }
-rests g p m CheckArrival (Pushes inbox silence) c l s = absurd s
+rests g p m CheckArrival (Pushes inbox heartbeat_timer) c l s = absurd s
 rests g p m Await phase c l s = absurd l
 rests g p m (Answered reply) phase c l s = absurd l
 rests g p m Event phase c l s = absurd l
 rests g p m Start phase c l s = absurd l
 rests g p m (Succeed info) phase c l s = absurd l
-rests g p m (Hear arrival) (Pushes inbox silence) c l s = absurd s
-rests g p m CheckSilence (Pushes inbox silence) c l s = absurd s
-rests g p m Arm (Pushes inbox silence) c l s = absurd s
+rests g p m (Hear arrival) (Pushes inbox heartbeat_timer) c l s = absurd s
+rests g p m CheckSilence (Pushes inbox heartbeat_timer) c l s = absurd s
+rests g p m Arm (Pushes inbox heartbeat_timer) c l s = absurd s
 rests g p m (Read row) (Pulls reader) c l s = absurd s
 rests g p m _ phase c l s = record { none = refl; next = tt; still = s }
 
@@ -204,7 +204,7 @@ rests g p m _ phase c l s = record { none = refl; next = tt; still = s }
 
 message_leads : (o : Option Place) (message : Message) (c : Consumer) → Leads IsNext (message_row o message c)
 message_leads None message c = record { none = refl; next = tt }
-message_leads (Some place) message c = if_each (Leads IsNext) (place.number == c.num + 1) _ _ (λ _. record { none = refl; next = tt }) (λ _. record { none = refl; next = (tt, tt) })
+message_leads (Some place) message c = if_each (Leads IsNext) (place.number == c.consumer_sequence + 1) _ _ (λ _. record { none = refl; next = tt }) (λ _. record { none = refl; next = (tt, tt) })
 
 told_leads : (t : PullTold) (c : Consumer) → Leads IsNext (told t c)
 told_leads tells.Nothing c = record { none = refl; next = tt }
@@ -235,15 +235,15 @@ beat_none up None = refl
 beat_none true (Some reply) = refl
 beat_none false (Some reply) = refl
 
-beat_next : (beat : Option ℕ) (num : ℕ) → Heads IsNext (beat_rows beat num)
-beat_next None num = tt
-beat_next (Some n) num = if_each (Heads IsNext) (n == num) _ _ (λ _. tt) (λ _. (tt, tt))
+beat_next : (beat : Option ℕ) (consumer_sequence : ℕ) → Heads IsNext (beat_rows beat consumer_sequence)
+beat_next None consumer_sequence = tt
+beat_next (Some n) consumer_sequence = if_each (Heads IsNext) (n == consumer_sequence) _ _ (λ _. tt) (λ _. (tt, tt))
 
 hear_kind_leads : (p : Passing) (message : Message) (kind : PushKind) (c : Consumer) → Leads IsNext (hear_kind p message kind c)
 hear_kind_leads p message Delivered c = message_leads (readable_as message.reply) message c
 hear_kind_leads p message Quiet c = record { none = refl; next = tt }
 hear_kind_leads p message Bad c = record { none = refl; next = tt }
-hear_kind_leads p message (Beat n) c = record { none = beat_none p.up message.reply; next = beat_next n c.num }
+hear_kind_leads p message (Beat n) c = record { none = beat_none p.up message.reply; next = beat_next n c.consumer_sequence }
 
 weaker : (passed : Passed) → Rests passed → Leads IsNext passed
 weaker passed r = record { none = r.none; next = later_heads passed.next r.next }
@@ -257,22 +257,22 @@ push_next inbox None = (tt, tt)
 push_next inbox (Some message) = (tt, tt)
 
 -- a later row, whatever the phase
-leads : (g : Given) (p : Passing) (m : Matter) (row : Row) (phase : Phase) (c : Consumer) → IsLater row → Leads IsNext (row_at g p m row phase (at_phase phase c))
+leads : (g : ReplayInput) (p : Passing) (m : Matter) (row : Row) (phase : Phase) (c : Consumer) → IsLater row → Leads IsNext (row_at g p m row phase (at_phase phase c))
 leads g p m Try (Recreates r) c l = weaker (try_row g p r (at_phase (Recreates r) c)) (try_rests g p r c)
 leads g p m Create (Recreates r) c l = weaker (create_row g.setup p r (at_phase (Recreates r) c)) (create_rests g.setup p r c)
 leads g p m Ask (Recreates r) c l = weaker (ask_row g p r (at_phase (Recreates r) c)) (ask_rests g p r c)
 leads g p m Fail (Recreates r) c l = weaker (fail_row g p r (at_phase (Recreates r) c)) (fail_rests g p r c)
 leads g p m Hold (Recreates r) c l = record { none = refl; next = tt }
-leads g p m CheckArrival (Pushes inbox silence) c l = record { none = refl; next = push_next inbox (message_on inbox m.arrival) }
+leads g p m CheckArrival (Pushes inbox heartbeat_timer) c l = record { none = refl; next = push_next inbox (message_on inbox m.arrival) }
 leads g p m Await phase c l = absurd l
 leads g p m (Answered reply) phase c l = absurd l
 leads g p m Event phase c l = absurd l
 leads g p m Start phase c l = absurd l
 leads g p m (Succeed info) phase c l = absurd l
-leads g p m (Hear arrival) (Pushes inbox silence) c l =
+leads g p m (Hear arrival) (Pushes inbox heartbeat_timer) c l =
     if_each (Leads IsNext) (arrival.inbox == inbox) _ _ (λ _. hear_kind_leads p arrival.message (push_kind arrival.message) (at_phase (Pushes inbox (armed p.now)) c)) (λ _. record { none = refl; next = tt })
-leads g p m CheckSilence (Pushes inbox silence) c l = if_each (Leads IsNext) (is_due silence p.now) _ _ (λ _. record { none = refl; next = (tt, tt) }) (λ _. record { none = refl; next = tt })
-leads g p m Arm (Pushes inbox silence) c l = record { none = refl; next = tt }
+leads g p m CheckSilence (Pushes inbox heartbeat_timer) c l = if_each (Leads IsNext) (is_due heartbeat_timer p.now) _ _ (λ _. record { none = refl; next = (tt, tt) }) (λ _. record { none = refl; next = tt })
+leads g p m Arm (Pushes inbox heartbeat_timer) c l = record { none = refl; next = tt }
 leads g p m (Read row) (Pulls reader) c l = reader_leads p m row reader c
 leads g p m _ phase c l = record { none = refl; next = tt }
 
@@ -283,7 +283,7 @@ record Begins (passed : Passed) : Type 0 where
   next : AreLater passed.next
   still : IsStill passed.consumer.phase
 
-start_begins : (g : Given) (c : Consumer) → Begins (start_row g c)
+start_begins : (g : ReplayInput) (c : Consumer) → Begins (start_row g c)
 start_begins g c = if_each Begins (c.last == pull.u64_max) _ _ (λ _. record { once = inl refl; next = tt; still = tt }) (λ _. record { once = inr refl; next = (tt, tt); still = tt })
 
 held_later : (inbox : ℕ) (held : List Message) → AreLater (map (λ (message : Message). Hear (record { inbox = inbox; message = message })) held ++ Arm ∷ [])
@@ -298,14 +298,14 @@ push_goes : (p : Passing) (opened : Option Opened) (c : Consumer) → Goes (succ
 push_goes p None c = record { none = refl; next = tt }
 push_goes p (Some opened) c = record { none = refl; next = held_later opened.inbox opened.held }
 
-succeed_goes : (setup : OrderedSetup) (g : Given) (p : Passing) (info : Info) (r : Recreation) (c : Consumer) → Goes (succeed_row setup g p info r c)
+succeed_goes : (setup : OrderedSetup) (g : ReplayInput) (p : Passing) (info : Info) (r : Recreation) (c : Consumer) → Goes (succeed_row setup g p info r c)
 succeed_goes (Pull setup) g p info r c = if_each Goes p.up _ _ (λ _. record { none = refl; next = (tt, (tt, tt)) }) (λ _. record { none = refl; next = (tt, tt) })
 succeed_goes (Push setup) g p info r c = push_goes p r.opened c
 
-good_goes : (g : Given) (p : Passing) (m : Matter) (info : Info) (phase : Phase) (c : Consumer) → Goes (row_at g p m (Succeed info) phase c)
+good_goes : (g : ReplayInput) (p : Passing) (m : Matter) (info : Info) (phase : Phase) (c : Consumer) → Goes (row_at g p m (Succeed info) phase c)
 good_goes g p m info (Recreates r) c = succeed_goes g.setup g p info r c
 good_goes g p m info (Pulls reader) c = record { none = refl; next = tt }
-good_goes g p m info (Pushes inbox silence) c = record { none = refl; next = tt }
+good_goes g p m info (Pushes inbox heartbeat_timer) c = record { none = refl; next = tt }
 good_goes g p m info Idle c = record { none = refl; next = tt }
 good_goes g p m info Ended c = record { none = refl; next = tt }
 good_goes g p m info Exhausted c = record { none = refl; next = tt }
@@ -314,29 +314,29 @@ answered_good : (mode : OrderedSetup) (info : Option Info) → IsGood (answered 
 answered_good mode None = tt
 answered_good mode (Some info) = if_each IsGood (has_subject mode info) (Succeed info) Fail (λ _. tt) (λ _. tt)
 
-answer_leads : (g : Given) (p : Passing) (m : Matter) (reply : Option Message) (phase : Phase) (c : Consumer) → Leads IsGood (row_at g p m (Answered reply) phase c)
+answer_leads : (g : ReplayInput) (p : Passing) (m : Matter) (reply : Option Message) (phase : Phase) (c : Consumer) → Leads IsGood (row_at g p m (Answered reply) phase c)
 answer_leads g p m reply (Recreates r) c = record { none = refl; next = (answered_good g.setup (pull.info_of_reply reply), tt) }
 answer_leads g p m reply (Pulls reader) c = record { none = refl; next = tt }
-answer_leads g p m reply (Pushes inbox silence) c = record { none = refl; next = tt }
+answer_leads g p m reply (Pushes inbox heartbeat_timer) c = record { none = refl; next = tt }
 answer_leads g p m reply Idle c = record { none = refl; next = tt }
 answer_leads g p m reply Ended c = record { none = refl; next = tt }
 answer_leads g p m reply Exhausted c = record { none = refl; next = tt }
 
-created_awaited : (g : Given) (p : Passing) (timeout : Timer) (reply : Option (Option Message)) → Heads IsAwaited (created g p timeout reply)
+created_awaited : (g : ReplayInput) (p : Passing) (timeout : Timer) (reply : Option (Option Message)) → Heads IsAwaited (created g p timeout reply)
 created_awaited g p timeout (Some reply) = (tt, tt)
 created_awaited g p timeout None = if_each (Heads IsAwaited) (is_due timeout p.now) _ _ (λ _. (tt, tt)) (λ _. tt)
 
-stage_awaited : (g : Given) (p : Passing) (m : Matter) (stage : Stage) → Heads IsAwaited (stage_rows g p m stage)
+stage_awaited : (g : ReplayInput) (p : Passing) (m : Matter) (stage : Stage) → Heads IsAwaited (stage_rows g p m stage)
 stage_awaited g p m Between = tt
 stage_awaited g p m (Deleting request timeout) =
     if_each (Heads IsAwaited) (is_some (pull.reply_to request m.answer)) _ _ (λ _. (tt, tt)) (λ _. if_each (Heads IsAwaited) (is_due timeout p.now) _ _ (λ _. (tt, tt)) (λ _. tt))
 stage_awaited g p m (Creating request timeout) = created_awaited g p timeout (pull.reply_to request m.answer)
 stage_awaited g p m (Waiting wait) = if_each (Heads IsAwaited) (is_due wait p.now) _ _ (λ _. (tt, tt)) (λ _. tt)
 
-await_leads : (g : Given) (p : Passing) (m : Matter) (phase : Phase) (c : Consumer) → Leads IsAwaited (row_at g p m Await phase c)
+await_leads : (g : ReplayInput) (p : Passing) (m : Matter) (phase : Phase) (c : Consumer) → Leads IsAwaited (row_at g p m Await phase c)
 await_leads g p m (Recreates r) c = record { none = refl; next = stage_awaited g p m r.stage }
 await_leads g p m (Pulls reader) c = record { none = refl; next = tt }
-await_leads g p m (Pushes inbox silence) c = record { none = refl; next = tt }
+await_leads g p m (Pushes inbox heartbeat_timer) c = record { none = refl; next = tt }
 await_leads g p m Idle c = record { none = refl; next = tt }
 await_leads g p m Ended c = record { none = refl; next = tt }
 await_leads g p m Exhausted c = record { none = refl; next = tt }
@@ -348,37 +348,37 @@ recreation_inside : (opened : Option Opened) → Heads IsInside (recreation_rows
 recreation_inside None = (tt, tt)
 recreation_inside (Some opened) = (tt, (tt, tt))
 
-go_on_leads : (g : Given) (p : Passing) (m : Matter) (phase : Phase) (c : Consumer) → Leads IsInside (go_on g p m phase c)
+go_on_leads : (g : ReplayInput) (p : Passing) (m : Matter) (phase : Phase) (c : Consumer) → Leads IsInside (go_on g p m phase c)
 go_on_leads g p m Idle c = record { none = refl; next = (tt, tt) }
 go_on_leads g p m (Recreates r) c = record { none = refl; next = recreation_inside r.opened }
 go_on_leads g p m (Pulls reader) c = reader_inside p m (read.Begin None) reader c
-go_on_leads g p m (Pushes inbox silence) c = record { none = refl; next = (tt, tt) }
+go_on_leads g p m (Pushes inbox heartbeat_timer) c = record { none = refl; next = (tt, tt) }
 go_on_leads g p m Ended c = record { none = refl; next = tt }
 go_on_leads g p m Exhausted c = record { none = refl; next = tt }
 
-changed_leads : (g : Given) (p : Passing) (m : Matter) (old new : State) (phase : Phase) (c : Consumer) → Leads IsInside (changed g p m old new phase c)
+changed_leads : (g : ReplayInput) (p : Passing) (m : Matter) (old new : State) (phase : Phase) (c : Consumer) → Leads IsInside (changed g p m old new phase c)
 changed_leads g p m old new (Pulls reader) c = reader_inside p m (read.Begin (Some new)) reader (record c { connection = new })
-changed_leads g p m old new (Pushes inbox silence) c =
-    if_both (Leads IsInside) (is_connected old || is_connected new) _ _ (record { none = refl; next = (tt, tt) }) (go_on_leads g p m (Pushes inbox silence) (record c { connection = new }))
+changed_leads g p m old new (Pushes inbox heartbeat_timer) c =
+    if_both (Leads IsInside) (is_connected old || is_connected new) _ _ (record { none = refl; next = (tt, tt) }) (go_on_leads g p m (Pushes inbox heartbeat_timer) (record c { connection = new }))
 changed_leads g p m old new (Recreates r) c = go_on_leads g p m (Recreates r) (record c { connection = new })
 changed_leads g p m old new Idle c = go_on_leads g p m Idle (record c { connection = new })
 changed_leads g p m old new Ended c = go_on_leads g p m Ended (record c { connection = new })
 changed_leads g p m old new Exhausted c = go_on_leads g p m Exhausted (record c { connection = new })
 
-watcher_leads : (g : Given) (p : Passing) (m : Matter) (setup : OrderedSetup) (c : Consumer) → Leads IsInside (watcher_ended g p m setup c)
+watcher_leads : (g : ReplayInput) (p : Passing) (m : Matter) (setup : OrderedSetup) (c : Consumer) → Leads IsInside (watcher_ended g p m setup c)
 watcher_leads g p m (Pull setup) c = go_on_leads g p m c.phase c
 watcher_leads g p m (Push setup) c = record { none = refl; next = tt }
 
-change_leads : (g : Given) (p : Passing) (m : Matter) (change : Change) (c : Consumer) → Leads IsInside (event_change g p m change c)
+change_leads : (g : ReplayInput) (p : Passing) (m : Matter) (change : Change) (c : Consumer) → Leads IsInside (event_change g p m change c)
 change_leads g p m Unchanged c = go_on_leads g p m c.phase c
 change_leads g p m (Becomes state) c = if_both (Leads IsInside) (same_state c.connection state) _ _ (go_on_leads g p m c.phase c) (changed_leads g p m c.connection state c.phase c)
 change_leads g p m WatcherEnds c = watcher_leads g p m g.setup c
 
-event_leads : (g : Given) (p : Passing) (m : Matter) (phase : Phase) (c : Consumer) → Leads IsInside (event_row g p m phase c)
+event_leads : (g : ReplayInput) (p : Passing) (m : Matter) (phase : Phase) (c : Consumer) → Leads IsInside (event_row g p m phase c)
 event_leads g p m Ended c = record { none = refl; next = tt }
 event_leads g p m Exhausted c = record { none = refl; next = tt }
 event_leads g p m (Pulls reader) c = change_leads g p m m.change c
-event_leads g p m (Pushes inbox silence) c = change_leads g p m m.change c
+event_leads g p m (Pushes inbox heartbeat_timer) c = change_leads g p m m.change c
 event_leads g p m (Recreates r) c = change_leads g p m m.change c
 event_leads g p m Idle c = change_leads g p m m.change c
 
@@ -406,17 +406,17 @@ begin_once outputs ran (inr one) s = inr (added outputs ran 1 0 one s.none, s.st
 stay : (outputs : List Output) (ran : Ran) → recreations outputs ≡ 0 → Stays ran → Stays (and_then outputs ran)
 stay outputs ran none s = record { none = added outputs ran 0 0 none s.none; still = s.still }
 
-abbrev OneStays : (Row → World → Ran) → Type 0
-OneStays one = (row : Row) (w : World) → IsLater row → IsStill w.consumer.phase → Stays (one row w)
+abbrev OneStays : (Row → ReplayState → Ran) → Type 0
+OneStays one = (row : Row) (w : ReplayState) → IsLater row → IsStill w.consumer.phase → Stays (one row w)
 
-each_stays : (one : Row → World → Ran) → OneStays one → (rows : List Row) (w : World) → AreLater rows → IsStill w.consumer.phase → Stays (pass_each one rows w)
+each_stays : (one : Row → ReplayState → Ran) → OneStays one → (rows : List Row) (w : ReplayState) → AreLater rows → IsStill w.consumer.phase → Stays (pass_each one rows w)
 each_stays one stays_one [] w l s = record { none = refl; still = s }
 each_stays one stays_one (row ∷ rows) w l s =
     let ran : Ran = one row w in
     let first : Stays ran = stays_one row w l.0 s in
     stay ran.outputs (pass_each one rows ran.world) first.none (each_stays one stays_one rows ran.world l.1 first.still)
 
-row_stays : (g : Given) (now : ℕ) (m : Matter) (depth : ℕ) → OneStays (pass_to g now m depth)
+row_stays : (g : ReplayInput) (now : ℕ) (m : Matter) (depth : ℕ) → OneStays (pass_to g now m depth)
 row_stays g now m zero row w l s = record { none = refl; still = s }
 row_stays g now m (suc depth) row w l s =
     let passed : Passed = pass g (passing g now w) m row w.consumer in
@@ -429,22 +429,22 @@ then_once : (first rest : Ran) → Once first → (IsStill first.world.consumer.
 then_once first rest (inl none) stays_rest once_rest = quiet_once first.outputs rest none once_rest
 then_once first rest (inr one) stays_rest once_rest = begin_once first.outputs rest (inr one.0) (stays_rest one.1)
 
-abbrev OneOnce : (Row → Type 0) → (Row → World → Ran) → Type 0
-OneOnce P one = (row : Row) (w : World) → P row → Once (one row w)
+abbrev OneOnce : (Row → Type 0) → (Row → ReplayState → Ran) → Type 0
+OneOnce P one = (row : Row) (w : ReplayState) → P row → Once (one row w)
 
-each_once : (one : Row → World → Ran) → OneStays one → OneOnce IsLater one → (rows : List Row) (w : World) → AreLater rows → Once (pass_each one rows w)
+each_once : (one : Row → ReplayState → Ran) → OneStays one → OneOnce IsLater one → (rows : List Row) (w : ReplayState) → AreLater rows → Once (pass_each one rows w)
 each_once one stays_one once_one [] w l = inl refl
 each_once one stays_one once_one (row ∷ rows) w l =
     let ran : Ran = one row w in
     then_once ran (pass_each one rows ran.world) (once_one row w l.0) (each_stays one stays_one rows ran.world l.1) (each_once one stays_one once_one rows ran.world l.1)
 
-heads_once : (P : Row → Type 0) (one : Row → World → Ran) → OneStays one → OneOnce IsLater one → OneOnce P one → (rows : List Row) (w : World) → Heads P rows → Once (pass_each one rows w)
+heads_once : (P : Row → Type 0) (one : Row → ReplayState → Ran) → OneStays one → OneOnce IsLater one → OneOnce P one → (rows : List Row) (w : ReplayState) → Heads P rows → Once (pass_each one rows w)
 heads_once P one stays_one once_one once_head [] w h = inl refl
 heads_once P one stays_one once_one once_head (row ∷ rows) w h =
     let ran : Ran = one row w in
     then_once ran (pass_each one rows ran.world) (once_head row w h.0) (each_stays one stays_one rows ran.world h.1) (each_once one stays_one once_one rows ran.world h.1)
 
-start_once : (g : Given) (now : ℕ) (m : Matter) (depth : ℕ) (w : World) → Once (pass_to g now m depth Start w)
+start_once : (g : ReplayInput) (now : ℕ) (m : Matter) (depth : ℕ) (w : ReplayState) → Once (pass_to g now m depth Start w)
 start_once g now m zero w = inl refl
 start_once g now m (suc depth) w =
     let passed : Passed = pass g (passing g now w) m Start w.consumer in
@@ -453,14 +453,14 @@ start_once g now m (suc depth) w =
     (each_stays (pass_to g now m depth) (row_stays g now m depth) passed.next (after w passed) one.next one.still)
 
 -- a later row, where what it brings is known to begin at most one
-later_once : (g : Given) (now : ℕ) (m : Matter) (depth : ℕ) → OneOnce IsNext (pass_to g now m depth) → (row : Row) (w : World) → IsLater row → Once (pass_to g now m (suc depth) row w)
+later_once : (g : ReplayInput) (now : ℕ) (m : Matter) (depth : ℕ) → OneOnce IsNext (pass_to g now m depth) → (row : Row) (w : ReplayState) → IsLater row → Once (pass_to g now m (suc depth) row w)
 later_once g now m depth below row w l =
     let passed : Passed = pass g (passing g now w) m row w.consumer in
     let one : Leads IsNext passed = leads g (passing g now w) m row w.consumer.phase w.consumer l in
     quiet_once passed.outputs (pass_each (pass_to g now m depth) passed.next (after w passed)) one.none
     (heads_once IsNext (pass_to g now m depth) (row_stays g now m depth) (λ next w' l'. below next w' (later_next next l')) below passed.next (after w passed) one.next)
 
-next_once : (g : Given) (now : ℕ) (m : Matter) (depth : ℕ) → OneOnce IsNext (pass_to g now m depth)
+next_once : (g : ReplayInput) (now : ℕ) (m : Matter) (depth : ℕ) → OneOnce IsNext (pass_to g now m depth)
 next_once g now m zero row w n = inl refl
 next_once g now m (suc depth) Event w n = absurd n
 next_once g now m (suc depth) Await w n = absurd n
@@ -478,7 +478,7 @@ next_once g now m (suc depth) CheckSilence w n = later_once g now m depth (next_
 next_once g now m (suc depth) Arm w n = later_once g now m depth (next_once g now m depth) Arm w tt
 next_once g now m (suc depth) (Read row) w n = later_once g now m depth (next_once g now m depth) (Read row) w tt
 
-good_once : (g : Given) (now : ℕ) (m : Matter) (depth : ℕ) (info : Info) (w : World) → Once (pass_to g now m depth (Succeed info) w)
+good_once : (g : ReplayInput) (now : ℕ) (m : Matter) (depth : ℕ) (info : Info) (w : ReplayState) → Once (pass_to g now m depth (Succeed info) w)
 good_once g now m zero info w = inl refl
 good_once g now m (suc depth) info w =
     let passed : Passed = pass g (passing g now w) m (Succeed info) w.consumer in
@@ -486,7 +486,7 @@ good_once g now m (suc depth) info w =
     quiet_once passed.outputs (pass_each (pass_to g now m depth) passed.next (after w passed)) one.none
     (each_once (pass_to g now m depth) (row_stays g now m depth) (λ next w' l. next_once g now m depth next w' (later_next next l)) passed.next (after w passed) one.next)
 
-ended_once : (g : Given) (now : ℕ) (m : Matter) (depth : ℕ) → OneOnce IsGood (pass_to g now m depth)
+ended_once : (g : ReplayInput) (now : ℕ) (m : Matter) (depth : ℕ) → OneOnce IsGood (pass_to g now m depth)
 ended_once g now m depth Event w i = absurd i
 ended_once g now m depth Await w i = absurd i
 ended_once g now m depth (Answered reply) w i = absurd i
@@ -503,7 +503,7 @@ ended_once g now m depth CheckSilence w i = next_once g now m depth CheckSilence
 ended_once g now m depth Arm w i = next_once g now m depth Arm w tt
 ended_once g now m depth (Read row) w i = next_once g now m depth (Read row) w tt
 
-answer_once : (g : Given) (now : ℕ) (m : Matter) (depth : ℕ) (reply : Option Message) (w : World) → Once (pass_to g now m depth (Answered reply) w)
+answer_once : (g : ReplayInput) (now : ℕ) (m : Matter) (depth : ℕ) (reply : Option Message) (w : ReplayState) → Once (pass_to g now m depth (Answered reply) w)
 answer_once g now m zero reply w = inl refl
 answer_once g now m (suc depth) reply w =
     let passed : Passed = pass g (passing g now w) m (Answered reply) w.consumer in
@@ -511,7 +511,7 @@ answer_once g now m (suc depth) reply w =
     quiet_once passed.outputs (pass_each (pass_to g now m depth) passed.next (after w passed)) one.none
     (heads_once IsGood (pass_to g now m depth) (row_stays g now m depth) (λ next w' l. next_once g now m depth next w' (later_next next l)) (ended_once g now m depth) passed.next (after w passed) one.next)
 
-awaited_once : (g : Given) (now : ℕ) (m : Matter) (depth : ℕ) → OneOnce IsAwaited (pass_to g now m depth)
+awaited_once : (g : ReplayInput) (now : ℕ) (m : Matter) (depth : ℕ) → OneOnce IsAwaited (pass_to g now m depth)
 awaited_once g now m depth Event w i = absurd i
 awaited_once g now m depth Await w i = absurd i
 awaited_once g now m depth (Answered reply) w i = answer_once g now m depth reply w
@@ -528,7 +528,7 @@ awaited_once g now m depth CheckSilence w i = next_once g now m depth CheckSilen
 awaited_once g now m depth Arm w i = next_once g now m depth Arm w tt
 awaited_once g now m depth (Read row) w i = next_once g now m depth (Read row) w tt
 
-await_once : (g : Given) (now : ℕ) (m : Matter) (depth : ℕ) (w : World) → Once (pass_to g now m depth Await w)
+await_once : (g : ReplayInput) (now : ℕ) (m : Matter) (depth : ℕ) (w : ReplayState) → Once (pass_to g now m depth Await w)
 await_once g now m zero w = inl refl
 await_once g now m (suc depth) w =
     let passed : Passed = pass g (passing g now w) m Await w.consumer in
@@ -536,7 +536,7 @@ await_once g now m (suc depth) w =
     quiet_once passed.outputs (pass_each (pass_to g now m depth) passed.next (after w passed)) one.none
     (heads_once IsAwaited (pass_to g now m depth) (row_stays g now m depth) (λ next w' l. next_once g now m depth next w' (later_next next l)) (awaited_once g now m depth) passed.next (after w passed) one.next)
 
-inside_once : (g : Given) (now : ℕ) (m : Matter) (depth : ℕ) → OneOnce IsInside (pass_to g now m depth)
+inside_once : (g : ReplayInput) (now : ℕ) (m : Matter) (depth : ℕ) → OneOnce IsInside (pass_to g now m depth)
 inside_once g now m depth Event w i = absurd i
 inside_once g now m depth Await w i = await_once g now m depth w
 inside_once g now m depth (Answered reply) w i = answer_once g now m depth reply w
@@ -553,7 +553,7 @@ inside_once g now m depth CheckSilence w i = next_once g now m depth CheckSilenc
 inside_once g now m depth Arm w i = next_once g now m depth Arm w tt
 inside_once g now m depth (Read row) w i = next_once g now m depth (Read row) w tt
 
-event_once : (g : Given) (now : ℕ) (m : Matter) (depth : ℕ) (w : World) → Once (pass_to g now m (suc depth) Event w)
+event_once : (g : ReplayInput) (now : ℕ) (m : Matter) (depth : ℕ) (w : ReplayState) → Once (pass_to g now m (suc depth) Event w)
 event_once g now m depth w =
     let passed : Passed = pass g (passing g now w) m Event w.consumer in
     let one : Leads IsInside passed = event_leads g (passing g now w) m w.consumer.phase w.consumer in
@@ -566,15 +566,15 @@ at_most_one : (ran : Ran) → Once ran → HasOneRecreation (step_of ran)
 at_most_one ran (inl none) = omega (arith, none)
 at_most_one ran (inr one) = omega (arith, one.0)
 
-event_single : (g : Given) (e : events.Event) (w : World) → HasOneRecreation (step_of (event g e w))
+event_single : (g : ReplayInput) (e : events.Event) (w : ReplayState) → HasOneRecreation (step_of (event g e w))
 unfolding event
 event_single g e w =
-    let w' : World = record w { up = link_after e.what w.up } in
+    let w' : ReplayState = record w { up = link_after e.what w.up } in
     let ran : Ran = pass_to g e.at (matter_of e.what) 10 Event w' in
     let one : Once ran = event_once g e.at (matter_of e.what) 9 w' in
     at_most_one (and_then ran.outputs (stays ran.world)) (then_once ran (stays ran.world) one (λ still. record { none = refl; still = still }) (inl refl))
 
-events_single : (g : Given) (es : List events.Event) (w : World) → AllByRecursion HasOneRecreation (map step_of (run_events g es w))
+events_single : (g : ReplayInput) (es : List events.Event) (w : ReplayState) → AllByRecursion HasOneRecreation (map step_of (run_events g es w))
 unfolding run_events
 events_single g [] w = tt
 events_single g (e ∷ es) w = (event_single g e w, events_single g es (event g e w).world)
@@ -583,13 +583,13 @@ opening_later : (setup : OrderedSetup) → AreLater (opening_rows setup)
 opening_later (Pull setup) = (tt, (tt, tt))
 opening_later (Push setup) = tt
 
-opening_single : (g : Given) (start : ℕ) → HasOneRecreation (step_of (opening g start))
+opening_single : (g : ReplayInput) (start : ℕ) → HasOneRecreation (step_of (opening g start))
 unfolding opening
 opening_single g start = at_most_one (pass_all g start tick (opening_rows g.setup) (first_world g start))
     (each_once (λ row. pass_to g start tick (suc (rank row)) row) (λ row. row_stays g start tick (suc (rank row)) row)
     (λ row w l. next_once g start tick (suc (rank row)) row w (later_next row l)) (opening_rows g.setup) (first_world g start) (opening_later g.setup))
 
 -- in each step of a run at most one recreation begins
-pub fold_single : (g : Given) (start : ℕ) (es : List events.Event) → AllByRecursion HasOneRecreation ((fold g start es).opening ∷ (fold g start es).steps)
+pub fold_single : (g : ReplayInput) (start : ℕ) (es : List events.Event) → AllByRecursion HasOneRecreation ((fold g start es).opening ∷ (fold g start es).steps)
 unfolding fold
 fold_single g start es = (opening_single g start, events_single g es (opening g start).world)

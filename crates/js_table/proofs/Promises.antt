@@ -3,7 +3,7 @@ use Rattle.std.proofs.Common.{◌≡◌, ℕ, List, ◌∷◌, None, sym, subst,
 use Rattle.std.specs.Prelude.{Result, Ok, Err, IfErr}
 use Rattle.std.specs.List.{AllByRecursion}
 use Rattle.js_table.specs.declared.run.Run.{Run}
-use Rattle.js_table.specs.declared.consumer.Given.{Given}
+use Rattle.js_table.specs.declared.consumer.ReplayInput.{ReplayInput}
 use Rattle.js_table.specs.declared.event.Event as events
 use Rattle.js_table.specs.Fold.{fold}
 use Rattle.js_table.specs.Refusal.{refuse}
@@ -17,7 +17,7 @@ use Rattle.js_table.proofs.Numbers.{fold_counts_up}
 use Rattle.js_table.proofs.Once.{fold_single}
 
 -- a run that is the fold is all that a replay promises
-pub fold_replays : (g : Given) (start : ℕ) (es : List events.Event) (run : Run) → refuse g start es ≡ None → run ≡ fold g start es → IsReplay g start es run
+pub fold_replays : (g : ReplayInput) (start : ℕ) (es : List events.Event) (run : Run) → refuse g start es ≡ None → run ≡ fold g start es → IsReplay g start es run
 fold_replays g start es run accepted folded = record {
   accepted = accepted;
   folded = folded;
@@ -29,7 +29,7 @@ fold_replays g start es run accepted folded = record {
 }
 
 -- what follows the table keeps all promises of a replay
-pub folded_answers : (g : Given) (start : ℕ) (es : List events.Event) (result : Result Run ReplayError) → IsFolded g start es result → IsAnswer g start es result
+pub folded_answers : (g : ReplayInput) (start : ℕ) (es : List events.Event) (result : Result Run ReplayError) → IsFolded g start es result → IsAnswer g start es result
 folded_answers g start es (Ok run) folded = fold_replays g start es run folded.0 folded.1
 folded_answers g start es (Err error.OutOfMemory) folded = tt
 folded_answers g start es (Err error.NoDeliverSubject) folded = folded
@@ -38,7 +38,7 @@ folded_answers g start es (Err (error.BadEvent place)) folded = folded
 folded_answers g start es (Err (error.SequenceEnd place)) folded = folded
 
 -- so valid input gives a run, or want of memory
-pub valid_answers : (g : Given) (start : ℕ) (es : List events.Event) (refusal : ReplayError) → IsValid g start es → IsAnswer g start es (Err refusal) → refusal ≡ error.OutOfMemory
+pub valid_answers : (g : ReplayInput) (start : ℕ) (es : List events.Event) (refusal : ReplayError) → IsValid g start es → IsAnswer g start es (Err refusal) → refusal ≡ error.OutOfMemory
 valid_answers g start es error.OutOfMemory valid answer = refl
 valid_answers g start es error.NoDeliverSubject valid answer = absurd (never (sym (valid_accepted g start es valid) ∙ answer))
   where
@@ -58,7 +58,7 @@ valid_answers g start es (error.SequenceEnd place) valid answer = absurd (never 
     never e = cc
 
 -- and what follows the table does so
-pub folded_valid : (g : Given) (start : ℕ) (es : List events.Event) (result : Result Run ReplayError) → IsFolded g start es result → IsValid g start es
+pub folded_valid : (g : ReplayInput) (start : ℕ) (es : List events.Event) (result : Result Run ReplayError) → IsFolded g start es result → IsValid g start es
     → IfErr result (λ (refusal : ReplayError). refusal ≡ error.OutOfMemory)
 folded_valid g start es (Ok run) folded valid = tt
 folded_valid g start es (Err refusal) folded valid = valid_answers g start es refusal valid (folded_answers g start es (Err refusal) folded)

@@ -17,16 +17,16 @@ use Rattle.js_pull.specs.Reader as pull
 use Rattle.js_pull.specs.declared.reader.Row.{Row as PullRow}
 use Rattle.js_pull.specs.declared.reader.Row.TheVariants as read
 use Rattle.js_pull.specs.declared.reader.Reader.{Reader as PullReader}
-use Rattle.js_pull.specs.declared.reader.Inquiry.{Inquiry}
-use Rattle.js_pull.specs.declared.reader.Inquiry.TheVariants as inquiries
-use Rattle.js_table.specs.declared.world.World.{World}
+use Rattle.js_pull.specs.declared.reader.InfoRequest.{InfoRequest}
+use Rattle.js_pull.specs.declared.reader.InfoRequest.TheVariants as inquiries
+use Rattle.js_table.specs.declared.replay_state.ReplayState.{ReplayState}
 use Rattle.js_table.specs.declared.consumer.Consumer.{Consumer}
 use Rattle.js_table.specs.State.{Matter, Change, Unchanged, Becomes, WatcherEnds, Passed, at_phase}
 use Rattle.js_table.specs.declared.row.Row.{Row}
 use Rattle.js_table.specs.declared.row.Row.TheVariants.{Event, Start, Try, Create, Ask, Await, Answered, Hold, Succeed, Fail, CheckArrival, Hear, CheckSilence, Arm, Read}
 use Rattle.js_table.specs.declared.consumer.Recreation.{Recreation}
 use Rattle.js_table.specs.declared.consumer.Opened.{Opened}
-use Rattle.js_table.specs.declared.consumer.Given.{Given}
+use Rattle.js_table.specs.declared.consumer.ReplayInput.{ReplayInput}
 use Rattle.js_table.specs.declared.consumer.Stage.{Stage}
 use Rattle.js_table.specs.declared.consumer.Phase.{Phase}
 use Rattle.js_table.specs.declared.consumer.Stage.TheVariants.{Between, Deleting, Creating, Waiting}
@@ -62,7 +62,7 @@ succeed_push_falls : (p : Passing) (opened : Option Opened) (c : Consumer) → L
 succeed_push_falls p None c = tt
 succeed_push_falls p (Some opened) c = held_fall opened.inbox opened.held
 
-succeed_falls : (setup : OrderedSetup) (g : Given) (p : Passing) (info : Info) (r : Recreation) (c : Consumer) → Leads 6 (succeed_row setup g p info r c)
+succeed_falls : (setup : OrderedSetup) (g : ReplayInput) (p : Passing) (info : Info) (r : Recreation) (c : Consumer) → Leads 6 (succeed_row setup g p info r c)
 succeed_falls (Pull setup) g p info r c = if_each (Leads 6) p.up _ _ (λ _. (omega arith, (omega arith, tt))) (λ _. (omega arith, tt))
 succeed_falls (Push setup) g p info r c = succeed_push_falls p r.opened c
 
@@ -70,11 +70,11 @@ answered_falls : (mode : OrderedSetup) (info : Option Info) → rank (answered m
 answered_falls mode None = omega arith
 answered_falls mode (Some info) = if_each (λ (row : Row). rank row < 7) (has_subject mode info) (Succeed info) Fail (λ _. omega arith) (λ _. omega arith)
 
-created_fall : (g : Given) (p : Passing) (timeout : Timer) (reply : Option (Option Message)) → AreBelow 8 (created g p timeout reply)
+created_fall : (g : ReplayInput) (p : Passing) (timeout : Timer) (reply : Option (Option Message)) → AreBelow 8 (created g p timeout reply)
 created_fall g p timeout (Some reply) = (omega arith, tt)
 created_fall g p timeout None = if_each (AreBelow 8) (is_due timeout p.now) _ _ (λ _. (omega arith, tt)) (λ _. tt)
 
-stage_falls : (g : Given) (p : Passing) (m : Matter) (stage : Stage) → AreBelow 8 (stage_rows g p m stage)
+stage_falls : (g : ReplayInput) (p : Passing) (m : Matter) (stage : Stage) → AreBelow 8 (stage_rows g p m stage)
 stage_falls g p m Between = tt
 stage_falls g p m (Deleting request timeout) =
     if_each (AreBelow 8) (is_some (pull.reply_to request m.answer)) _ _ (λ _. (omega arith, tt)) (λ _. if_each (AreBelow 8) (is_due timeout p.now) _ _ (λ _. (omega arith, tt)) (λ _. tt))
@@ -89,17 +89,17 @@ recreation_falls (Some opened) = (omega arith, (omega arith, tt))
 
 message_falls : (n : ℕ) → 4 < n → (o : Option Place) (message : Message) (c : Consumer) → Leads n (message_row o message c)
 message_falls n below None message c = tt
-message_falls n below (Some place) message c = if_each (Leads n) (place.number == c.num + 1) _ _ (λ _. tt) (λ _. (omega arith, tt))
+message_falls n below (Some place) message c = if_each (Leads n) (place.number == c.consumer_sequence + 1) _ _ (λ _. tt) (λ _. (omega arith, tt))
 
-beat_falls : (beat : Option ℕ) (num : ℕ) → AreBelow 5 (beat_rows beat num)
-beat_falls None num = tt
-beat_falls (Some last) num = if_each (AreBelow 5) (last == num) _ _ (λ _. tt) (λ _. (omega arith, tt))
+beat_falls : (beat : Option ℕ) (consumer_sequence : ℕ) → AreBelow 5 (beat_rows beat consumer_sequence)
+beat_falls None consumer_sequence = tt
+beat_falls (Some last) consumer_sequence = if_each (AreBelow 5) (last == consumer_sequence) _ _ (λ _. tt) (λ _. (omega arith, tt))
 
 hear_kind_falls : (p : Passing) (message : Message) (k : PushKind) (c : Consumer) → Leads 5 (hear_kind p message k c)
 hear_kind_falls p message Delivered c = message_falls 5 (omega arith) (readable_as message.reply) message c
 hear_kind_falls p message Quiet c = tt
 hear_kind_falls p message Bad c = tt
-hear_kind_falls p message (Beat last) c = beat_falls last c.num
+hear_kind_falls p message (Beat last) c = beat_falls last c.consumer_sequence
 
 -- ---- the pull reader
 
@@ -125,7 +125,7 @@ arrival_falls p (Some message) r c = hear_falls message (pull_kind message) (pul
 
 silence_falls : (p : Passing) (r : PullReader) (c : Consumer) → Reads 5 c (pull.check_silence p r)
 silence_falls p r c =
-    if_each (Reads 5 c) (is_any_due r.silence p.now) _ _
+    if_each (Reads 5 c) (is_any_due r.heartbeat_timer p.now) _ _
     (λ _. if_each (λ (passed : Passed). AreBelow 5 (in_place_of passed.next [])) c.missed _ _ (λ _. (omega arith, tt)) (λ _. tt))
     (λ _. tt)
 
@@ -137,8 +137,8 @@ asked_falls : (p : Passing) (timeout : Option Timer) (failures : ℕ) (reply : O
 asked_falls p timeout failures (Some reply) r c = (omega arith, tt)
 asked_falls p timeout failures None r c = if_each (λ (rows : List PullRow). AreBelow 4 (map Read rows)) (is_any_due timeout p.now) _ _ (λ _. (omega arith, tt)) (λ _. tt)
 
-inquiry_falls : (p : Passing) (answer : Option pull.Answer) (inquiry : Inquiry) (r : PullReader) (c : Consumer) → Reads 4 c (pull.check_inquiry p answer inquiry r)
-inquiry_falls p answer inquiries.NoInquiry r c = tt
+inquiry_falls : (p : Passing) (answer : Option pull.Answer) (inquiry : InfoRequest) (r : PullReader) (c : Consumer) → Reads 4 c (pull.check_inquiry p answer inquiry r)
+inquiry_falls p answer inquiries.NoInfoRequest r c = tt
 inquiry_falls p answer (inquiries.Asked request timeout failures) r c = asked_falls p timeout failures (pull.reply_to request answer) r c
 inquiry_falls p answer (inquiries.Resting wait failures) r c = if_each (λ (rows : List PullRow). AreBelow 4 (map Read rows)) (is_due wait p.now) _ _ (λ _. (omega arith, tt)) (λ _. tt)
 
@@ -161,8 +161,8 @@ reader_falls p answer arrival read.Threshold r c =
     (λ _. tt)
 reader_falls p answer arrival read.Arm r c = tt
 reader_falls p answer arrival (read.Inquire failures) r c = if_each (Reads 2 c) p.up _ _ (λ _. tt) (λ _. (omega arith, tt))
-reader_falls p answer arrival (read.FailInquiry failures) r c = if_each (Reads 1 c) (nat_lt (failures + 1) 6) _ _ (λ _. tt) (λ _. (omega arith, tt))
-reader_falls p answer arrival read.CheckInquiry r c = inquiry_falls p answer r.inquiry r c
+reader_falls p answer arrival (read.FailInfoRequest failures) r c = if_each (Reads 1 c) (nat_lt (failures + 1) 6) _ _ (λ _. tt) (λ _. (omega arith, tt))
+reader_falls p answer arrival read.CheckInfoRequest r c = inquiry_falls p answer r.inquiry r c
 reader_falls p answer arrival (read.Answered reply failures) r c = answer_falls failures (pull.info_of_reply reply) r c
 reader_falls p answer arrival read.CheckExpiry r c = if_each (λ (rows : List PullRow). AreBelow 1 (map Read rows)) (is_any_due r.expiry p.now) _ _ (λ _. (omega arith, tt)) (λ _. tt)
 reader_falls p answer arrival read.CheckArrival r c = arrival_falls p arrival r c
@@ -174,43 +174,43 @@ push_rows_fall : (inbox : ℕ) (o : Option Message) → AreBelow 6 (push_rows in
 push_rows_fall inbox None = (omega arith, tt)
 push_rows_fall inbox (Some message) = (omega arith, tt)
 
-go_on_falls : (g : Given) (p : Passing) (m : Matter) (phase : Phase) (c : Consumer) → Leads 9 (go_on g p m phase c)
+go_on_falls : (g : ReplayInput) (p : Passing) (m : Matter) (phase : Phase) (c : Consumer) → Leads 9 (go_on g p m phase c)
 go_on_falls g p m Idle c = (omega arith, tt)
 go_on_falls g p m (Recreates r) c = recreation_falls r.opened
 go_on_falls g p m (Pulls reader) c = reader_falls p m.answer (message_on reader.source.inbox m.arrival) (read.Begin None) reader c
-go_on_falls g p m (Pushes inbox silence) c = (omega arith, tt)
+go_on_falls g p m (Pushes inbox heartbeat_timer) c = (omega arith, tt)
 go_on_falls g p m Ended c = tt
 go_on_falls g p m Exhausted c = tt
 
-changed_falls : (g : Given) (p : Passing) (m : Matter) (old new : State) (phase : Phase) (c : Consumer) → Leads 9 (changed g p m old new phase c)
+changed_falls : (g : ReplayInput) (p : Passing) (m : Matter) (old new : State) (phase : Phase) (c : Consumer) → Leads 9 (changed g p m old new phase c)
 changed_falls g p m old new (Pulls reader) c = reader_falls p m.answer (message_on reader.source.inbox m.arrival) (read.Begin (Some new)) reader (record c { connection = new })
-changed_falls g p m old new (Pushes inbox silence) c =
-    if_both (Leads 9) (is_connected old || is_connected new) _ _ (omega arith, tt) (go_on_falls g p m (Pushes inbox silence) (record c { connection = new }))
+changed_falls g p m old new (Pushes inbox heartbeat_timer) c =
+    if_both (Leads 9) (is_connected old || is_connected new) _ _ (omega arith, tt) (go_on_falls g p m (Pushes inbox heartbeat_timer) (record c { connection = new }))
 changed_falls g p m old new (Recreates r) c = go_on_falls g p m (Recreates r) (record c { connection = new })
 changed_falls g p m old new Idle c = go_on_falls g p m Idle (record c { connection = new })
 changed_falls g p m old new Ended c = go_on_falls g p m Ended (record c { connection = new })
 changed_falls g p m old new Exhausted c = go_on_falls g p m Exhausted (record c { connection = new })
 
-watcher_falls : (g : Given) (p : Passing) (m : Matter) (setup : OrderedSetup) (c : Consumer) → Leads 9 (watcher_ended g p m setup c)
+watcher_falls : (g : ReplayInput) (p : Passing) (m : Matter) (setup : OrderedSetup) (c : Consumer) → Leads 9 (watcher_ended g p m setup c)
 watcher_falls g p m (Pull setup) c = go_on_falls g p m c.phase c
 watcher_falls g p m (Push setup) c = tt
 
-change_falls : (g : Given) (p : Passing) (m : Matter) (change : Change) (c : Consumer) → Leads 9 (event_change g p m change c)
+change_falls : (g : ReplayInput) (p : Passing) (m : Matter) (change : Change) (c : Consumer) → Leads 9 (event_change g p m change c)
 change_falls g p m Unchanged c = go_on_falls g p m c.phase c
 change_falls g p m (Becomes state) c = if_both (Leads 9) (same_state c.connection state) _ _ (go_on_falls g p m c.phase c) (changed_falls g p m c.connection state c.phase c)
 change_falls g p m WatcherEnds c = watcher_falls g p m g.setup c
 
-event_falls : (g : Given) (p : Passing) (m : Matter) (phase : Phase) (c : Consumer) → Leads 9 (event_row g p m phase c)
+event_falls : (g : ReplayInput) (p : Passing) (m : Matter) (phase : Phase) (c : Consumer) → Leads 9 (event_row g p m phase c)
 event_falls g p m Ended c = tt
 event_falls g p m Exhausted c = tt
 event_falls g p m (Pulls reader) c = change_falls g p m m.change c
-event_falls g p m (Pushes inbox silence) c = change_falls g p m m.change c
+event_falls g p m (Pushes inbox heartbeat_timer) c = change_falls g p m m.change c
 event_falls g p m (Recreates r) c = change_falls g p m m.change c
 event_falls g p m Idle c = change_falls g p m m.change c
 
 -- ---- every row
 
-pub row_falls : (g : Given) (p : Passing) (m : Matter) (row : Row) (phase : Phase) (c : Consumer) → Leads (rank row) (row_at g p m row phase c)
+pub row_falls : (g : ReplayInput) (p : Passing) (m : Matter) (row : Row) (phase : Phase) (c : Consumer) → Leads (rank row) (row_at g p m row phase c)
 row_falls g p m Event phase c = event_falls g p m phase c
 row_falls g p m Start phase c = if_each (Leads 4) (c.last == pull.u64_max) _ _ (λ _. tt) (λ _. (omega arith, tt))
 row_falls g p m Try (Recreates r) c = if_each (Leads 3) p.up _ _ (λ _. tt) (λ _. (omega arith, tt))
@@ -221,25 +221,25 @@ row_falls g p m (Answered reply) (Recreates r) c = (answered_falls g.setup (pull
 row_falls g p m Hold (Recreates r) c = tt
 row_falls g p m (Succeed info) (Recreates r) c = succeed_falls g.setup g p info r c
 row_falls g p m Fail (Recreates r) c = if_each (Leads 0) (nat_lt g.settings.retries (r.failures + 1)) _ _ (λ _. tt) (λ _. tt)
-row_falls g p m CheckArrival (Pushes inbox silence) c = push_rows_fall inbox (message_on inbox m.arrival)
-row_falls g p m (Hear arrival) (Pushes inbox silence) c =
+row_falls g p m CheckArrival (Pushes inbox heartbeat_timer) c = push_rows_fall inbox (message_on inbox m.arrival)
+row_falls g p m (Hear arrival) (Pushes inbox heartbeat_timer) c =
     if_both (Leads 5) (arrival.inbox == inbox) _ _ (hear_kind_falls p arrival.message (push_kind arrival.message) (at_phase (Pushes inbox (armed p.now)) c)) tt
-row_falls g p m CheckSilence (Pushes inbox silence) c = if_each (Leads 5) (is_due silence p.now) _ _ (λ _. (omega arith, tt)) (λ _. tt)
-row_falls g p m Arm (Pushes inbox silence) c = tt
+row_falls g p m CheckSilence (Pushes inbox heartbeat_timer) c = if_each (Leads 5) (is_due heartbeat_timer p.now) _ _ (λ _. (omega arith, tt)) (λ _. tt)
+row_falls g p m Arm (Pushes inbox heartbeat_timer) c = tt
 row_falls g p m (Read row) (Pulls reader) c = reader_falls p m.answer (message_on reader.source.inbox m.arrival) row reader c
 row_falls g p m _ phase c = tt
 
 -- ---- so nothing is cut off
 
-pub each_same : (one other : Row → World → Ran) (n : ℕ) → ((row : Row) (w : World) → rank row < n → one row w ≡ other row w)
-    → (rows : List Row) (w : World) → AreBelow n rows → pass_each one rows w ≡ pass_each other rows w
+pub each_same : (one other : Row → ReplayState → Ran) (n : ℕ) → ((row : Row) (w : ReplayState) → rank row < n → one row w ≡ other row w)
+    → (rows : List Row) (w : ReplayState) → AreBelow n rows → pass_each one rows w ≡ pass_each other rows w
 each_same one other n same [] w below = refl
 each_same one other n same (row ∷ rows) w below =
     ap (λ (ran : Ran). and_then ran.outputs (pass_each one rows ran.world)) (same row w below.0)
     ∙ ap (λ (rest : Ran). and_then (other row w).outputs rest) (each_same one other n same rows (other row w).world below.1)
 
 -- one more depth makes no difference to a row whose rank is below it
-pub settled : (g : Given) (now : ℕ) (m : Matter) (depth : ℕ) (row : Row) (w : World) → rank row < depth → pass_to g now m depth row w ≡ pass_to g now m (suc depth) row w
+pub settled : (g : ReplayInput) (now : ℕ) (m : Matter) (depth : ℕ) (row : Row) (w : ReplayState) → rank row < depth → pass_to g now m depth row w ≡ pass_to g now m (suc depth) row w
 settled g now m zero row w below = absurd (omega arith)
 settled g now m (suc depth) row w below =
     let passed : Passed = pass g (passing g now w) m row w.consumer in

@@ -6,9 +6,9 @@ use Rattle.js_table.specs.Refusal.{refuse}
 use Rattle.js_table.specs.declared.run.ReplayError.TheVariants as error
 use Rattle.js_table.specs.declared.run.Field.TheVariants as field
 use Rattle.js_base.specs.declared.message.State.TheVariants.{Connected, Disconnected}
-use Rattle.js_table.specs.declared.consumer.Given.{Given}
+use Rattle.js_table.specs.declared.consumer.ReplayInput.{ReplayInput}
 use Rattle.js_table.specs.declared.event.Event.{Event}
-use Rattle.js_table.specs.declared.event.What.TheVariants as what
+use Rattle.js_table.specs.declared.event.EventKind.TheVariants as what
 use Rattle.js_table.proofs.OnLiterals.{replays_on_literals}
 use Rattle.js_table.specs.Worked.{pull_info, settings, plain, boxed, by_pull, pull_from, by_push, arrives, arrives_on, answers, tick, link, connection, with_status, ok, info_text, push_text, run_of, asks, deletes}
 use Rattle.js_table.specs.declared.run.Start.TheVariants as start
@@ -48,7 +48,7 @@ row_silent_pull : fold by_pull 0 (tick 30_000_000_000 ∷ tick 35_000_000_000 �
 unfolding replays_on_literals
 row_silent_pull = refl
 
-abbrev pull_within_a_second : Given
+abbrev pull_within_a_second : ReplayInput
 pull_within_a_second = record by_pull { settings = record settings { context_timeout = Some 1_000_000_000 } }
 
 row_unanswered : (heap : Global) → fold pull_within_a_second 0 (arrives heap 0 0 2 2 (codes "b") ∷ tick 1_000_000_000 ∷ tick 2_000_000_000 ∷ tick 2_500_000_000 ∷ [])
@@ -106,7 +106,7 @@ row_limit_again : (heap : Global) → fold by_pull 0 (with_status heap 1 0 409 t
 unfolding replays_on_literals
 row_limit_again heap = refl
 
-abbrev pull_without_retries : Given
+abbrev pull_without_retries : ReplayInput
 pull_without_retries = record by_pull { settings = record settings { retries = 0 } }
 
 row_no_link : (heap : Global) → fold pull_without_retries 0 (link 1 false ∷ arrives heap 2 0 2 2 (codes "b") ∷ tick 3 ∷ [])
@@ -131,7 +131,7 @@ capped_body = codes "{\"batch\":7,\"expires\":5000000000,\"group\":null,\"idle_h
 abbrev next_capped : Output
 next_capped = out.Publish (codes "$JS.API.CONSUMER.MSG.NEXT.events.c1") (Some (codes "_INBOX.t.0")) capped_body
 
-abbrev pull_capped : Given
+abbrev pull_capped : ReplayInput
 pull_capped = record by_pull { first = record pull_info { config = record pull_info.config { max_batch = pos 7; max_expires = 5_000_000_000 } } }
 
 row_capped : (heap : Global) → fold pull_capped 0 (arrives heap 1 0 1 1 [] ∷ arrives heap 2 0 2 2 [] ∷ arrives heap 3 0 3 3 [] ∷ arrives heap 4 0 4 4 [] ∷ [])
@@ -140,7 +140,7 @@ unfolding replays_on_literals
 row_capped heap = refl
 
 -- a held arrival, then the timeout
-abbrev push_without_retries : Given
+abbrev push_without_retries : ReplayInput
 push_without_retries = record by_push { settings = record settings { context_timeout = Some 1; retries = 0 } }
 
 row_held_at_timeout : (heap : Global) → fold push_without_retries 0 (arrives heap 1 0 2 2 (codes "b") ∷ answers heap 2 1 ok ∷ arrives heap 3 1 1 1 (codes "a") ∷ [])
@@ -268,7 +268,7 @@ unfolding replays_on_literals
 row_stray heap = refl
 
 -- a timeout of 0 is looked at from the next event on
-abbrev pull_at_once : Given
+abbrev pull_at_once : ReplayInput
 pull_at_once = record by_pull { settings = record settings { context_timeout = Some 0 } }
 
 row_at_once : (heap : Global) → fold pull_at_once 0 (arrives heap 1 0 2 2 (codes "b") ∷ tick 1 ∷ tick 1 ∷ [])
@@ -279,7 +279,7 @@ unfolding replays_on_literals
 row_at_once heap = refl
 
 -- a heartbeat of 0 is left out
-abbrev pull_brief : Given
+abbrev pull_brief : ReplayInput
 pull_brief = record by_pull { first = record pull_info { config = record pull_info.config { max_expires = 1 } } }
 
 abbrev next_brief : Output

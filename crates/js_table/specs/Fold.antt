@@ -5,13 +5,13 @@ use Rattle.js_link.specs.Passing.{Passing}
 use Rattle.js_pull.specs.Reader as pull
 use Rattle.js_pull.specs.declared.reader.Row.{Row as PullRow}
 use Rattle.js_pull.specs.declared.reader.Row.TheVariants as read
-use Rattle.js_table.specs.declared.world.World.{World}
+use Rattle.js_table.specs.declared.replay_state.ReplayState.{ReplayState}
 use Rattle.js_table.specs.declared.run.Run.{Run}
 use Rattle.js_table.specs.declared.run.Step.{Step}
 use Rattle.js_table.specs.State.{Matter, Unchanged, Becomes, WatcherEnds, Passed}
 use Rattle.js_table.specs.declared.row.Row.{Row}
 use Rattle.js_table.specs.declared.row.Row.TheVariants.{Event, Start, Try, Create, Ask, Await, Answered, Hold, Succeed, Fail, CheckArrival, Hear, CheckSilence, Arm, Read}
-use Rattle.js_table.specs.declared.consumer.Given.{Given}
+use Rattle.js_table.specs.declared.consumer.ReplayInput.{ReplayInput}
 use Rattle.js_table.specs.declared.consumer.Phase.{Phase}
 use Rattle.js_table.specs.declared.consumer.Phase.TheVariants.{Pulls, Pushes, Ended, Exhausted}
 use Rattle.js_table.specs.Texts.{inbox_subject, source_of}
@@ -20,14 +20,14 @@ use Rattle.js_table.specs.Turn.{pass}
 use Rattle.js_table.specs.declared.setup.OrderedSetup.{OrderedSetup}
 use Rattle.js_table.specs.declared.setup.OrderedSetup.TheVariants.{Pull, Push}
 use Rattle.js_table.specs.declared.event.Event as events
-use Rattle.js_table.specs.declared.event.What.{What}
-use Rattle.js_table.specs.declared.event.What.TheVariants as what
+use Rattle.js_table.specs.declared.event.EventKind.{EventKind}
+use Rattle.js_table.specs.declared.event.EventKind.TheVariants as what
 use Rattle.js_table.specs.declared.run.Output.{Output}
 use Rattle.js_table.specs.declared.run.Output.TheVariants as out
 
 -- what passing some rows leads to, and what it puts out
 pub record Ran : Type 0 where
-  pub world : World
+  pub world : ReplayState
   pub outputs : List Output
 
 -- a request goes out
@@ -41,22 +41,22 @@ is_subscribe (out.Subscribe inbox subject) = true
 is_subscribe _ = false
 
 -- a row is passed with the next numbers
-abbrev pub passing : Given → ℕ → World → Passing
+abbrev pub passing : ReplayInput → ℕ → ReplayState → Passing
 passing g now w = record {
   now = now;
   up = w.up;
-  request = w.asked + 1;
-  inbox = w.made;
-  subject = inbox_subject g w.made;
+  request = w.requests_sent + 1;
+  inbox = w.inboxes_opened;
+  subject = inbox_subject g w.inboxes_opened;
 }
 
 -- the world after a row
-abbrev pub after : World → Passed → World
+abbrev pub after : ReplayState → Passed → ReplayState
 after w passed = record {
   consumer = passed.consumer;
   up = w.up;
-  asked = w.asked + count_by is_request passed.outputs;
-  made = w.made + count_by is_subscribe passed.outputs;
+  requests_sent = w.requests_sent + count_by is_request passed.outputs;
+  inboxes_opened = w.inboxes_opened + count_by is_subscribe passed.outputs;
 }
 
 -- ---- rows
@@ -66,11 +66,11 @@ abbrev pub read_rank : PullRow → ℕ
 read_rank (read.Ask reason) = 0
 read_rank read.Arm = 0
 read_rank read.Threshold = 1
-read_rank (read.FailInquiry failures) = 1
+read_rank (read.FailInfoRequest failures) = 1
 read_rank read.CheckExpiry = 1
 read_rank (read.Inquire failures) = 2
 read_rank (read.Answered reply failures) = 3
-read_rank read.CheckInquiry = 4
+read_rank read.CheckInfoRequest = 4
 read_rank read.CheckSilence = 5
 read_rank read.CheckArrival = 6
 read_rank (read.Begin change) = 9
@@ -94,7 +94,7 @@ rank Await = 8
 rank Event = 9
 
 -- nothing is passed
-abbrev pub stays : World → Ran
+abbrev pub stays : ReplayState → Ran
 stays w = record { world = w; outputs = [] }
 
 -- outputs before what a run puts out
@@ -102,19 +102,19 @@ abbrev pub and_then : List Output → Ran → Ran
 and_then outputs ran = record { world = ran.world; outputs = outputs ++ ran.outputs }
 
 -- rows in order
-abbrev pub pass_each : (Row → World → Ran) → List Row → World → Ran
+abbrev pub pass_each : (Row → ReplayState → Ran) → List Row → ReplayState → Ran
 pass_each one [] w = stays w
 pass_each one (row ∷ rows) w = let ran = one row w in and_then ran.outputs (pass_each one rows ran.world)
 
 -- a row and what follows it, to a depth
-abbrev pub pass_to : Given → ℕ → Matter → ℕ → Row → World → Ran
+abbrev pub pass_to : ReplayInput → ℕ → Matter → ℕ → Row → ReplayState → Ran
 pass_to g now m zero row w = stays w
 pass_to g now m (suc depth) row w =
     let passed = pass g (passing g now w) m row w.consumer in
     and_then passed.outputs (pass_each (pass_to g now m depth) passed.next (after w passed))
 
 -- as deep as they go
-abbrev pub pass_all : Given → ℕ → Matter → List Row → World → Ran
+abbrev pub pass_all : ReplayInput → ℕ → Matter → List Row → ReplayState → Ran
 pass_all g now m rows w = pass_each (λ row. pass_to g now m (suc (rank row)) row) rows w
 
 -- ---- events
@@ -124,7 +124,7 @@ abbrev pub tick : Matter
 tick = record { change = Unchanged; answer = None; arrival = None }
 
 -- what an event brings
-abbrev pub matter_of : What → Matter
+abbrev pub matter_of : EventKind → Matter
 matter_of what.Tick = tick
 matter_of (what.Arrival inbox message) = record tick { arrival = Some (record { inbox = inbox; message = message }) }
 matter_of (what.Answer request reply) = record tick { answer = Some (record { request = request; reply = reply }) }
@@ -133,23 +133,23 @@ matter_of (what.Connection state) = record tick { change = Becomes state }
 matter_of what.WatcherEnded = record tick { change = WatcherEnds }
 
 -- the link after it
-abbrev pub link_after : What → Bool → Bool
+abbrev pub link_after : EventKind → Bool → Bool
 link_after (what.Link up) was = up
 link_after _ was = was
 
 -- one event
-unfoldable pub event : Given → events.Event → World → Ran
+unfoldable pub event : ReplayInput → events.Event → ReplayState → Ran
 event g e w = pass_all g e.at (matter_of e.what) (Event ∷ []) (record w { up = link_after e.what w.up })
 
 -- what the list of events leads to, event after event
-unfoldable pub run_events : Given → List events.Event → World → List Ran
+unfoldable pub run_events : ReplayInput → List events.Event → ReplayState → List Ran
 run_events g [] w = []
 run_events g (e ∷ es) w = let ran = event g e w in ran ∷ run_events g es ran.world
 
 -- ---- the opening
 
 -- the first inbox is current
-abbrev pub first_phase : Given → ℕ → OrderedSetup → Phase
+abbrev pub first_phase : ReplayInput → ℕ → OrderedSetup → Phase
 first_phase g start (Pull setup) = Pulls (pull.new_reader (source_of g 0 0 (inbox_subject g 0) g.first))
 first_phase g start (Push setup) = Pushes 0 (armed start)
 
@@ -159,25 +159,25 @@ opening_rows (Pull setup) = map Read pull.opening
 opening_rows (Push setup) = []
 
 -- nothing was asked or yielded yet
-abbrev pub first_world : Given → ℕ → World
+abbrev pub first_world : ReplayInput → ℕ → ReplayState
 first_world g start = record {
   consumer = record {
     phase = first_phase g start g.setup;
-    num = 0;
+    consumer_sequence = 0;
     last = 0;
-    serial = 0;
+    recreation_count = 0;
     name = g.first.name;
     missed = false;
     limited = false;
     connection = Connected;
   };
   up = true;
-  asked = 0;
-  made = 1;
+  requests_sent = 0;
+  inboxes_opened = 1;
 }
 
 -- the opening, at the start
-unfoldable pub opening : Given → ℕ → Ran
+unfoldable pub opening : ReplayInput → ℕ → Ran
 opening g start = pass_all g start tick (opening_rows g.setup) (first_world g start)
 
 -- ---- the fold
@@ -189,7 +189,7 @@ is_over Exhausted = true
 is_over _ = false
 
 -- the world after all events
-abbrev pub last_world : World → List Ran → World
+abbrev pub last_world : ReplayState → List Ran → ReplayState
 last_world w [] = w
 last_world w (ran ∷ rans) = last_world ran.world rans
 
@@ -198,7 +198,7 @@ abbrev pub step_of : Ran → Step
 step_of ran = record { outputs = ran.outputs }
 
 -- a whole run
-unfoldable pub fold : Given → ℕ → List events.Event → Run
+unfoldable pub fold : ReplayInput → ℕ → List events.Event → Run
 fold g start es =
     let first = opening g start in
     let rans = run_events g es first.world in

@@ -16,8 +16,8 @@ use Rattle.js_table.specs.declared.row.Arrival.{Arrival}
 use Rattle.js_table.specs.declared.setup.OrderedSetup.{OrderedSetup}
 use Rattle.js_table.specs.declared.setup.OrderedSetup.TheVariants.{Pull, Push}
 use Rattle.js_table.specs.declared.event.Event as events
-use Rattle.js_table.specs.declared.event.What.{What}
-use Rattle.js_table.specs.declared.event.What.TheVariants as what
+use Rattle.js_table.specs.declared.event.EventKind.{EventKind}
+use Rattle.js_table.specs.declared.event.EventKind.TheVariants as what
 use Rattle.js_table.specs.declared.run.Start as starts
 use Rattle.js_table.specs.declared.run.Start.TheVariants as start
 use Rattle.js_table.specs.declared.run.Output.{Output}
@@ -90,7 +90,7 @@ IsHonestArrival setup s arrival =
     → IsDelivery s arrival.inbox place.number (entry_of place arrival.message)
 
 -- an event brings a delivery, or no arrival
-abbrev pub IsHonestEvent : OrderedSetup → Server → What → Type 0
+abbrev pub IsHonestEvent : OrderedSetup → Server → EventKind → Type 0
 IsHonestEvent setup s (what.Arrival inbox message) = IsHonestArrival setup s (record { inbox = inbox; message = message })
 IsHonestEvent setup s _ = ⊤
 
@@ -102,7 +102,7 @@ start_sequence (start.From sequence) = sequence
 -- each inbox that is subscribed has the start of the last recreation before it
 abbrev pub FollowsStarts : (ℕ → ℕ) → ℕ → List Output → Type 0
 FollowsStarts starts now [] = ⊤
-FollowsStarts starts now (out.Recreate serial from ∷ outputs) = FollowsStarts starts (start_sequence from) outputs
+FollowsStarts starts now (out.Recreate recreation_count from ∷ outputs) = FollowsStarts starts (start_sequence from) outputs
 FollowsStarts starts now (out.Subscribe inbox subject ∷ outputs) = (starts inbox ≡ now) × FollowsStarts starts now outputs
 FollowsStarts starts now (_ ∷ outputs) = FollowsStarts starts now outputs
 

@@ -56,11 +56,11 @@ pub record IsUnread (setup : OrderedSetup) (s : Server) (last inbox : ℕ) : Typ
   pub none : last ≡ 0
   pub start : IfSome (configured_start setup) (λ sequence. s.starts inbox ≡ sequence)
 
--- on the current inbox: the last yield is entry `num` of its list; where nothing was accepted on it yet, it starts where it was asked to
-pub record IsKeptOn (setup : OrderedSetup) (s : Server) (num last serial inbox : ℕ) : Type 0 where
-  pub reached : 0 < num → (num ≤ length (s.lists inbox)) × (slice_index (s.lists inbox) (num - 1) ≡ last)
-  pub first : num ≡ 0 → serial ≡ 0 → IsUnread setup s last inbox
-  pub later : num ≡ 0 → 0 < serial → s.starts inbox ≡ next_start setup last
+-- on the current inbox: the last yield is entry `consumer_sequence` of its list; where nothing was accepted on it yet, it starts where it was asked to
+pub record IsKeptOn (setup : OrderedSetup) (s : Server) (consumer_sequence last recreation_count inbox : ℕ) : Type 0 where
+  pub reached : 0 < consumer_sequence → (consumer_sequence ≤ length (s.lists inbox)) × (slice_index (s.lists inbox) (consumer_sequence - 1) ≡ last)
+  pub first : consumer_sequence ≡ 0 → recreation_count ≡ 0 → IsUnread setup s last inbox
+  pub later : consumer_sequence ≡ 0 → 0 < recreation_count → s.starts inbox ≡ next_start setup last
 
 -- an inbox that a recreation has subscribed has its start, and what it holds is honest
 pub record IsKeptOpened (setup : OrderedSetup) (s : Server) (start : starts.Start) (opened : Opened) : Type 0 where
@@ -68,10 +68,10 @@ pub record IsKeptOpened (setup : OrderedSetup) (s : Server) (start : starts.Star
   pub held : AllByRecursion (λ message. IsHonestArrival setup s (record { inbox = opened.inbox; message = message })) opened.held
 
 -- a recreation has the start that the last yield names, and nothing is accepted yet
-pub record IsKeptIn (setup : OrderedSetup) (s : Server) (num last serial : ℕ) (r : Recreation) : Type 0 where
+pub record IsKeptIn (setup : OrderedSetup) (s : Server) (consumer_sequence last recreation_count : ℕ) (r : Recreation) : Type 0 where
   pub start : r.start ≡ start_after (configured_start setup) last
-  pub fresh : num ≡ 0
-  pub later : 0 < serial
+  pub fresh : consumer_sequence ≡ 0
+  pub later : 0 < recreation_count
   pub opened : IfSome r.opened (IsKeptOpened setup s r.start)
 
 -- pull mode
@@ -86,9 +86,9 @@ IsPush (Push setup) = ⊤
 
 -- the kept fact at a phase
 abbrev pub IsKeptAt : OrderedSetup → Server → Consumer → Phase → Type 0
-IsKeptAt setup s c (Pulls reader) = IsPull setup × IsKeptOn setup s c.num c.last c.serial reader.source.inbox
-IsKeptAt setup s c (Pushes inbox silence) = IsPush setup × IsKeptOn setup s c.num c.last c.serial inbox
-IsKeptAt setup s c (Recreates r) = IsKeptIn setup s c.num c.last c.serial r
+IsKeptAt setup s c (Pulls reader) = IsPull setup × IsKeptOn setup s c.consumer_sequence c.last c.recreation_count reader.source.inbox
+IsKeptAt setup s c (Pushes inbox heartbeat_timer) = IsPush setup × IsKeptOn setup s c.consumer_sequence c.last c.recreation_count inbox
+IsKeptAt setup s c (Recreates r) = IsKeptIn setup s c.consumer_sequence c.last c.recreation_count r
 IsKeptAt setup s c Idle = ⊤
 IsKeptAt setup s c Ended = ⊤
 IsKeptAt setup s c Exhausted = ⊤

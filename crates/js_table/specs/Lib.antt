@@ -2,7 +2,7 @@ pub mod State
 pub mod Texts
 pub mod Recreation
 pub mod Reading
-pub mod Turn
+pub mod EventContext
 pub mod Fold
 pub mod Refusal
 pub mod Gapless

@@ -24,64 +24,64 @@ use Rattle.js_base.specs.declared.message.State.{State}
 use Rattle.js_table.specs.State as state
 use Rattle.js_table.specs.declared.answer.Change.{Change}
 use Rattle.js_table.specs.declared.answer.Change.TheVariants as change
-use Rattle.js_table.specs.declared.consumer.Given.{Given}
+use Rattle.js_table.specs.declared.consumer.ReplayInput.{ReplayInput}
 use Rattle.js_table.specs.declared.consumer.Phase.{Phase}
 use Rattle.js_table.specs.declared.row.Row.{Row}
 use Rattle.js_table.specs.declared.run.Output.{Output}
 use Rattle.js_message.specs.Ack as ack
 use Rattle.js_table.specs.declared.place.Place.{Place}
-use Rattle.js_table.specs.declared.answer.Reply.{Reply}
-use Rattle.js_table.specs.declared.answer.Reply.TheVariants as reply
-use Rattle.js_table.specs.declared.turn.Turn.{Turn}
-use Rattle.js_table.specs.declared.world.World.{World}
+use Rattle.js_table.specs.declared.answer.RequestOutcome.{RequestOutcome}
+use Rattle.js_table.specs.declared.answer.RequestOutcome.TheVariants as reply
+use Rattle.js_table.specs.declared.event_context.EventContext.{EventContext}
+use Rattle.js_table.specs.declared.replay_state.ReplayState.{ReplayState}
 
 -- what a consumer is made with
-abbrev pub given_of : Turn → Given
+abbrev pub given_of : EventContext → ReplayInput
 given_of turn = record { settings = turn.settings.now; setup = turn.setup.now; first = turn.first.now }
 
 -- what happens to it now
-abbrev pub matter_now : Turn → Matter
+abbrev pub matter_now : EventContext → Matter
 matter_now turn = matter_of turn.what.now
 
 -- what a row and the rows that follow it at once come to
-unfoldable pub ran : Given → ℕ → Matter → Row → World → Ran
+unfoldable pub ran : ReplayInput → ℕ → Matter → Row → ReplayState → Ran
 ran g now m row w = pass_to g now m (suc (rank row)) row w
 
 -- what comes of a row that was passed: the rows that follow it
-unfoldable pub from : Given → ℕ → Matter → Passed → World → Ran
+unfoldable pub from : ReplayInput → ℕ → Matter → Passed → ReplayState → Ran
 from g now m passed w = and_then passed.outputs (pass_each (ran g now m) passed.next (after w passed))
 
 -- the world with its consumer at another phase
-abbrev pub at : Phase → World → World
+abbrev pub at : Phase → ReplayState → ReplayState
 at phase w = record w { consumer = at_phase phase w.consumer }
 
 -- this came of it: the world after it, and what was put out
-abbrev pub Comes : Ran → World → List Output → List Output → Type 0
+abbrev pub Comes : Ran → ReplayState → List Output → List Output → Type 0
 Comes r new before after = (new ≡ r.world) × (after ≡ before ++ r.outputs)
 
 -- a row was passed, with the rows that follow it at once
-abbrev pub Passes : Turn → Row → World → World → List Output → List Output → Type 0
+abbrev pub Passes : EventContext → Row → ReplayState → ReplayState → List Output → List Output → Type 0
 Passes turn row old new before after = Comes (ran (given_of turn) turn.moment (matter_now turn) row old) new before after
 
 -- the bound on an answer that is waited for from a moment on
-abbrev pub timeout_at : Given → ℕ → Timer
+abbrev pub timeout_at : ReplayInput → ℕ → Timer
 timeout_at g now = record { set = now; wait = recreation_timeout g.settings }
 
 -- one row after what another came to
-abbrev pub then_row : Given → ℕ → Matter → Row → Ran → Ran
+abbrev pub then_row : ReplayInput → ℕ → Matter → Row → Ran → Ran
 then_row g now m row first = and_then first.outputs (ran g now m row first.world)
 
 -- one row was passed after the other
-abbrev pub PassesBoth : Turn → Row → Row → World → World → List Output → List Output → Type 0
+abbrev pub PassesBoth : EventContext → Row → Row → ReplayState → ReplayState → List Output → List Output → Type 0
 PassesBoth turn first second old new before after =
     Comes (then_row (given_of turn) turn.moment (matter_now turn) second (ran (given_of turn) turn.moment (matter_now turn) first old)) new before after
 
 -- rows were passed in order
-abbrev pub PassesEach : Turn → List Row → World → World → List Output → List Output → Type 0
+abbrev pub PassesEach : EventContext → List Row → ReplayState → ReplayState → List Output → List Output → Type 0
 PassesEach turn rows old new before after = Comes (pass_each (ran (given_of turn) turn.moment (matter_now turn)) rows old) new before after
 
 -- a row of a pull reader was passed, which goes on reading
-abbrev pub Reads : Turn → PullRow → Reader → Reader → World → World → List Output → List Output → Type 0
+abbrev pub Reads : EventContext → PullRow → Reader → Reader → ReplayState → ReplayState → List Output → List Output → Type 0
 Reads turn row reader reader' old new before after = Passes turn (Read row) (at (Pulls reader) old) (at (Pulls reader') new) before after
 
 -- why messages are asked for after an answer that holds an info: with a reset where no request waits
@@ -91,10 +91,10 @@ informed_by reply = option_map (λ info. Informed (info.num_waiting == 0)) (info
 -- ---- what a recreation makes of a consumer
 
 -- the consumer whose recreation begins
-abbrev pub restarted : Given → Consumer → Consumer
+abbrev pub restarted : ReplayInput → Consumer → Consumer
 restarted g c =
-    let serial = min (c.serial + 1) u64_max in
-    record c { phase = Recreates (recreation g c); num = 0; serial = serial; name = consumer_name g serial }
+    let recreation_count = min (c.recreation_count + 1) u64_max in
+    record c { phase = Recreates (recreation g c); consumer_sequence = 0; recreation_count = recreation_count; name = consumer_name g recreation_count }
 
 -- an inbox that holds nothing yet
 abbrev pub opened_as : ℕ → List ℕ → Opened
@@ -109,7 +109,7 @@ waiting now r = record r {
 }
 
 -- what became of a request, as the replay's code tells it
-abbrev pub reply_shown : Reply → Option (Option Message)
+abbrev pub reply_shown : RequestOutcome → Option (Option Message)
 reply_shown reply.Waiting = None
 reply_shown reply.Gone = Some None
 reply_shown (reply.Got message) = Some (Some message.now)
@@ -121,19 +121,19 @@ abbrev pub place_shown : Place → ack.Place
 place_shown place = record { sequence = place.sequence; number = place.number }
 
 -- the world whose consumer has yielded the message at this place
-abbrev pub accepting : ack.Place → World → World
-accepting place w = record w { consumer = record w.consumer { num = place.number; last = place.sequence; limited = false } }
+abbrev pub accepting : ack.Place → ReplayState → ReplayState
+accepting place w = record w { consumer = record w.consumer { consumer_sequence = place.number; last = place.sequence; limited = false } }
 
 -- the reader that has heard a message
 abbrev pub heard : ℕ → Message → Reader → Reader
 heard now message r = with_pin message (with_silence now r)
 
 -- the reader that a recreation opens
-abbrev pub reader_of : Given → Info → World → Reader
-reader_of g info w = new_reader (source_of g w.consumer.serial w.made (inbox_subject g w.made) info)
+abbrev pub reader_of : ReplayInput → Info → ReplayState → Reader
+reader_of g info w = new_reader (source_of g w.consumer.recreation_count w.inboxes_opened (inbox_subject g w.inboxes_opened) info)
 
 -- the reader of the first inbox
-abbrev pub first_reader_of : Given → Reader
+abbrev pub first_reader_of : ReplayInput → Reader
 first_reader_of g = new_reader (source_of g 0 0 (inbox_subject g 0) g.first)
 
 -- ---- what an open recreation holds
@@ -142,7 +142,7 @@ first_reader_of g = new_reader (source_of g 0 0 (inbox_subject g 0) g.first)
 abbrev pub holding : Option Arrival → Phase → Phase
 holding arrival (Recreates r) = Recreates (record r { opened = held_in arrival r.opened })
 holding arrival (Pulls reader) = Pulls reader
-holding arrival (Pushes inbox silence) = Pushes inbox silence
+holding arrival (Pushes inbox heartbeat_timer) = Pushes inbox heartbeat_timer
 holding arrival Idle = Idle
 holding arrival Ended = Ended
 holding arrival Exhausted = Exhausted
@@ -151,7 +151,7 @@ holding arrival Exhausted = Exhausted
 
 -- push listens to this inbox now
 abbrev pub listens_to : ℕ → Phase → Bool
-listens_to inbox (Pushes current silence) = inbox == current
+listens_to inbox (Pushes current heartbeat_timer) = inbox == current
 listens_to inbox _ = false
 
 -- the rows that hear these messages in order
@@ -172,17 +172,17 @@ change_shown (change.Becomes now) = state.Becomes now
 change_shown change.WatcherEnds = state.WatcherEnds
 
 -- this came of a row that was passed
-abbrev pub Follows : Turn → Passed → World → World → List Output → List Output → Type 0
+abbrev pub Follows : EventContext → Passed → ReplayState → ReplayState → List Output → List Output → Type 0
 Follows turn passed old new before after = Comes (from (given_of turn) turn.moment (matter_now turn) passed old) new before after
 
 -- an event went on from this phase
-abbrev pub GoesOn : Turn → Phase → World → World → List Output → List Output → Type 0
+abbrev pub GoesOn : EventContext → Phase → ReplayState → ReplayState → List Output → List Output → Type 0
 GoesOn turn phase old new before after =
     let w = at phase old in
     Follows turn (go_on (given_of turn) (passing (given_of turn) turn.moment w) (matter_now turn) phase w.consumer) w new before after
 
 -- the connection was another one from then on
-abbrev pub Changes : Turn → State → Phase → World → World → List Output → List Output → Type 0
+abbrev pub Changes : EventContext → State → Phase → ReplayState → ReplayState → List Output → List Output → Type 0
 Changes turn state phase old new before after =
     let w = at phase old in
     Follows turn (changed (given_of turn) (passing (given_of turn) turn.moment w) (matter_now turn) w.consumer.connection state phase w.consumer) w new before after

@@ -11,8 +11,8 @@ use Rattle.js_pull.specs.declared.kind.HeaderNumber.{HeaderNumber}
 use Rattle.js_pull.specs.declared.kind.HeaderNumber.TheVariants as number
 use Rattle.js_pull.specs.Kind.{number_told}
 use Rattle.js_pull.specs.Reader as pull
-use Rattle.js_pull.specs.declared.reader.Told.TheVariants as tells
-use Rattle.js_pull.specs.declared.reader.Told.{Told as PullTold}
+use Rattle.js_pull.specs.declared.reader.ReaderOutput.TheVariants as tells
+use Rattle.js_pull.specs.declared.reader.ReaderOutput.{ReaderOutput as PullTold}
 use Rattle.js_pull.specs.declared.reader.MessagesErrorKind.TheVariants as error
 use Rattle.js_table.specs.declared.kind.PushKind.{PushKind}
 use Rattle.js_table.specs.declared.kind.PushKind.TheVariants.{Delivered, Quiet, Bad, Beat}
@@ -32,7 +32,7 @@ use Rattle.js_table.specs.declared.run.Output.TheVariants as out
 -- a yield, after which its numbers are the last ones
 abbrev pub accepted : Place → Message → Consumer → Passed
 accepted place message c = record {
-  consumer = record c { num = place.number; last = place.sequence; limited = false };
+  consumer = record c { consumer_sequence = place.number; last = place.sequence; limited = false };
   outputs = out.Yield place.sequence place.number message.subject message.payload ∷ [];
   next = [];
 }
@@ -41,7 +41,7 @@ accepted place message c = record {
 abbrev pub message_row : Option Place → Message → Consumer → Passed
 message_row None message c = record { consumer = c; outputs = out.Item item.Other ∷ []; next = [] }
 message_row (Some place) message c =
-    if place.number == c.num + 1 then accepted place message c else quietly c (Start ∷ [])
+    if place.number == c.consumer_sequence + 1 then accepted place message c else quietly c (Start ∷ [])
 
 -- an item
 abbrev pub put_item : ItemKind → Consumer → Passed
@@ -109,13 +109,13 @@ beat_answer up (Some reply) = if up then out.Publish reply None [] ∷ [] else [
 
 -- it shows a gap where it names another number
 abbrev pub beat_rows : Option ℕ → ℕ → List Row
-beat_rows None num = []
-beat_rows (Some last) num = if last == num then [] else Start ∷ []
+beat_rows None consumer_sequence = []
+beat_rows (Some last) consumer_sequence = if last == consumer_sequence then [] else Start ∷ []
 
 -- what push does with an arrival of a kind
 abbrev pub hear_kind : Passing → Message → PushKind → Consumer → Passed
 hear_kind p message Delivered c = message_row (readable_as message.reply) message c
-hear_kind p message (Beat last) c = record { consumer = c; outputs = beat_answer p.up message.reply; next = beat_rows last c.num }
+hear_kind p message (Beat last) c = record { consumer = c; outputs = beat_answer p.up message.reply; next = beat_rows last c.consumer_sequence }
 hear_kind p message Bad c = put_item item.Other c
 hear_kind p message Quiet c = quietly c []
 
@@ -132,7 +132,7 @@ hear_row p arrival inbox c =
 
 -- a heartbeat that is missing is an item, and a recreation starts
 abbrev pub silence_row : Passing → Timer → Consumer → Passed
-silence_row p silence c =
-    if is_due silence p.now
+silence_row p heartbeat_timer c =
+    if is_due heartbeat_timer p.now
     then record { consumer = c; outputs = out.Item item.MissingHeartbeat ∷ []; next = Start ∷ [] }
     else quietly c []

@@ -15,7 +15,7 @@ use Rattle.js_table.specs.declared.row.Row.{Row}
 use Rattle.js_table.specs.declared.row.Row.TheVariants.{Try, Create, Ask, Await, Answered, Hold, Succeed, Fail, Hear, Arm, Read}
 use Rattle.js_table.specs.declared.consumer.Recreation.{Recreation}
 use Rattle.js_table.specs.declared.consumer.Opened.{Opened}
-use Rattle.js_table.specs.declared.consumer.Given.{Given}
+use Rattle.js_table.specs.declared.consumer.ReplayInput.{ReplayInput}
 use Rattle.js_table.specs.declared.consumer.Stage.{Stage}
 use Rattle.js_table.specs.declared.consumer.Stage.TheVariants.{Between, Deleting, Creating, Waiting}
 use Rattle.js_table.specs.declared.consumer.Phase.TheVariants.{Pulls, Pushes, Recreates, Idle, Exhausted}
@@ -39,10 +39,10 @@ abbrev pub start_after : Option ℕ → ℕ → starts.Start
 start_after configured last = if last == 0 then first_start configured else start.From (last + 1)
 
 -- a recreation begins with no tries
-abbrev pub recreation : Given → Consumer → Recreation
+abbrev pub recreation : ReplayInput → Consumer → Recreation
 recreation g c = record {
   old_name = c.name;
-  new_name = consumer_name g (min (c.serial + 1) u64_max);
+  new_name = consumer_name g (min (c.recreation_count + 1) u64_max);
   start = start_after (configured_start g.setup) c.last;
   failures = 0;
   opened = None;
@@ -50,20 +50,20 @@ recreation g c = record {
 }
 
 -- the current inbox is dropped, and the first try follows
-abbrev pub start_row : Given → Consumer → Passed
+abbrev pub start_row : ReplayInput → Consumer → Passed
 start_row g c =
     if c.last == u64_max then quietly (at_phase Exhausted c) [] else
-    (let serial = min (c.serial + 1) u64_max in
+    (let recreation_count = min (c.recreation_count + 1) u64_max in
     record {
-      consumer = record c { phase = Recreates (recreation g c); num = 0; serial = serial; name = consumer_name g serial };
-      outputs = out.Recreate serial (start_after (configured_start g.setup) c.last) ∷ [];
+      consumer = record c { phase = Recreates (recreation g c); consumer_sequence = 0; recreation_count = recreation_count; name = consumer_name g recreation_count };
+      outputs = out.Recreate recreation_count (start_after (configured_start g.setup) c.last) ∷ [];
       next = Try ∷ [];
     })
 
 -- ---- Try and Create
 
 -- the bound on an answer
-abbrev pub timer : Given → Passing → Timer
+abbrev pub timer : ReplayInput → Passing → Timer
 timer g p = record { set = p.now; wait = recreation_timeout g.settings }
 
 -- the recreation at another stage
@@ -71,7 +71,7 @@ abbrev pub at_stage : Stage → Recreation → Consumer → Consumer
 at_stage stage r c = at_phase (Recreates (record r { stage = stage })) c
 
 -- the delete request for the old name, passed over without the link
-abbrev pub try_row : Given → Passing → Recreation → Consumer → Passed
+abbrev pub try_row : ReplayInput → Passing → Recreation → Consumer → Passed
 try_row g p r c =
     if p.up
     then record {
@@ -98,7 +98,7 @@ create_row (Push setup) p r c =
     else quietly c (Fail ∷ [])
 
 -- the create request
-abbrev pub ask_row : Given → Passing → Recreation → Consumer → Passed
+abbrev pub ask_row : ReplayInput → Passing → Recreation → Consumer → Passed
 ask_row g p r c =
     if p.up
     then record {
@@ -111,7 +111,7 @@ ask_row g p r c =
 -- ---- Fail
 
 -- after more failures than retries an item closes the recreation; otherwise the next try waits
-abbrev pub fail_row : Given → Passing → Recreation → Consumer → Passed
+abbrev pub fail_row : ReplayInput → Passing → Recreation → Consumer → Passed
 fail_row g p r c =
     let n = r.failures + 1 in
     if nat_lt g.settings.retries n
@@ -125,11 +125,11 @@ fail_row g p r c =
 -- ---- Success
 
 -- pull subscribes the next inbox, and reads it
-abbrev pub succeed_pull : Given → Passing → Info → Consumer → Passed
+abbrev pub succeed_pull : ReplayInput → Passing → Info → Consumer → Passed
 succeed_pull g p info c =
     if p.up
     then record {
-      consumer = at_phase (Pulls (new_reader (source_of g c.serial p.inbox p.subject info))) c;
+      consumer = at_phase (Pulls (new_reader (source_of g c.recreation_count p.inbox p.subject info))) c;
       outputs = out.Subscribe p.inbox p.subject ∷ [];
       next = map Read pull.opening;
     }
@@ -142,7 +142,7 @@ succeed_push p (Some opened) c =
     quietly (at_phase (Pushes opened.inbox (record { set = p.now; wait = 10_000_000_000 })) c) (map (λ message. Hear (record { inbox = opened.inbox; message = message })) opened.held ++ Arm ∷ [])
 
 -- a create was answered well
-abbrev pub succeed_row : OrderedSetup → Given → Passing → Info → Recreation → Consumer → Passed
+abbrev pub succeed_row : OrderedSetup → ReplayInput → Passing → Info → Recreation → Consumer → Passed
 succeed_row (Pull setup) g p info r c = succeed_pull g p info c
 succeed_row (Push setup) g p info r c = succeed_push p r.opened c
 
@@ -174,12 +174,12 @@ answered setup None = Fail
 answered setup (Some info) = if has_subject setup info then Succeed info else Fail
 
 -- a create looks at its answer before its clock
-abbrev pub created : Given → Passing → Timer → Option (Option Message) → List Row
+abbrev pub created : ReplayInput → Passing → Timer → Option (Option Message) → List Row
 created g p timeout (Some reply) = Answered reply ∷ []
 created g p timeout None = if is_due timeout p.now then Fail ∷ [] else []
 
 -- the rows that a stage goes on with
-abbrev pub stage_rows : Given → Passing → Matter → Stage → List Row
+abbrev pub stage_rows : ReplayInput → Passing → Matter → Stage → List Row
 stage_rows g p m Between = []
 stage_rows g p m (Deleting request timeout) =
     if is_some (reply_to request m.answer) then Create ∷ [] else (if is_due timeout p.now then Create ∷ [] else [])

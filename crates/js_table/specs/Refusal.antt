@@ -2,7 +2,7 @@
 use Rattle.std.specs.Prelude.{ℕ, ◌+◌, Bool, true, false, not, List, [], ◌∷◌, Option, Some, None, nat_lt, is_none, option_map, if◌then◌else◌}
 use Rattle.js_base.specs.Match.{is_valid_subject}
 use Rattle.js_codes.specs.Names.{is_name}
-use Rattle.js_table.specs.declared.consumer.Given.{Given}
+use Rattle.js_table.specs.declared.consumer.ReplayInput.{ReplayInput}
 use Rattle.js_table.specs.declared.consumer.Phase.{Phase}
 use Rattle.js_table.specs.declared.consumer.Phase.TheVariants.{Exhausted}
 use Rattle.js_table.specs.Texts.{config_of}
@@ -47,7 +47,7 @@ delivers_validly (Pull setup) subject = true
 delivers_validly (Push setup) subject = is_missing_or_valid subject
 
 -- the first field that fails its test
-abbrev pub bad_field : Given → Option Field
+abbrev pub bad_field : ReplayInput → Option Field
 bad_field g =
     first_of (unless (is_name g.first.stream_name) field.StreamName) (
     first_of (unless (is_name g.first.name) field.Name) (
@@ -77,7 +77,7 @@ first_exhausted place (ran ∷ rans) =
 -- ---- the first refusal that applies
 
 -- no subject, a bad field, or an early event
-unfoldable pub refuse_input : Given → ℕ → List events.Event → Option ReplayError
+unfoldable pub refuse_input : ReplayInput → ℕ → List events.Event → Option ReplayError
 refuse_input g start es =
     first_of (unless (not (lacks_subject g.setup g.first.config.deliver_subject)) error.NoDeliverSubject) (
     first_of (option_map error.BadSettings (bad_field g))
@@ -88,5 +88,5 @@ abbrev pub refuse_end : List Ran → Option ReplayError
 refuse_end rans = option_map error.SequenceEnd (first_exhausted 0 rans)
 
 -- bad input, or else the end of the sequences
-unfoldable pub refuse : Given → ℕ → List events.Event → Option ReplayError
+unfoldable pub refuse : ReplayInput → ℕ → List events.Event → Option ReplayError
 refuse g start es = first_of (refuse_input g start es) (refuse_end (run_events g es (opening g start).world))

@@ -16,7 +16,7 @@ use Rattle.js_subjects.specs.Subjects.{under, of_consumer, named_subject}
 use Rattle.js_table.specs.declared.setup.Settings.{Settings}
 use Rattle.js_table.specs.declared.consumer.Recreation.{Recreation}
 use Rattle.js_table.specs.declared.consumer.Opened.{Opened}
-use Rattle.js_table.specs.declared.consumer.Given.{Given}
+use Rattle.js_table.specs.declared.consumer.ReplayInput.{ReplayInput}
 use Rattle.js_table.specs.declared.setup.OrderedSetup.{OrderedSetup}
 use Rattle.js_table.specs.declared.setup.OrderedSetup.TheVariants.{Pull, Push}
 use Rattle.js_table.specs.declared.run.Start as starts
@@ -40,7 +40,7 @@ recreation_timeout s = unwrap_or (timeout s) (10 * second)
 -- of a later reader's info requests; the first one's has no bound of its own
 abbrev pub info_timeout : ℕ → Settings → Option ℕ
 info_timeout zero s = timeout s
-info_timeout (suc serial) s = Some (recreation_timeout s)
+info_timeout (suc recreation_count) s = Some (recreation_timeout s)
 
 -- ---- setups
 
@@ -70,19 +70,19 @@ configured_start setup = start_of_policy (config_of setup).deliver_policy
 -- ---- names and subjects
 
 -- of the consumer that a recreation makes
-abbrev pub consumer_name : Given → ℕ → List ℕ
-consumer_name g serial = g.first.name ++ codes "_" ++ decimal serial
+abbrev pub consumer_name : ReplayInput → ℕ → List ℕ
+consumer_name g recreation_count = g.first.name ++ codes "_" ++ decimal recreation_count
 
 -- of the inbox with a number
-abbrev pub inbox_subject : Given → ℕ → List ℕ
+abbrev pub inbox_subject : ReplayInput → ℕ → List ℕ
 inbox_subject g inbox = g.settings.inbox_prefix ++ dot ++ decimal inbox
 
 -- of the request that deletes the old consumer
-abbrev pub delete_subject : Given → Recreation → List ℕ
+abbrev pub delete_subject : ReplayInput → Recreation → List ℕ
 delete_subject g r = under g.settings.api_prefix (of_consumer (codes "CONSUMER.DELETE") g.first.stream_name r.old_name)
 
 -- of the request that makes the new one
-abbrev pub create_subject : Given → Recreation → List ℕ
+abbrev pub create_subject : ReplayInput → Recreation → List ℕ
 create_subject g r =
     under g.settings.api_prefix (named_subject (under (codes "CONSUMER.CREATE") g.first.stream_name) r.new_name (config_of g.setup).filter_subject)
 
@@ -99,7 +99,7 @@ opened_subject None = None
 opened_subject (Some opened) = Some opened.subject
 
 -- what is asked for: the setup's configuration with the new name, the start and push's inbox
-abbrev pub asked_config : Given → Recreation → Config
+abbrev pub asked_config : ReplayInput → Recreation → Config
 asked_config g r = record (config_of g.setup) {
   name = Some r.new_name;
   deliver_policy = policy_of r.start;
@@ -107,24 +107,24 @@ asked_config g r = record (config_of g.setup) {
 }
 
 -- what a create request asks for
-abbrev pub create_request : Given → Recreation → CreateRequest
+abbrev pub create_request : ReplayInput → Recreation → CreateRequest
 create_request g r = record { action = action.CreateOrUpdate; config = asked_config g r; stream_name = g.first.stream_name }
 
 -- the body of a create request
-abbrev pub create_body : Given → Recreation → List ℕ
+abbrev pub create_body : ReplayInput → Recreation → List ℕ
 create_body g r = body_of (create_request_value (create_request g r))
 
 -- ---- readers
 
 -- whom the reader of a consumer with this info asks
-abbrev pub source_of : Given → ℕ → ℕ → List ℕ → Info → Source
-source_of g serial inbox subject info = record {
+abbrev pub source_of : ReplayInput → ℕ → ℕ → List ℕ → Info → Source
+source_of g recreation_count inbox subject info = record {
   api = g.settings.api_prefix;
   stream = info.stream_name;
   name = info.name;
   inbox = inbox;
   subject = subject;
-  patience = info_timeout serial g.settings;
+  info_timeout = info_timeout recreation_count g.settings;
   config = ordered_batch_config info;
   pinned = false;
 }

@@ -12,7 +12,7 @@ use Rattle.js_table.specs.State.{Matter, Change, Unchanged, Becomes, WatcherEnds
 use Rattle.js_base.specs.declared.message.Message.{Message}
 use Rattle.js_table.specs.declared.row.Row.{Row}
 use Rattle.js_table.specs.declared.row.Row.TheVariants.{Event, Start, Try, Create, Ask, Await, Answered, Hold, Succeed, Fail, CheckArrival, Hear, CheckSilence, Arm, Read}
-use Rattle.js_table.specs.declared.consumer.Given.{Given}
+use Rattle.js_table.specs.declared.consumer.ReplayInput.{ReplayInput}
 use Rattle.js_table.specs.declared.consumer.Phase.{Phase}
 use Rattle.js_table.specs.declared.consumer.Phase.TheVariants.{Pulls, Pushes, Recreates, Idle, Ended, Exhausted}
 use Rattle.js_table.specs.Recreation.{start_row, try_row, create_row, ask_row, succeed_row, fail_row, answered, stage_rows, hold_row, recreation_rows, message_on}
@@ -35,11 +35,11 @@ push_rows inbox (Some message) = Hear (record { inbox = inbox; message = message
 -- ---- after the connection: a recreation starts, or goes on, or the reader does its step
 
 -- what an event does where the connection is as it was
-abbrev pub go_on : Given → Passing → Matter → Phase → Consumer → Passed
+abbrev pub go_on : ReplayInput → Passing → Matter → Phase → Consumer → Passed
 go_on g p m Idle c = quietly c (Start ∷ [])
 go_on g p m (Recreates r) c = quietly c (recreation_rows r.opened)
 go_on g p m (Pulls reader) c = reader_row p m (read.Begin None) reader c
-go_on g p m (Pushes inbox silence) c = quietly c (CheckArrival ∷ [])
+go_on g p m (Pushes inbox heartbeat_timer) c = quietly c (CheckArrival ∷ [])
 go_on g p m Ended c = quietly c []
 go_on g p m Exhausted c = quietly c []
 
@@ -59,28 +59,28 @@ same_state Disconnected Disconnected = true
 same_state _ _ = false
 
 -- the connection is another one from then on; where the old or the new state is Connected, push starts a recreation
-abbrev pub changed : Given → Passing → Matter → State → State → Phase → Consumer → Passed
+abbrev pub changed : ReplayInput → Passing → Matter → State → State → Phase → Consumer → Passed
 changed g p m old new (Pulls reader) c = reader_row p m (read.Begin (Some new)) reader (record c { connection = new })
-changed g p m old new (Pushes inbox silence) c =
+changed g p m old new (Pushes inbox heartbeat_timer) c =
     if is_connected old || is_connected new
     then restart (record c { connection = new })
-    else go_on g p m (Pushes inbox silence) (record c { connection = new })
+    else go_on g p m (Pushes inbox heartbeat_timer) (record c { connection = new })
 changed g p m old new phase c = go_on g p m phase (record c { connection = new })
 
 -- the end of the watcher ends push
-abbrev pub watcher_ended : Given → Passing → Matter → OrderedSetup → Consumer → Passed
+abbrev pub watcher_ended : ReplayInput → Passing → Matter → OrderedSetup → Consumer → Passed
 watcher_ended g p m (Pull setup) c = go_on g p m c.phase c
 watcher_ended g p m (Push setup) c = end_with item.Other c
 
 -- the state that stands already is no change
-abbrev pub event_change : Given → Passing → Matter → Change → Consumer → Passed
+abbrev pub event_change : ReplayInput → Passing → Matter → Change → Consumer → Passed
 event_change g p m Unchanged c = go_on g p m c.phase c
 event_change g p m (Becomes state) c =
     if same_state c.connection state then go_on g p m c.phase c else changed g p m c.connection state c.phase c
 event_change g p m WatcherEnds c = watcher_ended g p m g.setup c
 
 -- what an event does first; an ended consumer passes nothing
-abbrev pub event_row : Given → Passing → Matter → Phase → Consumer → Passed
+abbrev pub event_row : ReplayInput → Passing → Matter → Phase → Consumer → Passed
 event_row g p m Ended c = quietly c []
 event_row g p m Exhausted c = quietly c []
 event_row g p m phase c = event_change g p m m.change c
@@ -88,7 +88,7 @@ event_row g p m phase c = event_change g p m m.change c
 -- ---- the rows
 
 -- a row at a phase: one that does not belong there does nothing
-abbrev pub row_at : Given → Passing → Matter → Row → Phase → Consumer → Passed
+abbrev pub row_at : ReplayInput → Passing → Matter → Row → Phase → Consumer → Passed
 row_at g p m Event phase c = event_row g p m phase c
 row_at g p m Start phase c = start_row g c
 row_at g p m Try (Recreates r) c = try_row g p r c
@@ -99,13 +99,13 @@ row_at g p m (Answered reply) (Recreates r) c = quietly c (answered g.setup (pul
 row_at g p m Hold (Recreates r) c = hold_row m r c
 row_at g p m (Succeed info) (Recreates r) c = succeed_row g.setup g p info r c
 row_at g p m Fail (Recreates r) c = fail_row g p r c
-row_at g p m CheckArrival (Pushes inbox silence) c = quietly c (push_rows inbox (message_on inbox m.arrival))
-row_at g p m (Hear arrival) (Pushes inbox silence) c = hear_row p arrival inbox c
-row_at g p m CheckSilence (Pushes inbox silence) c = silence_row p silence c
-row_at g p m Arm (Pushes inbox silence) c = quietly (at_phase (Pushes inbox (armed p.now)) c) []
+row_at g p m CheckArrival (Pushes inbox heartbeat_timer) c = quietly c (push_rows inbox (message_on inbox m.arrival))
+row_at g p m (Hear arrival) (Pushes inbox heartbeat_timer) c = hear_row p arrival inbox c
+row_at g p m CheckSilence (Pushes inbox heartbeat_timer) c = silence_row p heartbeat_timer c
+row_at g p m Arm (Pushes inbox heartbeat_timer) c = quietly (at_phase (Pushes inbox (armed p.now)) c) []
 row_at g p m (Read row) (Pulls reader) c = reader_row p m row reader c
 row_at g p m _ phase c = quietly c []
 
 -- one row is passed
-abbrev pub pass : Given → Passing → Matter → Row → Consumer → Passed
+abbrev pub pass : ReplayInput → Passing → Matter → Row → Consumer → Passed
 pass g p m row c = row_at g p m row c.phase c

@@ -14,11 +14,11 @@ use Rattle.js_json.specs.declared.push.OrderedConfig as pushes
 use Rattle.js_json.specs.Conversions.{ordered_pull_config, ordered_push_config}
 use Rattle.js_json.specs.declared.consumer.deliver_policy.DeliverPolicy.TheVariants as policy
 use Rattle.js_table.specs.declared.setup.Settings.{Settings}
-use Rattle.js_table.specs.declared.consumer.Given.{Given}
+use Rattle.js_table.specs.declared.consumer.ReplayInput.{ReplayInput}
 use Rattle.js_table.specs.declared.setup.OrderedSetup.{OrderedSetup}
 use Rattle.js_table.specs.declared.setup.OrderedSetup.TheVariants.{Pull, Push}
 use Rattle.js_table.specs.declared.event.Event.{Event}
-use Rattle.js_table.specs.declared.event.What.TheVariants as what
+use Rattle.js_table.specs.declared.event.EventKind.TheVariants as what
 use Rattle.js_table.specs.declared.run.Run.{Run}
 use Rattle.js_table.specs.declared.run.Output.{Output}
 use Rattle.js_table.specs.declared.run.Output.TheVariants as out
@@ -99,15 +99,15 @@ abbrev pub pull_info : Info
 pull_info = info_with (codes "c1") (ordered_pull_config (pull_config policy.All))
 
 -- the pull setup, of all messages
-abbrev pub by_pull : Given
+abbrev pub by_pull : ReplayInput
 by_pull = record { settings = settings; setup = Pull (pull_config policy.All); first = pull_info }
 
 -- the push setup, of all messages
-abbrev pub by_push : Given
+abbrev pub by_push : ReplayInput
 by_push = record { settings = settings; setup = Push push_config; first = info_with (codes "c1") (ordered_push_config push_config) }
 
 -- the pull setup that starts at a sequence
-abbrev pub pull_from : ℕ → Given
+abbrev pub pull_from : ℕ → ReplayInput
 pull_from sequence = record by_pull { setup = Pull (pull_config (policy.ByStartSequence sequence)) }
 
 -- a message with nothing but this payload
@@ -255,7 +255,7 @@ abbrev pub filtered_setup : OrderedSetup
 filtered_setup = Pull (record (pull_config (policy.ByStartSequence 2)) { filter_subject = codes "orders.*" })
 
 -- a consumer of that setup
-abbrev pub by_filter : Given
+abbrev pub by_filter : ReplayInput
 by_filter = record by_pull { setup = filtered_setup }
 
 -- it is sent what its filter matches, from its start on
@@ -281,7 +281,7 @@ server_filtered = record {
 }
 
 -- the server is honest in the run of these events, which yields these sequences and leaves no gap
-pub record LeavesNoGap (s : Server) (g : Given) (es : Global → List Event) (yielded : List ℕ) : Type 0 where
+pub record LeavesNoGap (s : Server) (g : ReplayInput) (es : Global → List Event) (yielded : List ℕ) : Type 0 where
   pub honest : (heap : Global) → IsHonest s g.setup (es heap) (fold g 0 (es heap))
   pub yields_these : (heap : Global) → sequences (yields (all_outputs (fold g 0 (es heap)))) ≡ yielded
   pub gapless : (heap : Global) → IsGapless s g.setup (yields (all_outputs (fold g 0 (es heap))))

@@ -6,11 +6,11 @@ ghost use Rattle.js_table.specs.Passes.{change_shown, reply_shown};
 ghost use Rattle.js_table.specs.Recreation.{message_on};
 ghost use Rattle.js_pull.specs.Reader.{reply_to};
 
-use crate::event::What;
+use crate::event::EventKind;
 use js_base::{Message, State};
 
 /// What became of a request in an event.
-pub enum Reply<'a> {
+pub enum RequestOutcome<'a> {
     /// It was not answered in this event.
     Waiting,
     /// The replier is gone.
@@ -19,17 +19,17 @@ pub enum Reply<'a> {
     Got(&'a Message),
 }
 
-impl What {
+impl EventKind {
     /// What became of this request in the event.
-    pub fn reply_to(&self, number: u64) -> Reply<'_>
+    pub fn reply_to(&self, number: u64) -> RequestOutcome<'_>
         ensures { reply_shown result ≡ reply_to number (matter_of self.now).answer }
     {
         match self {
-            What::Answer { request, reply } if *request == number => match reply {
-                None => Reply::Gone,
-                Some(message) => Reply::Got(message.get()),
+            EventKind::Answer { request, reply } if *request == number => match reply {
+                None => RequestOutcome::Gone,
+                Some(message) => RequestOutcome::Got(message.get()),
             },
-            _ => Reply::Waiting,
+            _ => RequestOutcome::Waiting,
         }
     }
 
@@ -38,7 +38,7 @@ impl What {
         ensures { option_copied result ≡ message_on number (matter_of self.now).arrival }
     {
         match self {
-            What::Arrival { inbox, message } if *inbox == number => Some(message.get()),
+            EventKind::Arrival { inbox, message } if *inbox == number => Some(message.get()),
             _ => None,
         }
     }
@@ -55,15 +55,15 @@ pub enum Change {
 }
 
 /// What an event says of the connection.
-pub fn change_of(what: &What) -> Change
+pub fn change_of(what: &EventKind) -> Change
     ensures { change_shown result ≡ (matter_of what.now).change }
 {
     match what {
-        What::Connection { state } => Change::Becomes(*state),
-        What::WatcherEnded => Change::WatcherEnds,
-        What::Tick => Change::Unchanged,
-        What::Arrival { .. } => Change::Unchanged,
-        What::Answer { .. } => Change::Unchanged,
-        What::Link { .. } => Change::Unchanged,
+        EventKind::Connection { state } => Change::Becomes(*state),
+        EventKind::WatcherEnded => Change::WatcherEnds,
+        EventKind::Tick => Change::Unchanged,
+        EventKind::Arrival { .. } => Change::Unchanged,
+        EventKind::Answer { .. } => Change::Unchanged,
+        EventKind::Link { .. } => Change::Unchanged,
     }
 }

@@ -7,7 +7,7 @@ use js_pull::Reader;
 
 /// What a consumer is made with.
 #[derive(Debug, PartialEq, Eq, Drop)]
-pub struct Given {
+pub struct ReplayInput {
     pub settings: Settings,
     pub setup: OrderedSetup,
     /// What the server told of the first consumer.
@@ -53,7 +53,7 @@ pub enum Phase {
     /// A pull reader has the current inbox.
     Pulls(Reader),
     /// Push: the current inbox, and when it was last heard.
-    Pushes { inbox: u64, silence: Timer },
+    Pushes { inbox: u64, heartbeat_timer: Timer },
     Recreates(Recreation),
     /// Neither a current inbox nor an open recreation. The next event begins one.
     Idle,
@@ -67,11 +67,11 @@ pub enum Phase {
 pub struct Consumer {
     pub phase: Phase,
     /// The last accepted consumer sequence; 0 where nothing was accepted on the current inbox.
-    pub num: u64,
+    pub consumer_sequence: u64,
     /// The last yielded stream sequence; 0 where nothing was yielded.
     pub last: u64,
     /// The number of recreations.
-    pub serial: u64,
+    pub recreation_count: u64,
     /// The name of the last consumer that was asked for.
     pub name: Text,
     /// Pull: a heartbeat is missing, and nothing was handed out since.

@@ -5,12 +5,12 @@ use js_base::{Boxed, Message, Moment, State};
 #[derive(Debug, PartialEq, Eq, Drop)]
 pub struct Event {
     pub at: Moment,
-    pub what: What,
+    pub what: EventKind,
 }
 
 /// What happens.
 #[derive(Debug, PartialEq, Eq, Drop)]
-pub enum What {
+pub enum EventKind {
     /// Only time passes.
     Tick,
     /// A message arrives on the inbox with this number, from 0 in the order of subscribing.

@@ -3,8 +3,8 @@ ghost use Rattle.std.specs.Prelude.{◌≡◌, ◌+◌, ◌↔◌, IfOk, IsTrue,
 ghost use Rattle.js_message.specs.Ack.{readable_as};
 ghost use Rattle.js_table.specs.Passes.{accepting, place_shown};
 
+use crate::replay_state::ReplayState;
 use crate::run::Output;
-use crate::world::World;
 use js_base::{Message, OutOfMemory, TryClone};
 use js_message::parse_info;
 
@@ -52,12 +52,12 @@ pub fn yield_of(message: &Message, place: Place) -> Result<Output, OutOfMemory>
     })
 }
 
-impl World {
+impl ReplayState {
     /// The consumer has yielded the message at this place.
     pub fn accept(&mut self, place: Place)
         ensures { self.new ≡ accepting (place_shown place) self.old }
     {
-        self.consumer.num = place.number;
+        self.consumer.consumer_sequence = place.number;
         self.consumer.last = place.sequence;
         self.consumer.limited = false;
     }

@@ -4,9 +4,9 @@ ghost use Rattle.js_table.specs.Passes.{given_of};
 ghost use Rattle.js_table.specs.Refusal as refusals;
 
 use crate::event::Event;
+use crate::event_context::EventContext;
 use crate::run::{Field, ReplayError};
 use crate::setup::OrderedSetup;
-use crate::turn::Turn;
 use js_base::{Moment, Text, is_valid_subject};
 use js_codes::is_valid_name;
 
@@ -48,7 +48,7 @@ fn delivers_validly(setup: &OrderedSetup, subject: &Option<Text>) -> bool
 }
 
 /// The first field that fails its test.
-fn bad_field(turn: &Turn<'_>) -> Option<Field>
+fn bad_field(turn: &EventContext<'_>) -> Option<Field>
     ensures { result ≡ refusals.bad_field (given_of turn.now) }
 {
     if !is_valid_name(turn.first.stream_name.as_str()) {
@@ -88,7 +88,7 @@ fn first_early(start: Moment, events: &[Event]) -> Option<u64>
 
 /// The first refusal that needs no replay: no subject, a bad field, or an early event.
 #[tactic(auto, unfolding(crate::specs::Refusal::refuse_input))]
-pub fn refuse_input(turn: &Turn<'_>, events: &[Event]) -> Option<ReplayError>
+pub fn refuse_input(turn: &EventContext<'_>, events: &[Event]) -> Option<ReplayError>
     ensures { result ≡ refusals.refuse_input (given_of turn.now) turn.now.moment events.now }
 {
     if lacks_subject(turn.setup, &turn.first.config.deliver_subject) {

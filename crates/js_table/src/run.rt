@@ -44,7 +44,7 @@ pub enum Output {
     },
     /// A recreation begins.
     Recreate {
-        serial: u64,
+        recreation_count: u64,
         start: Start,
     },
     /// An API request goes out. Requests are numbered from 1.

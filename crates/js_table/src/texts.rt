@@ -5,9 +5,9 @@ ghost use Rattle.js_table.specs.Texts as texts;
 ghost use Rattle.js_subjects.specs.Subjects.{under, of_consumer, named_subject};
 
 use crate::consumer::{Opened, Recreation};
+use crate::event_context::EventContext;
 use crate::run::Start;
 use crate::setup::{OrderedSetup, Settings};
-use crate::turn::Turn;
 use bytes::Bytes;
 use js_base::{Nanos, OutOfMemory, Subject, Text, TryClone};
 use js_fields::ToValue;
@@ -39,10 +39,10 @@ pub fn recreation_timeout(settings: &Settings) -> Nanos
 }
 
 /// How long a pull reader waits for its consumer's info. The first reader's wait has no bound of its own.
-fn info_timeout(serial: u64, settings: &Settings) -> Option<Nanos>
-    ensures { result ≡ texts.info_timeout serial settings.now }
+fn info_timeout(recreation_count: u64, settings: &Settings) -> Option<Nanos>
+    ensures { result ≡ texts.info_timeout recreation_count settings.now }
 {
-    if serial == 0 {
+    if recreation_count == 0 {
         timeout(settings)
     } else {
         Some(recreation_timeout(settings))
@@ -103,14 +103,22 @@ fn numbered(alloc: Global, base: &str, mark: &str, number: u64) -> Result<String
 }
 
 /// The name of the consumer that the recreation with this serial makes.
-pub fn consumer_name(alloc: Global, turn: &Turn<'_>, serial: u64) -> Result<Text, OutOfMemory>
-    ensures { IfOk result (λ name. name ≡ texts.consumer_name (given_of turn.now) serial) }
+pub fn consumer_name(
+    alloc: Global,
+    turn: &EventContext<'_>,
+    recreation_count: u64,
+) -> Result<Text, OutOfMemory>
+    ensures { IfOk result (λ name. name ≡ texts.consumer_name (given_of turn.now) recreation_count) }
 {
-    Ok(Text::from(numbered(alloc, turn.first.name.as_str(), "_", serial)?))
+    Ok(Text::from(numbered(alloc, turn.first.name.as_str(), "_", recreation_count)?))
 }
 
 /// The subject of the inbox with this number.
-pub fn inbox_subject(alloc: Global, turn: &Turn<'_>, inbox: u64) -> Result<Subject, OutOfMemory>
+pub fn inbox_subject(
+    alloc: Global,
+    turn: &EventContext<'_>,
+    inbox: u64,
+) -> Result<Subject, OutOfMemory>
     ensures { IfOk result (λ subject. subject ≡ texts.inbox_subject (given_of turn.now) inbox) }
 {
     Ok(Subject::from(numbered(alloc, turn.settings.inbox_prefix.as_str(), ".", inbox)?))
@@ -119,7 +127,7 @@ pub fn inbox_subject(alloc: Global, turn: &Turn<'_>, inbox: u64) -> Result<Subje
 /// The subject of a request on a consumer, by the words of the call.
 fn consumer_subject(
     alloc: Global,
-    turn: &Turn<'_>,
+    turn: &EventContext<'_>,
     words: &str,
     name: &str,
 ) -> Result<Subject, OutOfMemory>
@@ -133,7 +141,7 @@ fn consumer_subject(
 /// The subject of a request that names a consumer, and what it reads.
 fn filtered_subject(
     alloc: Global,
-    turn: &Turn<'_>,
+    turn: &EventContext<'_>,
     words: &str,
     name: &str,
     filter: &str,
@@ -149,7 +157,7 @@ fn filtered_subject(
 /// The subject of the request that deletes the old consumer.
 pub fn delete_subject(
     alloc: Global,
-    turn: &Turn<'_>,
+    turn: &EventContext<'_>,
     recreation: &Recreation,
 ) -> Result<Subject, OutOfMemory>
     ensures { IfOk result (λ subject. subject ≡ texts.delete_subject (given_of turn.now) recreation.now) }
@@ -160,7 +168,7 @@ pub fn delete_subject(
 /// The subject of the request that makes the new one.
 pub fn create_subject(
     alloc: Global,
-    turn: &Turn<'_>,
+    turn: &EventContext<'_>,
     recreation: &Recreation,
 ) -> Result<Subject, OutOfMemory>
     ensures { IfOk result (λ subject. subject ≡ texts.create_subject (given_of turn.now) recreation.now) }
@@ -196,7 +204,7 @@ fn opened_subject(alloc: Global, opened: &Option<Opened>) -> Result<Option<Text>
 
 fn asked_config(
     alloc: Global,
-    turn: &Turn<'_>,
+    turn: &EventContext<'_>,
     recreation: &Recreation,
 ) -> Result<Config, OutOfMemory>
     ensures { IfOk result (λ config. config ≡ texts.asked_config (given_of turn.now) recreation.now) }
@@ -211,7 +219,7 @@ fn asked_config(
 /// The body of the request that makes the new consumer.
 pub fn create_body(
     alloc: Global,
-    turn: &Turn<'_>,
+    turn: &EventContext<'_>,
     recreation: &Recreation,
 ) -> Result<Bytes, OutOfMemory>
     ensures { IfOk result (λ body. body ≡ texts.create_body (given_of turn.now) recreation.now) }
@@ -231,13 +239,13 @@ pub fn create_body(
 
 /// Whom the reader of a consumer with this info asks.
 pub fn source_of(
-    turn: &Turn<'_>,
-    serial: u64,
+    turn: &EventContext<'_>,
+    recreation_count: u64,
     inbox: u64,
     subject: Subject,
     info: &Info,
 ) -> Result<Source, OutOfMemory>
-    ensures { IfOk result (λ source. source ≡ texts.source_of (given_of turn.now) serial inbox subject info.now) }
+    ensures { IfOk result (λ source. source ≡ texts.source_of (given_of turn.now) recreation_count inbox subject info.now) }
 {
     Ok(Source {
         api: turn.settings.api_prefix.try_clone()?,
@@ -245,7 +253,7 @@ pub fn source_of(
         name: info.name.try_clone()?,
         inbox,
         subject,
-        patience: info_timeout(serial, turn.settings),
+        info_timeout: info_timeout(recreation_count, turn.settings),
         config: ordered_batch_config(info),
         pinned: false,
     })

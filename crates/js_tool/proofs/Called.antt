@@ -4,8 +4,8 @@ use Rattle.std.proofs.lemmas.Bool.Decides.{nat_tests}
 use Rattle.js_table.proofs.Accepted.{valid_accepted}
 use Rattle.js_tool.specs.declared.status.Status.{Status}
 use Rattle.js_tool.specs.declared.status.Status.TheVariants as status
-use Rattle.js_tool.specs.declared.program.Reply.{Reply}
-use Rattle.js_tool.specs.declared.program.Reply.TheVariants as reply
+use Rattle.js_tool.specs.declared.program.CommandOutcome.{CommandOutcome}
+use Rattle.js_tool.specs.declared.program.CommandOutcome.TheVariants as reply
 use Rattle.js_tool.specs.Program.{given, IsReply, Replays, IsRefused, IsValidTranscript, IsUnlessFailed, called_for}
 use Rattle.js_tool.specs.Texts.{run_text, refusal_text}
 use Rattle.js_tool.specs.Transcripts.{transcript}
@@ -26,12 +26,12 @@ not_long n within = grind (arith, nat_tests)
 is_long : (n : ℕ) → 67_108_864 < n → nat_lt 67_108_864 n ≡ true
 is_long n above = grind (arith, nat_tests)
 
-abbrev pub reply_status : Reply → Status
+abbrev pub reply_status : CommandOutcome → Status
 reply_status (reply.Done text) = status.Done
 reply_status (reply.Refused text) = status.Refused
 reply_status (reply.BadLine line) = status.BadLine line
 
-pub called_reply : (r : Reply) (bytes : List ℕ) → IsReply bytes r → called_for bytes ≡ reply_status r
+pub called_reply : (r : CommandOutcome) (bytes : List ℕ) → IsReply bytes r → called_for bytes ≡ reply_status r
 unfolding called_for
 called_reply (reply.Done text) bytes (run, replays, written) = rw (not_long (length bytes) replays.within, replays.by.1, replays.by.2.accepted) refl
 called_reply (reply.Refused text) bytes (refusal, refused, written) = rw (not_long (length bytes) refused.within, refused.by.1, refused.by.2) refl

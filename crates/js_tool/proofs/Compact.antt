@@ -13,7 +13,7 @@ use Rattle.serde_json.specs.Read.{read, of_json}
 use Rattle.serde_json.proofs.Numbers.{number_of-decimal}
 use Rattle.js_fields.specs.Values.{value_of}
 use Rattle.js_fields.specs.Reading.{float_free, required, optional, defaulted, given, text, natural, natural_of}
-use Rattle.js_table.specs.declared.event.What.TheVariants as what
+use Rattle.js_table.specs.declared.event.EventKind.TheVariants as what
 use Rattle.js_tool.specs.Members.{only, line_as}
 use Rattle.js_tool.specs.Messages.{message_fields}
 use Rattle.js_tool.specs.Events.{arrival_fields, with_key, what_fields, event_fields}

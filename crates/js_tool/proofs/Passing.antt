@@ -1,17 +1,17 @@
 -- Line after line: what was passed, its text, and what the lines that are left say.
 use Rattle.std.proofs.Common.{◌≡◌, ℕ, suc, ◌+◌, ◌≤◌, Bool, List, [], ◌∷◌, ◌++◌, length, flat_map, refl, sym, ap, subst, ◌∙◌, append_assoc, append-nil, length-append, arith}
 use Rattle.std.specs.Prelude.{Result, Ok, Err, IfOk}
-use Rattle.js_table.specs.declared.consumer.Given.{Given}
-use Rattle.js_ordered.specs.declared.course.Course.{Course}
+use Rattle.js_table.specs.declared.consumer.ReplayInput.{ReplayInput}
+use Rattle.js_ordered.specs.declared.incremental_replay.IncrementalReplay.{IncrementalReplay}
 use Rattle.js_table.specs.declared.event.Event.{Event}
 use Rattle.js_table.specs.declared.run.Output.{Output}
 use Rattle.js_table.specs.declared.run.Step.{Step}
-use Rattle.js_ordered.specs.Course.{HasCome, last}
+use Rattle.js_ordered.specs.IncrementalReplay.{HasCome, last}
 use Rattle.js_table.specs.Fold.{fold, step_of}
 use Rattle.js_ordered.proofs.Coursing.{no_steps, steps_on, opening_is, steps_count}
 use Rattle.js_table.proofs.Promises.{fold_replays}
-use Rattle.js_tool.specs.declared.program.Reply.{Reply}
-use Rattle.js_tool.specs.declared.program.Reply.TheVariants as reply
+use Rattle.js_tool.specs.declared.program.CommandOutcome.{CommandOutcome}
+use Rattle.js_tool.specs.declared.program.CommandOutcome.TheVariants as reply
 use Rattle.js_tool.specs.declared.progress.Progress.{Progress}
 use Rattle.js_tool.specs.declared.transcript.Transcript.{Transcript}
 use Rattle.js_tool.specs.declared.transcript.setup.Setup.{Setup}
@@ -29,7 +29,7 @@ use Rattle.js_tool.proofs.Called.{done_reply, refused_reply}
 -- ---- the text
 
 -- the opening's alone
-pub text_first : (g : Given) (start : ℕ) → text_so_far (fold g start []) ≡ flat_map (output_text 0) (last g start []).outputs
+pub text_first : (g : ReplayInput) (start : ℕ) → text_so_far (fold g start []) ≡ flat_map (output_text 0) (last g start []).outputs
 text_first g start =
     ap (λ (steps : List Step). step_text 0 (fold g start []).opening ++ steps_text 1 steps) (no_steps g start)
     ∙ append-nil (step_text 0 (fold g start []).opening)
@@ -45,13 +45,13 @@ steps_text_on n (x ∷ steps) step =
     ∙ sym (append_assoc (step_text n x) (steps_text (n + 1) steps) (step_text (n + suc (length steps)) step))
 
 -- so the opening's text is there at first
-pub text_opens : (g : Given) (start number : ℕ) (course : Course) (outputs : List Output) (text : List ℕ) → HasCome g start [] course → number ≡ 0 → outputs ≡ course.outputs → text ≡ flat_map (output_text number) outputs
+pub text_opens : (g : ReplayInput) (start number : ℕ) (course : IncrementalReplay) (outputs : List Output) (text : List ℕ) → HasCome g start [] course → number ≡ 0 → outputs ≡ course.outputs → text ≡ flat_map (output_text number) outputs
     → text ≡ text_so_far (fold g start [])
 text_opens g start number course outputs text come first put says =
     says ∙ ap (λ (n : ℕ). flat_map (output_text n) outputs) first ∙ ap (flat_map (output_text 0)) (put ∙ come.outputs) ∙ sym (text_first g start)
 
 -- one event adds the text of its step
-pub text_on : (g : Given) (start : ℕ) (es : List Event) (e : Event)
+pub text_on : (g : ReplayInput) (start : ℕ) (es : List Event) (e : Event)
     → text_so_far (fold g start (es ++ e ∷ [])) ≡ text_so_far (fold g start es) ++ flat_map (output_text (length (es ++ e ∷ []))) (last g start (es ++ e ∷ [])).outputs
 text_on g start es e =
     let all : List Event = es ++ e ∷ [] in
@@ -68,7 +68,7 @@ text_on g start es e =
     one_more es e = sym (simp length-append (omega arith))
 
 -- so it is there after one more
-pub text_passes : (g : Given) (start : ℕ) (es : List Event) (e : Event) (old : Progress) (number : ℕ) (course : Course) (outputs : List Output) (text : List ℕ)
+pub text_passes : (g : ReplayInput) (start : ℕ) (es : List Event) (e : Event) (old : Progress) (number : ℕ) (course : IncrementalReplay) (outputs : List Output) (text : List ℕ)
     → HasPassed g start es old → HasCome g start (es ++ e ∷ []) course → number ≡ course.count → outputs ≡ course.outputs → text ≡ old.text.items ++ flat_map (output_text number) outputs
     → text ≡ text_so_far (fold g start (es ++ e ∷ []))
 text_passes g start es e old number course outputs text passed come counted put says =
@@ -79,13 +79,13 @@ text_passes g start es e old number course outputs text passed come counted put 
     ∙ sym (text_on g start es e)
 
 -- and the last line makes the run's text of it
-pub text_ends : (g : Given) (start : ℕ) (es : List Event) → run_text (fold g start es) ≡ text_so_far (fold g start es) ++ last_line (fold g start es).ended (length es)
+pub text_ends : (g : ReplayInput) (start : ℕ) (es : List Event) → run_text (fold g start es) ≡ text_so_far (fold g start es) ++ last_line (fold g start es).ended (length es)
 unfolding run_text
 text_ends g start es =
     ap (λ (n : ℕ). text_so_far (fold g start es) ++ last_line (fold g start es).ended n) (steps_count g start es)
 
 -- and so the whole text is there at the end
-pub text_done : (g : Given) (start : ℕ) (es : List Event) (p : Progress) (ended : Bool) (number : ℕ) (text : List ℕ) → HasPassed g start es p → ended ≡ (fold g start es).ended → number ≡ p.course.count
+pub text_done : (g : ReplayInput) (start : ℕ) (es : List Event) (p : Progress) (ended : Bool) (number : ℕ) (text : List ℕ) → HasPassed g start es p → ended ≡ (fold g start es).ended → number ≡ p.course.count
     → text ≡ p.text.items ++ last_line ended number → text ≡ run_text (fold g start es)
 text_done g start es p ended number text passed ends counted says =
     says
@@ -119,7 +119,7 @@ read_none n es line rest fails = ap (λ (r : Result Event ℕ). after_lines es (
 
 -- a line that reads is passed with its event
 pub line_passes : (old new : Progress) (line : List ℕ) (number : ℕ) (e : Event) → number ≡ old.course.count + 2 → numbered number (event_line line) ≡ Ok e
-    → ((g : Given) (start : ℕ) (es : List Event) → HasPassed g start es old → HasPassed g start (es ++ e ∷ []) new)
+    → ((g : ReplayInput) (start : ℕ) (es : List Event) → HasPassed g start es old → HasPassed g start (es ++ e ∷ []) new)
     → PassesTo old (line ∷ []) new []
 line_passes old new line number e is reads passes = λ g start es passed.
     let at : number ≡ length es + 2 = is ∙ ap (λ (n : ℕ). n + 2) passed.course.count in
@@ -160,19 +160,19 @@ read_whole (Err n) = refl
 whole : (lines : List (List ℕ)) → events_from 2 lines ≡ read_after [] (lines ++ [])
 whole lines = sym (ap (λ (all : List (List ℕ)). events_from 2 all) (append-nil lines)) ∙ sym (read_whole (events_from 2 (lines ++ [])))
 
-answered : (setup : Setup) (es : List Event) (answer : Reply) (reading : Result (List Event) ℕ) → reading ≡ Ok es → IsReplyOn (given setup) setup.start es answer
+answered : (setup : Setup) (es : List Event) (answer : CommandOutcome) (reading : Result (List Event) ℕ) → reading ≡ Ok es → IsReplyOn (given setup) setup.start es answer
     → IsReplyTo (reading >>= λ events. Ok (record { setup = setup; events = events })) answer
 answered setup es answer reading reads replies = rw reads replies
 
-all_passed : (setup : Setup) (first new : Progress) (lines : List (List ℕ)) (answer : Reply) → HasPassed (given setup) setup.start [] first → PassesTo first lines new []
-    → ((g : Given) (start : ℕ) (es : List Event) → HasPassed g start es new → IsReplyOn g start es answer) → IsReplyTo (with_lines setup lines) answer
+all_passed : (setup : Setup) (first new : Progress) (lines : List (List ℕ)) (answer : CommandOutcome) → HasPassed (given setup) setup.start [] first → PassesTo first lines new []
+    → ((g : ReplayInput) (start : ℕ) (es : List Event) → HasPassed g start es new → IsReplyOn g start es answer) → IsReplyTo (with_lines setup lines) answer
 all_passed setup first new lines answer opened passes replies =
     let (es, passed, reads) = passes (given setup) setup.start [] opened in
     answered setup es answer (events_from 2 lines) (whole lines ∙ reads [] ∙ ap Ok (append-nil es)) (replies (given setup) setup.start es passed)
 
 -- where all lines were passed the reply is that to their events
-pub concludes : {E : Type 0} (setup : Setup) (first new : Progress) (lines : List (List ℕ)) (result : Result Reply E) → HasPassed (given setup) setup.start [] first → PassesTo first lines new []
-    → ((g : Given) (start : ℕ) (es : List Event) → HasPassed g start es new → IfOk result (λ answer. IsReplyOn g start es answer)) → IfOk result (λ answer. IsReplyTo (with_lines setup lines) answer)
+pub concludes : {E : Type 0} (setup : Setup) (first new : Progress) (lines : List (List ℕ)) (result : Result CommandOutcome E) → HasPassed (given setup) setup.start [] first → PassesTo first lines new []
+    → ((g : ReplayInput) (start : ℕ) (es : List Event) → HasPassed g start es new → IfOk result (λ answer. IsReplyOn g start es answer)) → IfOk result (λ answer. IsReplyTo (with_lines setup lines) answer)
 concludes setup first new lines (Ok answer) opened passes replies = all_passed setup first new lines answer opened passes replies
 concludes setup first new lines (Err e) opened passes replies = tt
 
@@ -185,23 +185,23 @@ pub one_stops : (setup : Setup) (first : Progress) (lines : List (List ℕ)) (n 
     → IsReplyTo (with_lines setup lines) (reply.BadLine n)
 one_stops setup first lines n opened stops = unread_line setup n (events_from 2 lines) (whole lines ∙ stops (given setup) setup.start [] opened [])
 
-reply_on : (bytes : List ℕ) (t : Transcript) (answer : Reply) → length bytes ≤ 67_108_864 → transcript bytes ≡ Ok t → IsReplyOn (given t.setup) t.setup.start t.events answer → IsReply bytes answer
+reply_on : (bytes : List ℕ) (t : Transcript) (answer : CommandOutcome) → length bytes ≤ 67_108_864 → transcript bytes ≡ Ok t → IsReplyOn (given t.setup) t.setup.start t.events answer → IsReply bytes answer
 reply_on bytes t (reply.Done text) within reads (accepted, says) =
     done_reply bytes t (fold (given t.setup) t.setup.start t.events) text.items within reads (fold_replays (given t.setup) t.setup.start t.events (fold (given t.setup) t.setup.start t.events) accepted refl) says
 reply_on bytes t (reply.Refused text) within reads (refusal, refuses, says) = refused_reply bytes t refusal text.items within reads refuses says
 reply_on bytes t (reply.BadLine line) within reads never = absurd never
 
-unread_as : (bytes : List ℕ) (n : ℕ) (answer : Reply) → length bytes ≤ 67_108_864 → transcript bytes ≡ Err n → IsReplyTo (Err n) answer → IsReply bytes answer
+unread_as : (bytes : List ℕ) (n : ℕ) (answer : CommandOutcome) → length bytes ≤ 67_108_864 → transcript bytes ≡ Err n → IsReplyTo (Err n) answer → IsReply bytes answer
 unread_as bytes n (reply.BadLine line) within reads same = record { within = within; by = reads ∙ ap Err same }
 unread_as bytes n (reply.Done text) within reads never = absurd never
 unread_as bytes n (reply.Refused text) within reads never = absurd never
 
-reply_to : (bytes : List ℕ) (answer : Reply) (read : Result Transcript ℕ) → length bytes ≤ 67_108_864 → transcript bytes ≡ read → IsReplyTo read answer → IsReply bytes answer
+reply_to : (bytes : List ℕ) (answer : CommandOutcome) (read : Result Transcript ℕ) → length bytes ≤ 67_108_864 → transcript bytes ≡ read → IsReplyTo read answer → IsReply bytes answer
 reply_to bytes answer (Ok t) within reads replies = reply_on bytes t answer within reads replies
 reply_to bytes answer (Err n) within reads replies = unread_as bytes n answer within reads replies
 
 -- the reply to what the bytes say is the reply to the bytes
-pub result_to : {E : Type 0} (bytes : List ℕ) (result : Result Reply E) (read : Result Transcript ℕ) → length bytes ≤ 67_108_864 → transcript bytes ≡ read
+pub result_to : {E : Type 0} (bytes : List ℕ) (result : Result CommandOutcome E) (read : Result Transcript ℕ) → length bytes ≤ 67_108_864 → transcript bytes ≡ read
     → IfOk result (λ answer. IsReplyTo read answer) → IfOk result (λ answer. IsReply bytes answer)
 result_to bytes (Ok answer) read within reads replies = reply_to bytes answer read within reads replies
 result_to bytes (Err e) read within reads replies = tt

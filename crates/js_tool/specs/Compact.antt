@@ -1,7 +1,7 @@
 -- Lines in their shortest form.
 use Rattle.std.specs.Prelude.{◌≡◌, ℕ, List, [], ◌∷◌, ◌++◌, codes, decimal, length, Some, None, Ok}
 use Rattle.js_base.specs.declared.message.Message.{Message}
-use Rattle.js_table.specs.declared.event.What.{What}
+use Rattle.js_table.specs.declared.event.EventKind.{EventKind}
 use Rattle.js_tool.specs.Events.{event_line}
 
 -- a bare tick
@@ -26,5 +26,5 @@ plain_message reply payload = record {
 }
 
 -- a line says that this happens at a moment
-abbrev pub Says : List ℕ → ℕ → What → Type 0
+abbrev pub Says : List ℕ → ℕ → EventKind → Type 0
 Says line at what = event_line line ≡ Ok (record { at = at; what = what })

@@ -1,13 +1,13 @@
 -- What the program answers to an input, and what it writes.
 use Rattle.std.specs.Prelude.{◌≡◌, ◌⊎◌, ◌≤◌, ◌+◌, ◌*◌, ℕ, List, length, nat_lt, if◌then◌else◌, Option, Some, None, IfSome, Result, Ok, Err, ⊤}
 use Rattle.std.specs.Io.KnownBytes.{Appends, IsAtEnd}
-use Rattle.js_ends.specs.Causes.{Rose, AppendsPrefix}
+use Rattle.js_io.specs.Causes.{Rose, AppendsPrefix}
 use Rattle.js_generate.specs.declared.summary.Summary.{Summary}
 use Rattle.js_generate.specs.Counts.{summary}
 use Rattle.js_generate.specs.Transcript as generated
 use Rattle.js_message.specs.Ack.{Info, ack}
 use Rattle.js_message.specs.declared.info_error.InfoError.{InfoError}
-use Rattle.js_table.specs.declared.consumer.Given.{Given}
+use Rattle.js_table.specs.declared.consumer.ReplayInput.{ReplayInput}
 use Rattle.js_table.specs.declared.run.Run.{Run}
 use Rattle.js_table.specs.declared.run.ReplayError.{ReplayError}
 use Rattle.js_table.specs.Fold.{fold}
@@ -17,8 +17,8 @@ use Rattle.js_workers.specs.declared.workers.WindowCounts.{WindowCounts}
 use Rattle.js_workers.specs.WindowCounts.{CountsOfRun}
 use Rattle.js_tool.specs.declared.status.Status.{Status}
 use Rattle.js_tool.specs.declared.status.Status.TheVariants as status
-use Rattle.js_tool.specs.declared.program.Reply.{Reply}
-use Rattle.js_tool.specs.declared.program.Reply.TheVariants as reply
+use Rattle.js_tool.specs.declared.program.CommandOutcome.{CommandOutcome}
+use Rattle.js_tool.specs.declared.program.CommandOutcome.TheVariants as reply
 use Rattle.js_tool.specs.declared.transcript.setup.Setup.{Setup}
 use Rattle.js_tool.specs.declared.transcript.Transcript.{Transcript}
 use Rattle.js_tool.specs.Answers.{summary_text, info_text, error_text, info_status, window_text}
@@ -28,7 +28,7 @@ use Rattle.js_tool.specs.Transcripts.{transcript}
 use Rattle.js_tool.specs.Texts.{run_text, refusal_text}
 
 -- what a setup makes a consumer with
-abbrev pub given : Setup → Given
+abbrev pub given : Setup → ReplayInput
 given s = record { settings = s.settings; setup = s.setup; first = s.first }
 
 -- ---- what the bytes are
@@ -54,7 +54,7 @@ pub record IsValidTranscript (bytes : List ℕ) : Type 0 where
   pub by : (t : Transcript) × (transcript bytes ≡ Ok t) × IsValid (given t.setup) t.setup.start t.events
 
 -- a reply is what the bytes call for
-abbrev pub IsReply : List ℕ → Reply → Type 0
+abbrev pub IsReply : List ℕ → CommandOutcome → Type 0
 IsReply bytes (reply.Done written) = (run : Run) × Replays bytes run × (written.items ≡ run_text run)
 IsReply bytes (reply.Refused written) = (refusal : ReplayError) × IsRefused bytes refusal × (written.items ≡ refusal_text refusal)
 IsReply bytes (reply.BadLine line) = FirstUnread bytes line

@@ -2,7 +2,7 @@
 
 ghost use Rattle.std.specs.Prelude.{◌≡◌, ◌≤◌, IfOk};
 ghost use Rattle.std.specs.Io.KnownBytes.{Keeps};
-ghost use Rattle.js_ends.specs.Causes.{Rose};
+ghost use Rattle.js_io.specs.Causes.{Rose};
 ghost use Rattle.js_table.specs.Valid.{IsReplay, IsValid};
 ghost use Rattle.js_tool.specs.Answers.{summary_text};
 ghost use Rattle.js_tool.specs.Program.{AnswersGenerate, IsGenerated, SaysNothing};
@@ -10,9 +10,9 @@ ghost use Rattle.js_tool.specs.Program.{AnswersGenerate, IsGenerated, SaysNothin
 use crate::status::Status;
 use crate::text::{Cell, push_line};
 use js_base::OutOfMemory;
-use js_ends::{Sink, write_all};
 use js_generate::{Summary, generated, given, summary_of};
-use js_ordered::{Event, Given, ReplayError, Run, replay_ordered};
+use js_io::{Sink, write_all};
+use js_ordered::{Event, ReplayError, ReplayInput, Run, replay_ordered};
 use std::alloc::{AllocError, Global};
 
 /// Replays the first so many events that a seed gives, and writes the line of how much their run puts out.
@@ -41,7 +41,7 @@ pub(crate) fn tell_generate<K: Sink>(
 }
 
 /// The run of valid events.
-fn replayed(alloc: Global, given: &Given, events: &[Event]) -> Result<Run, OutOfMemory>
+fn replayed(alloc: Global, given: &ReplayInput, events: &[Event]) -> Result<Run, OutOfMemory>
     requires { IsValid given.now 0 events.now }
     ensures { IfOk result (λ run. IsReplay given.now 0 events.now run) }
 {

@@ -3,7 +3,7 @@
 ghost use Rattle.std.specs.Prelude.{◌≡◌, IfOk};
 ghost use Rattle.std.specs.Option.{option_copied};
 ghost use Rattle.std.specs.Io.KnownBytes.{Keeps};
-ghost use Rattle.js_ends.specs.Causes.{Rose};
+ghost use Rattle.js_io.specs.Causes.{Rose};
 ghost use Rattle.js_message.specs.Shown.{shown};
 ghost use Rattle.js_tool.specs.Answers.{info_text, error_text};
 ghost use Rattle.js_tool.specs.Program.{AnswersInfo, SaysNothing};
@@ -11,7 +11,7 @@ ghost use Rattle.js_tool.specs.Texts.{cell_data, text_or_null};
 
 use crate::status::Status;
 use crate::text::{Cell, push_line};
-use js_ends::{Sink, write_all};
+use js_io::{Sink, write_all};
 use js_message::{Info, InfoError, parse_info};
 use std::alloc::{AllocError, Global};
 

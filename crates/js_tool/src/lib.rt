@@ -14,7 +14,7 @@ mod window;
 pub use command::{Command, command_of, read_number};
 pub use generate::summary_line;
 pub use info::{error_line, info_line};
-pub use js_ends::{
+pub use js_io::{
     Failed, MemorySink, MemorySource, Pieces, PlainSink, PlainSource, ReadSource, Sink, Source,
     WriteSink,
 };

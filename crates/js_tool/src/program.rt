@@ -2,7 +2,7 @@
 
 ghost use Rattle.std.specs.Prelude.{◌≡◌, ◌≤◌, ◌<◌, ◌↔◌, ℕ, List, length, map, Some, None, IfSome, string_bytes};
 ghost use Rattle.std.specs.Io.KnownBytes.{Keeps};
-ghost use Rattle.js_ends.specs.Causes.{Rose};
+ghost use Rattle.js_io.specs.Causes.{Rose};
 ghost use Rattle.js_tool.specs.Commands.{Replay, Generate, Info, Window, command_of as command_in};
 ghost use Rattle.js_tool.specs.Program.{AnswersReplay, AnswersGenerate, AnswersInfo, AnswersWindow, FirstUnread, SaysNothing, without_threads};
 
@@ -12,14 +12,14 @@ use crate::info::tell_info;
 use crate::progress::replay;
 use crate::status::Status;
 use crate::window::tell_window;
-use js_ends::{Sink, Source, Stop, read_all, write_all};
+use js_io::{Sink, Source, Stop, read_all, write_all};
 use std::alloc::{AllocError, Global};
 use std::sync::Wait;
 use std::thread::Threads;
 
 // What an input calls for: a text to write, or none.
 #[derive(Drop)]
-pub(crate) enum Reply {
+pub(crate) enum CommandOutcome {
     Done(Vec<u8>),
     Refused(Vec<u8>),
     BadLine(u64),
@@ -137,15 +137,15 @@ fn tell_replay<S: Source, K: Sink>(alloc: Global, input: &mut S, output: &mut K)
         Err(Stop::OutOfMemory) => return Status::OutOfMemory,
     };
     match replay(alloc, bytes) {
-        Ok(Reply::Done(text)) => match write_all(output, &text) {
+        Ok(CommandOutcome::Done(text)) => match write_all(output, &text) {
             Ok(()) => Status::Done,
             Err(_) => Status::WriteFault,
         },
-        Ok(Reply::Refused(text)) => {
+        Ok(CommandOutcome::Refused(text)) => {
             let _ = write_all(output, &text);
             Status::Refused
         }
-        Ok(Reply::BadLine(line)) => Status::BadLine { line },
+        Ok(CommandOutcome::BadLine(line)) => Status::BadLine { line },
         Err(AllocError) => Status::OutOfMemory,
     }
 }

@@ -1,26 +1,26 @@
 //! A replay that goes on as its lines are read. Their text is made at once, so that neither events nor steps are kept.
 
 ghost use Rattle.std.specs.Prelude.{◌≡◌, ◌≤◌, ◌+◌, ◌++◌, ◌∷◌, [], ℕ, List, length, IfOk, OnOk};
-ghost use Rattle.js_table.specs.declared.consumer.Given.{Given};
+ghost use Rattle.js_table.specs.declared.consumer.ReplayInput.{ReplayInput};
 ghost use Rattle.js_table.specs.declared.event.Event as events;
 ghost use Rattle.js_lines.specs.Lines.{lines_of};
 ghost use Rattle.js_tool.specs.Program.{given, IsReply};
 ghost use Rattle.js_tool.specs.Progress.{HasPassed, PassesLines, IsReplyOn, IsReplyTo};
 ghost use Rattle.js_tool.specs.Transcripts.{with_lines};
 
-use crate::program::Reply;
+use crate::program::CommandOutcome;
 use crate::text::{push_end, push_outputs, refusal_line};
 use crate::transcript::{Payloads, Setup, Unread, first_line, next_line};
 use js_base::OutOfMemory;
-use js_ends::Pieces;
+use js_io::Pieces;
 use js_lines::{cut_line, next_piece};
-use js_ordered::{Course, Event};
+use js_ordered::{Event, IncrementalReplay};
 use std::alloc::{AllocError, Global};
 
 /// How far a replay has come, and the text of what it has put out.
 #[derive(Drop)]
 pub(crate) struct Progress<'s> {
-    course: Course<'s>,
+    course: IncrementalReplay<'s>,
     text: Vec<u8>,
 }
 
@@ -28,7 +28,7 @@ impl<'s> Progress<'s> {
     fn open(alloc: Global, setup: &'s Setup) -> Result<Progress<'s>, OutOfMemory>
         ensures { IfOk result (λ progress. HasPassed (given setup.now) setup.now.start [] progress) }
     {
-        let course = Course::open(
+        let course = IncrementalReplay::open(
             alloc,
             &setup.settings,
             &setup.setup,
@@ -41,7 +41,7 @@ impl<'s> Progress<'s> {
     }
 
     fn pass(&mut self, alloc: Global, event: &Event) -> Result<(), OutOfMemory>
-        ensures passed { (g : Given) → (start : ℕ) → (es : List events.Event) → HasPassed g start es self.old
+        ensures passed { (g : ReplayInput) → (start : ℕ) → (es : List events.Event) → HasPassed g start es self.old
             → OnOk result (HasPassed g start (es ++ event.now ∷ []) self.new) }
         ensures counted { OnOk result (self.new.course.count ≡ self.old.course.count + 1) }
     {
@@ -51,17 +51,17 @@ impl<'s> Progress<'s> {
     }
 
     // The text of the whole run, or the line of its refusal.
-    fn finish(self, alloc: Global) -> Result<Reply, AllocError>
-        ensures { (g : Given) → (start : ℕ) → (es : List events.Event) → HasPassed g start es self.entry
+    fn finish(self, alloc: Global) -> Result<CommandOutcome, AllocError>
+        ensures { (g : ReplayInput) → (start : ℕ) → (es : List events.Event) → HasPassed g start es self.entry
             → IfOk result (λ reply. IsReplyOn g start es reply) }
     {
         let Progress { course, mut text } = self;
         match course.end() {
             Ok(ended) => {
                 push_end(&mut text, ended, course.count())?;
-                Ok(Reply::Done(text))
+                Ok(CommandOutcome::Done(text))
             }
-            Err(refusal) => Ok(Reply::Refused(refusal_line(alloc, refusal)?)),
+            Err(refusal) => Ok(CommandOutcome::Refused(refusal_line(alloc, refusal)?)),
         }
     }
 }
@@ -132,7 +132,7 @@ fn replay_events(
     setup: &Setup,
     piece: &[u8],
     bytes: Pieces,
-) -> Result<Reply, AllocError>
+) -> Result<CommandOutcome, AllocError>
     requires { length piece.now + length bytes ≤ 67_108_864 }
     ensures { IfOk result (λ reply. IsReplyTo (with_lines setup.now (lines_of piece.now ++ lines_of bytes)) reply) }
 {
@@ -142,24 +142,24 @@ fn replay_events(
     };
     match pass_all(alloc, &mut progress, piece, bytes) {
         Ok(()) => progress.finish(alloc),
-        Err(Unread::BadLine(line)) => Ok(Reply::BadLine(line)),
+        Err(Unread::BadLine(line)) => Ok(CommandOutcome::BadLine(line)),
         Err(Unread::OutOfMemory) => Err(AllocError),
     }
 }
 
 /// What the bytes call for, which are given up as they are read.
 #[tactic(auto, unfolding(crate::specs::Transcripts::transcript))]
-pub(crate) fn replay(alloc: Global, mut bytes: Pieces) -> Result<Reply, AllocError>
+pub(crate) fn replay(alloc: Global, mut bytes: Pieces) -> Result<CommandOutcome, AllocError>
     requires { length bytes ≤ 67_108_864 }
     ensures { IfOk result (λ reply. IsReply bytes reply) }
 {
     let Some(piece) = next_piece(alloc, &mut bytes) else {
-        return Ok(Reply::BadLine(1));
+        return Ok(CommandOutcome::BadLine(1));
     };
     let (line, rest) = cut_line(&piece);
     match first_line(alloc, line) {
         Ok(setup) => replay_events(alloc, &setup, rest, bytes),
-        Err(Unread::BadLine(line)) => Ok(Reply::BadLine(line)),
+        Err(Unread::BadLine(line)) => Ok(CommandOutcome::BadLine(line)),
         Err(Unread::OutOfMemory) => Err(AllocError),
     }
 }

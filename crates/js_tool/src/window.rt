@@ -2,14 +2,14 @@
 
 ghost use Rattle.std.specs.Prelude.{◌≡◌, ◌<◌, ◌≤◌, ◌^◌, IfOk};
 ghost use Rattle.std.specs.Io.KnownBytes.{Keeps};
-ghost use Rattle.js_ends.specs.Causes.{Rose};
+ghost use Rattle.js_io.specs.Causes.{Rose};
 ghost use Rattle.js_tool.specs.Answers.{window_text};
 ghost use Rattle.js_tool.specs.Program.{AnswersWindow, SaysNothing};
 
 use crate::status::Status;
 use crate::text::{Cell, push_line};
 use js_base::OutOfMemory;
-use js_ends::{Sink, write_all};
+use js_io::{Sink, write_all};
 use js_workers::{Open, WindowCounts, run_window};
 use std::alloc::{AllocError, Global};
 use std::sync::Wait;

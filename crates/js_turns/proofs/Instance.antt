@@ -1,10 +1,10 @@
 -- A replay's event is a walk: each row at the event's moment, met as it asks by what the event brings.
 use Rattle.std.proofs.Common.{◌≡◌, ℕ, zero, suc, ◌<◌, List, [], ◌∷◌, ◌++◌, refl, sym, ◌∙◌, ap, subst, arith, append_assoc}
-use Rattle.js_table.specs.declared.world.World.{World}
+use Rattle.js_table.specs.declared.replay_state.ReplayState.{ReplayState}
 use Rattle.js_table.specs.State.{Matter, Passed}
 use Rattle.js_table.specs.declared.row.Row.{Row}
 use Rattle.js_table.specs.declared.row.Row.TheVariants.{Event}
-use Rattle.js_table.specs.declared.consumer.Given.{Given}
+use Rattle.js_table.specs.declared.consumer.ReplayInput.{ReplayInput}
 use Rattle.js_table.specs.Turn.{pass}
 use Rattle.js_table.specs.Fold.{Ran, passing, after, rank, pass_each, pass_to}
 use Rattle.js_link.specs.Met.{passing_of}
@@ -15,24 +15,24 @@ use Rattle.js_table.proofs.Ranks.{AreBelow, row_falls}
 use Rattle.js_turns.proofs.Told.{pass_told}
 
 -- the strides of rows, each with what follows it
-abbrev strides_each : (Row → World → Ran) → (Row → World → List Stride) → List Row → World → List Stride
+abbrev strides_each : (Row → ReplayState → Ran) → (Row → ReplayState → List Stride) → List Row → ReplayState → List Stride
 strides_each one strides [] w = []
 strides_each one strides (row ∷ rows) w = strides row w ++ strides_each one strides rows (one row w).world
 
 -- a row meets what the event brings
-abbrev met_stride : Given → ℕ → Matter → Row → World → Stride
+abbrev met_stride : ReplayInput → ℕ → Matter → Row → ReplayState → Stride
 met_stride g now m row w = record {
   passing = passing_of now (met_in g (passing g now w) m row w.consumer);
   matter = matter_of (wish g row w.consumer) (met_in g (passing g now w) m row w.consumer);
 }
 
-abbrev pub strides_to : Given → ℕ → Matter → ℕ → Row → World → List Stride
+abbrev pub strides_to : ReplayInput → ℕ → Matter → ℕ → Row → ReplayState → List Stride
 strides_to g now m zero row w = []
 strides_to g now m (suc depth) row w =
     let passed = pass g (passing g now w) m row w.consumer in
     met_stride g now m row w ∷ strides_each (pass_to g now m depth) (strides_to g now m depth) passed.next (after w passed)
 
-abbrev at : World → List Row → Position
+abbrev at : ReplayState → List Row → Position
 at w rows = record { consumer = w.consumer; todo = rows }
 
 abbrev moved_then : List Output → Moved → Moved
@@ -42,12 +42,12 @@ then_then : (first second : List Output) (moved : Moved) → moved_then first (m
 then_then first second moved = ap (λ (outputs : List Output). record { position = moved.position; outputs = outputs }) (sym (append_assoc first second moved.outputs))
 
 -- the strides of a row lead past it and all that follows it
-abbrev LeadsPast : Given → (Row → World → Ran) → (Row → World → List Stride) → ℕ → Type 0
-LeadsPast g one strides n = (row : Row) (w : World) (rows : List Row) (more : List Stride) → rank row < n
+abbrev LeadsPast : ReplayInput → (Row → ReplayState → Ran) → (Row → ReplayState → List Stride) → ℕ → Type 0
+LeadsPast g one strides n = (row : Row) (w : ReplayState) (rows : List Row) (more : List Stride) → rank row < n
     → walk g (strides row w ++ more) (at w (row ∷ rows)) ≡ moved_then (one row w).outputs (walk g more (at (one row w).world rows))
 
-walk_each : (g : Given) (one : Row → World → Ran) (strides : Row → World → List Stride) (n : ℕ) → LeadsPast g one strides n
-    → (first : List Row) (w : World) (rows : List Row) (more : List Stride) → AreBelow n first
+walk_each : (g : ReplayInput) (one : Row → ReplayState → Ran) (strides : Row → ReplayState → List Stride) (n : ℕ) → LeadsPast g one strides n
+    → (first : List Row) (w : ReplayState) (rows : List Row) (more : List Stride) → AreBelow n first
     → walk g (strides_each one strides first w ++ more) (at w (first ++ rows)) ≡ moved_then (pass_each one first w).outputs (walk g more (at (pass_each one first w).world rows))
 walk_each g one strides n leads [] w rows more below = refl
 walk_each g one strides n leads (row ∷ first) w rows more below =
@@ -62,7 +62,7 @@ below_more : (n m : ℕ) (rows : List Row) → n < suc m → AreBelow n rows →
 below_more n m [] less below = tt
 below_more n m (row ∷ rows) less below = ((let h = below.0 in omega arith), below_more n m rows less below.1)
 
-pub walk_to : (g : Given) (now : ℕ) (m : Matter) (depth : ℕ) → LeadsPast g (pass_to g now m depth) (strides_to g now m depth) depth
+pub walk_to : (g : ReplayInput) (now : ℕ) (m : Matter) (depth : ℕ) → LeadsPast g (pass_to g now m depth) (strides_to g now m depth) depth
 walk_to g now m zero row w rows more below = absurd (omega arith)
 walk_to g now m (suc depth) row w rows more below =
     let passed : Passed = pass g (passing g now w) m row w.consumer in
@@ -76,12 +76,12 @@ walk_to g now m (suc depth) row w rows more below =
 
 -- ---- and each of its rows meets what the event brings
 
-abbrev ToldPast : Given → ℕ → Matter → (Row → World → Ran) → (Row → World → List Stride) → ℕ → Type 0
-ToldPast g now m one strides n = (row : Row) (w : World) (rows : List Row) (more : List Stride) → rank row < n
+abbrev ToldPast : ReplayInput → ℕ → Matter → (Row → ReplayState → Ran) → (Row → ReplayState → List Stride) → ℕ → Type 0
+ToldPast g now m one strides n = (row : Row) (w : ReplayState) (rows : List Row) (more : List Stride) → rank row < n
     → IsTold g now m more (one row w).world rows → IsTold g now m (strides row w ++ more) w (row ∷ rows)
 
-told_each : (g : Given) (now : ℕ) (m : Matter) (one : Row → World → Ran) (strides : Row → World → List Stride) (n : ℕ) → ToldPast g now m one strides n
-    → (first : List Row) (w : World) (rows : List Row) (more : List Stride) → AreBelow n first
+told_each : (g : ReplayInput) (now : ℕ) (m : Matter) (one : Row → ReplayState → Ran) (strides : Row → ReplayState → List Stride) (n : ℕ) → ToldPast g now m one strides n
+    → (first : List Row) (w : ReplayState) (rows : List Row) (more : List Stride) → AreBelow n first
     → IsTold g now m more (pass_each one first w).world rows → IsTold g now m (strides_each one strides first w ++ more) w (first ++ rows)
 told_each g now m one strides n past [] w rows more below h = h
 told_each g now m one strides n past (row ∷ first) w rows more below h =
@@ -89,7 +89,7 @@ told_each g now m one strides n past (row ∷ first) w rows more below h =
     subst (λ (all : List Stride). IsTold g now m all w (row ∷ first ++ rows)) (sym (append_assoc (strides row w) (strides_each one strides first ran.world) more))
     (past row w (first ++ rows) (strides_each one strides first ran.world ++ more) below.0 (told_each g now m one strides n past first ran.world rows more below.1 h))
 
-told_to : (g : Given) (now : ℕ) (m : Matter) (depth : ℕ) → ToldPast g now m (pass_to g now m depth) (strides_to g now m depth) depth
+told_to : (g : ReplayInput) (now : ℕ) (m : Matter) (depth : ℕ) → ToldPast g now m (pass_to g now m depth) (strides_to g now m depth) depth
 told_to g now m zero row w rows more below h = absurd (omega arith)
 told_to g now m (suc depth) row w rows more below h =
     let passed : Passed = pass g (passing g now w) m row w.consumer in
@@ -101,7 +101,7 @@ told_to g now m (suc depth) row w rows more below h =
     )
 
 -- an event of a replay is a walk from its first row until nothing is left to do, with the same outputs; each row meets what the event brings
-pub event_walks : (g : Given) (now : ℕ) (m : Matter) (w : World) → (strides : List Stride)
+pub event_walks : (g : ReplayInput) (now : ℕ) (m : Matter) (w : ReplayState) → (strides : List Stride)
     × (walk g strides (at w (Event ∷ [])) ≡ record { position = at (pass_to g now m 10 Event w).world []; outputs = (pass_to g now m 10 Event w).outputs ++ [] })
     × IsTold g now m strides w (Event ∷ [])
 event_walks g now m w =

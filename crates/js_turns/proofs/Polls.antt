@@ -1,7 +1,7 @@
 -- A poll of a consumer with an honest server keeps what is known, and the yield that it hands out joins the last one.
 use Rattle.std.proofs.Common.{◌≡◌, ℕ, Bool, true, false, List, [], ◌∷◌, subst, sym}
 use Rattle.std.specs.Prelude.{⊤}
-use Rattle.js_table.specs.declared.consumer.Given.{Given}
+use Rattle.js_table.specs.declared.consumer.ReplayInput.{ReplayInput}
 use Rattle.js_turns.specs.Turns.{Position, Stride, Moved, Answer, Hands, HandsEnd, Waits, Ends, Lacks, walk, handed, handed_by, closed_at, IsHonestWalk, IsKeptPosition, JoinsAnswer, KeepsPoll, HasWholeLists}
 use Rattle.js_table.specs.declared.setup.OrderedSetup.{OrderedSetup}
 use Rattle.js_table.specs.declared.run.Output.{Output}
@@ -20,7 +20,7 @@ first_joins : (setup : OrderedSetup) (s : Server) (last after : ℕ) (outputs : 
 first_joins setup s last after [] e = tt
 first_joins setup s last after (out.Yield sequence number subject payload ∷ outputs) e = e.0
 first_joins setup s last after (out.Item kind ∷ outputs) e = tt
-first_joins setup s last after (out.Recreate serial start ∷ outputs) e = first_joins setup s last after outputs e
+first_joins setup s last after (out.Recreate recreation_count start ∷ outputs) e = first_joins setup s last after outputs e
 first_joins setup s last after (out.Request number subject payload ∷ outputs) e = first_joins setup s last after outputs e
 first_joins setup s last after (out.Publish subject reply payload ∷ outputs) e = first_joins setup s last after outputs e
 first_joins setup s last after (out.Subscribe inbox subject ∷ outputs) e = first_joins setup s last after outputs e
@@ -28,7 +28,7 @@ first_joins setup s last after (out.Subscribe inbox subject ∷ outputs) e = fir
 answer_joins : (setup : OrderedSetup) (s : Server) (last : ℕ) (answer : Answer) → JoinsFirst setup s last (handed_by answer) → JoinsAnswer setup s last answer
 answer_joins setup s last (Hands (out.Yield sequence number subject payload)) j = j
 answer_joins setup s last (Hands (out.Item kind)) j = tt
-answer_joins setup s last (Hands (out.Recreate serial start)) j = tt
+answer_joins setup s last (Hands (out.Recreate recreation_count start)) j = tt
 answer_joins setup s last (Hands (out.Request number subject payload)) j = tt
 answer_joins setup s last (Hands (out.Publish subject reply payload)) j = tt
 answer_joins setup s last (Hands (out.Subscribe inbox subject)) j = tt
@@ -42,7 +42,7 @@ closed_kept setup s true at k = record { consumer = tt; todo = tt }
 closed_kept setup s false at k = k
 
 -- what a poll's contract says of honest servers follows from the rows that it passed
-pub poll_gapless : (g : Given) (strides : List Stride) (closed : Bool) (old new : Position) (answer : Answer)
+pub poll_gapless : (g : ReplayInput) (strides : List Stride) (closed : Bool) (old new : Position) (answer : Answer)
     → new ≡ closed_at closed (walk g strides old).position → handed (walk g strides old).outputs ≡ handed_by answer
     → (s : Server) → HasWholeLists g.setup s → IsKeptPosition g.setup s old → IsHonestWalk g s strides old
     → KeepsPoll g.setup s old.consumer.last new answer

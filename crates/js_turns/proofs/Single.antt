@@ -16,11 +16,11 @@ use Rattle.js_pull.specs.Reader as pull
 use Rattle.js_pull.specs.declared.reader.Row.{Row as PullRow}
 use Rattle.js_pull.specs.declared.reader.Row.TheVariants as read
 use Rattle.js_pull.specs.declared.reader.Reader.{Reader as PullReader}
-use Rattle.js_pull.specs.declared.reader.Inquiry.{Inquiry}
-use Rattle.js_pull.specs.declared.reader.Inquiry.TheVariants as inquiries
+use Rattle.js_pull.specs.declared.reader.InfoRequest.{InfoRequest}
+use Rattle.js_pull.specs.declared.reader.InfoRequest.TheVariants as inquiries
 use Rattle.js_table.specs.declared.consumer.Recreation.{Recreation}
 use Rattle.js_table.specs.declared.consumer.Opened.{Opened}
-use Rattle.js_table.specs.declared.consumer.Given.{Given}
+use Rattle.js_table.specs.declared.consumer.ReplayInput.{ReplayInput}
 use Rattle.js_table.specs.declared.consumer.Phase.{Phase}
 use Rattle.js_table.specs.declared.consumer.Phase.TheVariants.{Pulls, Pushes, Recreates, Idle, Ended, Exhausted}
 use Rattle.js_table.specs.declared.consumer.Consumer.{Consumer}
@@ -50,7 +50,7 @@ nothing = record { handed = omega arith; sent = omega arith }
 
 message_single : (o : Option Place) (message : Message) (c : Consumer) → Single (message_row o message c)
 message_single None message c = record { handed = omega arith; sent = omega arith }
-message_single (Some place) message c = if_each Single (place.number == c.num + 1) _ _ (λ _. record { handed = omega arith; sent = omega arith }) (λ _. nothing)
+message_single (Some place) message c = if_each Single (place.number == c.consumer_sequence + 1) _ _ (λ _. record { handed = omega arith; sent = omega arith }) (λ _. nothing)
 
 create_single : (setup : OrderedSetup) (p : Passing) (r : Recreation) (c : Consumer) → Single (create_row setup p r c)
 create_single (Pull setup) p r c = nothing
@@ -60,7 +60,7 @@ push_single : (p : Passing) (opened : Option Opened) (c : Consumer) → Single (
 push_single p None c = nothing
 push_single p (Some opened) c = nothing
 
-succeed_single : (setup : OrderedSetup) (g : Given) (p : Passing) (info : Info) (r : Recreation) (c : Consumer) → Single (succeed_row setup g p info r c)
+succeed_single : (setup : OrderedSetup) (g : ReplayInput) (p : Passing) (info : Info) (r : Recreation) (c : Consumer) → Single (succeed_row setup g p info r c)
 succeed_single (Pull setup) g p info r c = if_each Single p.up _ _ (λ _. record { handed = omega arith; sent = omega arith }) (λ _. nothing)
 succeed_single (Push setup) g p info r c = push_single p r.opened c
 
@@ -89,8 +89,8 @@ asked_single : (p : Passing) (timeout : Option Timer) (failures : ℕ) (reply : 
 asked_single p timeout failures (Some reply) r c = nothing
 asked_single p timeout failures None r c = nothing
 
-inquiry_single : (p : Passing) (answer : Option pull.Answer) (inquiry : Inquiry) (r : PullReader) (c : Consumer) → Reads c (pull.check_inquiry p answer inquiry r)
-inquiry_single p answer inquiries.NoInquiry r c = nothing
+inquiry_single : (p : Passing) (answer : Option pull.Answer) (inquiry : InfoRequest) (r : PullReader) (c : Consumer) → Reads c (pull.check_inquiry p answer inquiry r)
+inquiry_single p answer inquiries.NoInfoRequest r c = nothing
 inquiry_single p answer (inquiries.Asked request timeout failures) r c = asked_single p timeout failures (pull.reply_to request answer) r c
 inquiry_single p answer (inquiries.Resting wait failures) r c = nothing
 
@@ -110,44 +110,44 @@ reader_single p answer arrival (read.Begin change) r c = begin_single p change r
 reader_single p answer arrival read.Threshold r c = if_each (Reads c) (pull.is_low r && not r.waiting) _ _ (λ _. nothing) (λ _. nothing)
 reader_single p answer arrival read.Arm r c = nothing
 reader_single p answer arrival (read.Inquire failures) r c = if_each (Reads c) p.up _ _ (λ _. record { handed = omega arith; sent = omega arith }) (λ _. nothing)
-reader_single p answer arrival (read.FailInquiry failures) r c = if_each (Reads c) (nat_lt (failures + 1) 6) _ _ (λ _. nothing) (λ _. record { handed = omega arith; sent = omega arith })
-reader_single p answer arrival read.CheckInquiry r c = inquiry_single p answer r.inquiry r c
+reader_single p answer arrival (read.FailInfoRequest failures) r c = if_each (Reads c) (nat_lt (failures + 1) 6) _ _ (λ _. nothing) (λ _. record { handed = omega arith; sent = omega arith })
+reader_single p answer arrival read.CheckInfoRequest r c = inquiry_single p answer r.inquiry r c
 reader_single p answer arrival (read.Answered reply failures) r c = answer_single failures (pull.info_of_reply reply) r c
 reader_single p answer arrival read.CheckExpiry r c = nothing
 reader_single p answer arrival read.CheckArrival r c = arrival_single p arrival r c
-reader_single p answer arrival read.CheckSilence r c = if_each (Reads c) (is_any_due r.silence p.now) _ _ (λ _. if_each Single c.missed _ _ (λ _. nothing) (λ _. nothing)) (λ _. nothing)
+reader_single p answer arrival read.CheckSilence r c = if_each (Reads c) (is_any_due r.heartbeat_timer p.now) _ _ (λ _. if_each Single c.missed _ _ (λ _. nothing) (λ _. nothing)) (λ _. nothing)
 
-go_on_single : (g : Given) (p : Passing) (m : Matter) (phase : Phase) (c : Consumer) → Single (go_on g p m phase c)
+go_on_single : (g : ReplayInput) (p : Passing) (m : Matter) (phase : Phase) (c : Consumer) → Single (go_on g p m phase c)
 go_on_single g p m Idle c = nothing
 go_on_single g p m (Recreates r) c = nothing
 go_on_single g p m (Pulls reader) c = reader_single p m.answer (message_on reader.source.inbox m.arrival) (read.Begin None) reader c
-go_on_single g p m (Pushes inbox silence) c = nothing
+go_on_single g p m (Pushes inbox heartbeat_timer) c = nothing
 go_on_single g p m Ended c = nothing
 go_on_single g p m Exhausted c = nothing
 
-changed_single : (g : Given) (p : Passing) (m : Matter) (old new : State) (phase : Phase) (c : Consumer) → Single (changed g p m old new phase c)
+changed_single : (g : ReplayInput) (p : Passing) (m : Matter) (old new : State) (phase : Phase) (c : Consumer) → Single (changed g p m old new phase c)
 changed_single g p m old new (Pulls reader) c = reader_single p m.answer (message_on reader.source.inbox m.arrival) (read.Begin (Some new)) reader (record c { connection = new })
-changed_single g p m old new (Pushes inbox silence) c =
-    if_both Single (is_connected old || is_connected new) _ _ nothing (go_on_single g p m (Pushes inbox silence) (record c { connection = new }))
+changed_single g p m old new (Pushes inbox heartbeat_timer) c =
+    if_both Single (is_connected old || is_connected new) _ _ nothing (go_on_single g p m (Pushes inbox heartbeat_timer) (record c { connection = new }))
 changed_single g p m old new (Recreates r) c = go_on_single g p m (Recreates r) (record c { connection = new })
 changed_single g p m old new Idle c = go_on_single g p m Idle (record c { connection = new })
 changed_single g p m old new Ended c = go_on_single g p m Ended (record c { connection = new })
 changed_single g p m old new Exhausted c = go_on_single g p m Exhausted (record c { connection = new })
 
-watcher_single : (g : Given) (p : Passing) (m : Matter) (setup : OrderedSetup) (c : Consumer) → Single (watcher_ended g p m setup c)
+watcher_single : (g : ReplayInput) (p : Passing) (m : Matter) (setup : OrderedSetup) (c : Consumer) → Single (watcher_ended g p m setup c)
 watcher_single g p m (Pull setup) c = go_on_single g p m c.phase c
 watcher_single g p m (Push setup) c = record { handed = omega arith; sent = omega arith }
 
-event_single : (g : Given) (p : Passing) (m : Matter) (change : Change) (c : Consumer) → Single (event_change g p m change c)
+event_single : (g : ReplayInput) (p : Passing) (m : Matter) (change : Change) (c : Consumer) → Single (event_change g p m change c)
 event_single g p m Unchanged c = go_on_single g p m c.phase c
 event_single g p m (Becomes state) c = if_both Single (same_state c.connection state) _ _ (go_on_single g p m c.phase c) (changed_single g p m c.connection state c.phase c)
 event_single g p m WatcherEnds c = watcher_single g p m g.setup c
 
-first_single : (g : Given) (p : Passing) (m : Matter) (phase : Phase) (c : Consumer) → Single (event_row g p m phase c)
+first_single : (g : ReplayInput) (p : Passing) (m : Matter) (phase : Phase) (c : Consumer) → Single (event_row g p m phase c)
 first_single g p m Ended c = nothing
 first_single g p m Exhausted c = nothing
 first_single g p m (Pulls reader) c = event_single g p m m.change c
-first_single g p m (Pushes inbox silence) c = event_single g p m m.change c
+first_single g p m (Pushes inbox heartbeat_timer) c = event_single g p m m.change c
 first_single g p m (Recreates r) c = event_single g p m m.change c
 first_single g p m Idle c = event_single g p m m.change c
 
@@ -162,7 +162,7 @@ hear_single p message Quiet c = nothing
 hear_single p message Bad c = record { handed = omega arith; sent = omega arith }
 hear_single p message (Beat last) c = beat_single p.up message.reply
 
-pub row_single : (g : Given) (p : Passing) (m : Matter) (row : Row) (phase : Phase) (c : Consumer) → Single (row_at g p m row phase c)
+pub row_single : (g : ReplayInput) (p : Passing) (m : Matter) (row : Row) (phase : Phase) (c : Consumer) → Single (row_at g p m row phase c)
 row_single g p m Event phase c = first_single g p m phase c
 row_single g p m Start phase c = if_each Single (c.last == pull.u64_max) _ _ (λ _. nothing) (λ _. record { handed = omega arith; sent = omega arith })
 row_single g p m Try (Recreates r) c = if_each Single p.up _ _ (λ _. record { handed = omega arith; sent = omega arith }) (λ _. nothing)
@@ -173,10 +173,10 @@ row_single g p m (Answered reply) (Recreates r) c = nothing
 row_single g p m Hold (Recreates r) c = nothing
 row_single g p m (Succeed info) (Recreates r) c = succeed_single g.setup g p info r c
 row_single g p m Fail (Recreates r) c = if_each Single (nat_lt g.settings.retries (r.failures + 1)) _ _ (λ _. record { handed = omega arith; sent = omega arith }) (λ _. nothing)
-row_single g p m CheckArrival (Pushes inbox silence) c = nothing
-row_single g p m (Hear arrival) (Pushes inbox silence) c =
+row_single g p m CheckArrival (Pushes inbox heartbeat_timer) c = nothing
+row_single g p m (Hear arrival) (Pushes inbox heartbeat_timer) c =
     if_both Single (arrival.inbox == inbox) _ _ (hear_single p arrival.message (push_kind arrival.message) (at_phase (Pushes inbox (armed p.now)) c)) nothing
-row_single g p m CheckSilence (Pushes inbox silence) c = if_each Single (is_due silence p.now) _ _ (λ _. record { handed = omega arith; sent = omega arith }) (λ _. nothing)
-row_single g p m Arm (Pushes inbox silence) c = nothing
+row_single g p m CheckSilence (Pushes inbox heartbeat_timer) c = if_each Single (is_due heartbeat_timer p.now) _ _ (λ _. record { handed = omega arith; sent = omega arith }) (λ _. nothing)
+row_single g p m Arm (Pushes inbox heartbeat_timer) c = nothing
 row_single g p m (Read row) (Pulls reader) c = reader_single p m.answer (message_on reader.source.inbox m.arrival) row reader c
 row_single g p m _ phase c = nothing

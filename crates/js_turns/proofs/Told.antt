@@ -13,8 +13,8 @@ use Rattle.js_link.specs.Met as link
 use Rattle.js_link.specs.Given.{Givings, given, took, got}
 use Rattle.js_pull.specs.declared.reader.Reader.{Reader as PullReader}
 use Rattle.js_pull.specs.Reader as pull
-use Rattle.js_pull.specs.declared.reader.Inquiry.{Inquiry}
-use Rattle.js_pull.specs.declared.reader.Inquiry.TheVariants as inquiries
+use Rattle.js_pull.specs.declared.reader.InfoRequest.{InfoRequest}
+use Rattle.js_pull.specs.declared.reader.InfoRequest.TheVariants as inquiries
 use Rattle.js_pull.specs.declared.reader.Row.{Row as PullRow}
 use Rattle.js_pull.specs.declared.reader.Row.TheVariants as read
 use Rattle.js_pull.proofs.Wishes as pulls
@@ -25,7 +25,7 @@ use Rattle.js_table.specs.declared.consumer.Opened.{Opened}
 use Rattle.js_table.specs.declared.row.Arrival.{Arrival}
 use Rattle.js_table.specs.declared.row.Row.{Row}
 use Rattle.js_table.specs.declared.row.Row.TheVariants.{Event, Start, Try, Create, Ask, Await, Answered, Hold, Succeed, Fail, CheckArrival, Hear, CheckSilence, Arm, Read}
-use Rattle.js_table.specs.declared.consumer.Given.{Given}
+use Rattle.js_table.specs.declared.consumer.ReplayInput.{ReplayInput}
 use Rattle.js_table.specs.declared.consumer.Stage.{Stage}
 use Rattle.js_table.specs.declared.consumer.Stage.TheVariants.{Between, Deleting, Creating, Waiting}
 use Rattle.js_table.specs.declared.consumer.Phase.{Phase}
@@ -41,8 +41,8 @@ use Rattle.js_table.specs.declared.setup.OrderedSetup.TheVariants.{Pull, Push}
 use Rattle.js_turns.proofs.Wishes.{each, chosen}
 
 -- a row at a phase, met by what an event brings
-abbrev Told : Given → Passing → Matter → Row → Phase → Consumer → Type 0
-Told g p m row phase c =
+abbrev ReaderOutput : ReplayInput → Passing → Matter → Row → Phase → Consumer → Type 0
+ReaderOutput g p m row phase c =
     row_at g p m row phase c
     ≡ row_at g (passing_of p.now (given (givings p m c.connection) (wish_at g row phase))) (matter_of (wish_at g row phase) (given (givings p m c.connection) (wish_at g row phase))) row phase c
 
@@ -58,50 +58,50 @@ now_watched now state Unchanged = refl
 now_watched now state (Becomes new) = refl
 now_watched now state WatcherEnds = refl
 
-go_told : (g : Given) (p q : Passing) (m n : Matter) (phase : Phase) (c : Consumer) → go_on g p m phase c ≡ go_on g q n phase c
+go_told : (g : ReplayInput) (p q : Passing) (m n : Matter) (phase : Phase) (c : Consumer) → go_on g p m phase c ≡ go_on g q n phase c
 go_told g p q m n Idle c = refl
 go_told g p q m n (Recreates r) c = refl
 go_told g p q m n (Pulls reader) c = refl
-go_told g p q m n (Pushes inbox silence) c = refl
+go_told g p q m n (Pushes inbox heartbeat_timer) c = refl
 go_told g p q m n Ended c = refl
 go_told g p q m n Exhausted c = refl
 
-changed_told : (g : Given) (p q : Passing) (m n : Matter) → p.now ≡ q.now → (old new : State) (phase : Phase) (c : Consumer) → changed g p m old new phase c ≡ changed g q n old new phase c
+changed_told : (g : ReplayInput) (p q : Passing) (m n : Matter) → p.now ≡ q.now → (old new : State) (phase : Phase) (c : Consumer) → changed g p m old new phase c ≡ changed g q n old new phase c
 changed_told g p q m n same old new (Pulls reader) c =
     ap (λ (passed : pull.Passed). read_row passed (record c { connection = new })) (pulls.begin_told p q (Some new) reader same)
-changed_told g p q m n same old new (Pushes inbox silence) c = refl
+changed_told g p q m n same old new (Pushes inbox heartbeat_timer) c = refl
 changed_told g p q m n same old new (Recreates r) c = refl
 changed_told g p q m n same old new Idle c = refl
 changed_told g p q m n same old new Ended c = refl
 changed_told g p q m n same old new Exhausted c = refl
 
-ended_told : (g : Given) (p q : Passing) (m n : Matter) (setup : OrderedSetup) (c : Consumer) → watcher_ended g p m setup c ≡ watcher_ended g q n setup c
+ended_told : (g : ReplayInput) (p q : Passing) (m n : Matter) (setup : OrderedSetup) (c : Consumer) → watcher_ended g p m setup c ≡ watcher_ended g q n setup c
 ended_told g p q m n (Pull setup) c = go_told g p q m n c.phase c
 ended_told g p q m n (Push setup) c = refl
 
-change_told : (g : Given) (p q : Passing) (m n : Matter) → p.now ≡ q.now → (change : Change) (c : Consumer) → event_change g p m change c ≡ event_change g q n (change_of (watched c.connection change)) c
+change_told : (g : ReplayInput) (p q : Passing) (m n : Matter) → p.now ≡ q.now → (change : Change) (c : Consumer) → event_change g p m change c ≡ event_change g q n (change_of (watched c.connection change)) c
 change_told g p q m n same Unchanged c =
     go_told g p q m n c.phase c ∙ chosen (same_state c.connection c.connection) (go_on g q n c.phase c) (changed g q n c.connection c.connection c.phase c) (same_as c.connection)
 change_told g p q m n same (Becomes state) c =
     each (same_state c.connection state) _ _ _ _ (go_told g p q m n c.phase c) (changed_told g p q m n same c.connection state c.phase c)
 change_told g p q m n same WatcherEnds c = ended_told g p q m n g.setup c
 
-event_told : (g : Given) (p : Passing) (m : Matter) (phase : Phase) (c : Consumer) → Told g p m Event phase c
+event_told : (g : ReplayInput) (p : Passing) (m : Matter) (phase : Phase) (c : Consumer) → ReaderOutput g p m Event phase c
 event_told g p m Ended c = refl
 event_told g p m Exhausted c = refl
 event_told g p m (Pulls reader) c = change_told g p (passing_of p.now (watched c.connection m.change)) m (matter_of link.Watches (watched c.connection m.change)) (now_watched p.now c.connection m.change) m.change c
-event_told g p m (Pushes inbox silence) c = change_told g p (passing_of p.now (watched c.connection m.change)) m (matter_of link.Watches (watched c.connection m.change)) (now_watched p.now c.connection m.change) m.change c
+event_told g p m (Pushes inbox heartbeat_timer) c = change_told g p (passing_of p.now (watched c.connection m.change)) m (matter_of link.Watches (watched c.connection m.change)) (now_watched p.now c.connection m.change) m.change c
 event_told g p m (Recreates r) c = change_told g p (passing_of p.now (watched c.connection m.change)) m (matter_of link.Watches (watched c.connection m.change)) (now_watched p.now c.connection m.change) m.change c
 event_told g p m Idle c = change_told g p (passing_of p.now (watched c.connection m.change)) m (matter_of link.Watches (watched c.connection m.change)) (now_watched p.now c.connection m.change) m.change c
 
 -- ---- sends
 
-try_told : (g : Given) (now : ℕ) (up : Bool) (request inbox : ℕ) (subject : List ℕ) (m : Matter) (state : State) (p : Passing) → p ≡ record { now = now; up = up; request = request; inbox = inbox; subject = subject }
+try_told : (g : ReplayInput) (now : ℕ) (up : Bool) (request inbox : ℕ) (subject : List ℕ) (m : Matter) (state : State) (p : Passing) → p ≡ record { now = now; up = up; request = request; inbox = inbox; subject = subject }
     → (r : Recreation) (c : Consumer) → try_row g p r c ≡ try_row g (passing_of p.now (given (givings p m state) (wish_at g Try (Recreates r)))) r c
 try_told g now true request inbox subject m state p is r c = rw is refl
 try_told g now false request inbox subject m state p is r c = rw is refl
 
-ask_told : (g : Given) (now : ℕ) (up : Bool) (request inbox : ℕ) (subject : List ℕ) (m : Matter) (state : State) (p : Passing) → p ≡ record { now = now; up = up; request = request; inbox = inbox; subject = subject }
+ask_told : (g : ReplayInput) (now : ℕ) (up : Bool) (request inbox : ℕ) (subject : List ℕ) (m : Matter) (state : State) (p : Passing) → p ≡ record { now = now; up = up; request = request; inbox = inbox; subject = subject }
     → (r : Recreation) (c : Consumer) → ask_row g p r c ≡ ask_row g (passing_of p.now (given (givings p m state) (wish_at g Ask (Recreates r)))) r c
 ask_told g now true request inbox subject m state p is r c = rw is refl
 ask_told g now false request inbox subject m state p is r c = rw is refl
@@ -116,7 +116,7 @@ push_told : (p q : Passing) (opened : Option Opened) (c : Consumer) → p.now �
 push_told p q None c same = refl
 push_told p q (Some opened) c same = rw same refl
 
-succeed_told : (setup : OrderedSetup) (g : Given) (now : ℕ) (up : Bool) (request inbox : ℕ) (subject : List ℕ) (m : Matter) (state : State) (p : Passing) → p ≡ record { now = now; up = up; request = request; inbox = inbox; subject = subject }
+succeed_told : (setup : OrderedSetup) (g : ReplayInput) (now : ℕ) (up : Bool) (request inbox : ℕ) (subject : List ℕ) (m : Matter) (state : State) (p : Passing) → p ≡ record { now = now; up = up; request = request; inbox = inbox; subject = subject }
     → (info : Info) (r : Recreation) (c : Consumer) → succeed_row setup g p info r c ≡ succeed_row setup g (passing_of p.now (given (givings p m state) (succeed_wish setup))) info r c
 succeed_told (Pull setup) g now true request inbox subject m state p is info r c = rw is refl
 succeed_told (Pull setup) g now false request inbox subject m state p is info r c = rw is refl
@@ -126,23 +126,23 @@ now_dropped : (now : ℕ) (x : Givings) (opened : Option Opened) → now ≡ (pa
 now_dropped now x None = refl
 now_dropped now x (Some opened) = refl
 
-fail_told : (g : Given) (p q : Passing) (r : Recreation) (c : Consumer) → p.now ≡ q.now → fail_row g p r c ≡ fail_row g q r c
+fail_told : (g : ReplayInput) (p q : Passing) (r : Recreation) (c : Consumer) → p.now ≡ q.now → fail_row g p r c ≡ fail_row g q r c
 fail_told g p q r c same = rw same refl
 
 -- ---- what is waited for
 
-deleting_told : (g : Given) (p q : Passing) (m n : Matter) (request : ℕ) (timeout : Timer) → p.now ≡ q.now → pull.reply_to request m.answer ≡ pull.reply_to request n.answer
+deleting_told : (g : ReplayInput) (p q : Passing) (m n : Matter) (request : ℕ) (timeout : Timer) → p.now ≡ q.now → pull.reply_to request m.answer ≡ pull.reply_to request n.answer
     → stage_rows g p m (Deleting request timeout) ≡ stage_rows g q n (Deleting request timeout)
 deleting_told g p q m n request timeout same is = rw is (rw same refl)
 
-created_told : (g : Given) (p q : Passing) (timeout : Timer) (o u : Option (Option Message)) → p.now ≡ q.now → o ≡ u → created g p timeout o ≡ created g q timeout u
+created_told : (g : ReplayInput) (p q : Passing) (timeout : Timer) (o u : Option (Option Message)) → p.now ≡ q.now → o ≡ u → created g p timeout o ≡ created g q timeout u
 created_told g p q timeout o u same is = ap (λ (o : Option (Option Message)). created g p timeout o) is ∙ by_reply u
   where
     by_reply : (u : Option (Option Message)) → created g p timeout u ≡ created g q timeout u
     by_reply None = rw same refl
     by_reply (Some reply) = refl
 
-await_told : (g : Given) (p : Passing) (m : Matter) (x : Givings) → ((request : ℕ) → x.answers request ≡ pull.reply_to request m.answer) → (stage : Stage)
+await_told : (g : ReplayInput) (p : Passing) (m : Matter) (x : Givings) → ((request : ℕ) → x.answers request ≡ pull.reply_to request m.answer) → (stage : Stage)
     → stage_rows g p m stage ≡ stage_rows g (passing_of p.now (given x (awaited stage))) (matter_of (awaited stage) (given x (awaited stage))) stage
 await_told g p m x answers Between = refl
 await_told g p m x answers (Deleting request timeout) =
@@ -227,16 +227,16 @@ arrival_same x (read.Inquire failures) r = by_up x.passing.up
     by_up : (up : Bool) → None ≡ message_of (if up then link.Requested x.passing.request else link.Refused)
     by_up true = refl
     by_up false = refl
-arrival_same x (read.FailInquiry failures) r = refl
-arrival_same x read.CheckInquiry r = by_inquiry r.inquiry
+arrival_same x (read.FailInfoRequest failures) r = refl
+arrival_same x read.CheckInfoRequest r = by_inquiry r.inquiry
   where
     by_reply : (o : Option (Option Message)) → None ≡ message_of (got o)
     by_reply None = refl
     by_reply (Some None) = refl
     by_reply (Some (Some reply)) = refl
 
-    by_inquiry : (inquiry : Inquiry) → message_on r.source.inbox (arrival_of (pull.awaited inquiry) (given x (pull.awaited inquiry))) ≡ message_of (given x (pull.awaited inquiry))
-    by_inquiry inquiries.NoInquiry = refl
+    by_inquiry : (inquiry : InfoRequest) → message_on r.source.inbox (arrival_of (pull.awaited inquiry) (given x (pull.awaited inquiry))) ≡ message_of (given x (pull.awaited inquiry))
+    by_inquiry inquiries.NoInfoRequest = refl
     by_inquiry (inquiries.Asked request timeout failures) = by_reply (x.answers request)
     by_inquiry (inquiries.Resting wait failures) = refl
 arrival_same x (read.Answered reply failures) r = refl
@@ -248,7 +248,7 @@ arrival_same x read.CheckArrival r = by_message (x.arrivals r.source.inbox)
     by_message (Some message) = message_told r.source.inbox (Some message)
 arrival_same x read.CheckSilence r = refl
 
-reader_told : (g : Given) (p : Passing) (m : Matter) (row : PullRow) (reader : PullReader) (c : Consumer) → Told g p m (Read row) (Pulls reader) c
+reader_told : (g : ReplayInput) (p : Passing) (m : Matter) (row : PullRow) (reader : PullReader) (c : Consumer) → ReaderOutput g p m (Read row) (Pulls reader) c
 reader_told g p m row reader c =
     let x : Givings = givings p m c.connection in
     let met : Met = given x (pull.wish row reader) in
@@ -258,7 +258,7 @@ reader_told g p m row reader c =
 
 -- ---- every row
 
-row_told : (g : Given) (p : Passing) (m : Matter) (row : Row) (phase : Phase) (c : Consumer) → Told g p m row phase c
+row_told : (g : ReplayInput) (p : Passing) (m : Matter) (row : Row) (phase : Phase) (c : Consumer) → ReaderOutput g p m row phase c
 row_told g p m Event phase c = event_told g p m phase c
 row_told g p m Start phase c = refl
 row_told g p m Try (Recreates r) c = try_told g p.now p.up p.request p.inbox p.subject m c.connection p refl r c
@@ -270,15 +270,15 @@ row_told g p m Hold (Recreates r) c =
     ap (λ (opened : Option Opened). quietly (at_phase (Recreates (record r { opened = opened })) c) []) (hold_told (givings p m c.connection) m.arrival (λ inbox. refl) r.opened)
 row_told g p m (Succeed info) (Recreates r) c = succeed_told g.setup g p.now p.up p.request p.inbox p.subject m c.connection p refl info r c
 row_told g p m Fail (Recreates r) c = fail_told g p (passing_of p.now (given (givings p m c.connection) (opened_dropped r.opened))) r c (now_dropped p.now (givings p m c.connection) r.opened)
-row_told g p m CheckArrival (Pushes inbox silence) c =
+row_told g p m CheckArrival (Pushes inbox heartbeat_timer) c =
     ap (λ (o : Option Message). quietly c (push_rows inbox o)) (sym (message_told inbox (message_on inbox m.arrival)))
-row_told g p m (Hear arrival) (Pushes inbox silence) c = hear_told (arrival.inbox == inbox) m c.connection p inbox arrival.message (push_kind arrival.message) c
-row_told g p m CheckSilence (Pushes inbox silence) c = refl
-row_told g p m Arm (Pushes inbox silence) c = refl
+row_told g p m (Hear arrival) (Pushes inbox heartbeat_timer) c = hear_told (arrival.inbox == inbox) m c.connection p inbox arrival.message (push_kind arrival.message) c
+row_told g p m CheckSilence (Pushes inbox heartbeat_timer) c = refl
+row_told g p m Arm (Pushes inbox heartbeat_timer) c = refl
 row_told g p m (Read row) (Pulls reader) c = reader_told g p m row reader c
 row_told g p m _ phase c = refl
 
 -- a row of a replay is passed as by what it meets when it asks for its one thing
-pub pass_told : (g : Given) (p : Passing) (m : Matter) (row : Row) (c : Consumer)
+pub pass_told : (g : ReplayInput) (p : Passing) (m : Matter) (row : Row) (c : Consumer)
     → pass g p m row c ≡ pass g (passing_of p.now (met_in g p m row c)) (matter_of (wish g row c) (met_in g p m row c)) row c
 pass_told g p m row c = row_told g p m row c.phase c

@@ -2,7 +2,7 @@
 use Rattle.std.proofs.Common.{ℕ, List, [], ◌∷◌, ◌++◌, refl, subst}
 use Rattle.std.specs.List.{AllByRecursion}
 use Rattle.js_table.specs.declared.row.Row.{Row}
-use Rattle.js_table.specs.declared.consumer.Given.{Given}
+use Rattle.js_table.specs.declared.consumer.ReplayInput.{ReplayInput}
 use Rattle.js_table.specs.Turn.{pass}
 use Rattle.js_turns.specs.Turns.{Position, Stride, Moved, first_row, later_rows, step, walk, IsHonestWalk, IsKeptPosition}
 use Rattle.js_table.specs.declared.setup.OrderedSetup.{OrderedSetup}
@@ -21,11 +21,11 @@ later_honest setup s [] honest = tt
 later_honest setup s (row ∷ rows) honest = honest.1
 
 -- what a walk keeps
-pub record KeepsAlong (g : Given) (s : Server) (last : ℕ) (moved : Moved) : Type 0 where
+pub record KeepsAlong (g : ReplayInput) (s : Server) (last : ℕ) (moved : Moved) : Type 0 where
   pub kept : IsKeptPosition g.setup s moved.position
   pub extends : Extends g.setup s last moved.outputs moved.position.consumer.last
 
-pub walk_keeps : (g : Given) (s : Server) → ((inbox : ℕ) → IsWhole g.setup s.log s.removed (s.starts inbox) (s.lists inbox))
+pub walk_keeps : (g : ReplayInput) (s : Server) → ((inbox : ℕ) → IsWhole g.setup s.log s.removed (s.starts inbox) (s.lists inbox))
     → (strides : List Stride) (at : Position) → IsKeptPosition g.setup s at → IsHonestWalk g s strides at
     → KeepsAlong g s at.consumer.last (walk g strides at)
 walk_keeps g s whole [] at k honest = record { kept = k; extends = refl }

@@ -15,8 +15,8 @@ use Rattle.js_pull.specs.declared.reader.Reader.{Reader as PullReader}
 use Rattle.js_pull.specs.Reader as pull
 use Rattle.js_pull.specs.declared.reader.Row.{Row as PullRow}
 use Rattle.js_pull.specs.declared.reader.Row.TheVariants as read
-use Rattle.js_pull.specs.declared.reader.Told.{Told as PullTold}
-use Rattle.js_pull.specs.declared.reader.Told.TheVariants as tells
+use Rattle.js_pull.specs.declared.reader.ReaderOutput.{ReaderOutput as PullTold}
+use Rattle.js_pull.specs.declared.reader.ReaderOutput.TheVariants as tells
 use Rattle.js_pull.specs.declared.reader.MessagesErrorKind.TheVariants as error
 use Rattle.js_pull.proofs.Wishes as pulls
 use Rattle.js_table.specs.declared.consumer.Consumer.{Consumer}
@@ -25,7 +25,7 @@ use Rattle.js_table.specs.declared.consumer.Recreation.{Recreation}
 use Rattle.js_table.specs.declared.consumer.Opened.{Opened}
 use Rattle.js_table.specs.declared.row.Row.{Row}
 use Rattle.js_table.specs.declared.row.Row.TheVariants.{Event, Start, Try, Create, Ask, Await, Answered, Hold, Succeed, Fail, CheckArrival, Hear, CheckSilence, Arm, Read}
-use Rattle.js_table.specs.declared.consumer.Given.{Given}
+use Rattle.js_table.specs.declared.consumer.ReplayInput.{ReplayInput}
 use Rattle.js_table.specs.declared.consumer.Stage.{Stage}
 use Rattle.js_table.specs.declared.consumer.Stage.TheVariants.{Between, Deleting, Creating, Waiting}
 use Rattle.js_table.specs.declared.consumer.Phase.{Phase}
@@ -80,7 +80,7 @@ no_more (x ∷ xs) = ap (λ (rest : List Output). x ∷ rest) (no_more xs)
 
 message_silent : (o : Option Place) (message : Message) (c : Consumer) → Silent (message_row o message c)
 message_silent None message c = refl
-message_silent (Some place) message c = if_each Silent (place.number == c.num + 1) _ _ (λ _. refl) (λ _. refl)
+message_silent (Some place) message c = if_each Silent (place.number == c.consumer_sequence + 1) _ _ (λ _. refl) (λ _. refl)
 
 told_silent : (t : PullTold) (c : Consumer) → Silent (told t c)
 told_silent tells.Nothing c = refl
@@ -101,23 +101,23 @@ reader_sends p m row reader c =
     ∙ no_more (map output_of passed.sent)
     ∙ ap (λ (xs : List Sent). map output_of xs) (pulls.row_sends p m.answer (message_on reader.source.inbox m.arrival) row reader)
 
-go_on_silent : (g : Given) (p : Passing) (m : Matter) (phase : Phase) (c : Consumer) → Silent (go_on g p m phase c)
+go_on_silent : (g : ReplayInput) (p : Passing) (m : Matter) (phase : Phase) (c : Consumer) → Silent (go_on g p m phase c)
 go_on_silent g p m Idle c = refl
 go_on_silent g p m (Recreates r) c = refl
 go_on_silent g p m (Pulls reader) c = reader_sends p m (read.Begin None) reader c
-go_on_silent g p m (Pushes inbox silence) c = refl
+go_on_silent g p m (Pushes inbox heartbeat_timer) c = refl
 go_on_silent g p m Ended c = refl
 go_on_silent g p m Exhausted c = refl
 
-changed_silent : (g : Given) (p : Passing) (m : Matter) (old new : State) (phase : Phase) (c : Consumer) → Silent (changed g p m old new phase c)
+changed_silent : (g : ReplayInput) (p : Passing) (m : Matter) (old new : State) (phase : Phase) (c : Consumer) → Silent (changed g p m old new phase c)
 changed_silent g p m old new (Pulls reader) c = reader_sends p m (read.Begin (Some new)) reader (record c { connection = new })
-changed_silent g p m old new (Pushes inbox silence) c = if_each Silent (is_connected old || is_connected new) _ _ (λ _. refl) (λ _. refl)
+changed_silent g p m old new (Pushes inbox heartbeat_timer) c = if_each Silent (is_connected old || is_connected new) _ _ (λ _. refl) (λ _. refl)
 changed_silent g p m old new (Recreates r) c = refl
 changed_silent g p m old new Idle c = refl
 changed_silent g p m old new Ended c = refl
 changed_silent g p m old new Exhausted c = refl
 
-change_silent : (g : Given) (p : Passing) (m : Matter) (change : Change) (c : Consumer) → Silent (event_change g p m change c)
+change_silent : (g : ReplayInput) (p : Passing) (m : Matter) (change : Change) (c : Consumer) → Silent (event_change g p m change c)
 change_silent g p m Unchanged c = go_on_silent g p m c.phase c
 change_silent g p m (Becomes state) c = if_both Silent (same_state c.connection state) _ _ (go_on_silent g p m c.phase c) (changed_silent g p m c.connection state c.phase c)
 change_silent g p m WatcherEnds c = by_setup g.setup
@@ -126,11 +126,11 @@ change_silent g p m WatcherEnds c = by_setup g.setup
     by_setup (Pull setup) = go_on_silent g p m c.phase c
     by_setup (Push setup) = refl
 
-event_sends : (g : Given) (p : Passing) (m : Matter) (phase : Phase) (c : Consumer) → Sends (wish_at g Event phase) p (event_row g p m phase c)
+event_sends : (g : ReplayInput) (p : Passing) (m : Matter) (phase : Phase) (c : Consumer) → Sends (wish_at g Event phase) p (event_row g p m phase c)
 event_sends g p m Ended c = refl
 event_sends g p m Exhausted c = refl
 event_sends g p m (Pulls reader) c = change_silent g p m m.change c
-event_sends g p m (Pushes inbox silence) c = change_silent g p m m.change c
+event_sends g p m (Pushes inbox heartbeat_timer) c = change_silent g p m m.change c
 event_sends g p m (Recreates r) c = change_silent g p m m.change c
 event_sends g p m Idle c = change_silent g p m m.change c
 
@@ -140,7 +140,7 @@ opened_silent (Some opened) p = refl
 
 dropped_silent : (phase : Phase) (p : Passing) → sends_of (dropped phase) p ≡ []
 dropped_silent (Pulls reader) p = refl
-dropped_silent (Pushes inbox silence) p = refl
+dropped_silent (Pushes inbox heartbeat_timer) p = refl
 dropped_silent (Recreates r) p = opened_silent r.opened p
 dropped_silent Idle p = refl
 dropped_silent Ended p = refl
@@ -168,7 +168,7 @@ push_sends : (p : Passing) (opened : Option Opened) (c : Consumer) → Silent (s
 push_sends p None c = refl
 push_sends p (Some opened) c = refl
 
-succeed_sends : (setup : OrderedSetup) (g : Given) (p : Passing) (info : Info) (r : Recreation) (c : Consumer) → Sends (succeed_wish setup) p (succeed_row setup g p info r c)
+succeed_sends : (setup : OrderedSetup) (g : ReplayInput) (p : Passing) (info : Info) (r : Recreation) (c : Consumer) → Sends (succeed_wish setup) p (succeed_row setup g p info r c)
 succeed_sends (Pull setup) g p info r c = both (λ (passed : Passed). sent passed.outputs) (λ (xs : List Sent). map output_of xs) p.up _ _ _ _ refl refl
 succeed_sends (Push setup) g p info r c = push_sends p r.opened c
 
@@ -183,7 +183,7 @@ kind_sends p message Bad c = refl
 kind_sends p message (Beat last) c = beat_sends p last message.reply
 
 -- what a row sends is what it asks to send
-pub row_sends : (g : Given) (p : Passing) (m : Matter) (row : Row) (phase : Phase) (c : Consumer) → Sends (wish_at g row phase) p (row_at g p m row phase c)
+pub row_sends : (g : ReplayInput) (p : Passing) (m : Matter) (row : Row) (phase : Phase) (c : Consumer) → Sends (wish_at g row phase) p (row_at g p m row phase c)
 row_sends g p m Event phase c = event_sends g p m phase c
 row_sends g p m Start phase c = quiet (start_row g c).outputs (sends_of (dropped phase) p) (if_each Silent (c.last == pull.u64_max) _ _ (λ _. refl) (λ _. refl)) (dropped_silent phase p)
 row_sends g p m Try (Recreates r) c = both (λ (passed : Passed). sent passed.outputs) (λ (xs : List Sent). map output_of xs) p.up _ _ _ _ refl refl
@@ -195,11 +195,11 @@ row_sends g p m Hold (Recreates r) c = quiet [] (sends_of (opened_read r.opened)
 row_sends g p m (Succeed info) (Recreates r) c = succeed_sends g.setup g p info r c
 row_sends g p m Fail (Recreates r) c =
     quiet (fail_row g p r c).outputs (sends_of (opened_dropped r.opened) p) (if_each Silent (nat_lt g.settings.retries (r.failures + 1)) _ _ (λ _. refl) (λ _. refl)) (opened_silent r.opened p)
-row_sends g p m CheckArrival (Pushes inbox silence) c = refl
-row_sends g p m (Hear arrival) (Pushes inbox silence) c =
+row_sends g p m CheckArrival (Pushes inbox heartbeat_timer) c = refl
+row_sends g p m (Hear arrival) (Pushes inbox heartbeat_timer) c =
     both (λ (passed : Passed). sent passed.outputs) (λ (w : Wish). map output_of (sends_of w p)) (arrival.inbox == inbox) _ _ _ _
     (kind_sends p arrival.message (push_kind arrival.message) (at_phase (Pushes inbox (armed p.now)) c)) refl
-row_sends g p m CheckSilence (Pushes inbox silence) c = if_each Silent (is_due silence p.now) _ _ (λ _. refl) (λ _. refl)
-row_sends g p m Arm (Pushes inbox silence) c = refl
+row_sends g p m CheckSilence (Pushes inbox heartbeat_timer) c = if_each Silent (is_due heartbeat_timer p.now) _ _ (λ _. refl) (λ _. refl)
+row_sends g p m Arm (Pushes inbox heartbeat_timer) c = refl
 row_sends g p m (Read row) (Pulls reader) c = reader_sends p m row reader c
 row_sends g p m _ phase c = refl

@@ -3,13 +3,13 @@ use Rattle.std.specs.Prelude.{◌≡◌, ℕ, Bool, true, false, List, [], ◌�
 use Rattle.std.specs.List.{AllByRecursion, list_any}
 use Rattle.js_link.specs.Passing.{Passing}
 use Rattle.js_link.specs.Met.{Wish, Met, passing_of, IsClosing}
-use Rattle.js_table.specs.declared.world.World.{World}
+use Rattle.js_table.specs.declared.replay_state.ReplayState.{ReplayState}
 use Rattle.js_turns.specs.Wishes.{wish, matter_of, met_in}
 use Rattle.js_table.specs.declared.consumer.Consumer.{Consumer}
 use Rattle.js_table.specs.State.{Matter, Passed}
 use Rattle.js_table.specs.declared.row.Row.{Row}
 use Rattle.js_table.specs.declared.row.Row.TheVariants.{Event}
-use Rattle.js_table.specs.declared.consumer.Given.{Given}
+use Rattle.js_table.specs.declared.consumer.ReplayInput.{ReplayInput}
 use Rattle.js_table.specs.declared.consumer.Phase.TheVariants.{Ended, Exhausted}
 use Rattle.js_table.specs.Fold.{is_subscribe, passing, after}
 use Rattle.js_table.specs.Turn.{pass}
@@ -45,7 +45,7 @@ later_rows [] = []
 later_rows (row ∷ rows) = rows
 
 -- one row
-abbrev pub step : Given → Stride → Position → Moved
+abbrev pub step : ReplayInput → Stride → Position → Moved
 step g stride at =
     let passed = pass g stride.passing stride.matter (first_row at.todo) at.consumer in
     record {
@@ -54,7 +54,7 @@ step g stride at =
     }
 
 -- row after row
-abbrev pub walk : Given → List Stride → Position → Moved
+abbrev pub walk : ReplayInput → List Stride → Position → Moved
 walk g [] at = record { position = at; outputs = [] }
 walk g (stride ∷ strides) at =
     let moved = step g stride at in
@@ -87,7 +87,7 @@ sent outputs = filter is_sent outputs
 -- ---- what the link does at each row
 
 -- what the next row asks
-abbrev pub wish_next : Given → Position → Wish
+abbrev pub wish_next : ReplayInput → Position → Wish
 wish_next g at = wish g (first_row at.todo) at.consumer
 
 -- a row is passed at this moment with what it met
@@ -96,7 +96,7 @@ pub record IsStride (now : ℕ) (wish : Wish) (met : Met) (stride : Stride) : Ty
   pub matter : stride.matter ≡ matter_of wish met
 
 -- at each row the link does the one thing that the row asks, as `meets` says it of the link before and after the row
-abbrev pub IsMet : {V : Type 0} → Given → ℕ → (Wish → Met → V → V → Type 0) → List Stride → Position → V → V → Type 0
+abbrev pub IsMet : {V : Type 0} → ReplayInput → ℕ → (Wish → Met → V → V → Type 0) → List Stride → Position → V → V → Type 0
 IsMet g now meets [] at before after = after ≡ before
 IsMet {V} g now meets (stride ∷ strides) at before after =
     (met : Met) × (between : V) × IsStride now (wish_next g at) met stride
@@ -104,15 +104,15 @@ IsMet {V} g now meets (stride ∷ strides) at before after =
     × IsMet g now meets strides (step g stride at).position between after
 
 -- where a consumer stands beside the link of a replay
-abbrev pub position_of : World → List Row → Position
+abbrev pub position_of : ReplayState → List Row → Position
 position_of w todo = record { consumer = w.consumer; todo = todo }
 
 -- how the next row is passed
-abbrev pub passed_by : Given → Stride → World → List Row → Passed
+abbrev pub passed_by : ReplayInput → Stride → ReplayState → List Row → Passed
 passed_by g stride w todo = pass g stride.passing stride.matter (first_row todo) w.consumer
 
 -- each row is passed at a moment, with the next numbers, and meets what an event brings for the one thing that it asks
-abbrev pub IsTold : Given → ℕ → Matter → List Stride → World → List Row → Type 0
+abbrev pub IsTold : ReplayInput → ℕ → Matter → List Stride → ReplayState → List Row → Type 0
 IsTold g now m [] w todo = ⊤
 IsTold g now m (stride ∷ strides) w todo =
     IsStride now (wish_next g (position_of w todo)) (met_in g (passing g now w) m (first_row todo) w.consumer) stride
@@ -121,7 +121,7 @@ IsTold g now m (stride ∷ strides) w todo =
 -- ---- a walk along which the arrivals are honest, and what is subscribed starts where it was asked to
 
 -- at each row
-abbrev pub IsHonestWalk : Given → Server → List Stride → Position → Type 0
+abbrev pub IsHonestWalk : ReplayInput → Server → List Stride → Position → Type 0
 IsHonestWalk g s [] at = ⊤
 IsHonestWalk g s (stride ∷ strides) at =
     IsHonestMatter g.setup s stride.matter
@@ -155,7 +155,7 @@ abbrev pub arrives : Stride → Bool
 arrives stride = is_some stride.matter.arrival
 
 -- a turn that begins where nothing is left to do ends there again, without an arrival and without a new inbox
-abbrev pub IsQuietTurn : Given → List Stride → Position → Type 0
+abbrev pub IsQuietTurn : ReplayInput → List Stride → Position → Type 0
 IsQuietTurn g strides from =
     (from.todo ≡ []) × ((walk g strides from).position.todo ≡ []) × (list_any arrives strides ≡ false)
     × (list_any is_subscribe (walk g strides from).outputs ≡ false)
@@ -176,7 +176,7 @@ abbrev pub HasWholeLists : OrderedSetup → Server → Type 0
 HasWholeLists setup s = (inbox : ℕ) → IsWhole setup s.log s.removed (s.starts inbox) (s.lists inbox)
 
 -- a poll passes rows at its moment from where the last one stopped, up to the first that hands something out
-pub record IsPoll {V : Type 0} (g : Given) (meets : Wish → Met → V → V → Type 0) (now : ℕ) (old new : Position) (before after : V) (answer : Answer) : Type 0 where
+pub record IsPoll {V : Type 0} (g : ReplayInput) (meets : Wish → Met → V → V → Type 0) (now : ℕ) (old new : Position) (before after : V) (answer : Answer) : Type 0 where
   pub strides : List Stride
   pub closed : Bool
   pub leads : new ≡ closed_at closed (walk g strides old).position

@@ -17,7 +17,7 @@ use Rattle.js_table.specs.declared.kind.PushKind.TheVariants.{Beat}
 use Rattle.js_table.specs.declared.row.Arrival.{Arrival}
 use Rattle.js_table.specs.declared.row.Row.{Row}
 use Rattle.js_table.specs.declared.row.Row.TheVariants.{Event, Start, Try, Create, Ask, Await, Hold, Succeed, Fail, CheckArrival, Hear, Read}
-use Rattle.js_table.specs.declared.consumer.Given.{Given}
+use Rattle.js_table.specs.declared.consumer.ReplayInput.{ReplayInput}
 use Rattle.js_table.specs.declared.consumer.Stage.{Stage}
 use Rattle.js_table.specs.declared.consumer.Stage.TheVariants.{Deleting, Creating}
 use Rattle.js_table.specs.declared.consumer.Phase.{Phase}
@@ -44,7 +44,7 @@ opened_dropped (Some opened) = Drops opened.inbox
 -- the inbox that a phase has is given up
 abbrev pub dropped : Phase → Wish
 dropped (Pulls reader) = Drops reader.source.inbox
-dropped (Pushes inbox silence) = Drops inbox
+dropped (Pushes inbox heartbeat_timer) = Drops inbox
 dropped (Recreates r) = opened_dropped r.opened
 dropped _ = Nothing
 
@@ -64,7 +64,7 @@ beat_wish (Beat last) (Some reply) = Publishes reply None []
 beat_wish _ _ = Nothing
 
 -- what a row asks at a phase: nothing where it does not belong there, or where the consumer has ended
-abbrev pub wish_at : Given → Row → Phase → Wish
+abbrev pub wish_at : ReplayInput → Row → Phase → Wish
 wish_at g Event Ended = Nothing
 wish_at g Event Exhausted = Nothing
 wish_at g Event phase = Watches
@@ -76,13 +76,13 @@ wish_at g Await (Recreates r) = awaited r.stage
 wish_at g Hold (Recreates r) = opened_read r.opened
 wish_at g (Succeed info) (Recreates r) = succeed_wish g.setup
 wish_at g Fail (Recreates r) = opened_dropped r.opened
-wish_at g CheckArrival (Pushes inbox silence) = Reads inbox
-wish_at g (Hear arrival) (Pushes inbox silence) = if arrival.inbox == inbox then beat_wish (push_kind arrival.message) arrival.message.reply else Nothing
+wish_at g CheckArrival (Pushes inbox heartbeat_timer) = Reads inbox
+wish_at g (Hear arrival) (Pushes inbox heartbeat_timer) = if arrival.inbox == inbox then beat_wish (push_kind arrival.message) arrival.message.reply else Nothing
 wish_at g (Read row) (Pulls reader) = pull.wish row reader
 wish_at g _ phase = Nothing
 
 -- what a row asks
-abbrev pub wish : Given → Row → Consumer → Wish
+abbrev pub wish : ReplayInput → Row → Consumer → Wish
 wish g row c = wish_at g row c.phase
 
 -- ---- what a row met, as an event brings it
@@ -120,5 +120,5 @@ givings p m state = record {
 }
 
 -- what a row meets in an event
-abbrev pub met_in : Given → Passing → Matter → Row → Consumer → Met
+abbrev pub met_in : ReplayInput → Passing → Matter → Row → Consumer → Met
 met_in g p m row c = given (givings p m c.connection) (wish g row c)

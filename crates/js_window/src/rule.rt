@@ -11,7 +11,7 @@ use std::collections::LinkedList;
 pub type Cell = RuledSeqCell<[u64; 2], View, OneHistory, 2>;
 
 /// A pass of the cell. It takes no memory.
-pub type Seat = Pass<[u64; 2], View>;
+pub type WindowPass = Pass<[u64; 2], View>;
 
 /// Whether a view makes calls, was cut off for a join, or was joined.
 pub enum Standing {
@@ -83,9 +83,9 @@ impl Outcome<[u64; 2], View> for Names {
 }
 
 /// A pass looks after a join.
-pub struct Recalls;
+pub struct LooksAgain;
 
-impl Outcome<[u64; 2], View> for Recalls {
+impl Outcome<[u64; 2], View> for LooksAgain {
     ghost use Rattle.js_window.specs.Steps.{Recalled};
 
     ghost then = { Recalled };
@@ -139,9 +139,9 @@ impl Split<View> for Copies {
 }
 
 /// The same split, where the old view ends.
-pub struct CutsOff;
+pub struct CopiesAndEnds;
 
-impl Split<View> for CutsOff {
+impl Split<View> for CopiesAndEnds {
     ghost use Rattle.js_window.specs.Rule.{ended, copy_of};
 
     ghost left = { ended };
@@ -150,9 +150,9 @@ impl Split<View> for CutsOff {
 }
 
 /// A join.
-pub struct TakesIn;
+pub struct JoinsViews;
 
-impl Join<View> for TakesIn {
+impl Join<View> for JoinsViews {
     ghost use Rattle.js_window.specs.Rule.{joined, spent};
 
     ghost both = { joined };

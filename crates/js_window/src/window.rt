@@ -7,7 +7,9 @@ ghost use Rattle.js_window.specs.Steps.{IsUnnumbered};
 
 mod steps;
 
-use crate::rule::{AsksAllFree, Cell, Copies, CutsOff, Names, Opens, Recalls, Seat, TakesIn};
+use crate::rule::{
+    AsksAllFree, Cell, Copies, CopiesAndEnds, JoinsViews, LooksAgain, Names, Opens, WindowPass,
+};
 use js_base::OutOfMemory;
 use std::alloc::Global;
 use std::marker::Model;
@@ -37,7 +39,7 @@ impl Model for Window {
 /// A pass that is dropped while it holds permits goes on holding them.
 #[derive(Drop)]
 pub struct Pass {
-    seat: Seat,
+    seat: WindowPass,
 }
 
 impl Model for Pass {
@@ -58,7 +60,7 @@ impl Model for Pass {
 /// A permit that is dropped is never free again, and its pass goes on holding it.
 #[derive(Drop)]
 pub struct Permit {
-    bearer: Snapshot<Seat>,
+    bearer: Snapshot<WindowPass>,
 }
 
 impl Model for Permit {
@@ -170,14 +172,14 @@ impl Window {
         ensures { Joins pass.old other pass.new }
     {
         let Pass { mut seat } = other;
-        let copy = self.cell.split_pass::<CutsOff>(&mut seat);
-        self.cell.join_pass::<TakesIn>(&mut pass.seat, copy);
-        self.cell.load_as::<Recalls, R>(rt, &mut pass.seat);
+        let copy = self.cell.split_pass::<CopiesAndEnds>(&mut seat);
+        self.cell.join_pass::<JoinsViews>(&mut pass.seat, copy);
+        self.cell.load_as::<LooksAgain, R>(rt, &mut pass.seat);
     }
 }
 
 // A pass on a seat that has no number yet. A look gives it that of its place.
-fn numbered<R: Wait>(rt: &R, cell: &Cell, mut seat: Seat) -> Pass
+fn numbered<R: Wait>(rt: &R, cell: &Cell, mut seat: WindowPass) -> Pass
     requires cell { seat.table_id ≡ cell.now.table.shared.table_id }
     requires new { IsUnnumbered (capacity_of (cell_view seat)) (cell_view seat) }
     ensures { Splits (caller_of seat.table_id (cell_view seat)) result }

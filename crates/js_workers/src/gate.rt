@@ -35,19 +35,19 @@ impl Gate for Open {
 /// One worker's way through a gate, which it goes once at most. Contracts see the caller as it was when it passed,
 /// where it has passed.
 #[derive(Drop)]
-pub(crate) struct Way<'a, G> {
+pub(crate) struct GatePassage<'a, G> {
     gate: &'a G,
     /// The caller as it was when it passed.
     pub passed: Option<Snapshot<Pass>>,
 }
 
-impl<'a, G: Gate> Way<'a, G> {
+impl<'a, G: Gate> GatePassage<'a, G> {
     /// A way that nobody has gone yet.
-    pub fn new(gate: &'a G) -> Way<'a, G>
+    pub fn new(gate: &'a G) -> GatePassage<'a, G>
         ensures gate { result.gate ≡ gate.entry }
         ensures new { result.passed ≡ None }
     {
-        Way { gate, passed: None }
+        GatePassage { gate, passed: None }
     }
 
     /// Calls the gate.

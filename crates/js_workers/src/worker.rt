@@ -2,7 +2,7 @@
 ghost use Rattle.std.specs.Prelude.{◌≡◌, ◌<◌, ◌+◌, None, option_map};
 ghost use Rattle.js_workers.specs.Worker.{TookCalls, PassedGate, IsReady, HasEnded};
 
-use crate::gate::{Gate, Way};
+use crate::gate::{Gate, GatePassage};
 use js_window::{Pass, Take, Window};
 use std::sync::Wait;
 
@@ -40,7 +40,7 @@ pub fn take_calls<R: Wait, G: Gate>(
     ensures calls { TookCalls result.0 result.1 pass.old pass.new }
     ensures called { 0 < calls → G.passed gate.now worker }
 {
-    take_by(rt, window, pass, calls, worker, &mut Way::new(gate))
+    take_by(rt, window, pass, calls, worker, &mut GatePassage::new(gate))
 }
 
 // The same by a way to the gate, which tells when it was gone.
@@ -50,7 +50,7 @@ fn take_by<R: Wait, G: Gate>(
     pass: &mut Pass,
     calls: u64,
     worker: u64,
-    way: &mut Way<G>,
+    way: &mut GatePassage<G>,
 ) -> (u64, u64)
     requires own { pass.old.window ≡ window.now }
     requires new { way.old.passed ≡ None }

@@ -7,7 +7,7 @@ use js_context::Context;
 use js_json::account::Account;
 use js_link::{Link, MemoryLink, ScriptedServer, Sent};
 use js_store::{ObjectStore, Store};
-use js_stream::DeleteStatus;
+use js_stream_json::DeleteStatus;
 use std::alloc::Global;
 use std::fmt::Display;
 use std::sync::Wait;

@@ -6,8 +6,8 @@ use js_fields::ReadError;
 use js_json::consumer::Info;
 use js_json::{Response, pull, response_as};
 use js_ordered::{
-    Course, Event, Given, ItemKind, OrderedSetup, Output, ReplayError, Run, Settings, What,
-    replay_ordered,
+    Event, EventKind, IncrementalReplay, ItemKind, OrderedSetup, Output, ReplayError, ReplayInput,
+    Run, Settings, replay_ordered,
 };
 use std::alloc::{AllocError, Global};
 
@@ -43,7 +43,7 @@ fn arrival(alloc: Global, at: u64, reply: &str) -> Result<Event, OutOfMemory> {
     };
     Ok(Event {
         at,
-        what: What::Arrival {
+        what: EventKind::Arrival {
             inbox: 0,
             message: Boxed::new(alloc, message)?,
         },
@@ -92,10 +92,10 @@ fn kinds_of(alloc: Global, run: &Run) -> Result<Vec<u8>, OutOfMemory> {
 }
 
 // A pull consumer of that info, with no filters.
-fn given(alloc: Global) -> Result<Given, ReadError> {
+fn given(alloc: Global) -> Result<ReplayInput, ReadError> {
     let settings = settings(alloc)?;
     let first = info(alloc)?;
-    Ok(Given {
+    Ok(ReplayInput {
         settings,
         setup: OrderedSetup::Pull(pull::OrderedConfig::new(alloc)),
         first,
@@ -122,7 +122,7 @@ fn kinds_at_once(alloc: Global) -> Result<Vec<u8>, ReadError> {
 // The kinds of what events put out one by one, the opening's first.
 fn passed_kinds(
     alloc: Global,
-    course: &mut Course,
+    course: &mut IncrementalReplay,
     events: &[Event],
 ) -> Result<Vec<u8>, OutOfMemory> {
     let mut kinds = Vec::new(alloc);
@@ -138,7 +138,13 @@ fn passed_kinds(
 fn kinds_one_by_one(alloc: Global) -> Result<(Vec<u8>, Result<bool, ReplayError>), ReadError> {
     let given = given(alloc)?;
     let events = events(alloc)?;
-    let mut course = Course::open(alloc, &given.settings, &given.setup, &given.first, 0)?;
+    let mut course = IncrementalReplay::open(
+        alloc,
+        &given.settings,
+        &given.setup,
+        &given.first,
+        0,
+    )?;
     let kinds = passed_kinds(alloc, &mut course, events.as_slice())?;
     Ok((kinds, course.end()))
 }

@@ -26,7 +26,7 @@ fn reader(alloc: Global) -> Result<Reader, ReadError> {
         name: Text::from_str(alloc, "c1")?,
         inbox: 0,
         subject: Subject::new(alloc, "_INBOX.t.0")?,
-        patience: None,
+        info_timeout: None,
         config: ordered_batch_config(&info(alloc)?),
         pinned: true,
     }))

@@ -7,7 +7,7 @@ use js_codes::is_valid_name;
 use js_fields::{FromValue, ReadError, ToValue, value_of};
 use js_json::account::{Account, Limits};
 use js_json::{PublishAck, Response, consumer, response_as};
-use js_stream::{DeleteStatus, stream};
+use js_stream_json::{DeleteStatus, stream};
 use std::alloc::Global;
 
 /// What a text is read as.

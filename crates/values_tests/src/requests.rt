@@ -8,7 +8,7 @@ use js_json::consumer::{
 };
 use js_json::pull::BatchConfig;
 use js_json::{pull, push};
-use js_stream::stream::{
+use js_stream_json::stream::{
     self, DiscardPolicy, ListRequest, NamesRequest, RetentionPolicy, StorageType,
 };
 use std::alloc::Global;

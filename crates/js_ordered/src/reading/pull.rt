@@ -13,15 +13,15 @@ use crate::reading::pull::inquiry::{check_inquiry, inquire};
 use crate::reading::pull::requests::ask;
 use js_base::{Items, OutOfMemory, State};
 use js_pull::{Reader, Reason, is_any_due, is_asking};
-use js_table::{Output, Phase, Turn, World};
+use js_table::{EventContext, Output, Phase, ReplayState};
 use std::alloc::Global;
 
 /// Where a pull request has expired another one follows.
 #[tactic(auto, using(std::proofs::lemmas::Grind::common_steps, crate::proofs::PullReading::expiry_is_due, crate::proofs::PullReading::expiry_is_early))]
 fn check_expiry(
     alloc: Global,
-    turn: &Turn<'_>,
-    world: &mut World,
+    turn: &EventContext<'_>,
+    world: &mut ReplayState,
     reader: &mut Reader,
     outputs: &mut Items<Output>,
 ) -> Result<(), OutOfMemory>
@@ -37,8 +37,8 @@ fn check_expiry(
 #[tactic(auto, using(std::proofs::lemmas::Grind::common_steps, crate::proofs::PullReading::ended_reader, crate::proofs::PullReading::begin_inquiring, crate::proofs::PullReading::begin_as_before, crate::proofs::PullReading::begin_connected, crate::proofs::PullReading::begin_disconnected, crate::proofs::PullReading::begin_pending))]
 pub(crate) fn begin(
     alloc: Global,
-    turn: &Turn<'_>,
-    world: &mut World,
+    turn: &EventContext<'_>,
+    world: &mut ReplayState,
     mut reader: Reader,
     change: Option<State>,
     outputs: &mut Items<Output>,

@@ -9,7 +9,8 @@ use crate::recreation;
 use bytes::Bytes;
 use js_base::{Items, Message, Moment, Nanos, OutOfMemory, Timer, TryClone};
 use js_table::{
-    ItemKind, Output, Phase, Place, PushKind, Turn, World, place_of, push_kind, yield_of,
+    EventContext, ItemKind, Output, Phase, Place, PushKind, ReplayState, place_of, push_kind,
+    yield_of,
 };
 use std::alloc::Global;
 
@@ -29,18 +30,18 @@ fn armed(now: Moment) -> Timer
 }
 
 /// The consumer listens to this inbox, whose heartbeat is armed.
-pub(crate) fn listen(turn: &Turn<'_>, world: &mut World, inbox: u64)
+pub(crate) fn listen(turn: &EventContext<'_>, world: &mut ReplayState, inbox: u64)
     ensures { world.new ≡ at (Phase.Pushes inbox (reading.armed turn.now.moment)) world.old }
 {
     world.enter(Phase::Pushes {
         inbox,
-        silence: armed(turn.moment),
+        heartbeat_timer: armed(turn.moment),
     });
 }
 
 /// Where the consumer listens, its heartbeat is armed. Nothing is put out.
 #[tactic(auto, using(std::proofs::lemmas::Grind::common_steps, crate::proofs::PushReading::arm_here, crate::proofs::PushReading::arm_elsewhere))]
-pub(crate) fn arm(turn: &Turn<'_>, world: &mut World)
+pub(crate) fn arm(turn: &EventContext<'_>, world: &mut ReplayState)
     ensures { Passes turn.now row.Arm world.old world.new [] [] }
 {
     match world.consumer.phase {
@@ -53,16 +54,19 @@ pub(crate) fn arm(turn: &Turn<'_>, world: &mut World)
 #[tactic(auto, using(std::proofs::lemmas::Grind::common_steps, crate::proofs::PushReading::silence_is_short, crate::proofs::PushReading::silence_is_due))]
 fn check_silence(
     alloc: Global,
-    turn: &Turn<'_>,
-    world: &mut World,
+    turn: &EventContext<'_>,
+    world: &mut ReplayState,
     inbox: u64,
-    silence: Timer,
+    heartbeat_timer: Timer,
     outputs: &mut Items<Output>,
 ) -> Result<(), OutOfMemory>
-    ensures { OnOk result (Passes turn.now row.CheckSilence (at (Phase.Pushes inbox silence) world.old) world.new outputs.old outputs.new) }
+    ensures { OnOk result (Passes turn.now row.CheckSilence (at (Phase.Pushes inbox heartbeat_timer) world.old) world.new outputs.old outputs.new) }
 {
-    if !silence.is_due(turn.moment) {
-        world.enter(Phase::Pushes { inbox, silence });
+    if !heartbeat_timer.is_due(turn.moment) {
+        world.enter(Phase::Pushes {
+            inbox,
+            heartbeat_timer,
+        });
         return Ok(());
     }
     let missing = Output::Item {
@@ -77,8 +81,8 @@ fn check_silence(
 /// The consumer's next message is yielded.
 #[tactic(auto, using(std::proofs::lemmas::Grind::common_steps, crate::proofs::PushReading::message_is_next))]
 fn hand_out(
-    turn: &Turn<'_>,
-    world: &mut World,
+    turn: &EventContext<'_>,
+    world: &mut ReplayState,
     inbox: u64,
     message: &Message,
     place: Place,
@@ -87,7 +91,7 @@ fn hand_out(
     requires listens { listens_to inbox world.old.consumer.phase ≡ true }
     requires kind { reading.push_kind message.now ≡ PushKind.Delivered }
     requires place { readable_as message.now.reply ≡ Some (place_shown place) }
-    requires next { place.number ≡ world.old.consumer.num + 1 }
+    requires next { place.number ≡ world.old.consumer.consumer_sequence + 1 }
     ensures { OnOk result (Passes turn.now (row.Hear (record { inbox = inbox; message = message.now })) world.old world.new outputs.old outputs.new) }
 {
     outputs.push(yield_of(message, place)?)?;
@@ -99,8 +103,8 @@ fn hand_out(
 /// An arrival that can't be read is told.
 #[tactic(auto, using(std::proofs::lemmas::Grind::common_steps))]
 fn tell_unreadable(
-    turn: &Turn<'_>,
-    world: &mut World,
+    turn: &EventContext<'_>,
+    world: &mut ReplayState,
     inbox: u64,
     outputs: &mut Items<Output>,
 ) -> Result<(), OutOfMemory>
@@ -118,8 +122,8 @@ fn tell_unreadable(
 #[tactic(auto, using(std::proofs::lemmas::Grind::common_steps, crate::proofs::PushReading::message_is_unreadable, crate::proofs::PushReading::message_shows_a_gap))]
 fn hear_message(
     alloc: Global,
-    turn: &Turn<'_>,
-    world: &mut World,
+    turn: &EventContext<'_>,
+    world: &mut ReplayState,
     inbox: u64,
     message: &Message,
     outputs: &mut Items<Output>,
@@ -131,7 +135,7 @@ fn hear_message(
     match place_of(message) {
         None => tell_unreadable(turn, world, inbox, outputs),
         Some(place) => {
-            if place.is_after(world.consumer.num) {
+            if place.is_after(world.consumer.consumer_sequence) {
                 return hand_out(turn, world, inbox, message, place, outputs);
             }
             recreation::start(alloc, turn, world, outputs)
@@ -174,8 +178,8 @@ fn shows_a_gap(last: Option<u64>, number: u64) -> bool
 #[tactic(auto, using(std::proofs::lemmas::Grind::common_steps, crate::proofs::PushReading::beat_goes_on))]
 fn hear_beat(
     alloc: Global,
-    turn: &Turn<'_>,
-    world: &mut World,
+    turn: &EventContext<'_>,
+    world: &mut ReplayState,
     inbox: u64,
     message: &Message,
     last: Option<u64>,
@@ -186,7 +190,7 @@ fn hear_beat(
     ensures { OnOk result (Passes turn.now (row.Hear (record { inbox = inbox; message = message.now })) world.old world.new outputs.old outputs.new) }
 {
     answer_beat(world.up, message, outputs)?;
-    if shows_a_gap(last, world.consumer.num) {
+    if shows_a_gap(last, world.consumer.consumer_sequence) {
         return recreation::start(alloc, turn, world, outputs);
     }
     listen(turn, world, inbox);
@@ -196,7 +200,7 @@ fn hear_beat(
 // ---- an arrival
 
 /// The consumer listens to this inbox.
-fn listens(world: &World, inbox: u64) -> bool
+fn listens(world: &ReplayState, inbox: u64) -> bool
     ensures { result ≡ listens_to inbox world.now.consumer.phase }
 {
     match world.consumer.phase {
@@ -209,8 +213,8 @@ fn listens(world: &World, inbox: u64) -> bool
 #[tactic(auto, using(std::proofs::lemmas::Grind::common_steps, crate::proofs::PushReading::heard_elsewhere, crate::proofs::PushReading::beat_is_bad, crate::proofs::PushReading::quiet_status))]
 pub(crate) fn hear(
     alloc: Global,
-    turn: &Turn<'_>,
-    world: &mut World,
+    turn: &EventContext<'_>,
+    world: &mut ReplayState,
     inbox: u64,
     message: &Message,
     outputs: &mut Items<Output>,
@@ -235,18 +239,21 @@ pub(crate) fn hear(
 #[tactic(auto, using(std::proofs::lemmas::Grind::common_steps, crate::proofs::PushReading::something_arrives, crate::proofs::PushReading::nothing_arrives))]
 pub(crate) fn check_arrival(
     alloc: Global,
-    turn: &Turn<'_>,
-    world: &mut World,
+    turn: &EventContext<'_>,
+    world: &mut ReplayState,
     inbox: u64,
-    silence: Timer,
+    heartbeat_timer: Timer,
     outputs: &mut Items<Output>,
 ) -> Result<(), OutOfMemory>
-    ensures { OnOk result (Passes turn.now row.CheckArrival (at (Phase.Pushes inbox silence) world.old) world.new outputs.old outputs.new) }
+    ensures { OnOk result (Passes turn.now row.CheckArrival (at (Phase.Pushes inbox heartbeat_timer) world.old) world.new outputs.old outputs.new) }
 {
     match turn.what.message_on(inbox) {
-        None => check_silence(alloc, turn, world, inbox, silence, outputs),
+        None => check_silence(alloc, turn, world, inbox, heartbeat_timer, outputs),
         Some(message) => {
-            world.enter(Phase::Pushes { inbox, silence });
+            world.enter(Phase::Pushes {
+                inbox,
+                heartbeat_timer,
+            });
             hear(alloc, turn, world, inbox, message, outputs)
         }
     }
@@ -257,8 +264,8 @@ pub(crate) fn check_arrival(
 /// These messages arrived on this inbox, in this order.
 fn hear_each(
     alloc: Global,
-    turn: &Turn<'_>,
-    world: &mut World,
+    turn: &EventContext<'_>,
+    world: &mut ReplayState,
     inbox: u64,
     messages: &[Message],
     outputs: &mut Items<Output>,
@@ -274,8 +281,8 @@ fn hear_each(
 /// What arrived before the create was answered is heard, and then the heartbeat is armed.
 pub(crate) fn hear_held(
     alloc: Global,
-    turn: &Turn<'_>,
-    world: &mut World,
+    turn: &EventContext<'_>,
+    world: &mut ReplayState,
     inbox: u64,
     held: &Items<Message>,
     outputs: &mut Items<Output>,

@@ -13,7 +13,8 @@ use js_base::{Items, Message, OutOfMemory, Timer, TryClone};
 use js_json::consumer::Info;
 use js_pull::{Reader, info_of_reply};
 use js_table::{
-    Opened, OrderedSetup, Output, Phase, Recreation, Reply, Stage, Turn, What, World, texts,
+    EventContext, EventKind, Opened, OrderedSetup, Output, Phase, Recreation, ReplayState,
+    RequestOutcome, Stage, texts,
 };
 use std::alloc::Global;
 
@@ -23,8 +24,8 @@ use std::alloc::Global;
 #[tactic(auto, using(std::proofs::lemmas::Grind::common_steps, crate::proofs::Recreating::succeed_opens, crate::proofs::Recreating::succeed_fails))]
 fn succeed_pull(
     alloc: Global,
-    turn: &Turn<'_>,
-    world: &mut World,
+    turn: &EventContext<'_>,
+    world: &mut ReplayState,
     recreation: Recreation,
     info: &Info,
     outputs: &mut Items<Output>,
@@ -37,7 +38,7 @@ fn succeed_pull(
     }
     drop(recreation);
     let reader = reader_for(alloc, turn, world, info)?;
-    let inbox = world.made;
+    let inbox = world.inboxes_opened;
     outputs.push(Output::Subscribe {
         inbox,
         subject: reader.source.subject.try_clone()?,
@@ -49,22 +50,28 @@ fn succeed_pull(
 /// The reader of the next inbox.
 fn reader_for(
     alloc: Global,
-    turn: &Turn<'_>,
-    world: &World,
+    turn: &EventContext<'_>,
+    world: &ReplayState,
     info: &Info,
 ) -> Result<Reader, OutOfMemory>
     ensures { IfOk result (λ reader. reader ≡ reader_of (given_of turn.now) info.now world.now) }
 {
-    let subject = texts::inbox_subject(alloc, turn, world.made)?;
-    Ok(Reader::new(texts::source_of(turn, world.consumer.serial, world.made, subject, info)?))
+    let subject = texts::inbox_subject(alloc, turn, world.inboxes_opened)?;
+    Ok(Reader::new(texts::source_of(
+        turn,
+        world.consumer.recreation_count,
+        world.inboxes_opened,
+        subject,
+        info,
+    )?))
 }
 
 /// Push's inbox becomes the current one: what was held is heard, and then the heartbeat is armed.
 #[tactic(auto, using(std::proofs::lemmas::Grind::common_steps, crate::proofs::Recreating::succeed_without_inbox, crate::proofs::Recreating::succeed_hears))]
 fn succeed_push(
     alloc: Global,
-    turn: &Turn<'_>,
-    world: &mut World,
+    turn: &EventContext<'_>,
+    world: &mut ReplayState,
     mut recreation: Recreation,
     info: &Info,
     outputs: &mut Items<Output>,
@@ -90,8 +97,8 @@ fn succeed_push(
 /// A create was answered well.
 fn succeed(
     alloc: Global,
-    turn: &Turn<'_>,
-    world: &mut World,
+    turn: &EventContext<'_>,
+    world: &mut ReplayState,
     recreation: Recreation,
     info: &Info,
     outputs: &mut Items<Output>,
@@ -118,8 +125,8 @@ fn has_subject(setup: &OrderedSetup, info: &Info) -> bool
 #[tactic(auto, using(std::proofs::lemmas::Grind::common_steps, crate::proofs::Recreating::answer_is_bad, crate::proofs::Recreating::answer_lacks_subject, crate::proofs::Recreating::answer_is_good))]
 fn hear_answer(
     alloc: Global,
-    turn: &Turn<'_>,
-    world: &mut World,
+    turn: &EventContext<'_>,
+    world: &mut ReplayState,
     recreation: Recreation,
     reply: Option<&Message>,
     outputs: &mut Items<Output>,
@@ -146,8 +153,8 @@ fn hear_answer(
 #[tactic(auto, using(std::proofs::lemmas::Grind::common_steps, crate::proofs::Recreating::delete_answered, crate::proofs::Recreating::delete_times_out, crate::proofs::Recreating::delete_waits))]
 fn await_deletion(
     alloc: Global,
-    turn: &Turn<'_>,
-    world: &mut World,
+    turn: &EventContext<'_>,
+    world: &mut ReplayState,
     recreation: Recreation,
     request: u64,
     timeout: Timer,
@@ -157,9 +164,9 @@ fn await_deletion(
     ensures { OnOk result (Passes turn.now row.Await (at (Phase.Recreates recreation) world.old) world.new outputs.old outputs.new) }
 {
     match turn.what.reply_to(request) {
-        Reply::Got(_) => create(alloc, turn, world, recreation, outputs),
-        Reply::Gone => create(alloc, turn, world, recreation, outputs),
-        Reply::Waiting => {
+        RequestOutcome::Got(_) => create(alloc, turn, world, recreation, outputs),
+        RequestOutcome::Gone => create(alloc, turn, world, recreation, outputs),
+        RequestOutcome::Waiting => {
             if timeout.is_due(turn.moment) {
                 return create(alloc, turn, world, recreation, outputs);
             }
@@ -173,8 +180,8 @@ fn await_deletion(
 #[tactic(auto, using(std::proofs::lemmas::Grind::common_steps, crate::proofs::Recreating::create_answered, crate::proofs::Recreating::create_times_out, crate::proofs::Recreating::create_waits))]
 fn await_creation(
     alloc: Global,
-    turn: &Turn<'_>,
-    world: &mut World,
+    turn: &EventContext<'_>,
+    world: &mut ReplayState,
     recreation: Recreation,
     request: u64,
     timeout: Timer,
@@ -184,9 +191,16 @@ fn await_creation(
     ensures { OnOk result (Passes turn.now row.Await (at (Phase.Recreates recreation) world.old) world.new outputs.old outputs.new) }
 {
     match turn.what.reply_to(request) {
-        Reply::Got(reply) => hear_answer(alloc, turn, world, recreation, Some(reply), outputs),
-        Reply::Gone => hear_answer(alloc, turn, world, recreation, None, outputs),
-        Reply::Waiting => {
+        RequestOutcome::Got(reply) => hear_answer(
+            alloc,
+            turn,
+            world,
+            recreation,
+            Some(reply),
+            outputs,
+        ),
+        RequestOutcome::Gone => hear_answer(alloc, turn, world, recreation, None, outputs),
+        RequestOutcome::Waiting => {
             if timeout.is_due(turn.moment) {
                 return fail(turn, world, recreation, outputs);
             }
@@ -200,8 +214,8 @@ fn await_creation(
 #[tactic(auto, using(std::proofs::lemmas::Grind::common_steps, crate::proofs::Recreating::await_nothing, crate::proofs::Recreating::next_try, crate::proofs::Recreating::try_waits))]
 fn await_stage(
     alloc: Global,
-    turn: &Turn<'_>,
-    world: &mut World,
+    turn: &EventContext<'_>,
+    world: &mut ReplayState,
     recreation: Recreation,
     outputs: &mut Items<Output>,
 ) -> Result<(), OutOfMemory>
@@ -229,7 +243,7 @@ fn await_stage(
 }
 
 /// An arrival on the inbox of a create is held until the create is answered.
-fn hold_in(what: &What, opened: &mut Option<Opened>) -> Result<(), OutOfMemory>
+fn hold_in(what: &EventKind, opened: &mut Option<Opened>) -> Result<(), OutOfMemory>
     ensures { OnOk result (opened.new ≡ rows.held_in (matter_of what.now).arrival opened.old) }
 {
     match opened {
@@ -243,14 +257,18 @@ fn hold_in(what: &What, opened: &mut Option<Opened>) -> Result<(), OutOfMemory>
 
 /// What arrives for a recreation that holds arrivals is held.
 #[tactic(auto, using(std::proofs::lemmas::Grind::common_steps, crate::proofs::Recreating::hold_is))]
-fn hold(turn: &Turn<'_>, world: &mut World, outputs: &mut Items<Output>) -> Result<(), OutOfMemory>
+fn hold(
+    turn: &EventContext<'_>,
+    world: &mut ReplayState,
+    outputs: &mut Items<Output>,
+) -> Result<(), OutOfMemory>
     ensures { OnOk result (Passes turn.now row.Hold world.old world.new outputs.old outputs.new) }
 {
     hold_at(turn.what, &mut world.consumer.phase)
 }
 
 /// The same of the phase alone.
-fn hold_at(what: &What, phase: &mut Phase) -> Result<(), OutOfMemory>
+fn hold_at(what: &EventKind, phase: &mut Phase) -> Result<(), OutOfMemory>
     ensures { OnOk result (phase.new ≡ holding (matter_of what.now).arrival phase.old) }
 {
     match phase {
@@ -266,8 +284,8 @@ fn hold_at(what: &What, phase: &mut Phase) -> Result<(), OutOfMemory>
 /// The part of an open recreation in an event: what it waits for, and then what arrives for it.
 pub(crate) fn go_on(
     alloc: Global,
-    turn: &Turn<'_>,
-    world: &mut World,
+    turn: &EventContext<'_>,
+    world: &mut ReplayState,
     recreation: Recreation,
     outputs: &mut Items<Output>,
 ) -> Result<(), OutOfMemory>

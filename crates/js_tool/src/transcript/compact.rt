@@ -2,7 +2,7 @@
 
 ghost use Rattle.std.specs.Prelude.{◌≡◌, ◌≤◌, ◌++◌, ◌∷◌, length, decimal, IfSome};
 ghost use Rattle.json.specs.Print.{escape};
-ghost use Rattle.js_table.specs.declared.event.What.TheVariants.{Tick, Arrival};
+ghost use Rattle.js_table.specs.declared.event.EventKind.TheVariants.{Tick, Arrival};
 ghost use Rattle.js_tool.specs.Compact.{Says, plain_message, tick_text, arrival_text};
 
 use crate::text::plain_front;

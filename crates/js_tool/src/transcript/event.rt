@@ -4,8 +4,8 @@ ghost use Rattle.std.specs.Prelude.{◌≡◌, Option, Some, None, Ok};
 ghost use Rattle.serde_json.specs.View.{view};
 ghost use Rattle.js_fields.specs.Reading.{Gives, named, given as given_in};
 ghost use Rattle.js_fields.specs.declared.key.Key.TheVariants as key;
-ghost use Rattle.js_table.specs.declared.event.What.{What};
-ghost use Rattle.js_table.specs.declared.event.What.TheVariants.{Arrival};
+ghost use Rattle.js_table.specs.declared.event.EventKind.{EventKind};
+ghost use Rattle.js_table.specs.declared.event.EventKind.TheVariants.{Arrival};
 ghost use Rattle.js_tool.specs.Compact.{plain_message};
 ghost use Rattle.js_tool.specs.Events.{arrival_fields as arrival_fields_in, arrival as arrival_in, reply_fields as reply_fields_in, gone_fields as gone_fields_in, answer as answer_in, link_named, connection_named, watcher_named, alone as alone_in, with_key, what_fields as what_in, event_fields as event_in, event_line as line_in};
 
@@ -15,17 +15,21 @@ use super::message::message_fields;
 use super::payloads::Payloads;
 use js_base::{Boxed, Message, State, Subject};
 use js_fields::{Key, ReadError, has_only, required, value_of};
-use js_ordered::{Event, What};
+use js_ordered::{Event, EventKind};
 use serde_json::Value;
 use std::alloc::Global;
 
 #[tactic(auto, unfolding(crate::specs::Events::arrival_fields))]
-fn arrival_fields(alloc: Global, payloads: &mut Payloads, object: &Value) -> Result<What, ReadError>
+fn arrival_fields(
+    alloc: Global,
+    payloads: &mut Payloads,
+    object: &Value,
+) -> Result<EventKind, ReadError>
     ensures { Gives result (arrival_fields_in (view object.now)) }
 {
     let inbox = required(alloc, object, Key::Inbox)?;
     let message = message_fields(alloc, payloads, object)?;
-    Ok(What::Arrival {
+    Ok(EventKind::Arrival {
         inbox,
         message: Boxed::new(alloc, message)?,
     })
@@ -37,7 +41,7 @@ fn arrival(
     payloads: &mut Payloads,
     key: Key,
     value: &Value,
-) -> Result<What, ReadError>
+) -> Result<EventKind, ReadError>
     ensures { Gives result (arrival_in key (view value.now)) }
 {
     if has_only(
@@ -45,7 +49,7 @@ fn arrival(
         &[
             Key::Inbox,
             Key::Subject,
-            Key::Reply,
+            Key::CommandOutcome,
             Key::Payload,
             Key::Status,
             Key::Description,
@@ -59,25 +63,29 @@ fn arrival(
 }
 
 #[tactic(auto, unfolding(crate::specs::Events::reply_fields))]
-fn reply_fields(alloc: Global, payloads: &mut Payloads, object: &Value) -> Result<What, ReadError>
+fn reply_fields(
+    alloc: Global,
+    payloads: &mut Payloads,
+    object: &Value,
+) -> Result<EventKind, ReadError>
     ensures { Gives result (reply_fields_in (view object.now)) }
 {
     let request = required(alloc, object, Key::Request)?;
     let message = message_fields(alloc, payloads, object)?;
-    Ok(What::Answer {
+    Ok(EventKind::Answer {
         request,
         reply: Some(Boxed::new(alloc, message)?),
     })
 }
 
 #[tactic(auto, unfolding(crate::specs::Events::gone_fields))]
-fn gone_fields(alloc: Global, object: &Value) -> Result<What, ReadError>
+fn gone_fields(alloc: Global, object: &Value) -> Result<EventKind, ReadError>
     ensures { Gives result (gone_fields_in (view object.now)) }
 {
     let request = required(alloc, object, Key::Request)?;
     let gone: bool = required(alloc, object, Key::Gone)?;
     if gone {
-        Ok(What::Answer {
+        Ok(EventKind::Answer {
             request,
             reply: None,
         })
@@ -92,7 +100,7 @@ fn answer(
     payloads: &mut Payloads,
     key: Key,
     value: &Value,
-) -> Result<What, ReadError>
+) -> Result<EventKind, ReadError>
     ensures { Gives result (answer_in key (view value.now)) }
 {
     if value.get(Key::Gone.name()).is_some() {
@@ -106,7 +114,7 @@ fn answer(
         &[
             Key::Request,
             Key::Subject,
-            Key::Reply,
+            Key::CommandOutcome,
             Key::Payload,
             Key::Status,
             Key::Description,
@@ -119,28 +127,28 @@ fn answer(
 }
 
 #[tactic(auto, unfolding(js_fields::specs::Reading::named, crate::specs::Events::link_named))]
-fn link(key: Key, value: &Value) -> Result<What, ReadError>
+fn link(key: Key, value: &Value) -> Result<EventKind, ReadError>
     ensures { Gives result (named link_named key (view value.now)) }
 {
     match text_of(key, value)? {
-        "open" => Ok(What::Link { up: true }),
-        "closed" => Ok(What::Link { up: false }),
+        "open" => Ok(EventKind::Link { up: true }),
+        "closed" => Ok(EventKind::Link { up: false }),
         _ => Err(ReadError::OutOfRange { key }),
     }
 }
 
 #[tactic(auto, unfolding(js_fields::specs::Reading::named, crate::specs::Events::connection_named))]
-fn connection(key: Key, value: &Value) -> Result<What, ReadError>
+fn connection(key: Key, value: &Value) -> Result<EventKind, ReadError>
     ensures { Gives result (named connection_named key (view value.now)) }
 {
     match text_of(key, value)? {
-        "connected" => Ok(What::Connection {
+        "connected" => Ok(EventKind::Connection {
             state: State::Connected,
         }),
-        "disconnected" => Ok(What::Connection {
+        "disconnected" => Ok(EventKind::Connection {
             state: State::Disconnected,
         }),
-        "pending" => Ok(What::Connection {
+        "pending" => Ok(EventKind::Connection {
             state: State::Pending,
         }),
         _ => Err(ReadError::OutOfRange { key }),
@@ -148,17 +156,21 @@ fn connection(key: Key, value: &Value) -> Result<What, ReadError>
 }
 
 #[tactic(auto, unfolding(js_fields::specs::Reading::named, crate::specs::Events::watcher_named))]
-fn watcher(key: Key, value: &Value) -> Result<What, ReadError>
+fn watcher(key: Key, value: &Value) -> Result<EventKind, ReadError>
     ensures { Gives result (named watcher_named key (view value.now)) }
 {
     match text_of(key, value)? {
-        "ended" => Ok(What::WatcherEnded),
+        "ended" => Ok(EventKind::WatcherEnded),
         _ => Err(ReadError::OutOfRange { key }),
     }
 }
 
 // At most one thing happens.
-fn alone(key: Key, found: Option<What>, next: Option<What>) -> Result<Option<What>, ReadError>
+fn alone(
+    key: Key,
+    found: Option<EventKind>,
+    next: Option<EventKind>,
+) -> Result<Option<EventKind>, ReadError>
     ensures { Gives result (alone_in key found next) }
 {
     match (found, next) {
@@ -173,7 +185,7 @@ fn with_arrival(
     alloc: Global,
     payloads: &mut Payloads,
     object: &Value,
-) -> Result<Option<What>, ReadError>
+) -> Result<Option<EventKind>, ReadError>
     ensures { Gives result (with_key arrival_in key.Arrival None (view object.now)) }
 {
     let key = Key::Arrival;
@@ -188,8 +200,8 @@ fn with_answer(
     alloc: Global,
     payloads: &mut Payloads,
     object: &Value,
-    found: Option<What>,
-) -> Result<Option<What>, ReadError>
+    found: Option<EventKind>,
+) -> Result<Option<EventKind>, ReadError>
     ensures { Gives result (with_key answer_in key.Answer found (view object.now)) }
 {
     let key = Key::Answer;
@@ -200,7 +212,7 @@ fn with_answer(
 }
 
 #[tactic(auto, unfolding(crate::specs::Events::with_key, js_fields::specs::Reading::given))]
-fn with_link(object: &Value, found: Option<What>) -> Result<Option<What>, ReadError>
+fn with_link(object: &Value, found: Option<EventKind>) -> Result<Option<EventKind>, ReadError>
     ensures { Gives result (with_key (named link_named) key.Link found (view object.now)) }
 {
     let key = Key::Link;
@@ -211,7 +223,7 @@ fn with_link(object: &Value, found: Option<What>) -> Result<Option<What>, ReadEr
 }
 
 #[tactic(auto, unfolding(crate::specs::Events::with_key, js_fields::specs::Reading::given))]
-fn with_connection(object: &Value, found: Option<What>) -> Result<Option<What>, ReadError>
+fn with_connection(object: &Value, found: Option<EventKind>) -> Result<Option<EventKind>, ReadError>
     ensures { Gives result (with_key (named connection_named) key.Connection found (view object.now)) }
 {
     let key = Key::Connection;
@@ -222,7 +234,7 @@ fn with_connection(object: &Value, found: Option<What>) -> Result<Option<What>, 
 }
 
 #[tactic(auto, unfolding(crate::specs::Events::with_key, js_fields::specs::Reading::given))]
-fn with_watcher(object: &Value, found: Option<What>) -> Result<Option<What>, ReadError>
+fn with_watcher(object: &Value, found: Option<EventKind>) -> Result<Option<EventKind>, ReadError>
     ensures { Gives result (with_key (named watcher_named) key.Watcher found (view object.now)) }
 {
     let key = Key::Watcher;
@@ -233,7 +245,11 @@ fn with_watcher(object: &Value, found: Option<What>) -> Result<Option<What>, Rea
 }
 
 #[tactic(auto, unfolding(crate::specs::Events::what_fields))]
-fn what_fields(alloc: Global, payloads: &mut Payloads, object: &Value) -> Result<What, ReadError>
+fn what_fields(
+    alloc: Global,
+    payloads: &mut Payloads,
+    object: &Value,
+) -> Result<EventKind, ReadError>
     ensures { Gives result (what_in (view object.now)) }
 {
     let found = with_arrival(alloc, payloads, object)?;
@@ -241,7 +257,7 @@ fn what_fields(alloc: Global, payloads: &mut Payloads, object: &Value) -> Result
     let found = with_link(object, found)?;
     let found = with_connection(object, found)?;
     let found = with_watcher(object, found)?;
-    Ok(found.unwrap_or(What::Tick))
+    Ok(found.unwrap_or(EventKind::Tick))
 }
 
 #[tactic(auto, unfolding(crate::specs::Events::event_fields))]
@@ -260,7 +276,7 @@ pub fn event_line(alloc: Global, payloads: &mut Payloads, line: &[u8]) -> Result
     if let Some(at) = tick(line) {
         return Ok(Event {
             at,
-            what: What::Tick,
+            what: EventKind::Tick,
         });
     }
     if let Some(found) = plain_arrival(line) {
@@ -283,7 +299,7 @@ fn arrived(alloc: Global, payloads: &mut Payloads, found: PlainArrival) -> Resul
     };
     Ok(Event {
         at: found.at,
-        what: What::Arrival {
+        what: EventKind::Arrival {
             inbox: found.inbox,
             message: Boxed::new(alloc, message)?,
         },

@@ -11,21 +11,21 @@ use crate::reading::pull::requests::threshold;
 use crate::recreation;
 use js_base::{Items, Message, OutOfMemory};
 use js_pull::{Kind, Reader, is_any_due, pull_kind};
-use js_table::{ItemKind, Output, Phase, Place, Turn, World, place_of, yield_of};
+use js_table::{EventContext, ItemKind, Output, Phase, Place, ReplayState, place_of, yield_of};
 use std::alloc::Global;
 
 /// A missed heartbeat is noted, and the second one starts a recreation.
 #[tactic(auto, using(std::proofs::lemmas::Grind::common_steps, crate::proofs::PullReading::silence_is_short, crate::proofs::PullReading::first_silence, crate::proofs::PullReading::second_silence))]
 fn check_silence(
     alloc: Global,
-    turn: &Turn<'_>,
-    world: &mut World,
+    turn: &EventContext<'_>,
+    world: &mut ReplayState,
     mut reader: Reader,
     outputs: &mut Items<Output>,
 ) -> Result<(), OutOfMemory>
     ensures { OnOk result (Passes turn.now (row.Read read.CheckSilence) (at (Phase.Pulls reader) world.old) world.new outputs.old outputs.new) }
 {
-    if !is_any_due(&reader.silence, turn.moment) {
+    if !is_any_due(&reader.heartbeat_timer, turn.moment) {
         world.enter(Phase::Pulls(reader));
         return Ok(());
     }
@@ -42,7 +42,7 @@ fn check_silence(
 /// A reader hears an arrival: its heartbeat is armed, and it keeps the pin that the message names.
 fn hear(
     alloc: Global,
-    turn: &Turn<'_>,
+    turn: &EventContext<'_>,
     reader: &mut Reader,
     message: &Message,
 ) -> Result<(), OutOfMemory>
@@ -55,8 +55,8 @@ fn hear(
 /// After an arrival the reader goes on, and asks for more where little is pending.
 fn go_on(
     alloc: Global,
-    turn: &Turn<'_>,
-    world: &mut World,
+    turn: &EventContext<'_>,
+    world: &mut ReplayState,
     mut reader: Reader,
     outputs: &mut Items<Output>,
 ) -> Result<(), OutOfMemory>
@@ -71,8 +71,8 @@ fn go_on(
 #[tactic(auto, using(std::proofs::lemmas::Grind::common_steps, crate::proofs::PullReading::message_is_next))]
 fn hand_out(
     alloc: Global,
-    turn: &Turn<'_>,
-    world: &mut World,
+    turn: &EventContext<'_>,
+    world: &mut ReplayState,
     mut reader: Reader,
     message: &Message,
     place: Place,
@@ -81,7 +81,7 @@ fn hand_out(
     requires arrives { message_on reader.source.inbox (matter_now turn.now).arrival ≡ Some message.now }
     requires kind { kind_of message.now ≡ Kind.Delivered }
     requires place { readable_as message.now.reply ≡ Some (place_shown place) }
-    requires next { place.number ≡ world.old.consumer.num + 1 }
+    requires next { place.number ≡ world.old.consumer.consumer_sequence + 1 }
     ensures { OnOk result (Passes turn.now (row.Read read.CheckArrival) (at (Phase.Pulls reader) world.old) world.new outputs.old outputs.new) }
 {
     outputs.push(yield_of(message, place)?)?;
@@ -96,8 +96,8 @@ fn hand_out(
 #[tactic(auto, using(std::proofs::lemmas::Grind::common_steps, crate::proofs::PullReading::message_is_unreadable))]
 fn tell_unreadable(
     alloc: Global,
-    turn: &Turn<'_>,
-    world: &mut World,
+    turn: &EventContext<'_>,
+    world: &mut ReplayState,
     mut reader: Reader,
     message: &Message,
     outputs: &mut Items<Output>,
@@ -120,8 +120,8 @@ fn tell_unreadable(
 #[tactic(auto, using(std::proofs::lemmas::Grind::common_steps, crate::proofs::PullReading::message_shows_a_gap))]
 fn hear_message(
     alloc: Global,
-    turn: &Turn<'_>,
-    world: &mut World,
+    turn: &EventContext<'_>,
+    world: &mut ReplayState,
     reader: Reader,
     message: &Message,
     outputs: &mut Items<Output>,
@@ -133,7 +133,7 @@ fn hear_message(
     match place_of(message) {
         None => tell_unreadable(alloc, turn, world, reader, message, outputs),
         Some(place) => {
-            if place.is_after(world.consumer.num) {
+            if place.is_after(world.consumer.consumer_sequence) {
                 return hand_out(alloc, turn, world, reader, message, place, outputs);
             }
             drop(reader);
@@ -147,8 +147,8 @@ fn hear_message(
 #[tactic(auto, using(std::proofs::lemmas::Grind::common_steps, crate::proofs::PullReading::heartbeat_arrives))]
 fn hear_heartbeat(
     alloc: Global,
-    turn: &Turn<'_>,
-    world: &mut World,
+    turn: &EventContext<'_>,
+    world: &mut ReplayState,
     mut reader: Reader,
     message: &Message,
     outputs: &mut Items<Output>,
@@ -165,8 +165,8 @@ fn hear_heartbeat(
 #[tactic(auto, using(std::proofs::lemmas::Grind::common_steps, crate::proofs::PullReading::ledger_arrives))]
 fn hear_ledger(
     alloc: Global,
-    turn: &Turn<'_>,
-    world: &mut World,
+    turn: &EventContext<'_>,
+    world: &mut ReplayState,
     mut reader: Reader,
     message: &Message,
     messages: Option<u64>,
@@ -188,8 +188,8 @@ fn hear_ledger(
 #[tactic(auto, using(std::proofs::lemmas::Grind::common_steps, crate::proofs::PullReading::bad_status_arrives))]
 fn hear_bad(
     alloc: Global,
-    turn: &Turn<'_>,
-    world: &mut World,
+    turn: &EventContext<'_>,
+    world: &mut ReplayState,
     mut reader: Reader,
     message: &Message,
     outputs: &mut Items<Output>,
@@ -209,8 +209,8 @@ fn hear_bad(
 #[tactic(auto, using(std::proofs::lemmas::Grind::common_steps, crate::proofs::PullReading::limit_ends, crate::proofs::PullReading::limit_restarts))]
 fn hear_limit(
     alloc: Global,
-    turn: &Turn<'_>,
-    world: &mut World,
+    turn: &EventContext<'_>,
+    world: &mut ReplayState,
     reader: Reader,
     message: &Message,
     outputs: &mut Items<Output>,
@@ -233,8 +233,8 @@ fn hear_limit(
 /// The consumer is a push consumer, which a pull reader can't read.
 #[tactic(auto, using(std::proofs::lemmas::Grind::common_steps, crate::proofs::PullReading::consumer_is_push_based))]
 fn hear_push_based(
-    turn: &Turn<'_>,
-    world: &mut World,
+    turn: &EventContext<'_>,
+    world: &mut ReplayState,
     reader: Reader,
     message: &Message,
     outputs: &mut Items<Output>,
@@ -254,8 +254,8 @@ fn hear_push_based(
 #[tactic(auto, using(std::proofs::lemmas::Grind::common_steps, crate::proofs::PullReading::consumer_is_deleted, crate::proofs::PullReading::nobody_responds))]
 fn hear_gone(
     alloc: Global,
-    turn: &Turn<'_>,
-    world: &mut World,
+    turn: &EventContext<'_>,
+    world: &mut ReplayState,
     reader: Reader,
     message: &Message,
     outputs: &mut Items<Output>,
@@ -271,8 +271,8 @@ fn hear_gone(
 /// An arrival on the reader's inbox.
 fn hear_arrival(
     alloc: Global,
-    turn: &Turn<'_>,
-    world: &mut World,
+    turn: &EventContext<'_>,
+    world: &mut ReplayState,
     reader: Reader,
     message: &Message,
     outputs: &mut Items<Output>,
@@ -300,8 +300,8 @@ fn hear_arrival(
 #[tactic(auto, using(std::proofs::lemmas::Grind::common_steps, crate::proofs::PullReading::nothing_arrives))]
 pub(crate) fn check_arrival(
     alloc: Global,
-    turn: &Turn<'_>,
-    world: &mut World,
+    turn: &EventContext<'_>,
+    world: &mut ReplayState,
     reader: Reader,
     outputs: &mut Items<Output>,
 ) -> Result<(), OutOfMemory>

@@ -8,8 +8,8 @@ ghost use Rattle.js_pull.specs.declared.reader.Row.TheVariants as read;
 use crate::reading::pull::requests::ask;
 use bytes::Bytes;
 use js_base::{Items, Message, OutOfMemory, Timer};
-use js_pull::{Inquiry, Reader, Reason, info_of_reply, is_any_due, retry_wait, timeout_from};
-use js_table::{ItemKind, Output, Reply, Turn, World};
+use js_pull::{InfoRequest, Reader, Reason, info_of_reply, is_any_due, retry_wait, timeout_from};
+use js_table::{EventContext, ItemKind, Output, ReplayState, RequestOutcome};
 use std::alloc::Global;
 
 /// The request for the consumer's info.
@@ -27,8 +27,8 @@ fn info_request(alloc: Global, reader: &Reader, number: u64) -> Result<Output, O
 #[tactic(auto, using(std::proofs::lemmas::Grind::common_steps, crate::proofs::PullReading::inquire_goes_out, crate::proofs::PullReading::inquire_fails))]
 pub(crate) fn inquire(
     alloc: Global,
-    turn: &Turn<'_>,
-    world: &mut World,
+    turn: &EventContext<'_>,
+    world: &mut ReplayState,
     reader: &mut Reader,
     failures: u64,
     outputs: &mut Items<Output>,
@@ -40,9 +40,9 @@ pub(crate) fn inquire(
     }
     let number = world.number_request()?;
     outputs.push(info_request(alloc, reader, number)?)?;
-    reader.inquiry = Inquiry::Asked {
+    reader.inquiry = InfoRequest::Asked {
         request: number,
-        timeout: timeout_from(turn.moment, reader.source.patience),
+        timeout: timeout_from(turn.moment, reader.source.info_timeout),
         failures,
     };
     Ok(())
@@ -52,16 +52,16 @@ pub(crate) fn inquire(
 #[tactic(auto, using(std::proofs::lemmas::Grind::common_steps, crate::proofs::PullReading::inquiry_rests, crate::proofs::PullReading::inquiry_ends))]
 fn fail_inquiry(
     alloc: Global,
-    turn: &Turn<'_>,
-    world: &mut World,
+    turn: &EventContext<'_>,
+    world: &mut ReplayState,
     reader: &mut Reader,
     failures: u64,
     outputs: &mut Items<Output>,
 ) -> Result<(), OutOfMemory>
-    ensures { OnOk result (Reads turn.now (read.FailInquiry failures) reader.old reader.new world.old world.new outputs.old outputs.new) }
+    ensures { OnOk result (Reads turn.now (read.FailInfoRequest failures) reader.old reader.new world.old world.new outputs.old outputs.new) }
 {
     if failures >= 5 {
-        reader.inquiry = Inquiry::NoInquiry;
+        reader.inquiry = InfoRequest::NoInfoRequest;
         outputs.push(Output::Item {
             kind: ItemKind::Pull,
         })?;
@@ -74,7 +74,7 @@ fn fail_inquiry(
             outputs,
         );
     }
-    reader.inquiry = Inquiry::Resting {
+    reader.inquiry = InfoRequest::Resting {
         wait: Timer {
             set: turn.moment,
             wait: retry_wait(failures + 1),
@@ -100,8 +100,8 @@ fn informed(alloc: Global, reply: Option<&Message>) -> Result<Option<Reason>, Ou
 #[tactic(auto, using(std::proofs::lemmas::Grind::common_steps, crate::proofs::PullReading::info_is_bad, crate::proofs::PullReading::info_is_good))]
 fn hear_info(
     alloc: Global,
-    turn: &Turn<'_>,
-    world: &mut World,
+    turn: &EventContext<'_>,
+    world: &mut ReplayState,
     reader: &mut Reader,
     reply: Option<&Message>,
     failures: u64,
@@ -112,7 +112,7 @@ fn hear_info(
     match informed(alloc, reply)? {
         None => fail_inquiry(alloc, turn, world, reader, failures, outputs),
         Some(reason) => {
-            reader.inquiry = Inquiry::NoInquiry;
+            reader.inquiry = InfoRequest::NoInfoRequest;
             ask(alloc, turn, world, reader, reason, outputs)
         }
     }
@@ -122,26 +122,28 @@ fn hear_info(
 #[tactic(auto, using(std::proofs::lemmas::Grind::common_steps, crate::proofs::PullReading::no_inquiry, crate::proofs::PullReading::inquiry_answered, crate::proofs::PullReading::inquiry_times_out, crate::proofs::PullReading::inquiry_waits, crate::proofs::PullReading::inquiry_goes_on, crate::proofs::PullReading::inquiry_is_early))]
 pub(crate) fn check_inquiry(
     alloc: Global,
-    turn: &Turn<'_>,
-    world: &mut World,
+    turn: &EventContext<'_>,
+    world: &mut ReplayState,
     reader: &mut Reader,
     outputs: &mut Items<Output>,
 ) -> Result<(), OutOfMemory>
-    ensures { OnOk result (Reads turn.now read.CheckInquiry reader.old reader.new world.old world.new outputs.old outputs.new) }
+    ensures { OnOk result (Reads turn.now read.CheckInfoRequest reader.old reader.new world.old world.new outputs.old outputs.new) }
 {
     match reader.inquiry {
-        Inquiry::NoInquiry => Ok(()),
-        Inquiry::Asked {
+        InfoRequest::NoInfoRequest => Ok(()),
+        InfoRequest::Asked {
             request,
             timeout,
             failures,
         } => {
             match turn.what.reply_to(request) {
-                Reply::Got(reply) => {
+                RequestOutcome::Got(reply) => {
                     hear_info(alloc, turn, world, reader, Some(reply), failures, outputs)
                 }
-                Reply::Gone => hear_info(alloc, turn, world, reader, None, failures, outputs),
-                Reply::Waiting => {
+                RequestOutcome::Gone => hear_info(
+                    alloc, turn, world, reader, None, failures, outputs,
+                ),
+                RequestOutcome::Waiting => {
                     if is_any_due(&timeout, turn.moment) {
                         return fail_inquiry(alloc, turn, world, reader, failures, outputs);
                     }
@@ -149,7 +151,7 @@ pub(crate) fn check_inquiry(
                 }
             }
         }
-        Inquiry::Resting { wait, failures } => {
+        InfoRequest::Resting { wait, failures } => {
             if wait.is_due(turn.moment) {
                 return inquire(alloc, turn, world, reader, failures, outputs);
             }

@@ -8,7 +8,7 @@ ghost use Rattle.js_pull.specs.declared.reader.Row.TheVariants as read;
 
 use js_base::{Items, OutOfMemory, TryClone};
 use js_pull::{Reader, Reason};
-use js_table::{ItemKind, Output, Phase, Turn, World};
+use js_table::{EventContext, ItemKind, Output, Phase, ReplayState};
 use std::alloc::Global;
 
 /// The pull request of a reader.
@@ -27,8 +27,8 @@ fn pull_request(alloc: Global, reader: &Reader) -> Result<Output, OutOfMemory>
 #[tactic(auto, using(std::proofs::lemmas::Grind::common_steps, crate::proofs::PullReading::ask_goes_out, crate::proofs::PullReading::ask_is_refused))]
 pub(crate) fn ask(
     alloc: Global,
-    turn: &Turn<'_>,
-    world: &mut World,
+    turn: &EventContext<'_>,
+    world: &mut ReplayState,
     reader: &mut Reader,
     reason: Reason,
     outputs: &mut Items<Output>,
@@ -51,8 +51,8 @@ pub(crate) fn ask(
 #[tactic(auto, using(std::proofs::lemmas::Grind::common_steps, crate::proofs::PullReading::threshold_asks, crate::proofs::PullReading::threshold_rests))]
 pub(crate) fn threshold(
     alloc: Global,
-    turn: &Turn<'_>,
-    world: &mut World,
+    turn: &EventContext<'_>,
+    world: &mut ReplayState,
     reader: &mut Reader,
     outputs: &mut Items<Output>,
 ) -> Result<(), OutOfMemory>
@@ -68,8 +68,8 @@ pub(crate) fn threshold(
 #[tactic(auto, using(std::proofs::lemmas::Grind::common_steps, crate::proofs::PullReading::arm_is))]
 pub(crate) fn open(
     alloc: Global,
-    turn: &Turn<'_>,
-    world: &mut World,
+    turn: &EventContext<'_>,
+    world: &mut ReplayState,
     mut reader: Reader,
     outputs: &mut Items<Output>,
 ) -> Result<(), OutOfMemory>

@@ -18,10 +18,10 @@ returns-clause-replays c =
     let stream = c.args.stream.now in
     let name = c.args.name.now in
     let entries = c.args.mirror.now.entries in
-    let made : IfOk c.arrivals.result (λ events. events.items ≡ relayed stream name 1 entries) =
+    let inboxes_opened : IfOk c.arrivals.result (λ events. events.items ≡ relayed stream name 1 entries) =
     subst (λ (es : List base.Entry). IfOk c.arrivals.result (λ events. events.items ≡ relayed stream name 1 es)) c.entries.ensures.entries c.arrivals.ensures.events in
     let fit : OnOk c.arrivals.result (AllFit entries) = subst (λ (es : List base.Entry). OnOk c.arrivals.result (AllFit es)) c.entries.ensures.entries c.arrivals.ensures.fit in
-    if_both_ok c.arrivals.result made fit
+    if_both_ok c.arrivals.result inboxes_opened fit
     (λ events is fits. subst (λ (es : List Event). Replays entries es) (sym is) (replays stream name c.requires.stream c.requires.name entries fits))
 
 pub returns-clause-default_reads : goal.returns-clause-default_reads
@@ -32,10 +32,10 @@ returns-clause-honest c =
     let stream = c.args.stream.now in
     let name = c.args.name.now in
     let mirror = c.args.mirror.now in
-    let made : IfOk c.arrivals.result (λ events. events.items ≡ relayed stream name 1 mirror.entries) =
+    let inboxes_opened : IfOk c.arrivals.result (λ events. events.items ≡ relayed stream name 1 mirror.entries) =
     subst (λ (es : List base.Entry). IfOk c.arrivals.result (λ events. events.items ≡ relayed stream name 1 es)) c.entries.ensures.entries c.arrivals.ensures.events in
     let fit : OnOk c.arrivals.result (AllFit mirror.entries) = subst (λ (es : List base.Entry). OnOk c.arrivals.result (AllFit es)) c.entries.ensures.entries c.arrivals.ensures.fit in
-    if_both_ok c.arrivals.result made fit
+    if_both_ok c.arrivals.result inboxes_opened fit
     (λ events is fits. subst (λ (es : List Event). StaysHonest mirror es) (sym is) (stays_honest stream name c.requires.stream c.requires.name mirror fits))
 
 pub returns-clause-log : goal.returns-clause-log

@@ -1,16 +1,16 @@
 use Rattle.std.proofs.Common.{◌≡◌, ℕ, List, Result, subst}
 use Rattle.std.specs.Prelude.{IfOk, codes}
 use Rattle.js_base.specs.declared.memory.OutOfMemory.{OutOfMemory}
-use Rattle.js_table.specs.declared.turn.Turn.{Turn}
+use Rattle.js_table.specs.declared.event_context.EventContext.{EventContext}
 use Rattle.js_subjects.specs.Subjects.{under, of_consumer}
 use Rattle.js_table.proofs.texts.delete_subject.Goals as goal
 
 -- the subject speaks of the name that was lent
-of_name : (asked : Result (List ℕ) OutOfMemory) (turn : Turn) (name lent : List ℕ) → lent ≡ name
-    → IfOk asked (λ subject. subject ≡ under turn.settings.now.api_prefix (of_consumer (codes "CONSUMER.DELETE") turn.first.now.stream_name lent))
-    → IfOk asked (λ subject. subject ≡ under turn.settings.now.api_prefix (of_consumer (codes "CONSUMER.DELETE") turn.first.now.stream_name name))
-of_name asked turn name lent is =
-    subst (λ x. IfOk asked (λ subject. subject ≡ under turn.settings.now.api_prefix (of_consumer (codes "CONSUMER.DELETE") turn.first.now.stream_name x))) is
+of_name : (requests_sent : Result (List ℕ) OutOfMemory) (turn : EventContext) (name lent : List ℕ) → lent ≡ name
+    → IfOk requests_sent (λ subject. subject ≡ under turn.settings.now.api_prefix (of_consumer (codes "CONSUMER.DELETE") turn.first.now.stream_name lent))
+    → IfOk requests_sent (λ subject. subject ≡ under turn.settings.now.api_prefix (of_consumer (codes "CONSUMER.DELETE") turn.first.now.stream_name name))
+of_name requests_sent turn name lent is =
+    subst (λ x. IfOk requests_sent (λ subject. subject ≡ under turn.settings.now.api_prefix (of_consumer (codes "CONSUMER.DELETE") turn.first.now.stream_name x))) is
 
 -- src/texts.rt
 pub returns : goal.returns

@@ -1,6 +1,6 @@
 use Rattle.std.proofs.Common.{ℕ, List, sym, subst, ◌∙◌, rules}
 use Rattle.std.specs.Io.KnownBytes.{Appends}
-use Rattle.js_ends.specs.Causes.{AppendsPrefix}
+use Rattle.js_io.specs.Causes.{AppendsPrefix}
 use Rattle.js_message.specs.Shown.{shown}
 use Rattle.js_tool.proofs.info.tell_info.Goals as goal
 

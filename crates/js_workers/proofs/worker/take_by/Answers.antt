@@ -1,6 +1,6 @@
 use Rattle.std.proofs.Common.{◌≡◌, ℕ, ◌+◌, Option, Some, option_map, arith, sym, subst, ◌∙◌}
 use Rattle.js_window.specs.Caller.{Caller}
-use Rattle.js_workers.specs.declared.gate.Way.{Way}
+use Rattle.js_workers.specs.declared.gate.GatePassage.{GatePassage}
 use Rattle.js_workers.specs.Worker.{TookCalls, PassedGate}
 use Rattle.js_workers.proofs.Takes.{took_got, took_full, passed_first, passed_before}
 use Rattle.js_workers.proofs.worker.take_by.Goals as goal
@@ -16,8 +16,8 @@ loop-call-preserved g c =
     let gate : PassedGate (c.loop-call.call + 1) c.args.pass.now passed =
     elim c.if-call-eq0.branch [
       | then-call-eq0 w ↦ passed_first c.loop-call.call c.args.pass.now c.loop-call.pass c.take-taken.new.pass c.take-taken.result passed
-          (i.start w.if-call-eq0.true) c.take-taken.ensures.call (subst (λ (way : Way _). option_map (λ s. s.value) way.passed ≡ Some c.take-taken.new.pass) (sym w.way'-is) w.go.ensures.passed)
-      | else-call-eq0 w ↦ subst (λ (way : Way _). PassedGate (c.loop-call.call + 1) c.args.pass.now (option_map (λ s. s.value) way.passed)) (sym w.way'-is)
+          (i.start w.if-call-eq0.true) c.take-taken.ensures.call (subst (λ (way : GatePassage _). option_map (λ s. s.value) way.passed ≡ Some c.take-taken.new.pass) (sym w.way'-is) w.go.ensures.passed)
+      | else-call-eq0 w ↦ subst (λ (way : GatePassage _). PassedGate (c.loop-call.call + 1) c.args.pass.now (option_map (λ s. s.value) way.passed)) (sym w.way'-is)
           (passed_before c.loop-call.call c.args.pass.now _ w.if-call-eq0.false i.gate)
     ] in
     let called : g.G.Gate.passed c.args.way.now.gate.now c.args.worker =
@@ -27,8 +27,8 @@ loop-call-preserved g c =
     ] in
     let way : c.if-call-eq0.way'.gate ≡ c.args.way.now.gate =
     elim c.if-call-eq0.branch [
-      | then-call-eq0 w ↦ subst (λ (way : Way _). way.gate ≡ c.args.way.now.gate) (sym w.way'-is) (w.go.ensures.gate ∙ i.way)
-      | else-call-eq0 w ↦ subst (λ (way : Way _). way.gate ≡ c.args.way.now.gate) (sym w.way'-is) i.way
+      | then-call-eq0 w ↦ subst (λ (way : GatePassage _). way.gate ≡ c.args.way.now.gate) (sym w.way'-is) (w.go.ensures.gate ∙ i.way)
+      | else-call-eq0 w ↦ subst (λ (way : GatePassage _). way.gate ≡ c.args.way.now.gate) (sym w.way'-is) i.way
     ] in
     elim c.match-taken.branch [
       | in-Got w ↦

@@ -13,7 +13,7 @@ returns-then-shows_a_gap c =
     let message = c.args.message.now in
     let w = c.args.world.now in
     let gap : c.shows_a_gap.result ≡ true = c.if-shows_a_gap.true in
-    let rows : starts_if true ≡ beat_rows c.args.last w.consumer.num = ap (λ (b : Bool). starts_if b) (sym gap) ∙ c.shows_a_gap.ensures in
+    let rows : starts_if true ≡ beat_rows c.args.last w.consumer.consumer_sequence = ap (λ (b : Bool). starts_if b) (sym gap) ∙ c.shows_a_gap.ensures in
     on_after c.start.result
     (ran (given_of turn) turn.moment (matter_now turn) (hearing c.args.inbox message) w)
     (ran (given_of turn) turn.moment (matter_now turn) Start w) (beat_answer w.up message.reply) c.args.outputs.now c.answer_beat.new.outputs c.start.new.outputs c.start.new.world

@@ -14,11 +14,11 @@ returns-in-Arm c = λ reply informed. rw c.in-Arm.is (at_moment c.args.now row.A
 pub returns-in-Inquire : goal.returns-in-Inquire
 returns-in-Inquire c = λ reply informed. rw c.in-Inquire.is (inquire_steps c.args.now c.in-Inquire.failures _ _ c.args.self.now _ _ c.request-in-Inquire.ensures (c.pass_inquire.ensures _))
 
-pub returns-in-FailInquiry : goal.returns-in-FailInquiry
-returns-in-FailInquiry c = λ reply informed. rw c.in-FailInquiry.is (at_moment c.args.now (row.FailInquiry c.in-FailInquiry.failures) _ c.args.self.now _ _ (c.pass_fail_inquiry.ensures _))
+pub returns-in-FailInfoRequest : goal.returns-in-FailInfoRequest
+returns-in-FailInfoRequest c = λ reply informed. rw c.in-FailInfoRequest.is (at_moment c.args.now (row.FailInfoRequest c.in-FailInfoRequest.failures) _ c.args.self.now _ _ (c.pass_fail_inquiry.ensures _))
 
-pub returns-in-CheckInquiry : goal.returns-in-CheckInquiry
-returns-in-CheckInquiry c = λ reply informed. rw c.in-CheckInquiry.is (at_moment c.args.now row.CheckInquiry _ c.args.self.now _ _ c.pass_check_inquiry.ensures)
+pub returns-in-CheckInfoRequest : goal.returns-in-CheckInfoRequest
+returns-in-CheckInfoRequest c = λ reply informed. rw c.in-CheckInfoRequest.is (at_moment c.args.now row.CheckInfoRequest _ c.args.self.now _ _ c.pass_check_inquiry.ensures)
 
 pub returns-in-Answered : goal.returns-in-Answered
 returns-in-Answered c = λ reply informed.

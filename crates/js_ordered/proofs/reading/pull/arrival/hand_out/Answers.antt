@@ -8,7 +8,7 @@ use Rattle.js_table.specs.declared.consumer.Phase.TheVariants.{Pulls}
 use Rattle.js_table.specs.declared.row.Row.TheVariants.{Read}
 use Rattle.js_table.specs.declared.run.Output.{Output}
 use Rattle.js_table.specs.declared.run.Output.TheVariants.{Yield}
-use Rattle.js_table.specs.declared.world.World.{World}
+use Rattle.js_table.specs.declared.replay_state.ReplayState.{ReplayState}
 use Rattle.js_ordered.proofs.Comings.{on_after}
 use Rattle.js_ordered.proofs.PullReading.{message_is_next, delivered, unmissed}
 use Rattle.js_ordered.proofs.reading.pull.arrival.hand_out.Goals as goal
@@ -20,9 +20,9 @@ returns c =
     let place = c.args.place in
     let output : Output = Yield place.sequence place.number message.subject message.payload in
     let reader_is : c.lower.new.self ≡ delivered c.args.turn.now.moment message c.args.reader = c.lower.ensures ∙ ap (λ (r : Reader). pull.lowered 1 message.length r) c.in_ok-hear.ensures in
-    let step : World → Reader → Ran = λ u r. ran (given_of c.args.turn.now) c.args.turn.now.moment (matter_now c.args.turn.now) (Read read.Threshold) (at (Pulls r) u) in
+    let step : ReplayState → Reader → Ran = λ u r. ran (given_of c.args.turn.now) c.args.turn.now.moment (matter_now c.args.turn.now) (Read read.Threshold) (at (Pulls r) u) in
     let same : step c.accept.new.self c.lower.new.self ≡ step (accepting (place_shown place) (unmissed w)) (delivered c.args.turn.now.moment message c.args.reader) =
-    ap (λ (u : World). step u c.lower.new.self) c.accept.ensures ∙ ap (λ (r : Reader). step (accepting (place_shown place) (unmissed w)) r) reader_is in
+    ap (λ (u : ReplayState). step u c.lower.new.self) c.accept.ensures ∙ ap (λ (r : Reader). step (accepting (place_shown place) (unmissed w)) r) reader_is in
     on_after c.go_on.result
     (ran (given_of c.args.turn.now) c.args.turn.now.moment (matter_now c.args.turn.now) (Read read.CheckArrival) (at (Pulls c.args.reader) w))
     (step c.accept.new.self c.lower.new.self) (output ∷ []) c.args.outputs.now c.push.new.self c.go_on.new.outputs c.go_on.new.world

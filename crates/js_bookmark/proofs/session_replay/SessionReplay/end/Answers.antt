@@ -1,0 +1,21 @@
+use Rattle.std.proofs.Common.{ℕ, ◌++◌, ◌∷◌, [], Some, refl, sym, ap, subst}
+use Rattle.js_bookmark.specs.declared.error.SessionsError.{SessionsError}
+use Rattle.js_bookmark.specs.Lines.{events_of}
+use Rattle.js_bookmark.specs.Sessions.{IsRefusal, given_of}
+use Rattle.js_bookmark.proofs.Coming.{ends_last, ends_refused, ends_well}
+use Rattle.js_bookmark.proofs.session_replay.SessionReplay.end.Goals as goal
+
+pub returns-in-Err-clause-ended : goal.returns-in-Err-clause-ended
+returns-in-Err-clause-ended c = λ next done s come.
+    subst (λ (e : SessionsError). IsRefusal next (done ++ s ∷ []) e) (sym c.replay_refusal.ensures)
+    (ends_refused next done s c.args.self c.in-Err.error come (c.in-Err.ensures.ended (given_of s) s.start (events_of s.lines) come.course))
+
+pub returns-in_default-clause-ended : goal.returns-in_default-clause-ended
+returns-in_default-clause-ended c = λ next done s come.
+    ends_last next done s c.args.self come (c.in-Ok.ensures.ended (given_of s) s.start (events_of s.lines) come.course).0 c.in_default.is
+
+pub returns-clause-ended : goal.returns-clause-ended
+returns-clause-ended c = λ next done s come.
+    let ended = c.in-Ok.ensures.ended (given_of s) s.start (events_of s.lines) come.course in
+    ends_well next done s c.args.self _ c.in-Some.next come ended.0 ended.1 c.in-Some.is refl
+    (ap (λ (n : ℕ). record { count = c.args.self.number; next = c.in-Some.next; committed = n; scope = Some c.args.self.scope }) c.in_ok-committed.ensures)

@@ -1,0 +1,42 @@
+-- A replay that is told its events one by one.
+use Rattle.std.specs.Prelude.{◌≡◌, ℕ, Bool, false, List, [], ◌∷◌, length, Some, None, Result, Ok, Err}
+use Rattle.js_table.specs.declared.consumer.ReplayInput.{ReplayInput}
+use Rattle.js_ordered.specs.declared.incremental_replay.IncrementalReplay.{IncrementalReplay}
+use Rattle.js_table.specs.declared.event.Event as events
+use Rattle.js_table.specs.declared.run.ReplayError.{ReplayError}
+use Rattle.js_table.specs.Fold.{Ran, opening, run_events, fold}
+use Rattle.js_table.specs.Refusal.{first_early, first_exhausted, refuse}
+
+-- what a course goes by
+abbrev pub course_given : IncrementalReplay → ReplayInput
+course_given c = record { settings = c.settings.now; setup = c.setup.now; first = c.first.now }
+
+-- the moment of the last event, or the start
+abbrev pub last_moment : ℕ → List events.Event → ℕ
+last_moment start [] = start
+last_moment start (e ∷ es) = last_moment e.at es
+
+-- the last of these, or the first where there are none
+abbrev pub last_ran : Ran → List Ran → Ran
+last_ran first [] = first
+last_ran first (ran ∷ rans) = last_ran ran rans
+
+-- what the last event led to and put out, or the opening
+unfoldable pub last : ReplayInput → ℕ → List events.Event → Ran
+last g start es = last_ran (opening g start) (run_events g es (opening g start).world)
+
+-- a course has come through these events
+pub record HasCome (g : ReplayInput) (start : ℕ) (es : List events.Event) (c : IncrementalReplay) : Type 0 where
+  pub given : course_given c ≡ g
+  pub count : c.count ≡ length es
+  pub moment : c.moment ≡ last_moment start es
+  pub early : c.early ≡ first_early 0 start es
+  pub exhausted : c.exhausted ≡ first_exhausted 0 (run_events g es (opening g start).world)
+  pub world : c.world ≡ (last g start es).world
+  pub outputs : c.outputs ≡ (last g start es).outputs
+  pub sound : c.has_failed ≡ false
+
+-- what the end of a course answers: whether the run has ended, or the refusal that applies
+abbrev pub IsEnd : ReplayInput → ℕ → List events.Event → Result Bool ReplayError → Type 0
+IsEnd g start es (Ok ended) = (refuse g start es ≡ None) × (ended ≡ (fold g start es).ended)
+IsEnd g start es (Err refusal) = refuse g start es ≡ Some refusal

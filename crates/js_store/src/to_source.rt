@@ -1,0 +1,109 @@
+//! Where a refusal on a bucket comes from: the error of the call that it stands on.
+ghost use Rattle.std.specs.Prelude.{◌≡◌, IfOk, string_bytes, option_copied};
+ghost use Rattle.js_base.specs.declared.error.Source.{Source};
+ghost use Rattle.js_store.specs.Tells.{sent_by, described_in, account_error_text, create_error_text, get_error_text};
+
+use js_account_calls::AccountError;
+use js_base::{Error, OutOfMemory, Source, Text, TryClone};
+use js_codes::errors;
+use js_stream_calls::{CreateStreamError, GetStreamError};
+use std::alloc::{AllocError, Global};
+
+/// An error of a call, as the source of the error of one that stands on it.
+pub trait ToSource: Drop {
+    /// The server's error where one was sent, and else the error's text.
+    ghost told: { Self → Source };
+
+    /// The server's error where one was sent, and else the error's text. The one refusal is want of memory.
+    fn to_source(&self, alloc: Global) -> Result<Source, OutOfMemory>
+        ensures { IfOk result (λ source. source ≡ told self.now) };
+}
+
+/// A source that the server sent, as one of its own.
+fn described(source: &Source) -> Result<Option<Source>, OutOfMemory>
+    ensures { IfOk result (λ sent. sent ≡ described_in source.now) }
+{
+    match source {
+        Source::Text(_) => Ok(None),
+        Source::Api {
+            code,
+            err_code,
+            description,
+        } => Ok(Some(Source::Api {
+            code: *code,
+            err_code: *err_code,
+            description: description.try_clone()?,
+        })),
+    }
+}
+
+/// The server's error, which the kind holds or which is the source.
+fn sent(
+    held: Option<&errors::Error>,
+    source: Option<&Source>,
+) -> Result<Option<Source>, OutOfMemory>
+    ensures { IfOk result (λ sent. sent ≡ sent_by (option_copied held.entry) (option_copied source.entry)) }
+{
+    match (held, source) {
+        (Some(error), _) => Ok(Some(error.try_clone()?.into_source())),
+        (None, Some(source)) => described(source),
+        (None, None) => Ok(None),
+    }
+}
+
+fn get_error_text(alloc: Global, error: &GetStreamError) -> Result<String, AllocError>
+    ensures { IfOk result (λ text. string_bytes text ≡ get_error_text error.now) }
+{
+    format!(in alloc; "{error}")
+}
+
+fn create_error_text(alloc: Global, error: &CreateStreamError) -> Result<String, AllocError>
+    ensures { IfOk result (λ text. string_bytes text ≡ create_error_text error.now) }
+{
+    format!(in alloc; "{error}")
+}
+
+fn account_error_text(alloc: Global, error: &AccountError) -> Result<String, AllocError>
+    ensures { IfOk result (λ text. string_bytes text ≡ account_error_text error.now) }
+{
+    format!(in alloc; "{error}")
+}
+
+impl ToSource for GetStreamError {
+    ghost use Rattle.js_store.specs.Tells.{get_told};
+
+    ghost told = { get_told };
+
+    fn to_source(&self, alloc: Global) -> Result<Source, OutOfMemory> {
+        match sent(self.kind().api_error(), self.source())? {
+            Some(source) => Ok(source),
+            None => Ok(Source::Text(Text::from(get_error_text(alloc, self)?))),
+        }
+    }
+}
+
+impl ToSource for CreateStreamError {
+    ghost use Rattle.js_store.specs.Tells.{create_told};
+
+    ghost told = { create_told };
+
+    fn to_source(&self, alloc: Global) -> Result<Source, OutOfMemory> {
+        match sent(self.kind().api_error(), self.source())? {
+            Some(source) => Ok(source),
+            None => Ok(Source::Text(Text::from(create_error_text(alloc, self)?))),
+        }
+    }
+}
+
+impl ToSource for AccountError {
+    ghost use Rattle.js_store.specs.Tells.{account_told};
+
+    ghost told = { account_told };
+
+    fn to_source(&self, alloc: Global) -> Result<Source, OutOfMemory> {
+        match sent(self.kind().api_error(), self.source())? {
+            Some(source) => Ok(source),
+            None => Ok(Source::Text(Text::from(account_error_text(alloc, self)?))),
+        }
+    }
+}
