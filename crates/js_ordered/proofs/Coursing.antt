@@ -1,6 +1,6 @@
 -- One event more: what a course has come to, and its end.
 use Rattle.std.proofs.Common.{◌≡◌, ℕ, suc, ◌+◌, ◌∙◌, Bool, true, false, List, [], ◌∷◌, ◌++◌, Option, Some, None, refl, sym, ap, map, length, length-append, arith, nat_lt}
-use Rattle.std.specs.Prelude.{Ok, option_map, if◌then◌else◌, not}
+use Rattle.std.specs.Prelude.{Ok, Err, Result, OnOk, OnErr, option_map, if◌then◌else◌, not}
 use Rattle.js_table.specs.declared.consumer.ReplayInput.{ReplayInput}
 use Rattle.js_table.specs.declared.event.Event as events
 use Rattle.js_table.specs.declared.replay_state.ReplayState.{ReplayState}
@@ -8,9 +8,16 @@ use Rattle.js_table.specs.declared.run.Step.{Step}
 use Rattle.js_table.specs.declared.run.ReplayError.{ReplayError}
 use Rattle.js_table.specs.declared.run.ReplayError.TheVariants as error
 use Rattle.js_ordered.specs.declared.incremental_replay.IncrementalReplay.{IncrementalReplay}
-use Rattle.js_table.specs.Fold.{Ran, event, run_events, opening, is_over, last_world, step_of, fold}
+use Rattle.js_ordered.specs.declared.task.Task.{Task}
+use Rattle.js_ordered.specs.declared.task.Task.TheVariants as task
+use Rattle.js_ordered.specs.Driven.{IsLeft, Leads, left_rows}
+use Rattle.js_ordered.proofs.Replaying.{event_begun, led_to}
+use Rattle.js_table.specs.declared.row.Row.TheVariants.{Event}
+use Rattle.js_table.specs.declared.run.Output.{Output}
+use Rattle.js_table.specs.Passes.{ran}
+use Rattle.js_table.specs.Fold.{Ran, and_then, link_after, matter_of, pass_each, event, run_events, opening, is_over, last_world, step_of, fold}
 use Rattle.js_table.specs.Refusal.{first_of, unless, bad_field, lacks_subject, is_exhausted, first_early, first_exhausted, refuse_input, refuse}
-use Rattle.js_ordered.specs.IncrementalReplay.{course_given, last_moment, last_ran, last, HasCome, IsEnd}
+use Rattle.js_ordered.specs.IncrementalReplay.{course_given, course_rest, rest_of, last_moment, last_ran, last, HasCome, IsEnd, IsWithin}
 
 -- ---- lists of events
 
@@ -98,43 +105,125 @@ length_on es e = simp length-append (omega arith)
 
 -- with no events
 pub comes_first : (g : ReplayInput) (start : ℕ) (c : IncrementalReplay) → course_given c ≡ g → c.count ≡ 0 → c.moment ≡ start → c.early ≡ None → c.exhausted ≡ None
-    → c.world ≡ (opening g start).world → c.outputs ≡ (opening g start).outputs → c.has_failed ≡ false → HasCome g start [] c
+    → c.world ≡ (opening g start).world → c.outputs ≡ (opening g start).outputs → c.todo.tasks.items ≡ [] → HasCome g start [] c
 unfolding last run_events
-comes_first g start c given count moment early exhausted world outputs sound =
-    record { given = given; count = count; moment = moment; early = early; exhausted = exhausted; world = world; outputs = outputs; sound = sound }
+comes_first g start c given count moment early exhausted world outputs rested =
+    record { given = given; count = count; moment = moment; early = early; exhausted = exhausted; world = world; outputs = outputs; rested = rested }
+
+-- before an event nothing of it was passed
+pub within_first : (g : ReplayInput) (start : ℕ) (es : List events.Event) (e : events.Event) (c : IncrementalReplay) → HasCome g start es c → IsWithin g start es e c
+within_first g start es e c come = record {
+  given = come.given;
+  count = come.count;
+  moment = come.moment;
+  early = come.early;
+  exhausted = come.exhausted;
+  rest =
+      ap (λ (tasks : List Task). rest_of (course_given c) e tasks c.world c.outputs) come.rested
+      ∙ ap (λ (by : ReplayInput). event by e c.world) come.given ∙ ap (λ (w : ReplayState). event g e w) come.world;
+}
+
+-- within it the rest is what it was
+pub within_still : (g : ReplayInput) (start : ℕ) (es : List events.Event) (e : events.Event) (c next : IncrementalReplay) → IsWithin g start es e c
+    → record next { world = c.world; outputs = c.outputs; todo = c.todo } ≡ c → course_rest e next ≡ course_rest e c → IsWithin g start es e next
+within_still g start es e c next within kept rest = record {
+  given = ap course_given kept ∙ within.given;
+  count = ap (λ (x : IncrementalReplay). x.count) kept ∙ within.count;
+  moment = ap (λ (x : IncrementalReplay). x.moment) kept ∙ within.moment;
+  early = ap (λ (x : IncrementalReplay). x.early) kept ∙ within.early;
+  exhausted = ap (λ (x : IncrementalReplay). x.exhausted) kept ∙ within.exhausted;
+  rest = rest ∙ within.rest;
+}
 
 -- with one event more
-pub comes_on : (g : ReplayInput) (start : ℕ) (es : List events.Event) (e : events.Event) (c next : IncrementalReplay) → HasCome g start es c
+pub comes_on : (g : ReplayInput) (start : ℕ) (es : List events.Event) (e : events.Event) (c next : IncrementalReplay) → IsWithin g start es e c
     → course_given next ≡ course_given c → next.count ≡ c.count + 1 → next.moment ≡ e.at
     → next.early ≡ first_of c.early (if nat_lt e.at c.moment then Some c.count else None)
     → next.exhausted ≡ first_of c.exhausted (if is_exhausted next.world.consumer.phase then Some c.count else None)
-    → next.world ≡ (event (course_given c) e c.world).world → next.outputs ≡ (event (course_given c) e c.world).outputs → next.has_failed ≡ false
+    → course_rest e c ≡ record { world = next.world; outputs = next.outputs } → next.todo.tasks.items ≡ []
     → HasCome g start (es ++ e ∷ []) next
-comes_on g start es e c next come given count moment early exhausted world outputs sound =
+comes_on g start es e c next within given count moment early exhausted passed rested =
     let first : Ran = opening g start in
     let rans : List Ran = run_events g es first.world in
-    let ran : Ran = event (course_given c) e c.world in
+    let ran : Ran = record { world = next.world; outputs = next.outputs } in
     let last_one : Ran = event g e (last_world first.world rans) in
-    let before : c.world ≡ last_world first.world rans = come.world ∙ last_is g start es in
-    let passed : ran ≡ last_one = ap (λ (by : ReplayInput). event by e c.world) come.given ∙ ap (λ (w : ReplayState). event g e w) before in
-    let same : ran ≡ last g start (es ++ e ∷ []) =
-    ap (λ (by : ReplayInput). event by e c.world) come.given ∙ ap (λ (w : ReplayState). event g e w) come.world ∙ sym (last_on g start es e) in
+    let same : ran ≡ last g start (es ++ e ∷ []) = sym passed ∙ within.rest ∙ sym (last_on g start es e) in
+    let is_last : ran ≡ last_one = sym passed ∙ within.rest ∙ ap (λ (w : ReplayState). event g e w) (last_is g start es) in
     record {
-      given = given ∙ come.given;
-      count = count ∙ ap (λ (n : ℕ). n + 1) come.count ∙ sym (length_on es e);
+      given = given ∙ within.given;
+      count = count ∙ ap (λ (n : ℕ). n + 1) within.count ∙ sym (length_on es e);
       moment = moment ∙ sym (moment_on start es e);
       early =
           early ∙ noted c.early (first_early 0 start es) (nat_lt e.at c.moment) (nat_lt e.at (last_moment start es)) c.count (0 + length es)
-          come.early (ap (λ (n : ℕ). nat_lt e.at n) come.moment) (come.count ∙ zero_more (length es))
+          within.early (ap (λ (n : ℕ). nat_lt e.at n) within.moment) (within.count ∙ zero_more (length es))
           ∙ sym (early_on 0 start es e);
       exhausted =
           exhausted ∙ noted c.exhausted (first_exhausted 0 rans) (is_exhausted next.world.consumer.phase) (is_exhausted last_one.world.consumer.phase) c.count (0 + length rans)
-          come.exhausted (ap (λ (w : ReplayState). is_exhausted w.consumer.phase) (world ∙ ap (λ (r : Ran). r.world) passed)) (come.count ∙ sym (count_run g es first.world) ∙ zero_more (length rans))
+          within.exhausted (ap (λ (r : Ran). is_exhausted r.world.consumer.phase) is_last) (within.count ∙ sym (count_run g es first.world) ∙ zero_more (length rans))
           ∙ sym (exhausted_on 0 rans last_one) ∙ ap (λ (all : List Ran). first_exhausted 0 all) (sym (run_on g es e first.world));
-      world = world ∙ ap (λ (r : Ran). r.world) same;
-      outputs = outputs ∙ ap (λ (r : Ran). r.outputs) same;
-      sound = sound;
+      world = ap (λ (r : Ran). r.world) same;
+      outputs = ap (λ (r : Ran). r.outputs) same;
+      rested = rested;
     }
+
+-- ---- within an event
+
+-- where something is left of it
+rest_left : (g : ReplayInput) (e : events.Event) (tasks : List Task) (w : ReplayState) (outputs : List Output) → IsLeft tasks
+    → rest_of g e tasks w outputs ≡ and_then outputs (pass_each (ran g e.at (matter_of e.what)) (left_rows (matter_of e.what) tasks) w)
+rest_left g e [] w outputs left = absurd left
+rest_left g e (one ∷ tasks) w outputs left = refl
+
+-- where the rest was passed
+pub rest_passed : (g : ReplayInput) (e : events.Event) (tasks left : List Task) (w u : ReplayState) (before later : List Output) → IsLeft tasks → left ≡ []
+    → Leads g e.at (matter_of e.what) (left_rows (matter_of e.what) tasks) w before (left_rows (matter_of e.what) left) u later
+    → rest_of g e tasks w before ≡ record { world = u; outputs = later }
+rest_passed g e tasks left w u before later some over leads =
+    led_to (rest_of g e tasks w before) (ran g e.at (matter_of e.what)) (left_rows (matter_of e.what) left) u later (ap (left_rows (matter_of e.what)) over)
+    (rest_left g e tasks w before some ∙ leads)
+
+-- and where a part of it was
+pub rest_kept : (g : ReplayInput) (e : events.Event) (tasks left : List Task) (w u : ReplayState) (before later : List Output) → IsLeft tasks → IsLeft left
+    → Leads g e.at (matter_of e.what) (left_rows (matter_of e.what) tasks) w before (left_rows (matter_of e.what) left) u later
+    → rest_of g e left u later ≡ rest_of g e tasks w before
+rest_kept g e tasks left w u before later some more leads =
+    rest_left g e left u later more ∙ sym leads ∙ sym (rest_left g e tasks w before some)
+
+-- where it begins
+pub rest_begins : (g : ReplayInput) (e : events.Event) (up : Bool) (room tasks left : List Task) (w : ReplayState) (before later : List Output) → up ≡ link_after e.what w.up → room ≡ [] → tasks ≡ [] → left ≡ room ++ task.Event ∷ [] → later ≡ []
+    → rest_of g e left (record w { up = up }) later ≡ rest_of g e tasks w before
+rest_begins g e up room tasks left w before later is empty none put cleared =
+    let v : ReplayState = record w { up = link_after e.what w.up } in
+    ap (λ (b : Bool). rest_of g e left (record w { up = b }) later) is
+    ∙ ap (λ (ts : List Task). rest_of g e ts v later) (put ∙ ap (λ (r : List Task). r ++ task.Event ∷ []) empty)
+    ∙ ap (λ (o : List Output). and_then o (pass_each (ran g e.at (matter_of e.what)) (Event ∷ []) v)) cleared
+    ∙ sym (event_begun g e w) ∙ sym (ap (λ (ts : List Task). rest_of g e ts w before) none)
+
+-- the same of outputs that were lent
+pub rest_passed_as : (g : ReplayInput) (e : events.Event) (tasks left : List Task) (w u : ReplayState) (before lent later back : List Output) → lent ≡ before → back ≡ later → IsLeft tasks → left ≡ []
+    → Leads g e.at (matter_of e.what) (left_rows (matter_of e.what) tasks) w lent (left_rows (matter_of e.what) left) u later
+    → rest_of g e tasks w before ≡ record { world = u; outputs = back }
+rest_passed_as g e tasks left w u before lent later back was is some over leads =
+    let inboxes_opened : List Output → Ran = λ o. record { world = u; outputs = o } in
+    ap (λ (o : List Output). rest_of g e tasks w o) (sym was) ∙ rest_passed g e tasks left w u lent later some over leads ∙ ap inboxes_opened (sym is)
+
+pub rest_kept_as : (g : ReplayInput) (e : events.Event) (tasks left : List Task) (w u : ReplayState) (before lent later back : List Output) → lent ≡ before → back ≡ later → IsLeft tasks → IsLeft left
+    → Leads g e.at (matter_of e.what) (left_rows (matter_of e.what) tasks) w lent (left_rows (matter_of e.what) left) u later
+    → rest_of g e left u back ≡ rest_of g e tasks w before
+rest_kept_as g e tasks left w u before lent later back was is some more leads =
+    ap (λ (o : List Output). rest_of g e left u o) is ∙ rest_kept g e tasks left w u lent later some more leads ∙ ap (λ (o : List Output). rest_of g e tasks w o) was
+
+pub rest_still : (g : ReplayInput) (e : events.Event) (room tasks : List Task) (w : ReplayState) (before : List Output) → room ≡ tasks → rest_of g e room w before ≡ rest_of g e tasks w before
+rest_still g e room tasks w before same = ap (λ (ts : List Task). rest_of g e ts w before) same
+
+-- what follows of a call
+pub on_ok : {T E P Q : Type 0} (result : Result T E) → (P → Q) → OnOk result P → OnOk result Q
+on_ok (Ok value) leads p = leads p
+on_ok (Err e) leads p = p
+
+pub on_err : {T E P Q : Type 0} (result : Result T E) → (P → Q) → OnErr result P → OnErr result Q
+on_err (Ok value) leads p = p
+on_err (Err e) leads p = leads p
 
 -- ---- its end
 

@@ -1,8 +1,6 @@
 pub mod Rans
-pub mod Recreating
-pub mod PullReading
-pub mod PushReading
-pub mod Comings
 pub mod Replaying
-pub mod Turning
 pub mod Coursing
+pub mod Stepping
+pub mod ReaderSteps
+pub mod Driving

@@ -4,31 +4,36 @@ use Rattle.std.proofs.lemmas.List.{drop_more, drop_all}
 use Rattle.std.specs.Prelude.{Ok, Err, option_map}
 use Rattle.js_table.specs.declared.consumer.ReplayInput.{ReplayInput}
 use Rattle.js_table.specs.declared.event.Event as events
-use Rattle.js_pull.specs.declared.reader.Row.TheVariants as read
 use Rattle.js_table.specs.declared.consumer.Phase.TheVariants.{Pulls, Pushes, Idle}
 use Rattle.js_table.specs.declared.setup.OrderedSetup.{OrderedSetup}
 use Rattle.js_table.specs.declared.setup.OrderedSetup.TheVariants.{Pull, Push}
 use Rattle.js_table.specs.Kept.{IsPull, IsPush}
 use Rattle.js_table.specs.Reading.{armed}
+use Rattle.js_table.specs.declared.row.Row.{Row}
 use Rattle.js_table.specs.declared.row.Row.TheVariants.{Event, Read}
+use Rattle.js_table.specs.State.{Matter}
 use Rattle.js_table.specs.declared.replay_state.ReplayState.{ReplayState}
 use Rattle.js_table.specs.declared.run.Output.{Output}
 use Rattle.js_table.specs.declared.run.Run.{Run}
 use Rattle.js_table.specs.declared.run.Step.{Step}
 use Rattle.js_table.specs.declared.run.ReplayError.{ReplayError}
 use Rattle.js_table.specs.declared.run.ReplayError.TheVariants as error
-use Rattle.js_table.specs.Fold.{Ran, stays, first_phase, pass_each, tick, matter_of, link_after, event, run_events, opening_rows, first_world, opening, is_over, last_world, step_of, fold}
-use Rattle.js_table.specs.Passes.{ran, at, then_row, first_reader_of}
+use Rattle.js_table.specs.Fold.{Ran, and_then, stays, first_phase, pass_each, tick, matter_of, link_after, event, run_events, opening_rows, first_world, opening, is_over, last_world, step_of, fold}
+use Rattle.js_table.specs.Passes.{ran, at, first_reader_of}
 use Rattle.js_table.specs.Refusal.{is_exhausted, first_exhausted, refuse_input, refuse_end, refuse}
 use Rattle.js_table.specs.Valid.{IsFolded}
-use Rattle.js_ordered.proofs.Rans.{no_more, two_rows}
+use Rattle.js_pull.specs.Reader.{opening as opening_reads}
+use Rattle.js_ordered.specs.declared.task.Task.{Task}
+use Rattle.js_ordered.specs.declared.task.Task.TheVariants as task
+use Rattle.js_ordered.specs.Driven.{Leads, left_rows}
+use Rattle.js_ordered.proofs.Rans.{no_more}
 
 -- ---- the opening
 
 opens_pull : (g : ReplayInput) (start : ℕ) (setup : OrderedSetup) → IsPull setup
     → pass_each (ran g start tick) (opening_rows setup) (at (first_phase g start setup) (first_world g start))
-    ≡ then_row g start tick (Read read.Arm) (ran g start tick (Read read.Threshold) (at (Pulls (first_reader_of g)) (at Idle (first_world g start))))
-opens_pull g start (Pull setup) pulls = two_rows g start tick (Read read.Threshold) (Read read.Arm) (at (Pulls (first_reader_of g)) (first_world g start))
+    ≡ pass_each (ran g start tick) (map Read opening_reads) (at (Pulls (first_reader_of g)) (at Idle (first_world g start)))
+opens_pull g start (Pull setup) pulls = refl
 opens_pull g start (Push setup) pulls = absurd pulls
 
 opens_push : (g : ReplayInput) (start : ℕ) (setup : OrderedSetup) → IsPush setup
@@ -38,7 +43,7 @@ opens_push g start (Push setup) pushes = refl
 
 -- pull asks at once, and arms its heartbeat
 pub opening_asks : (g : ReplayInput) (start : ℕ) → IsPull g.setup
-    → opening g start ≡ then_row g start tick (Read read.Arm) (ran g start tick (Read read.Threshold) (at (Pulls (first_reader_of g)) (at Idle (first_world g start))))
+    → opening g start ≡ pass_each (ran g start tick) (map Read opening_reads) (at (Pulls (first_reader_of g)) (at Idle (first_world g start)))
 unfolding opening ran
 opening_asks g start pulls = opens_pull g start g.setup pulls
 
@@ -53,6 +58,42 @@ opening_listens g start pushes = opens_push g start g.setup pushes
 pub event_passes : (g : ReplayInput) (e : events.Event) (w : ReplayState) → event g e w ≡ ran g e.at (matter_of e.what) Event (record w { up = link_after e.what w.up })
 unfolding event ran
 event_passes g e w = no_more (ran g e.at (matter_of e.what) Event (record w { up = link_after e.what w.up }))
+
+-- nothing is left of it
+pub led_to : (r : Ran) (one : Row → ReplayState → Ran) (rows : List Row) (w : ReplayState) (outputs : List Output) → rows ≡ [] → r ≡ and_then outputs (pass_each one rows w) → r ≡ record { world = w; outputs = outputs }
+led_to r one rows w outputs none leads =
+    leads ∙ ap (λ (rows : List Row). and_then outputs (pass_each one rows w)) none ∙ no_more (record { world = w; outputs = outputs })
+
+-- an event whose rows were all passed
+pub event_led : (g : ReplayInput) (e : events.Event) (up : Bool) (w u : ReplayState) (before later : List Output) (room tasks left : List Task) → up ≡ link_after e.what w.up → before ≡ [] → room ≡ [] → tasks ≡ room ++ task.Event ∷ [] → left ≡ []
+    → Leads g e.at (matter_of e.what) (left_rows (matter_of e.what) tasks) (record w { up = up }) before (left_rows (matter_of e.what) left) u later
+    → event g e w ≡ record { world = u; outputs = later }
+event_led g e up w u before later room tasks left is none empty put over leads =
+    let v : ReplayState = record w { up = up } in
+    let there : ReplayState → Ran = λ x. ran g e.at (matter_of e.what) Event x in
+    let one : Row → ReplayState → Ran = ran g e.at (matter_of e.what) in
+    let rows : left_rows (matter_of e.what) tasks ≡ Event ∷ [] = ap (left_rows (matter_of e.what)) (put ∙ ap (λ (r : List Task). r ++ task.Event ∷ []) empty) in
+    led_to (event g e w) one (left_rows (matter_of e.what) left) u later (ap (left_rows (matter_of e.what)) over)
+    (event_passes g e w ∙ ap (λ (b : Bool). there (record w { up = b })) (sym is) ∙ sym (no_more (one Event v))
+    ∙ sym (ap (λ (rows : List Row). and_then before (pass_each one rows v)) rows ∙ ap (λ (o : List Output). and_then o (pass_each one (Event ∷ []) v)) none) ∙ leads)
+
+-- an event of which nothing was passed
+pub event_begun : (g : ReplayInput) (e : events.Event) (w : ReplayState) → event g e w ≡ and_then [] (pass_each (ran g e.at (matter_of e.what)) (Event ∷ []) (record w { up = link_after e.what w.up }))
+event_begun g e w = event_passes g e w ∙ sym (no_more (ran g e.at (matter_of e.what) Event (record w { up = link_after e.what w.up })))
+
+-- the opening whose rows were all passed
+pub opening_led : (g : ReplayInput) (start : ℕ) (w u : ReplayState) (before later : List Output) (room tasks left : List Task) (m : Matter) → IsPull g.setup → m ≡ tick → w ≡ at Idle (first_world g start) → before ≡ [] → room ≡ [] → left_rows m tasks ≡ map Read opening_reads ++ left_rows m room → left ≡ []
+    → Leads g start m (left_rows m tasks) (at (Pulls (first_reader_of g)) w) before (left_rows m left) u later
+    → opening g start ≡ record { world = u; outputs = later }
+opening_led g start w u before later room tasks left m pulls ticks first none empty put over leads =
+    let v : ReplayState = at (Pulls (first_reader_of g)) w in
+    let one : Row → ReplayState → Ran = ran g start m in
+    let rows : left_rows m tasks ≡ map Read opening_reads = put ∙ ap (λ (r : List Task). map Read opening_reads ++ left_rows m r) empty in
+    led_to (opening g start) one (left_rows m left) u later (ap (left_rows m) over)
+    (opening_asks g start pulls
+    ∙ ap (λ (k : Matter). pass_each (ran g start k) (map Read opening_reads) (at (Pulls (first_reader_of g)) (at Idle (first_world g start)))) (sym ticks)
+    ∙ ap (λ (x : ReplayState). pass_each one (map Read opening_reads) (at (Pulls (first_reader_of g)) x)) (sym first)
+    ∙ sym (ap (λ (rows : List Row). and_then before (pass_each one rows v)) rows ∙ ap (λ (o : List Output). and_then o (pass_each one (map Read opening_reads) v)) none) ∙ leads)
 
 pub run_events_none : (g : ReplayInput) (w : ReplayState) → run_events g [] w ≡ []
 unfolding run_events

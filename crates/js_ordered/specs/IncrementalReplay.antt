@@ -1,10 +1,15 @@
 -- A replay that is told its events one by one.
-use Rattle.std.specs.Prelude.{◌≡◌, ℕ, Bool, false, List, [], ◌∷◌, length, Some, None, Result, Ok, Err}
+use Rattle.std.specs.Prelude.{◌≡◌, ℕ, Bool, List, [], ◌∷◌, length, Some, None, Result, Ok, Err}
 use Rattle.js_table.specs.declared.consumer.ReplayInput.{ReplayInput}
 use Rattle.js_ordered.specs.declared.incremental_replay.IncrementalReplay.{IncrementalReplay}
 use Rattle.js_table.specs.declared.event.Event as events
 use Rattle.js_table.specs.declared.run.ReplayError.{ReplayError}
-use Rattle.js_table.specs.Fold.{Ran, opening, run_events, fold}
+use Rattle.js_ordered.specs.declared.task.Task.{Task}
+use Rattle.js_ordered.specs.Driven.{left_rows}
+use Rattle.js_table.specs.declared.run.Output.{Output}
+use Rattle.js_table.specs.declared.replay_state.ReplayState.{ReplayState}
+use Rattle.js_table.specs.Fold.{Ran, and_then, event as ran_by, matter_of, opening, pass_each, run_events, fold}
+use Rattle.js_table.specs.Passes.{ran}
 use Rattle.js_table.specs.Refusal.{first_early, first_exhausted, refuse}
 
 -- what a course goes by
@@ -34,7 +39,25 @@ pub record HasCome (g : ReplayInput) (start : ℕ) (es : List events.Event) (c :
   pub exhausted : c.exhausted ≡ first_exhausted 0 (run_events g es (opening g start).world)
   pub world : c.world ≡ (last g start es).world
   pub outputs : c.outputs ≡ (last g start es).outputs
-  pub sound : c.has_failed ≡ false
+  pub rested : c.todo.tasks.items ≡ []
+
+-- what passing the rest of an event comes to, with what it has put out so far; the whole event where nothing of it was passed
+abbrev pub rest_of : ReplayInput → events.Event → List Task → ReplayState → List Output → Ran
+rest_of g e [] w outputs = ran_by g e w
+rest_of g e (task ∷ tasks) w outputs = and_then outputs (pass_each (ran g e.at (matter_of e.what)) (left_rows (matter_of e.what) (task ∷ tasks)) w)
+
+-- the same of a course
+abbrev pub course_rest : events.Event → IncrementalReplay → Ran
+course_rest e c = rest_of (course_given c) e c.todo.tasks.items c.world c.outputs
+
+-- a course stands before this event or within it, after the others: passing the rest gives what passing the whole would have given
+pub record IsWithin (g : ReplayInput) (start : ℕ) (es : List events.Event) (e : events.Event) (c : IncrementalReplay) : Type 0 where
+  pub given : course_given c ≡ g
+  pub count : c.count ≡ length es
+  pub moment : c.moment ≡ last_moment start es
+  pub early : c.early ≡ first_early 0 start es
+  pub exhausted : c.exhausted ≡ first_exhausted 0 (run_events g es (opening g start).world)
+  pub rest : course_rest e c ≡ ran_by g e (last g start es).world
 
 -- what the end of a course answers: whether the run has ended, or the refusal that applies
 abbrev pub IsEnd : ReplayInput → ℕ → List events.Event → Result Bool ReplayError → Type 0

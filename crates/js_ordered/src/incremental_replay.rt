@@ -1,13 +1,17 @@
 //! A replay that is told its events one by one.
-ghost use Rattle.std.specs.Prelude.{◌≡◌, ◌+◌, ◌∷◌, ◌++◌, [], ℕ, List, Some, None, IfOk, OnOk, OnErr, IsErr, Err, true, if◌then◌else◌};
-ghost use Rattle.js_ordered.specs.IncrementalReplay.{HasCome, IsEnd, course_given};
+ghost use Rattle.std.specs.Prelude.{◌≡◌, ◌+◌, ◌∷◌, ◌++◌, [], ℕ, List, Some, None, IfOk, OnOk, OnErr, Err, if◌then◌else◌};
+ghost use Rattle.js_ordered.specs.IncrementalReplay.{HasCome, IsEnd, IsWithin, course_given, course_rest};
+ghost use Rattle.js_ordered.specs.Driven.{IsLeft};
 ghost use Rattle.js_table.specs.Fold.{event as ran_by};
 ghost use Rattle.js_table.specs.Refusal.{first_of};
 ghost use Rattle.js_table.specs.declared.consumer.ReplayInput.{ReplayInput};
 ghost use Rattle.js_table.specs.declared.event.Event as events;
 
-use crate::passing::is_over;
-use crate::replay::{is_exhausted, open, pass};
+use crate::drive::pass_left;
+use crate::replay::{is_exhausted, link_after, open};
+use crate::rows::event::is_over;
+use crate::task::Task;
+use crate::todo::Todo;
 use js_base::{Items, Moment, OutOfMemory};
 use js_json::consumer::Info;
 use js_table::{
@@ -32,7 +36,7 @@ pub struct IncrementalReplay<'a> {
     exhausted: Option<u64>,
     world: ReplayState,
     outputs: Items<Output>,
-    has_failed: bool,
+    todo: Todo,
 }
 
 /// A place that was found before, or this one.
@@ -73,8 +77,9 @@ impl<'a> IncrementalReplay<'a> {
             moment: start,
             what: &tick,
         };
-        let mut outputs = Items::new(alloc);
-        let world = open(alloc, &turn, &mut outputs)?;
+        let mut outputs = Vec::new(alloc);
+        let mut todo = Todo::new(alloc);
+        let world = open(alloc, &turn, &mut todo, &mut outputs)?;
         Ok(IncrementalReplay {
             settings,
             setup,
@@ -84,16 +89,44 @@ impl<'a> IncrementalReplay<'a> {
             early: None,
             exhausted: None,
             world,
-            outputs,
-            has_failed: false,
+            outputs: Items::from(outputs),
+            todo,
         })
     }
 
-    // The event is passed, whether or not the replay is refused.
-    fn pass(&mut self, alloc: Global, event: &Event) -> Result<(), OutOfMemory>
-        ensures passed { let passed = ran_by (course_given self.old) event.now self.old.world in
-            OnOk result (self.new ≡ record self.old { world = passed.world; outputs = passed.outputs }) }
-        ensures kept { self.new.has_failed ≡ self.old.has_failed }
+    // An event begins.
+    fn begin(&mut self, alloc: Global, event: &Event) -> Result<(), OutOfMemory>
+        requires rested { self.old.todo.tasks.items ≡ [] }
+        ensures kept { record self.new { world = self.old.world; outputs = self.old.outputs; todo = self.old.todo } ≡ self.old }
+        ensures rest { course_rest event.now self.new ≡ course_rest event.now self.old }
+        ensures left { OnOk result (IsLeft self.new.todo.tasks.items) }
+    {
+        self.todo.make_room()?;
+        self.todo.put_one(Task::Event);
+        empty(alloc, &mut self.outputs);
+        self.world.up = link_after(&event.what, self.world.up);
+        Ok(())
+    }
+
+    // An event begins where nothing of it was passed.
+    fn make_ready(&mut self, alloc: Global, event: &Event) -> Result<(), OutOfMemory>
+        ensures kept { record self.new { world = self.old.world; outputs = self.old.outputs; todo = self.old.todo } ≡ self.old }
+        ensures rest { course_rest event.now self.new ≡ course_rest event.now self.old }
+        ensures left { OnOk result (IsLeft self.new.todo.tasks.items) }
+    {
+        if self.todo.is_empty() {
+            return self.begin(alloc, event);
+        }
+        Ok(())
+    }
+
+    // What is left of an event is passed.
+    fn go_on(&mut self, alloc: Global, event: &Event) -> Result<(), OutOfMemory>
+        requires left { IsLeft self.old.todo.tasks.items }
+        ensures kept { record self.new { world = self.old.world; outputs = self.old.outputs; todo = self.old.todo } ≡ self.old }
+        ensures passed { OnOk result (course_rest event.now self.old ≡ record { world = self.new.world; outputs = self.new.outputs }) }
+        ensures rested { OnOk result (self.new.todo.tasks.items ≡ []) }
+        ensures refused { OnErr result (course_rest event.now self.new ≡ course_rest event.now self.old) }
     {
         let turn = EventContext {
             settings: self.settings,
@@ -102,27 +135,40 @@ impl<'a> IncrementalReplay<'a> {
             moment: event.at,
             what: &event.what,
         };
-        empty(alloc, &mut self.outputs);
-        pass(alloc, &turn, event, &mut self.world, &mut self.outputs)
+        let mut outputs = mem::replace(&mut self.outputs, Items::new(alloc)).into_vec();
+        let passed = pass_left(alloc, &turn, &mut self.world, &mut self.todo, &mut outputs);
+        self.outputs = Items::from(outputs);
+        passed
+    }
+
+    // An event is passed, from where it was refused before.
+    fn pass(&mut self, alloc: Global, event: &Event) -> Result<(), OutOfMemory>
+        ensures kept { record self.new { world = self.old.world; outputs = self.old.outputs; todo = self.old.todo } ≡ self.old }
+        ensures passed { OnOk result (course_rest event.now self.old ≡ record { world = self.new.world; outputs = self.new.outputs }) }
+        ensures rested { OnOk result (self.new.todo.tasks.items ≡ []) }
+        ensures refused { OnErr result (course_rest event.now self.new ≡ course_rest event.now self.old) }
+    {
+        self.make_ready(alloc, event)?;
+        self.go_on(alloc, event)
     }
 
     /// Passes the next event.
     ///
     /// # Errors
     ///
-    /// Want of memory, also where the number of events would go past a `u64`. Once an event was refused, so is each later one, and so is the
-    /// [`end`](Course::end): part of that event may have been passed.
+    /// Want of memory, also where the number of events would go past a `u64`. The course then stands within that event, and nothing of it is lost: it
+    /// goes on there when it is given the same event again. Another event in its place would be taken for the rest of it.
     pub fn advance(&mut self, alloc: Global, event: &Event) -> Result<(), OutOfMemory>
         ensures passed { (g : ReplayInput) → (start : ℕ) → (es : List events.Event) → HasCome g start es self.old
             → OnOk result (HasCome g start (es ++ event.now ∷ []) self.new) }
         ensures counted { OnOk result (self.new.count ≡ self.old.count + 1) }
-        ensures failed { OnErr result (self.new.has_failed ≡ true) }
-        ensures fails { self.old.has_failed ≡ true → IsErr result }
+        ensures refused { (g : ReplayInput) → (start : ℕ) → (es : List events.Event) → HasCome g start es self.old
+            → OnErr result (IsWithin g start es event.now self.new) }
+        ensures resumed { (g : ReplayInput) → (start : ℕ) → (es : List events.Event) → IsWithin g start es event.now self.old
+            → OnOk result (HasCome g start (es ++ event.now ∷ []) self.new) }
+        ensures kept { (g : ReplayInput) → (start : ℕ) → (es : List events.Event) → IsWithin g start es event.now self.old
+            → OnErr result (IsWithin g start es event.now self.new) }
     {
-        if self.has_failed {
-            return Err(OutOfMemory);
-        }
-        self.has_failed = true;
         let place = self.count;
         let count = next_number(place)?;
         let is_early = event.at < self.moment;
@@ -132,7 +178,6 @@ impl<'a> IncrementalReplay<'a> {
         self.exhausted = first_place(self.exhausted, is_last, place);
         self.moment = event.at;
         self.count = count;
-        self.has_failed = false;
         Ok(())
     }
 
@@ -154,12 +199,12 @@ impl<'a> IncrementalReplay<'a> {
     ///
     /// # Errors
     ///
-    /// The refusal that applies, by the order of `replay_ordered`. After an event was refused for want of memory it is that.
+    /// The refusal that applies, by the order of `replay_ordered`. Within an event that was refused for want of memory it is that.
     pub fn end(&self) -> Result<bool, ReplayError>
         ensures ended { (g : ReplayInput) → (start : ℕ) → (es : List events.Event) → HasCome g start es self.now → IsEnd g start es result }
-        ensures failed { self.now.has_failed ≡ true → result ≡ Err ReplayError.OutOfMemory }
+        ensures within { IsLeft self.now.todo.tasks.items → result ≡ Err ReplayError.OutOfMemory }
     {
-        if self.has_failed {
+        if !self.todo.is_empty() {
             return Err(ReplayError::OutOfMemory);
         }
         let tick = EventKind::Tick;

@@ -1,11 +1,12 @@
 //! The replay of an ordered consumer over a list of events, or over one event after another.
 #![tactic(auto)]
 
+mod drive;
 mod incremental_replay;
-mod passing;
-mod reading;
-mod recreation;
 mod replay;
+mod rows;
+mod task;
+mod todo;
 
 pub use incremental_replay::IncrementalReplay;
 pub use js_table::{

@@ -1,13 +1,17 @@
 //! The replay of an ordered consumer over a list of events.
 ghost use Rattle.std.specs.Prelude.{◌≡◌, ◌≢◌, [], map, IfOk, OnOk, IfErr, Some, None};
 ghost use Rattle.js_table.specs.Fold as fold;
-ghost use Rattle.js_table.specs.Passes.{Comes, at, first_reader_of, given_of};
+ghost use Rattle.js_table.specs.Kept.{IsPull};
+ghost use Rattle.js_table.specs.Passes.{at, first_reader_of, given_of};
 ghost use Rattle.js_table.specs.Refusal.{is_exhausted, refuse_end, refuse_input};
 ghost use Rattle.js_table.specs.Valid.{IsAnswer, IsFolded, IsValid};
 ghost use Rattle.js_table.specs.declared.event.EventKind.TheVariants.{Tick};
 
-use crate::passing::{is_over, pass_event};
-use crate::reading::{pull, push};
+use crate::drive::pass_left;
+use crate::rows::event::is_over;
+use crate::rows::listening::listen;
+use crate::task::{Due, Next, Task};
+use crate::todo::Todo;
 use js_base::{Items, Moment, OutOfMemory, State, TryClone};
 use js_json::consumer::Info;
 use js_pull::Reader;
@@ -16,7 +20,6 @@ use js_table::{
     ReplayState, Run, Settings, Step, refuse_input, texts,
 };
 use std::alloc::Global;
-use std::mem;
 
 // ---- the opening
 
@@ -49,27 +52,54 @@ fn first_world(turn: &EventContext<'_>) -> Result<ReplayState, OutOfMemory>
     })
 }
 
+/// The opening of pull, which asks at once and arms its heartbeat.
+fn open_pull(
+    alloc: Global,
+    turn: &EventContext<'_>,
+    world: &mut ReplayState,
+    todo: &mut Todo,
+    outputs: &mut Vec<Output>,
+) -> Result<(), OutOfMemory>
+    requires pull { IsPull turn.now.setup.now }
+    requires rested { todo.old.tasks.items ≡ [] }
+    requires empty { outputs.old.items ≡ [] }
+    requires first { world.old ≡ at Phase.Idle (fold.first_world (given_of turn.now) turn.now.moment) }
+    requires tick { turn.now.what.now ≡ Tick }
+    ensures world { OnOk result (world.new ≡ (fold.opening (given_of turn.now) turn.now.moment).world) }
+    ensures outputs { OnOk result (outputs.new.items ≡ (fold.opening (given_of turn.now) turn.now.moment).outputs) }
+    ensures rested { OnOk result (todo.new.tasks.items ≡ []) }
+{
+    let reader = first_reader(alloc, turn)?;
+    world.consumer.phase = Phase::Pulls(reader);
+    todo.make_room()?;
+    todo.put(Next::Two(Task::Read(Due::Threshold), Task::Read(Due::Arm)));
+    pass_left(alloc, turn, world, todo, outputs)?;
+    Ok(())
+}
+
 /// The opening, from the first world on: pull asks at once, and either arms its heartbeat.
-#[tactic(auto, using(std::proofs::lemmas::Grind::common_steps, crate::proofs::Replaying::opening_asks, crate::proofs::Replaying::opening_listens))]
+#[tactic(auto, using(std::proofs::lemmas::Grind::common_steps, crate::proofs::Replaying::opening_listens))]
 pub(crate) fn open(
     alloc: Global,
     turn: &EventContext<'_>,
-    outputs: &mut Items<Output>,
+    todo: &mut Todo,
+    outputs: &mut Vec<Output>,
 ) -> Result<ReplayState, OutOfMemory>
     requires tick { turn.now.what.now ≡ Tick }
-    requires empty { outputs.old ≡ [] }
+    requires rested { todo.old.tasks.items ≡ [] }
+    requires empty { outputs.old.items ≡ [] }
     ensures world { IfOk result (λ world. world ≡ (fold.opening (given_of turn.now) turn.now.moment).world) }
-    ensures outputs { OnOk result (outputs.new ≡ (fold.opening (given_of turn.now) turn.now.moment).outputs) }
+    ensures outputs { OnOk result (outputs.new.items ≡ (fold.opening (given_of turn.now) turn.now.moment).outputs) }
+    ensures rested { OnOk result (todo.new.tasks.items ≡ []) }
 {
     let mut world = first_world(turn)?;
     match turn.setup {
         OrderedSetup::Pull(_) => {
-            let reader = first_reader(alloc, turn)?;
-            pull::requests::open(alloc, turn, &mut world, reader, outputs)?;
+            open_pull(alloc, turn, &mut world, todo, outputs)?;
             Ok(world)
         }
         OrderedSetup::Push(_) => {
-            push::listen(turn, &mut world, 0);
+            listen(turn, &mut world.consumer, 0);
             Ok(world)
         }
     }
@@ -78,7 +108,7 @@ pub(crate) fn open(
 // ---- one event
 
 /// The link after an event.
-fn link_after(what: &EventKind, was: bool) -> bool
+pub(crate) fn link_after(what: &EventKind, was: bool) -> bool
     ensures { result ≡ fold.link_after what.now was }
 {
     match what {
@@ -88,15 +118,19 @@ fn link_after(what: &EventKind, was: bool) -> bool
 }
 
 /// One event is passed at its moment, with the link as it then stands.
-#[tactic(auto, using(crate::proofs::Replaying::event_passes))]
-pub(crate) fn pass(
+fn pass(
     alloc: Global,
     turn: &EventContext<'_>,
     event: &Event,
     world: &mut ReplayState,
-    outputs: &mut Items<Output>,
+    todo: &mut Todo,
+    outputs: &mut Vec<Output>,
 ) -> Result<(), OutOfMemory>
-    ensures { OnOk result (Comes (fold.event (given_of turn.now) event.now world.old) world.new outputs.old outputs.new) }
+    requires rested { todo.old.tasks.items ≡ [] }
+    requires empty { outputs.old.items ≡ [] }
+    ensures world { OnOk result (world.new ≡ (fold.event (given_of turn.now) event.now world.old).world) }
+    ensures outputs { OnOk result (outputs.new.items ≡ (fold.event (given_of turn.now) event.now world.old).outputs) }
+    ensures rested { OnOk result (todo.new.tasks.items ≡ []) }
 {
     world.up = link_after(&event.what, world.up);
     let turn = EventContext {
@@ -106,18 +140,19 @@ pub(crate) fn pass(
         moment: event.at,
         what: &event.what,
     };
-    pass_event(alloc, &turn, world, outputs)
+    todo.make_room()?;
+    todo.put_one(Task::Event);
+    pass_left(alloc, &turn, world, todo, outputs)?;
+    Ok(())
 }
 
 /// The outputs so far become a step that takes no more memory than they need. What held them is empty and keeps its
 /// room for those of the next event.
-fn take_step(alloc: Global, outputs: &mut Items<Output>) -> Result<Step, OutOfMemory>
-    ensures step { IfOk result (λ step. step.outputs ≡ outputs.old) }
-    ensures emptied { OnOk result (outputs.new ≡ []) }
+fn take_step(outputs: &mut Vec<Output>) -> Result<Step, OutOfMemory>
+    ensures step { IfOk result (λ step. step.outputs ≡ outputs.old.items) }
+    ensures emptied { OnOk result (outputs.new.items ≡ []) }
 {
-    let mut room = mem::replace(outputs, Items::new(alloc)).into_vec();
-    let taken = room.split_off(0)?;
-    *outputs = Items::from(room);
+    let taken = outputs.split_off(0)?;
     Ok(Step {
         outputs: Items::from(taken),
     })
@@ -129,15 +164,18 @@ fn step(
     turn: &EventContext<'_>,
     event: &Event,
     world: &mut ReplayState,
-    outputs: &mut Items<Output>,
+    todo: &mut Todo,
+    outputs: &mut Vec<Output>,
 ) -> Result<Step, OutOfMemory>
-    requires { outputs.old ≡ [] }
+    requires rested { todo.old.tasks.items ≡ [] }
+    requires empty { outputs.old.items ≡ [] }
     ensures step { IfOk result (λ step. step ≡ fold.step_of (fold.event (given_of turn.now) event.now world.old)) }
     ensures world { OnOk result (world.new ≡ (fold.event (given_of turn.now) event.now world.old).world) }
-    ensures emptied { OnOk result (outputs.new ≡ []) }
+    ensures emptied { OnOk result (outputs.new.items ≡ []) }
+    ensures rested { OnOk result (todo.new.tasks.items ≡ []) }
 {
-    pass(alloc, turn, event, world, outputs)?;
-    take_step(alloc, outputs)
+    pass(alloc, turn, event, world, todo, outputs)?;
+    take_step(outputs)
 }
 
 // ---- all events
@@ -162,10 +200,12 @@ fn steps_of(
     alloc: Global,
     turn: &EventContext<'_>,
     world: &mut ReplayState,
-    outputs: &mut Items<Output>,
+    todo: &mut Todo,
+    outputs: &mut Vec<Output>,
     events: &[Event],
 ) -> Result<Items<Step>, ReplayError>
-    requires { outputs.old ≡ [] }
+    requires rested { todo.old.tasks.items ≡ [] }
+    requires empty { outputs.old.items ≡ [] }
     ensures steps { IfOk result (λ steps. steps ≡ map fold.step_of (fold.run_events (given_of turn.now) events.now world.old)) }
     ensures world { OnOk result (world.new ≡ fold.last_world world.old (fold.run_events (given_of turn.now) events.now world.old)) }
     ensures accepted { OnOk result (refuse_end (fold.run_events (given_of turn.now) events.now world.old) ≡ None) }
@@ -173,7 +213,7 @@ fn steps_of(
 {
     let mut steps = steps_for(alloc, events)?;
     for (place, event) in events.iter().enumerate() {
-        let step = step(alloc, turn, event, world, outputs)?;
+        let step = step(alloc, turn, event, world, todo, outputs)?;
         if is_exhausted(&world.consumer.phase) {
             return Err(ReplayError::SequenceEnd {
                 place: place as u64,
@@ -193,10 +233,11 @@ fn run(alloc: Global, turn: &EventContext<'_>, events: &[Event]) -> Result<Run, 
     requires accepted { refuse_input (given_of turn.now) turn.now.moment events.now ≡ None }
     ensures { IsFolded (given_of turn.now) turn.now.moment events.now result }
 {
-    let mut outputs = Items::new(alloc);
-    let mut world = open(alloc, turn, &mut outputs)?;
-    let opening = take_step(alloc, &mut outputs)?;
-    let steps = steps_of(alloc, turn, &mut world, &mut outputs, events)?;
+    let mut todo = Todo::new(alloc);
+    let mut outputs = Vec::new(alloc);
+    let mut world = open(alloc, turn, &mut todo, &mut outputs)?;
+    let opening = take_step(&mut outputs)?;
+    let steps = steps_of(alloc, turn, &mut world, &mut todo, &mut outputs, events)?;
     Ok(Run {
         opening,
         steps,

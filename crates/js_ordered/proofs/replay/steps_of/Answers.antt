@@ -10,4 +10,5 @@ loop-place-preserved c = record {
       c.index-events-place.result c.in_ok-step.step c.loop-place.invariant.goes (omega arith) c.index-events-place.is
       c.in_ok-step.ensures.step c.in_ok-step.ensures.world (sym c.is_exhausted.ensures ∙ c.if-is_exhausted.false) c.in_ok-push.ensures.ok;
   outputs = c.in_ok-step.ensures.emptied;
+  rested = c.in_ok-step.ensures.rested;
 }

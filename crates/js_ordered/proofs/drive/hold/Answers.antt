@@ -1,0 +1,14 @@
+use Rattle.std.proofs.Common.{refl, ap}
+use Rattle.js_table.specs.declared.consumer.Phase.{Phase}
+use Rattle.js_table.specs.Passes.{at}
+use Rattle.js_table.specs.Passes.{given_of, matter_now}
+use Rattle.js_table.specs.declared.row.Row.TheVariants as row
+use Rattle.js_ordered.proofs.Driving.{holds_on}
+use Rattle.js_ordered.proofs.drive.hold.Goals as goal
+
+pub returns : goal.returns
+returns c =
+    let g = given_of c.args.turn.now in
+    let now = c.args.turn.now.moment in
+    let m = matter_now c.args.turn.now in
+    holds_on g now m c.args.world.now _ c.args.outputs.now.items (ap (λ (q : Phase). at q c.args.world.now) c.in_ok-hold_at.ensures.held)

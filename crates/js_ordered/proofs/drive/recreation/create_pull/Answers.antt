@@ -1,0 +1,14 @@
+use Rattle.std.proofs.Common.{refl, sym, ap, ◌∙◌}
+use Rattle.js_table.specs.Passes.{given_of, matter_now}
+use Rattle.js_table.specs.declared.row.Row.TheVariants as row
+use Rattle.js_table.specs.Fold.{passing}
+use Rattle.js_ordered.proofs.Driving.{creates_pull}
+use Rattle.js_ordered.proofs.drive.recreation.create_pull.Goals as goal
+
+pub returns : goal.returns
+returns c =
+    let g = given_of c.args.turn.now in
+    let now = c.args.turn.now.moment in
+    let m = matter_now c.args.turn.now in
+    creates_pull g now m c.args.recreation c.args.world.now _ c.args.outputs.now.items c.pass_create.new.consumer c.pass_create.result c.requires.pull
+    (c.pass_create.ensures m (passing g now c.args.world.now)) refl

@@ -1,0 +1,88 @@
+-- What the code of a replay says that passes the rows of an event.
+use Rattle.std.specs.Prelude.{◌≡◌, ℕ, ◌+◌, List, [], ◌∷◌, ◌++◌, None, Result, Ok, Err, count_by, drop, ⊤}
+use Rattle.js_ordered.specs.declared.task.Next.{Next}
+use Rattle.js_base.specs.declared.message.Message.{Message}
+use Rattle.js_ordered.specs.declared.task.Held.{Held}
+use Rattle.js_ordered.specs.declared.task.Read.{Read}
+use Rattle.js_ordered.specs.declared.task.Task.{Task}
+use Rattle.js_ordered.specs.declared.task.ReaderOutput.{ReaderOutput}
+use Rattle.js_ordered.specs.declared.task.Task.TheVariants as task
+use Rattle.js_ordered.specs.Tasks.{StepsTo, next_rows, reader_rows, rows_of, told_outputs}
+use Rattle.js_table.specs.declared.consumer.ReplayInput.{ReplayInput}
+use Rattle.js_ordered.specs.Readings.{told_shown}
+use Rattle.js_pull.specs.declared.reader.Reader.{Reader}
+use Rattle.js_table.specs.declared.consumer.Consumer.{Consumer}
+use Rattle.js_table.specs.declared.consumer.Phase.TheVariants.{Pulls}
+use Rattle.js_table.specs.Reading.{told as told_by, with_sent}
+use Rattle.js_table.specs.declared.row.Row.{Row}
+use Rattle.js_table.specs.declared.row.Row.TheVariants.{Hear}
+use Rattle.js_table.specs.declared.run.Output.{Output}
+use Rattle.js_table.specs.declared.event_context.EventContext.{EventContext}
+use Rattle.js_table.specs.declared.replay_state.ReplayState.{ReplayState}
+use Rattle.js_table.specs.Fold.{and_then, is_request, is_subscribe, pass_each}
+use Rattle.js_table.specs.Passes.{given_of, matter_now, ran}
+use Rattle.js_table.specs.State.{Matter, at_phase}
+
+-- passing the rest, after what was put out so far, comes to what passing the whole would have come to
+abbrev pub Leads : ReplayInput → ℕ → Matter → List Row → ReplayState → List Output → List Row → ReplayState → List Output → Type 0
+Leads g now m rows w earlier rest u later = and_then earlier (pass_each (ran g now m) rows w) ≡ and_then later (pass_each (ran g now m) rest u)
+
+-- the same in a turn
+abbrev pub LeadsOn : EventContext → List Row → ReplayState → List Output → List Row → ReplayState → List Output → Type 0
+LeadsOn turn rows w earlier rest u later = Leads (given_of turn) turn.moment (matter_now turn) rows w earlier rest u later
+
+-- rows were passed up to those that follow, or there was no memory and all is as it was
+abbrev pub PassesTo : {E : Type 0} → EventContext → List Row → ReplayState → ReplayState → List Output → List Output → Result Next E → Type 0
+PassesTo turn rows old new before after (Ok rest) = LeadsOn turn rows old before (next_rows (matter_now turn) rest) new after
+PassesTo turn rows old new before after (Err e) = (new ≡ old) × (after ≡ before)
+
+-- the numbers after these were put out
+abbrev pub counted : List Output → ReplayState → ReplayState
+counted outputs w = record w { requests_sent = w.requests_sent + count_by is_request outputs; inboxes_opened = w.inboxes_opened + count_by is_subscribe outputs }
+
+-- the rows that are left, in order: the first lies last
+abbrev pub left_rows : Matter → List Task → List Row
+left_rows m [] = []
+left_rows m (one ∷ tasks) = left_rows m tasks ++ rows_of m one
+
+-- something is left
+abbrev pub IsLeft : List Task → Type 0
+IsLeft [] = ⊥
+IsLeft (one ∷ tasks) = ⊤
+
+-- ---- which rows are passed one by one
+
+-- a row of an open recreation
+abbrev pub IsTry : Task → Type 0
+IsTry task.Try = ⊤
+IsTry task.Create = ⊤
+IsTry task.Ask = ⊤
+IsTry task.Await = ⊤
+IsTry (task.Answered request) = ⊤
+IsTry (task.Succeed info) = ⊤
+IsTry task.Fail = ⊤
+IsTry other = ⊥
+
+-- the first of these is heard
+abbrev pub heard_first : ℕ → List Message → List Row
+heard_first inbox [] = []
+heard_first inbox (message ∷ messages) = Hear (record { inbox = inbox; message = message }) ∷ []
+
+-- the first of what was held
+abbrev pub first_held : Held → List Row
+first_held held = heard_first held.inbox (drop held.place held.messages)
+
+-- the first of the rows that a task stands for
+abbrev pub first_rows : Matter → Task → List Row
+first_rows m (task.HearHeld held) = first_held held
+first_rows m other = rows_of m other
+
+-- ---- what a reader tells
+
+-- the reader went on, and what it told without a message was put out
+pub record Finishes (m : Matter) (w u : ReplayState) (r : Reader) (step : Read) (earlier later : List Output) (rest : Next) : Type 0 where
+  pub told : ReaderOutput
+  pub consumer : Consumer
+  pub steps : StepsTo m (with_sent [] (reader_rows m step.due) (told_by (told_shown step.notice None) (at_phase (Pulls r) w.consumer))) (told_outputs told) consumer rest
+  pub outputs : later ≡ earlier ++ told_outputs told
+  pub world : u ≡ record w { consumer = consumer }

@@ -1,0 +1,331 @@
+//! A replay passes the rows of its events one by one: what a row wishes is given to it by its event, and what it sends is put out.
+//!
+//! What a row needs takes memory before the row changes anything. So after want of memory the rows that are left, with what was put out so far, come to
+//! what the whole event comes to.
+ghost use Rattle.std.specs.Prelude.{◌≡◌, ◌+◌, ◌≤◌, ◌++◌, ◌∷◌, [], OnErr, OnOk, drop, vec_capacity, vec_len};
+ghost use Rattle.js_ordered.specs.Driven.{IsLeft, IsTry, LeadsOn, PassesTo, first_held, first_rows, left_rows};
+ghost use Rattle.js_ordered.specs.Tasks.{heard_rows, next_rows, rows_of};
+ghost use Rattle.js_table.specs.Passes.{at, hearings, matter_now};
+ghost use Rattle.js_table.specs.Recreation.{message_on};
+ghost use Rattle.js_table.specs.State.{Matter};
+ghost use Rattle.js_table.specs.declared.row.Row.TheVariants as row;
+
+pub(crate) mod give;
+pub(crate) mod listening;
+pub(crate) mod reading;
+pub(crate) mod recreation;
+
+use crate::drive::give::tell;
+use crate::rows::event::{is_over, pass_event};
+use crate::task::{Held, Next, Step, Task};
+use crate::todo::Todo;
+use js_base::OutOfMemory;
+use js_table::{EventContext, Output, Phase, Recreation, ReplayState, change_of};
+use std::alloc::Global;
+use std::mem;
+
+// ---- rows of an open recreation
+
+/// A row of an open recreation is passed.
+fn pass_recreating(
+    alloc: Global,
+    turn: &EventContext<'_>,
+    world: &mut ReplayState,
+    recreation: Recreation,
+    task: &Task,
+    outputs: &mut Vec<Output>,
+) -> Result<Next, OutOfMemory>
+    requires task { IsTry task.now }
+    requires room { vec_len outputs.old + 1 ≤ vec_capacity outputs.old }
+    ensures { PassesTo turn.now (rows_of (matter_now turn.now) task.now) (at (Phase.Recreates recreation) world.old) world.new outputs.old.items outputs.new.items result }
+{
+    match task {
+        Task::Try => recreation::begin_try(alloc, turn, world, recreation, outputs),
+        Task::Create => recreation::create(alloc, turn, world, recreation, outputs),
+        Task::Ask => recreation::ask(alloc, turn, world, recreation, outputs),
+        Task::Await => recreation::look_on(turn, world, recreation, outputs),
+        Task::Answered { request } => {
+            recreation::answered(alloc, turn, world, recreation, *request, outputs)
+        }
+        Task::Succeed(info) => {
+            recreation::succeed(alloc, turn, world, recreation, info.get(), outputs)
+        }
+        Task::Fail => recreation::fail(turn, world, recreation, outputs),
+        Task::Event => Ok(Next::Nothing),
+        Task::Start => Ok(Next::Nothing),
+        Task::Hold => Ok(Next::Nothing),
+        Task::CheckArrival => Ok(Next::Nothing),
+        Task::Hear { .. } => Ok(Next::Nothing),
+        Task::HearHeld(_) => Ok(Next::Nothing),
+        Task::CheckSilence => Ok(Next::Nothing),
+        Task::Arm => Ok(Next::Nothing),
+        Task::Read(_) => Ok(Next::Nothing),
+    }
+}
+
+/// A row that belongs to an open recreation is passed. Where none is open, it does nothing.
+#[tactic(auto, using(std::proofs::lemmas::Grind::common_steps, crate::proofs::Driving::tries_nowhere))]
+fn pass_try(
+    alloc: Global,
+    turn: &EventContext<'_>,
+    world: &mut ReplayState,
+    task: &Task,
+    outputs: &mut Vec<Output>,
+) -> Result<Next, OutOfMemory>
+    requires task { IsTry task.now }
+    requires room { vec_len outputs.old + 1 ≤ vec_capacity outputs.old }
+    ensures { PassesTo turn.now (rows_of (matter_now turn.now) task.now) world.old world.new outputs.old.items outputs.new.items result }
+{
+    match mem::replace(&mut world.consumer.phase, Phase::Idle) {
+        Phase::Recreates(recreation) => {
+            pass_recreating(alloc, turn, world, recreation, task, outputs)
+        }
+        Phase::Pulls(reader) => {
+            world.consumer.phase = Phase::Pulls(reader);
+            Ok(Next::Nothing)
+        }
+        Phase::Pushes {
+            inbox,
+            heartbeat_timer,
+        } => {
+            world.consumer.phase = Phase::Pushes {
+                inbox,
+                heartbeat_timer,
+            };
+            Ok(Next::Nothing)
+        }
+        Phase::Idle => {
+            world.consumer.phase = Phase::Idle;
+            Ok(Next::Nothing)
+        }
+        Phase::Ended => {
+            world.consumer.phase = Phase::Ended;
+            Ok(Next::Nothing)
+        }
+        Phase::Exhausted => {
+            world.consumer.phase = Phase::Exhausted;
+            Ok(Next::Nothing)
+        }
+    }
+}
+
+// ---- any row
+
+/// What an event does first. An ended consumer passes nothing.
+#[inline]
+fn event(turn: &EventContext<'_>, world: &mut ReplayState, outputs: &mut Vec<Output>) -> Next
+    requires room { vec_len outputs.old + 1 ≤ vec_capacity outputs.old }
+    ensures { LeadsOn turn.now (row.Event ∷ []) world.old outputs.old.items (next_rows (matter_now turn.now) result) world.new outputs.new.items }
+{
+    if is_over(&world.consumer.phase) {
+        return Next::Nothing;
+    }
+    let Step { told, next } = pass_event(turn, &mut world.consumer, change_of(turn.what));
+    tell(told, outputs);
+    next
+}
+
+/// What was held is heard, the first of it.
+fn hear_held(
+    turn: &EventContext<'_>,
+    world: &mut ReplayState,
+    held: &Held,
+    outputs: &mut Vec<Output>,
+) -> Result<Next, OutOfMemory>
+    requires room { vec_len outputs.old + 1 ≤ vec_capacity outputs.old }
+    ensures { PassesTo turn.now (first_held held.now) world.old world.new outputs.old.items outputs.new.items result }
+{
+    let messages = held.messages.as_slice();
+    let place = held.place;
+    if place >= messages.len() {
+        return Ok(Next::Nothing);
+    }
+    listening::hear(turn, world, held.inbox, &messages[place], outputs)
+}
+
+/// What the event brings on an inbox is heard.
+fn hear_brought(
+    turn: &EventContext<'_>,
+    world: &mut ReplayState,
+    inbox: u64,
+    outputs: &mut Vec<Output>,
+) -> Result<Next, OutOfMemory>
+    requires room { vec_len outputs.old + 1 ≤ vec_capacity outputs.old }
+    ensures { PassesTo turn.now (heard_rows inbox (message_on inbox (matter_now turn.now).arrival)) world.old world.new outputs.old.items outputs.new.items result }
+{
+    match turn.what.message_on(inbox) {
+        None => Ok(Next::Nothing),
+        Some(message) => listening::hear(turn, world, inbox, message, outputs),
+    }
+}
+
+/// What arrives for a recreation that holds arrivals is held.
+fn hold(
+    turn: &EventContext<'_>,
+    world: &mut ReplayState,
+    outputs: &mut Vec<Output>,
+) -> Result<Next, OutOfMemory>
+    ensures { PassesTo turn.now (row.Hold ∷ []) world.old world.new outputs.old.items outputs.new.items result }
+{
+    recreation::hold_at(turn.what, &mut world.consumer.phase)?;
+    Ok(Next::Nothing)
+}
+
+/// A row is passed, and those that follow it at once are answered. Of what was held only the first message is heard.
+#[inline]
+fn pass(
+    alloc: Global,
+    turn: &EventContext<'_>,
+    world: &mut ReplayState,
+    task: &Task,
+    outputs: &mut Vec<Output>,
+) -> Result<Next, OutOfMemory>
+    requires room { vec_len outputs.old + 1 ≤ vec_capacity outputs.old }
+    ensures { PassesTo turn.now (first_rows (matter_now turn.now) task.now) world.old world.new outputs.old.items outputs.new.items result }
+{
+    match task {
+        Task::Event => Ok(event(turn, world, outputs)),
+        Task::Start => recreation::start(alloc, turn, world, outputs),
+        Task::Try => pass_try(alloc, turn, world, task, outputs),
+        Task::Create => pass_try(alloc, turn, world, task, outputs),
+        Task::Ask => pass_try(alloc, turn, world, task, outputs),
+        Task::Await => pass_try(alloc, turn, world, task, outputs),
+        Task::Answered { .. } => pass_try(alloc, turn, world, task, outputs),
+        Task::Succeed(_) => pass_try(alloc, turn, world, task, outputs),
+        Task::Fail => pass_try(alloc, turn, world, task, outputs),
+        Task::Hold => hold(turn, world, outputs),
+        Task::CheckArrival => Ok(listening::look(turn, world)),
+        Task::Hear { inbox } => hear_brought(turn, world, *inbox, outputs),
+        Task::HearHeld(held) => hear_held(turn, world, held, outputs),
+        Task::CheckSilence => Ok(listening::look_at_silence(turn, world, outputs)),
+        Task::Arm => {
+            listening::arm(turn, world);
+            Ok(Next::Nothing)
+        }
+        Task::Read(due) => reading::pass_read(alloc, turn, world, *due, outputs),
+    }
+}
+
+// ---- what is left
+
+/// What is left of what was held.
+fn held_left(held: Held) -> Next
+    ensures { (m : Matter) → hearings held.inbox (drop held.place held.messages) ≡ first_held held ++ next_rows m result }
+{
+    let Held {
+        inbox,
+        messages,
+        place,
+    } = held;
+    if place < messages.as_slice().len() {
+        return Next::One(Task::HearHeld(Held {
+            inbox,
+            messages,
+            place: place + 1,
+        }));
+    }
+    Next::Nothing
+}
+
+/// What is left of a task after its first row.
+#[inline]
+fn left_of(task: Task) -> Next
+    ensures { (m : Matter) → rows_of m task ≡ first_rows m task ++ next_rows m result }
+{
+    match task {
+        Task::HearHeld(held) => held_left(held),
+        Task::Event => Next::Nothing,
+        Task::Start => Next::Nothing,
+        Task::Try => Next::Nothing,
+        Task::Create => Next::Nothing,
+        Task::Ask => Next::Nothing,
+        Task::Await => Next::Nothing,
+        Task::Answered { .. } => Next::Nothing,
+        Task::Hold => Next::Nothing,
+        Task::Succeed(_) => Next::Nothing,
+        Task::Fail => Next::Nothing,
+        Task::CheckArrival => Next::Nothing,
+        Task::Hear { .. } => Next::Nothing,
+        Task::CheckSilence => Next::Nothing,
+        Task::Arm => Next::Nothing,
+        Task::Read(_) => Next::Nothing,
+    }
+}
+
+/// A task is passed that was taken, and what follows it is left. Where there is no memory it is left itself.
+#[inline]
+fn pass_taken(
+    alloc: Global,
+    turn: &EventContext<'_>,
+    world: &mut ReplayState,
+    todo: &mut Todo,
+    task: Task,
+    outputs: &mut Vec<Output>,
+) -> Result<(), OutOfMemory>
+    requires room { vec_len outputs.old + 1 ≤ vec_capacity outputs.old }
+    requires places { vec_len todo.old.tasks + 4 ≤ vec_capacity todo.old.tasks }
+    ensures leads { LeadsOn turn.now (left_rows (matter_now turn.now) (todo.old.tasks.items ++ task ∷ [])) world.old outputs.old.items
+        (left_rows (matter_now turn.now) todo.new.tasks.items) world.new outputs.new.items }
+    ensures refused { OnErr result (IsLeft todo.new.tasks.items) }
+{
+    match pass(alloc, turn, world, &task, outputs) {
+        Err(refused) => {
+            todo.put_one(task);
+            Err(refused)
+        }
+        Ok(next) => {
+            todo.put(left_of(task));
+            todo.put(next);
+            Ok(())
+        }
+    }
+}
+
+/// The first task that is left is passed.
+#[inline]
+fn pass_next(
+    alloc: Global,
+    turn: &EventContext<'_>,
+    world: &mut ReplayState,
+    todo: &mut Todo,
+    outputs: &mut Vec<Output>,
+) -> Result<(), OutOfMemory>
+    requires left { IsLeft todo.old.tasks.items }
+    ensures leads { LeadsOn turn.now (left_rows (matter_now turn.now) todo.old.tasks.items) world.old outputs.old.items
+        (left_rows (matter_now turn.now) todo.new.tasks.items) world.new outputs.new.items }
+    ensures refused { OnErr result (IsLeft todo.new.tasks.items) }
+{
+    todo.make_room()?;
+    outputs.reserve(1)?;
+    match todo.take() {
+        None => Ok(()),
+        Some(task) => pass_taken(alloc, turn, world, todo, task, outputs),
+    }
+}
+
+/// All that is left of an event is passed. After want of memory the rest is left, and comes to what the whole would have come to.
+///
+/// An event has fewer rows than a `u64` counts: memory ends long before.
+pub(crate) fn pass_left(
+    alloc: Global,
+    turn: &EventContext<'_>,
+    world: &mut ReplayState,
+    todo: &mut Todo,
+    outputs: &mut Vec<Output>,
+) -> Result<(), OutOfMemory>
+    ensures leads { LeadsOn turn.now (left_rows (matter_now turn.now) todo.old.tasks.items) world.old outputs.old.items
+        (left_rows (matter_now turn.now) todo.new.tasks.items) world.new outputs.new.items }
+    ensures rested { OnOk result (todo.new.tasks.items ≡ []) }
+    ensures refused { OnErr result (IsLeft todo.new.tasks.items) }
+{
+    for _ in 0..u64::MAX {
+        if todo.is_empty() {
+            return Ok(());
+        }
+        pass_next(alloc, turn, world, todo, outputs)?;
+    }
+    if todo.is_empty() {
+        return Ok(());
+    }
+    Err(OutOfMemory)
+}

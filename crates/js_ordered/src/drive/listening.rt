@@ -1,0 +1,158 @@
+//! The rows by which push reads its inbox, in a replay: what arrives is lent by the event, and what is put out of it is made first.
+ghost use Rattle.std.specs.Prelude.{◌≡◌, ◌+◌, ◌≤◌, ◌++◌, ◌∷◌, [], IfOk, List, is_some, option_to_list, vec_capacity, vec_len};
+ghost use Rattle.js_ordered.specs.Driven.{LeadsOn, PassesTo};
+ghost use Rattle.js_ordered.specs.Tasks.{heard_outputs, next_rows};
+ghost use Rattle.js_table.specs.Passes.{listens_to, matter_now};
+ghost use Rattle.js_table.specs.Fold.{matter_of};
+ghost use Rattle.js_table.specs.Reading.{beat_answer};
+ghost use Rattle.js_table.specs.Recreation.{message_on};
+ghost use Rattle.js_table.specs.declared.row.Row.TheVariants as row;
+ghost use Rattle.js_table.specs.declared.run.Output.{Output as SpecOutput};
+
+use crate::drive::give::{put, tell};
+use crate::rows::listening::{arrival_next, heard_as, listen, pass_hear, pass_silence};
+use crate::task::{Heard, Next, Step};
+use bytes::Bytes;
+use js_base::{Message, OutOfMemory, TryClone};
+use js_table::{EventContext, EventKind, ItemKind, Output, Phase, ReplayState, yield_of};
+
+/// The event brings something on this inbox.
+#[inline]
+fn arrives(what: &EventKind, inbox: u64) -> bool
+    ensures { result ≡ is_some (message_on inbox (matter_of what.now).arrival) }
+{
+    match what.message_on(inbox) {
+        None => false,
+        Some(_) => true,
+    }
+}
+
+/// Push looks for an arrival.
+#[inline]
+pub(crate) fn look(turn: &EventContext<'_>, world: &ReplayState) -> Next
+    ensures { (outputs : List SpecOutput) → LeadsOn turn.now (row.CheckArrival ∷ []) world.now outputs (next_rows (matter_now turn.now) result) world.now outputs }
+{
+    match world.consumer.phase {
+        Phase::Pushes { inbox, .. } => arrival_next(inbox, arrives(turn.what, inbox)),
+        Phase::Pulls(_) => Next::Nothing,
+        Phase::Recreates(_) => Next::Nothing,
+        Phase::Idle => Next::Nothing,
+        Phase::Ended => Next::Nothing,
+        Phase::Exhausted => Next::Nothing,
+    }
+}
+
+/// Push looks at its heartbeat.
+#[inline]
+pub(crate) fn look_at_silence(
+    turn: &EventContext<'_>,
+    world: &ReplayState,
+    outputs: &mut Vec<Output>,
+) -> Next
+    requires room { vec_len outputs.old + 1 ≤ vec_capacity outputs.old }
+    ensures { LeadsOn turn.now (row.CheckSilence ∷ []) world.now outputs.old.items (next_rows (matter_now turn.now) result) world.now outputs.new.items }
+{
+    match world.consumer.phase {
+        Phase::Pushes {
+            heartbeat_timer,
+            ..
+        } => {
+            let Step { told, next } = pass_silence(turn, heartbeat_timer);
+            tell(told, outputs);
+            next
+        }
+        Phase::Pulls(_) => Next::Nothing,
+        Phase::Recreates(_) => Next::Nothing,
+        Phase::Idle => Next::Nothing,
+        Phase::Ended => Next::Nothing,
+        Phase::Exhausted => Next::Nothing,
+    }
+}
+
+/// Push arms its heartbeat.
+pub(crate) fn arm(turn: &EventContext<'_>, world: &mut ReplayState)
+    ensures { (outputs : List SpecOutput) → LeadsOn turn.now (row.Arm ∷ []) world.old outputs [] world.new outputs }
+{
+    match world.consumer.phase {
+        Phase::Pushes { inbox, .. } => listen(turn, &mut world.consumer, inbox),
+        Phase::Pulls(_) => {}
+        Phase::Recreates(_) => {}
+        Phase::Idle => {}
+        Phase::Ended => {}
+        Phase::Exhausted => {}
+    }
+}
+
+// ---- an arrival
+
+/// The consumer listens to this inbox.
+#[inline]
+fn listens(world: &ReplayState, inbox: u64) -> bool
+    ensures { result ≡ listens_to inbox world.now.consumer.phase }
+{
+    match world.consumer.phase {
+        Phase::Pushes { inbox: current, .. } => inbox == current,
+        _ => false,
+    }
+}
+
+/// A beat that asks for an answer gets an empty one, where the link is up.
+fn answer_of(up: bool, message: &Message) -> Result<Option<Output>, OutOfMemory>
+    ensures { IfOk result (λ output. option_to_list output ≡ beat_answer up message.now.reply) }
+{
+    match &message.reply {
+        None => Ok(None),
+        Some(reply) => {
+            if !up {
+                return Ok(None);
+            }
+            Ok(Some(Output::Publish {
+                subject: reply.try_clone()?,
+                reply: None,
+                payload: Bytes::from_static(b""),
+            }))
+        }
+    }
+}
+
+/// What is put out of an arrival.
+#[inline]
+pub(crate) fn output_of(
+    up: bool,
+    message: &Message,
+    heard: Heard,
+) -> Result<Option<Output>, OutOfMemory>
+    ensures { IfOk result (λ output. option_to_list output ≡ heard_outputs up message.now heard) }
+{
+    match heard {
+        Heard::Yields(place) => Ok(Some(yield_of(message, place)?)),
+        Heard::Unreadable => Ok(Some(Output::Item {
+            kind: ItemKind::Other,
+        })),
+        Heard::Beat(_) => answer_of(up, message),
+        Heard::Gap => Ok(None),
+        Heard::Quiet => Ok(None),
+    }
+}
+
+/// A message is heard on an inbox. Where it is not the current one, nothing comes of it.
+#[inline]
+pub(crate) fn hear(
+    turn: &EventContext<'_>,
+    world: &mut ReplayState,
+    inbox: u64,
+    message: &Message,
+    outputs: &mut Vec<Output>,
+) -> Result<Next, OutOfMemory>
+    requires room { vec_len outputs.old + 1 ≤ vec_capacity outputs.old }
+    ensures { PassesTo turn.now (row.Hear (record { inbox = inbox; message = message.now }) ∷ []) world.old world.new outputs.old.items outputs.new.items result }
+{
+    if !listens(world, inbox) {
+        return Ok(Next::Nothing);
+    }
+    let heard = heard_as(world.consumer.consumer_sequence, message);
+    let output = output_of(world.up, message, heard)?;
+    let next = pass_hear(turn, &mut world.consumer, inbox, heard);
+    put(output, outputs);
+    Ok(next)
+}

@@ -1,0 +1,433 @@
+//! The rows of a recreation in a replay: their texts are made first, so that a row for which there is no memory changes nothing.
+ghost use Rattle.std.specs.Prelude.{◌≡◌, ◌+◌, ◌≤◌, ◌∷◌, [], Some, IfOk, OnOk, OnErr, codes, is_some, option_map, vec_capacity, vec_len};
+ghost use Rattle.js_ordered.specs.Driven.{PassesTo};
+ghost use Rattle.js_ordered.specs.Giving.{IsOpening, IsSending};
+ghost use Rattle.js_ordered.specs.Tasks.{IsAnswered, answered_rows};
+ghost use Rattle.js_pull.specs.Reader.{info_of_reply as info_in, reply_to};
+ghost use Rattle.js_table.specs.Fold.{matter_of};
+ghost use Rattle.js_table.specs.Kept.{IsPull, IsPush};
+ghost use Rattle.js_table.specs.Passes.{at, given_of, holding, matter_now};
+ghost use Rattle.js_table.specs.Recreation.{held_in};
+ghost use Rattle.js_table.specs.Texts as texts_of;
+ghost use Rattle.js_table.specs.declared.row.Row.TheVariants as row;
+
+use crate::drive::give::{Opening, Sending, inbox_for, request_for, send, subscribe, tell};
+use crate::rows::recreation::{
+    pass_answered, pass_ask, pass_await, pass_create, pass_fail, pass_start, pass_succeed_pull,
+    pass_succeed_push, pass_try,
+};
+use crate::task::{Next, Step};
+use bytes::Bytes;
+use js_base::{Boxed, Message, OutOfMemory, Subject, TryClone};
+use js_json::consumer::Info;
+use js_pull::{Source, info_of_reply};
+use js_table::{
+    EventContext, EventKind, Opened, OrderedSetup, Output, Phase, Recreation, ReplayState,
+    RequestOutcome, Stage, texts,
+};
+use std::alloc::Global;
+
+// ---- a recreation starts
+
+/// A recreation starts.
+pub(crate) fn start(
+    alloc: Global,
+    turn: &EventContext<'_>,
+    world: &mut ReplayState,
+    outputs: &mut Vec<Output>,
+) -> Result<Next, OutOfMemory>
+    requires room { vec_len outputs.old + 1 ≤ vec_capacity outputs.old }
+    ensures { PassesTo turn.now (row.Start ∷ []) world.old world.new outputs.old.items outputs.new.items result }
+{
+    let name = texts::consumer_name(
+        alloc,
+        turn,
+        world.consumer.recreation_count.saturating_add(1),
+    )?;
+    let again = name.try_clone()?;
+    let Step { told, next } = pass_start(turn, &mut world.consumer, name, again);
+    tell(told, outputs);
+    Ok(next)
+}
+
+// ---- a try
+
+/// The request that deletes the old consumer, where the link is up.
+fn try_request(
+    alloc: Global,
+    turn: &EventContext<'_>,
+    world: &ReplayState,
+    recreation: &Recreation,
+) -> Result<Option<Sending>, OutOfMemory>
+    ensures { IfOk result (λ request. IsSending world.now.up world.now.requests_sent (texts_of.delete_subject (given_of turn.now) recreation.now) (codes "{}") request) }
+{
+    if !world.up {
+        return Ok(None);
+    }
+    let subject = texts::delete_subject(alloc, turn, recreation)?;
+    let request = request_for(world.requests_sent, subject, Bytes::from_static(b"{}"))?;
+    Ok(Some(request))
+}
+
+/// A try begins.
+pub(crate) fn begin_try(
+    alloc: Global,
+    turn: &EventContext<'_>,
+    world: &mut ReplayState,
+    recreation: Recreation,
+    outputs: &mut Vec<Output>,
+) -> Result<Next, OutOfMemory>
+    requires room { vec_len outputs.old + 1 ≤ vec_capacity outputs.old }
+    ensures { PassesTo turn.now (row.Try ∷ []) (at (Phase.Recreates recreation) world.old) world.new outputs.old.items outputs.new.items result }
+{
+    match try_request(alloc, turn, world, &recreation) {
+        Err(refused) => {
+            world.consumer.phase = Phase::Recreates(recreation);
+            Err(refused)
+        }
+        Ok(request) => {
+            let number = send(&mut world.requests_sent, request, outputs);
+            Ok(pass_try(turn, &mut world.consumer, recreation, number))
+        }
+    }
+}
+
+/// The inbox of a push create, where the link is up.
+fn create_inbox(
+    alloc: Global,
+    turn: &EventContext<'_>,
+    world: &ReplayState,
+) -> Result<Option<Opening>, OutOfMemory>
+    ensures { IfOk result (λ opening. IsOpening world.now.up world.now.inboxes_opened (texts_of.inbox_subject (given_of turn.now) world.now.inboxes_opened) opening) }
+{
+    if !world.up {
+        return Ok(None);
+    }
+    let subject = texts::inbox_subject(alloc, turn, world.inboxes_opened)?;
+    let opening = inbox_for(world.inboxes_opened, subject)?;
+    Ok(Some(opening))
+}
+
+/// Push subscribes its inbox.
+fn create_push(
+    alloc: Global,
+    turn: &EventContext<'_>,
+    world: &mut ReplayState,
+    recreation: Recreation,
+    outputs: &mut Vec<Output>,
+) -> Result<Next, OutOfMemory>
+    requires push { IsPush turn.now.setup.now }
+    requires room { vec_len outputs.old + 1 ≤ vec_capacity outputs.old }
+    ensures { PassesTo turn.now (row.Create ∷ []) (at (Phase.Recreates recreation) world.old) world.new outputs.old.items outputs.new.items result }
+{
+    match create_inbox(alloc, turn, world) {
+        Err(refused) => {
+            world.consumer.phase = Phase::Recreates(recreation);
+            Err(refused)
+        }
+        Ok(opening) => {
+            let inbox = subscribe(&mut world.inboxes_opened, opening, outputs);
+            Ok(pass_create(alloc, turn, &mut world.consumer, recreation, inbox))
+        }
+    }
+}
+
+/// Pull subscribes nothing before it asks for the new consumer.
+fn create_pull(
+    alloc: Global,
+    turn: &EventContext<'_>,
+    world: &mut ReplayState,
+    recreation: Recreation,
+    outputs: &mut Vec<Output>,
+) -> Result<Next, OutOfMemory>
+    requires pull { IsPull turn.now.setup.now }
+    ensures { PassesTo turn.now (row.Create ∷ []) (at (Phase.Recreates recreation) world.old) world.new outputs.old.items outputs.new.items result }
+{
+    Ok(pass_create(alloc, turn, &mut world.consumer, recreation, None))
+}
+
+/// The new consumer is to be asked for.
+pub(crate) fn create(
+    alloc: Global,
+    turn: &EventContext<'_>,
+    world: &mut ReplayState,
+    recreation: Recreation,
+    outputs: &mut Vec<Output>,
+) -> Result<Next, OutOfMemory>
+    requires room { vec_len outputs.old + 1 ≤ vec_capacity outputs.old }
+    ensures { PassesTo turn.now (row.Create ∷ []) (at (Phase.Recreates recreation) world.old) world.new outputs.old.items outputs.new.items result }
+{
+    match turn.setup {
+        OrderedSetup::Pull(_) => create_pull(alloc, turn, world, recreation, outputs),
+        OrderedSetup::Push(_) => create_push(alloc, turn, world, recreation, outputs),
+    }
+}
+
+/// The create request, where the link is up.
+fn create_request(
+    alloc: Global,
+    turn: &EventContext<'_>,
+    world: &ReplayState,
+    recreation: &Recreation,
+) -> Result<Option<Sending>, OutOfMemory>
+    ensures { IfOk result (λ request. IsSending world.now.up world.now.requests_sent (texts_of.create_subject (given_of turn.now) recreation.now) (texts_of.create_body (given_of turn.now) recreation.now) request) }
+{
+    if !world.up {
+        return Ok(None);
+    }
+    let subject = texts::create_subject(alloc, turn, recreation)?;
+    let payload = texts::create_body(alloc, turn, recreation)?;
+    let request = request_for(world.requests_sent, subject, payload)?;
+    Ok(Some(request))
+}
+
+/// The new consumer is asked for.
+pub(crate) fn ask(
+    alloc: Global,
+    turn: &EventContext<'_>,
+    world: &mut ReplayState,
+    recreation: Recreation,
+    outputs: &mut Vec<Output>,
+) -> Result<Next, OutOfMemory>
+    requires room { vec_len outputs.old + 1 ≤ vec_capacity outputs.old }
+    ensures { PassesTo turn.now (row.Ask ∷ []) (at (Phase.Recreates recreation) world.old) world.new outputs.old.items outputs.new.items result }
+{
+    match create_request(alloc, turn, world, &recreation) {
+        Err(refused) => {
+            world.consumer.phase = Phase::Recreates(recreation);
+            Err(refused)
+        }
+        Ok(request) => {
+            let number = send(&mut world.requests_sent, request, outputs);
+            Ok(pass_ask(turn, &mut world.consumer, recreation, number))
+        }
+    }
+}
+
+/// A try has failed.
+pub(crate) fn fail(
+    turn: &EventContext<'_>,
+    world: &mut ReplayState,
+    recreation: Recreation,
+    outputs: &mut Vec<Output>,
+) -> Result<Next, OutOfMemory>
+    requires room { vec_len outputs.old + 1 ≤ vec_capacity outputs.old }
+    ensures { PassesTo turn.now (row.Fail ∷ []) (at (Phase.Recreates recreation) world.old) world.new outputs.old.items outputs.new.items result }
+{
+    let Step { told, next } = pass_fail(turn, &mut world.consumer, recreation);
+    tell(told, outputs);
+    Ok(next)
+}
+
+// ---- an open recreation
+
+/// The event answers this request.
+pub(crate) fn has_reply(what: &EventKind, request: u64) -> bool
+    ensures { result ≡ is_some (reply_to request (matter_of what.now).answer) }
+{
+    match what.reply_to(request) {
+        RequestOutcome::Waiting => false,
+        RequestOutcome::Gone => true,
+        RequestOutcome::Got(_) => true,
+    }
+}
+
+/// The event brings the answer that a stage waits for.
+fn is_answered(what: &EventKind, stage: Stage) -> bool
+    ensures { IsAnswered (matter_of what.now) stage result }
+{
+    match stage {
+        Stage::Deleting { request, .. } => has_reply(what, request),
+        Stage::Creating { request, .. } => has_reply(what, request),
+        Stage::Between => false,
+        Stage::Waiting { .. } => false,
+    }
+}
+
+/// What an open recreation waits for is looked at.
+pub(crate) fn look_on(
+    turn: &EventContext<'_>,
+    world: &mut ReplayState,
+    recreation: Recreation,
+    outputs: &mut Vec<Output>,
+) -> Result<Next, OutOfMemory>
+    ensures { PassesTo turn.now (row.Await ∷ []) (at (Phase.Recreates recreation) world.old) world.new outputs.old.items outputs.new.items result }
+{
+    let answered = is_answered(turn.what, recreation.stage);
+    Ok(pass_await(turn, &mut world.consumer, recreation, answered))
+}
+
+/// What a message tells, in a box.
+fn told_by(alloc: Global, message: &Message) -> Result<Option<Boxed<Info>>, OutOfMemory>
+    ensures { IfOk result (λ info. info ≡ info_in (Some message.now)) }
+{
+    match info_of_reply(alloc, Some(message))? {
+        None => Ok(None),
+        Some(info) => Ok(Some(Boxed::new(alloc, info)?)),
+    }
+}
+
+/// What the reply to a request tells, where the event brings one.
+fn reply_told(
+    alloc: Global,
+    what: &EventKind,
+    request: u64,
+) -> Result<Option<Option<Boxed<Info>>>, OutOfMemory>
+    ensures { IfOk result (λ told. told ≡ option_map info_in (reply_to request (matter_of what.now).answer)) }
+{
+    match what.reply_to(request) {
+        RequestOutcome::Waiting => Ok(None),
+        RequestOutcome::Gone => Ok(Some(None)),
+        RequestOutcome::Got(message) => Ok(Some(told_by(alloc, message)?)),
+    }
+}
+
+/// The reply to a create is read.
+pub(crate) fn answered(
+    alloc: Global,
+    turn: &EventContext<'_>,
+    world: &mut ReplayState,
+    recreation: Recreation,
+    request: u64,
+    outputs: &mut Vec<Output>,
+) -> Result<Next, OutOfMemory>
+    ensures { PassesTo turn.now (answered_rows (reply_to request (matter_now turn.now).answer)) (at (Phase.Recreates recreation) world.old) world.new outputs.old.items outputs.new.items result }
+{
+    match reply_told(alloc, turn.what, request) {
+        Err(refused) => {
+            world.consumer.phase = Phase::Recreates(recreation);
+            Err(refused)
+        }
+        Ok(told) => match told {
+            None => {
+                world.consumer.phase = Phase::Recreates(recreation);
+                Ok(Next::Nothing)
+            }
+            Some(info) => Ok(pass_answered(turn, &mut world.consumer, recreation, info)),
+        },
+    }
+}
+
+// ---- success
+
+/// Whom the next reader asks, but for its inbox.
+fn source_for(
+    alloc: Global,
+    turn: &EventContext<'_>,
+    recreation_count: u64,
+    info: &Info,
+) -> Result<Source, OutOfMemory>
+    ensures { IfOk result (λ source. source ≡ texts_of.source_of (given_of turn.now) recreation_count 0 [] info.now) }
+{
+    let unknown = Subject::from(String::new(alloc));
+    Ok(texts::source_of(turn, recreation_count, 0, unknown, info)?)
+}
+
+/// What pull needs for its next reader.
+#[derive(Drop)]
+struct Reading {
+    source: Source,
+    opening: Option<Opening>,
+}
+
+fn reading_for(
+    alloc: Global,
+    turn: &EventContext<'_>,
+    world: &ReplayState,
+    info: &Info,
+) -> Result<Reading, OutOfMemory>
+    ensures source { IfOk result (λ reading. reading.source ≡ texts_of.source_of (given_of turn.now) world.now.consumer.recreation_count 0 [] info.now) }
+    ensures opening { IfOk result (λ reading. IsOpening world.now.up world.now.inboxes_opened (texts_of.inbox_subject (given_of turn.now) world.now.inboxes_opened) reading.opening) }
+{
+    let source = source_for(alloc, turn, world.consumer.recreation_count, info)?;
+    let opening = create_inbox(alloc, turn, world)?;
+    Ok(Reading { source, opening })
+}
+
+/// Pull subscribes the next inbox, and reads it.
+fn succeed_pull(
+    alloc: Global,
+    turn: &EventContext<'_>,
+    world: &mut ReplayState,
+    recreation: Recreation,
+    info: &Info,
+    outputs: &mut Vec<Output>,
+) -> Result<Next, OutOfMemory>
+    requires pull { IsPull turn.now.setup.now }
+    requires room { vec_len outputs.old + 1 ≤ vec_capacity outputs.old }
+    ensures { PassesTo turn.now (row.Succeed info.now ∷ []) (at (Phase.Recreates recreation) world.old) world.new outputs.old.items outputs.new.items result }
+{
+    match reading_for(alloc, turn, world, info) {
+        Err(refused) => {
+            world.consumer.phase = Phase::Recreates(recreation);
+            Err(refused)
+        }
+        Ok(Reading { source, opening }) => {
+            let inbox = subscribe(&mut world.inboxes_opened, opening, outputs);
+            Ok(pass_succeed_pull(turn, &mut world.consumer, recreation, source, inbox))
+        }
+    }
+}
+
+/// Push hears its inbox from now on.
+fn succeed_push(
+    turn: &EventContext<'_>,
+    world: &mut ReplayState,
+    recreation: Recreation,
+    info: &Info,
+    outputs: &mut Vec<Output>,
+) -> Result<Next, OutOfMemory>
+    requires push { IsPush turn.now.setup.now }
+    ensures { PassesTo turn.now (row.Succeed info.now ∷ []) (at (Phase.Recreates recreation) world.old) world.new outputs.old.items outputs.new.items result }
+{
+    Ok(pass_succeed_push(turn, &mut world.consumer, recreation))
+}
+
+/// A create was answered well.
+pub(crate) fn succeed(
+    alloc: Global,
+    turn: &EventContext<'_>,
+    world: &mut ReplayState,
+    recreation: Recreation,
+    info: &Info,
+    outputs: &mut Vec<Output>,
+) -> Result<Next, OutOfMemory>
+    requires room { vec_len outputs.old + 1 ≤ vec_capacity outputs.old }
+    ensures { PassesTo turn.now (row.Succeed info.now ∷ []) (at (Phase.Recreates recreation) world.old) world.new outputs.old.items outputs.new.items result }
+{
+    match turn.setup {
+        OrderedSetup::Pull(_) => succeed_pull(alloc, turn, world, recreation, info, outputs),
+        OrderedSetup::Push(_) => succeed_push(turn, world, recreation, info, outputs),
+    }
+}
+
+// ---- what arrives meanwhile
+
+/// An arrival on the inbox of a create is held until the create is answered.
+fn hold_in(what: &EventKind, opened: &mut Option<Opened>) -> Result<(), OutOfMemory>
+    ensures held { OnOk result (opened.new ≡ held_in (matter_of what.now).arrival opened.old) }
+    ensures kept { OnErr result (opened.new ≡ opened.old) }
+{
+    match opened {
+        None => Ok(()),
+        Some(opened) => match what.message_on(opened.inbox) {
+            None => Ok(()),
+            Some(message) => opened.held.push(message.try_clone()?),
+        },
+    }
+}
+
+/// An arrival is held where a recreation holds arrivals.
+pub(crate) fn hold_at(what: &EventKind, phase: &mut Phase) -> Result<(), OutOfMemory>
+    ensures held { OnOk result (phase.new ≡ holding (matter_of what.now).arrival phase.old) }
+    ensures kept { OnErr result (phase.new ≡ phase.old) }
+{
+    match phase {
+        Phase::Recreates(recreation) => hold_in(what, &mut recreation.opened),
+        Phase::Pulls(_) => Ok(()),
+        Phase::Pushes { .. } => Ok(()),
+        Phase::Idle => Ok(()),
+        Phase::Ended => Ok(()),
+        Phase::Exhausted => Ok(()),
+    }
+}

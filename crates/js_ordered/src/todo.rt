@@ -1,0 +1,83 @@
+//! The rows that are left of an event.
+ghost use Rattle.std.specs.Prelude.{◌≡◌, ◌==◌, ◌+◌, ◌≤◌, ◌++◌, ◌∷◌, [], OnOk, length, option_to_list, vec_capacity, vec_len};
+ghost use Rattle.js_ordered.specs.Driven.{left_rows};
+ghost use Rattle.js_ordered.specs.Tasks.{next_rows};
+ghost use Rattle.js_table.specs.State.{Matter};
+
+use crate::task::{Next, Task};
+use js_base::OutOfMemory;
+use std::alloc::Global;
+
+/// The rows that are left of an event, the first of which lies last.
+#[derive(Drop)]
+pub(crate) struct Todo {
+    tasks: Vec<Task>,
+}
+
+impl Todo {
+    /// Nothing is left.
+    pub(crate) fn new(alloc: Global) -> Todo
+        ensures { result.tasks.items ≡ [] }
+    {
+        Todo {
+            tasks: Vec::new(alloc),
+        }
+    }
+
+    /// Whether nothing is left.
+    #[inline]
+    pub(crate) fn is_empty(&self) -> bool
+        ensures { result ≡ (length self.now.tasks.items == 0) }
+    {
+        self.tasks.is_empty()
+    }
+
+    /// Room for what is left of a row and for what follows it.
+    #[inline]
+    pub(crate) fn make_room(&mut self) -> Result<(), OutOfMemory>
+        ensures tasks { self.new.tasks.items ≡ self.old.tasks.items }
+        ensures room { OnOk result (vec_len self.new.tasks + 4 ≤ vec_capacity self.new.tasks) }
+    {
+        self.tasks.reserve(4)?;
+        Ok(())
+    }
+
+    /// Takes the first.
+    #[inline]
+    pub(crate) fn take(&mut self) -> Option<Task>
+        ensures tasks { self.old.tasks.items ≡ self.new.tasks.items ++ option_to_list result }
+        ensures len { vec_len self.new.tasks ≤ vec_len self.old.tasks }
+        ensures capacity { vec_capacity self.new.tasks ≡ vec_capacity self.old.tasks }
+    {
+        self.tasks.pop()
+    }
+
+    /// This comes first.
+    #[inline]
+    pub(crate) fn put_one(&mut self, task: Task)
+        requires { vec_len self.old.tasks + 1 ≤ vec_capacity self.old.tasks }
+        ensures tasks { self.new.tasks.items ≡ self.old.tasks.items ++ task ∷ [] }
+        ensures len { vec_len self.new.tasks ≤ vec_len self.old.tasks + 1 }
+        ensures capacity { vec_capacity self.new.tasks ≡ vec_capacity self.old.tasks }
+    {
+        self.tasks.push_reserved(task);
+    }
+
+    /// These come first.
+    #[inline]
+    pub(crate) fn put(&mut self, next: Next)
+        requires { vec_len self.old.tasks + 2 ≤ vec_capacity self.old.tasks }
+        ensures tasks { (m : Matter) → left_rows m self.new.tasks.items ≡ next_rows m next ++ left_rows m self.old.tasks.items }
+        ensures len { vec_len self.new.tasks ≤ vec_len self.old.tasks + 2 }
+        ensures capacity { vec_capacity self.new.tasks ≡ vec_capacity self.old.tasks }
+    {
+        match next {
+            Next::Nothing => {}
+            Next::One(task) => self.tasks.push_reserved(task),
+            Next::Two(first, second) => {
+                self.tasks.push_reserved(second);
+                self.tasks.push_reserved(first);
+            }
+        }
+    }
+}
