@@ -94,9 +94,9 @@ impl RunProjection {
 
 /// The projection of a run: its yields, applied in order.
 ///
-/// Of an honest server's run it has the table of the server's log: `get`, `matching` and `at` with the last yield's sequence
-/// answer what they would answer if all entries had been applied that the filters match, from the configured start up to the
-/// last yield, provided that of each removed one a later entry of its subject up to there was left.
+/// Of an honest server's run it has the table of the server's log: `get` and `matching` answer what they would answer if all
+/// entries had been applied that the filters match, from the configured start up to the last yield, provided that of each
+/// removed one a later entry of its subject up to there was left.
 ///
 /// `NotRising` comes exactly where the yields do not rise, and carries the sequence before the first that does not. An honest
 /// server's run never meets it. The other refusal is want of memory.

@@ -3,25 +3,22 @@
 //! A row is passed in three steps. What it needs is made ready: the texts of what it wishes (`Reader::wish`) and what its reply tells
 //! (`informed_of`). What it wishes is met, at a link (`ask`) or in an event of a replay; of an arrival its pin is taken then
 //! (`Reader::pin_of`). `Reader::pass` passes it. Only the last step changes the reader; it takes no memory, and always succeeds.
-ghost use Rattle.std.specs.Prelude.{◌≡◌, ℕ, [], false, true, None, Some, IfOk, Option, if◌then◌else◌};
+ghost use Rattle.std.specs.Prelude.{◌≡◌, [], false, true, None, Some, Option, if◌then◌else◌};
 ghost use Rattle.js_base.specs.declared.message.Message.{Message as SpecMessage};
-ghost use Rattle.js_link.specs.Met.{Met as LinkMet, Took, message_of, passing_of};
-ghost use Rattle.js_pull.specs.Asking.{met_shown, wish_shown};
+ghost use Rattle.js_link.specs.Met.{Met as LinkMet, Took, message_of};
+ghost use Rattle.js_pull.specs.Asking.{met_shown};
 ghost use Rattle.js_pull.specs.Kind.{pull_kind as kind_of};
 ghost use Rattle.js_pull.specs.Passes.{publishing};
 ghost use Rattle.js_pull.specs.Reader as rows;
 ghost use Rattle.js_pull.specs.declared.reader.Row.TheVariants as read;
 ghost use Rattle.js_pull.specs.Steps.{IsInformed, Steps, StepsTo, informed_by, inquiry_row, passing_at, pin_brought, requesting, row_of, rows_of};
 
-use crate::asking::{Met, Wish};
+use crate::asking::Met;
 use crate::kind::{Kind, pull_kind};
 use crate::reader::{
     InfoRequest, MessagesErrorKind, Reader, Reason, is_any_due, is_asking, retry_wait, timeout_from,
 };
-use crate::replies::{brought_pin, info_of_reply};
-use bytes::Bytes;
-use js_base::{Message, Moment, OutOfMemory, State, Text, Timer, TryClone};
-use std::alloc::Global;
+use js_base::{Message, Moment, State, Text, Timer};
 
 /// A row that is due: one thing that a reader does, after its event has begun. The reply that `Answered` reads lies beside it.
 #[derive(Clone, Copy, Debug, PartialEq, Eq)]
@@ -40,8 +37,11 @@ pub enum Due {
     CheckInfoRequest,
     /// An info request was answered: the reply is read.
     Answered { failures: u64 },
+    /// Whether the last pull request has expired.
     CheckExpiry,
+    /// The first message of the inbox, if there is one.
     CheckArrival,
+    /// Whether the heartbeat is missing.
     CheckSilence,
 }
 
@@ -97,114 +97,6 @@ fn tells(kind: MessagesErrorKind, next: Option<Due>) -> Step
     Step {
         told: Notice::Tells(kind),
         next,
-    }
-}
-
-// ---- what a row needs
-
-/// What a reply tells to the row that reads it: why messages are asked for, where it is a good answer.
-pub fn informed_of(
-    alloc: Global,
-    due: Due,
-    reply: &Option<Message>,
-) -> Result<Option<Reason>, OutOfMemory>
-    ensures { IfOk result (λ reason. IsInformed (row_of reply.now due) reason) }
-{
-    match due {
-        Due::Answered { .. } => informed(alloc, reply),
-        Due::Ask { .. } => Ok(None),
-        Due::Threshold => Ok(None),
-        Due::Arm => Ok(None),
-        Due::Inquire { .. } => Ok(None),
-        Due::FailInfoRequest { .. } => Ok(None),
-        Due::CheckInfoRequest => Ok(None),
-        Due::CheckExpiry => Ok(None),
-        Due::CheckArrival => Ok(None),
-        Due::CheckSilence => Ok(None),
-    }
-}
-
-/// Why messages are asked for after this answer, where it is a good one: with a reset where no request waits at the server.
-fn informed(alloc: Global, reply: &Option<Message>) -> Result<Option<Reason>, OutOfMemory>
-    ensures { IfOk result (λ reason. reason ≡ informed_by (rows.info_of_reply reply.now)) }
-{
-    match info_of_reply(alloc, reply.as_ref())? {
-        None => Ok(None),
-        Some(info) => Ok(Some(Reason::Informed {
-            reset: info.num_waiting == 0,
-        })),
-    }
-}
-
-impl Reader {
-    /// What a row wishes, with its texts.
-    ///
-    /// # Errors
-    ///
-    /// Want of memory, after which nothing has changed.
-    pub fn wish(&self, alloc: Global, due: Due) -> Result<Wish, OutOfMemory>
-        ensures { IfOk result (λ wish. (reply : Option SpecMessage) → wish_shown wish ≡ rows.wish (row_of reply due) self.now) }
-    {
-        match due {
-            Due::Ask { .. } => self.pull_wish(alloc),
-            Due::Inquire { .. } => self.info_wish(alloc),
-            Due::CheckInfoRequest => Ok(awaited(self.inquiry)),
-            Due::CheckArrival => Ok(Wish::Reads {
-                inbox: self.source.inbox,
-            }),
-            Due::Threshold => Ok(Wish::Nothing),
-            Due::Arm => Ok(Wish::Nothing),
-            Due::FailInfoRequest { .. } => Ok(Wish::Nothing),
-            Due::Answered { .. } => Ok(Wish::Nothing),
-            Due::CheckExpiry => Ok(Wish::Nothing),
-            Due::CheckSilence => Ok(Wish::Nothing),
-        }
-    }
-
-    /// A pull request goes out.
-    fn pull_wish(&self, alloc: Global) -> Result<Wish, OutOfMemory>
-        ensures { IfOk result (λ wish. wish_shown wish ≡ rows.wish (read.Ask Reason.Low) self.now) }
-    {
-        Ok(Wish::Publishes {
-            subject: self.source.pull_subject(alloc)?,
-            reply: Some(self.source.subject.try_clone()?),
-            payload: self.pull_body(alloc)?,
-        })
-    }
-
-    /// The consumer's info is asked for.
-    fn info_wish(&self, alloc: Global) -> Result<Wish, OutOfMemory>
-        ensures { IfOk result (λ wish. wish_shown wish ≡ rows.wish (read.Inquire 0) self.now) }
-    {
-        Ok(Wish::Requests {
-            subject: self.source.info_subject(alloc)?,
-            payload: Bytes::from_static(b"{}"),
-        })
-    }
-
-    /// The pin that an arrival brings, where clients are pinned.
-    ///
-    /// # Errors
-    ///
-    /// Want of memory. The message is still there.
-    pub fn pin_of(&self, alloc: Global, met: &Met) -> Result<Option<Text>, OutOfMemory>
-        ensures { IfOk result (λ pin. pin ≡ pin_brought self.now.source.pinned (message_of (met_shown met.now))) }
-    {
-        match met.message() {
-            None => Ok(None),
-            Some(message) => brought_pin(alloc, self.source.pinned, message),
-        }
-    }
-}
-
-/// An open info that was asked for waits for its answer.
-fn awaited(inquiry: InfoRequest) -> Wish
-    ensures { wish_shown result ≡ rows.awaited inquiry }
-{
-    match inquiry {
-        InfoRequest::NoInfoRequest => Wish::Nothing,
-        InfoRequest::Asked { request, .. } => Wish::Awaits { request },
-        InfoRequest::Resting { .. } => Wish::Nothing,
     }
 }
 

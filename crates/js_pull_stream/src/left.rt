@@ -33,6 +33,7 @@ impl Left {
         }
     }
 
+    /// Whether no row is left.
     pub fn is_empty(&self) -> bool
         ensures { result ≡ rows_empty (left_rows self.now) }
     {
