@@ -1,33 +1,26 @@
 -- What passing rows comes to in a replay, as the functions that pass them say it.
-use Rattle.std.specs.Prelude.{◌≡◌, ℕ, suc, ◌+◌, min, Bool, true, List, [], ◌∷◌, ◌++◌, map, Option, Some, None, option_map, ◌==◌, false}
+use Rattle.std.specs.Prelude.{ℕ, suc, ◌+◌, Bool, List, map, Option, Some, None, option_map, ◌==◌, false}
 use Rattle.js_base.specs.declared.clock.Timer.{Timer}
-use Rattle.js_table.specs.Texts.{recreation_timeout, consumer_name, inbox_subject, source_of}
+use Rattle.js_table.specs.Texts.{recreation_timeout, inbox_subject, source_of}
 use Rattle.js_table.specs.Recreation.{recreation, held_in}
 use Rattle.js_base.specs.declared.message.Message.{Message}
-use Rattle.js_pull.specs.Reader.{new_reader, u64_max, retry_wait, info_of_reply, with_pin, with_silence}
-use Rattle.js_json.specs.declared.consumer.info.Info.{Info}
+use Rattle.js_pull.specs.Reader.{new_reader, retry_wait, info_of_reply, with_pin, with_silence}
 use Rattle.js_pull.specs.declared.reader.Reason.{Reason}
 use Rattle.js_pull.specs.declared.reader.Reason.TheVariants.{Informed}
-use Rattle.js_table.specs.declared.consumer.Consumer.{Consumer}
-use Rattle.js_table.specs.declared.consumer.Opened.{Opened}
 use Rattle.js_table.specs.declared.consumer.Recreation.{Recreation}
 use Rattle.js_pull.specs.declared.reader.Reader.{Reader}
-use Rattle.js_pull.specs.declared.reader.Row.{Row as PullRow}
-use Rattle.js_table.specs.declared.row.Row.TheVariants.{Start, Read, Hear}
+use Rattle.js_table.specs.declared.row.Row.TheVariants.{Hear}
 use Rattle.js_table.specs.declared.row.Arrival.{Arrival}
 use Rattle.js_table.specs.declared.consumer.Phase.TheVariants.{Pulls, Pushes, Recreates, Idle, Ended, Exhausted}
 use Rattle.js_table.specs.declared.consumer.Stage.TheVariants.{Waiting}
 use Rattle.js_table.specs.State.{Matter, Passed, at_phase}
 use Rattle.js_table.specs.Fold.{Ran, rank, and_then, pass_each, pass_to, passing, after, matter_of}
-use Rattle.js_table.specs.Turn.{go_on, changed}
-use Rattle.js_base.specs.declared.message.State.{State}
 use Rattle.js_table.specs.State as state
 use Rattle.js_table.specs.declared.answer.Change.{Change}
 use Rattle.js_table.specs.declared.answer.Change.TheVariants as change
 use Rattle.js_table.specs.declared.consumer.ReplayInput.{ReplayInput}
 use Rattle.js_table.specs.declared.consumer.Phase.{Phase}
 use Rattle.js_table.specs.declared.row.Row.{Row}
-use Rattle.js_table.specs.declared.run.Output.{Output}
 use Rattle.js_message.specs.Ack as ack
 use Rattle.js_table.specs.declared.place.Place.{Place}
 use Rattle.js_table.specs.declared.answer.RequestOutcome.{RequestOutcome}
@@ -55,14 +48,6 @@ from g now m passed w = and_then passed.outputs (pass_each (ran g now m) passed.
 abbrev pub at : Phase → ReplayState → ReplayState
 at phase w = record w { consumer = at_phase phase w.consumer }
 
--- this came of it: the world after it, and what was put out
-abbrev pub Comes : Ran → ReplayState → List Output → List Output → Type 0
-Comes r new before after = (new ≡ r.world) × (after ≡ before ++ r.outputs)
-
--- a row was passed, with the rows that follow it at once
-abbrev pub Passes : EventContext → Row → ReplayState → ReplayState → List Output → List Output → Type 0
-Passes turn row old new before after = Comes (ran (given_of turn) turn.moment (matter_now turn) row old) new before after
-
 -- the bound on an answer that is waited for from a moment on
 abbrev pub timeout_at : ReplayInput → ℕ → Timer
 timeout_at g now = record { set = now; wait = recreation_timeout g.settings }
@@ -71,34 +56,11 @@ timeout_at g now = record { set = now; wait = recreation_timeout g.settings }
 abbrev pub then_row : ReplayInput → ℕ → Matter → Row → Ran → Ran
 then_row g now m row first = and_then first.outputs (ran g now m row first.world)
 
--- one row was passed after the other
-abbrev pub PassesBoth : EventContext → Row → Row → ReplayState → ReplayState → List Output → List Output → Type 0
-PassesBoth turn first second old new before after =
-    Comes (then_row (given_of turn) turn.moment (matter_now turn) second (ran (given_of turn) turn.moment (matter_now turn) first old)) new before after
-
--- rows were passed in order
-abbrev pub PassesEach : EventContext → List Row → ReplayState → ReplayState → List Output → List Output → Type 0
-PassesEach turn rows old new before after = Comes (pass_each (ran (given_of turn) turn.moment (matter_now turn)) rows old) new before after
-
--- a row of a pull reader was passed, which goes on reading
-abbrev pub Reads : EventContext → PullRow → Reader → Reader → ReplayState → ReplayState → List Output → List Output → Type 0
-Reads turn row reader reader' old new before after = Passes turn (Read row) (at (Pulls reader) old) (at (Pulls reader') new) before after
-
 -- why messages are asked for after an answer that holds an info: with a reset where no request waits
 abbrev pub informed_by : Option Message → Option Reason
 informed_by reply = option_map (λ info. Informed (info.num_waiting == 0)) (info_of_reply reply)
 
 -- ---- what a recreation makes of a consumer
-
--- the consumer whose recreation begins
-abbrev pub restarted : ReplayInput → Consumer → Consumer
-restarted g c =
-    let recreation_count = min (c.recreation_count + 1) u64_max in
-    record c { phase = Recreates (recreation g c); consumer_sequence = 0; recreation_count = recreation_count; name = consumer_name g recreation_count }
-
--- an inbox that holds nothing yet
-abbrev pub opened_as : ℕ → List ℕ → Opened
-opened_as inbox subject = record { inbox = inbox; subject = subject; held = [] }
 
 -- the recreation waits for its next try
 abbrev pub waiting : ℕ → Recreation → Recreation
@@ -128,10 +90,6 @@ accepting place w = record w { consumer = record w.consumer { consumer_sequence 
 abbrev pub heard : ℕ → Message → Reader → Reader
 heard now message r = with_pin message (with_silence now r)
 
--- the reader that a recreation opens
-abbrev pub reader_of : ReplayInput → Info → ReplayState → Reader
-reader_of g info w = new_reader (source_of g w.consumer.recreation_count w.inboxes_opened (inbox_subject g w.inboxes_opened) info)
-
 -- the reader of the first inbox
 abbrev pub first_reader_of : ReplayInput → Reader
 first_reader_of g = new_reader (source_of g 0 0 (inbox_subject g 0) g.first)
@@ -158,11 +116,6 @@ listens_to inbox _ = false
 abbrev pub hearings : ℕ → List Message → List Row
 hearings inbox messages = map (λ message. Hear (record { inbox = inbox; message = message })) messages
 
--- a recreation follows or not
-abbrev pub starts_if : Bool → List Row
-starts_if true = Start ∷ []
-starts_if false = []
-
 -- ---- an event
 
 -- what it says of the connection, as the replay's code tells it
@@ -170,19 +123,3 @@ abbrev pub change_shown : Change → state.Change
 change_shown change.Unchanged = state.Unchanged
 change_shown (change.Becomes now) = state.Becomes now
 change_shown change.WatcherEnds = state.WatcherEnds
-
--- this came of a row that was passed
-abbrev pub Follows : EventContext → Passed → ReplayState → ReplayState → List Output → List Output → Type 0
-Follows turn passed old new before after = Comes (from (given_of turn) turn.moment (matter_now turn) passed old) new before after
-
--- an event went on from this phase
-abbrev pub GoesOn : EventContext → Phase → ReplayState → ReplayState → List Output → List Output → Type 0
-GoesOn turn phase old new before after =
-    let w = at phase old in
-    Follows turn (go_on (given_of turn) (passing (given_of turn) turn.moment w) (matter_now turn) phase w.consumer) w new before after
-
--- the connection was another one from then on
-abbrev pub Changes : EventContext → State → Phase → ReplayState → ReplayState → List Output → List Output → Type 0
-Changes turn state phase old new before after =
-    let w = at phase old in
-    Follows turn (changed (given_of turn) (passing (given_of turn) turn.moment w) (matter_now turn) w.consumer.connection state phase w.consumer) w new before after
