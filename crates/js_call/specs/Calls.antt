@@ -22,15 +22,15 @@ use Rattle.js_call.specs.Table.{Table}
 
 -- a call that asks this, which is not answered
 abbrev pub calling : {M : Type 0} → M → RawCall → Call M
-calling meaning asked = record { meaning = api_call; stage = Asking asked }
+calling meaning asked = record { api_call = meaning; stage = Asking asked }
 
 -- a call whose reply has come, and is not read yet
 abbrev pub answered : {M : Type 0} → M → Message → Call M
-answered meaning message = record { meaning = api_call; stage = Answered message }
+answered meaning message = record { api_call = meaning; stage = Answered message }
 
 -- a call that has failed, and has not told it yet
 abbrev pub failed : {M : Type 0} → M → Failure → Call M
-failed meaning failure = record { meaning = api_call; stage = Failed failure }
+failed meaning failure = record { api_call = meaning; stage = Failed failure }
 
 -- a failure is answered with its text as the source, and kept where memory runs out
 abbrev pub Fails : {M R A : Type 0} → Table M R A → M → Failure → Turn (Call M) A → Type 0
@@ -65,8 +65,8 @@ GoesOn t meaning (Asking call) now turn old new =
 -- refused arguments are answered, and nothing is sent
 abbrev pub PolledUnless : {M R A : Type 0} → Option A → Table M R A → Call M → ℕ → Turn (Call M) A → LinkView → LinkView → Type 0
 PolledUnless (Some refusal) t call now turn old new = (turn ≡ Ready refusal) × (new ≡ old)
-PolledUnless None t call now turn old new = GoesOn t call.meaning call.stage now turn old new
+PolledUnless None t call now turn old new = GoesOn t call.api_call call.stage now turn old new
 
 -- what a poll of a call does
 abbrev pub Polled : {M R A : Type 0} → Table M R A → Call M → ℕ → Turn (Call M) A → LinkView → LinkView → Type 0
-Polled t call now turn old new = PolledUnless (t.refused call.meaning) t call now turn old new
+Polled t call now turn old new = PolledUnless (t.refused call.api_call) t call now turn old new

@@ -37,10 +37,10 @@ pub(crate) enum Stage {
 impl<M: ApiCall> Call<M> {
     /// A call that asks this.
     pub fn new(api_call: M, asked: RawCall) -> Call<M>
-        ensures { result ≡ calling meaning asked }
+        ensures { result ≡ calling api_call asked }
     {
         Call {
-            meaning,
+            api_call,
             stage: Stage::Asking(asked),
         }
     }
@@ -48,12 +48,12 @@ impl<M: ApiCall> Call<M> {
 
 /// Tells a failure, which is kept where memory runs out.
 fn fail<M: ApiCall>(alloc: Global, api_call: M, failure: Failure) -> Turn<Call<M>, M::Answer>
-    ensures { Fails M.table meaning failure result }
+    ensures { Fails M.table api_call failure result }
 {
     match failure.to_source(alloc) {
         Ok(source) => Turn::Ready(api_call.failure(failure, source)),
         Err(OutOfMemory) => Turn::OutOfMemory(Call {
-            meaning,
+            api_call,
             stage: Stage::Failed(failure),
         }),
     }
@@ -61,15 +61,15 @@ fn fail<M: ApiCall>(alloc: Global, api_call: M, failure: Failure) -> Turn<Call<M
 
 /// Reads a reply, which is kept where memory runs out.
 fn read<M: ApiCall>(alloc: Global, api_call: M, message: Message) -> Turn<Call<M>, M::Answer>
-    ensures { Reads M.table meaning message result }
+    ensures { Reads M.table api_call message result }
 {
     match M::read(alloc, message.payload.as_slice()) {
         Ok(reply) => Turn::Ready(api_call.answer(reply)),
         Err(ReadError::OutOfMemory) => Turn::OutOfMemory(Call {
-            meaning,
+            api_call,
             stage: Stage::Answered(message),
         }),
-        Err(fault) => fail(alloc, meaning, Failure::Read(fault)),
+        Err(fault) => fail(alloc, api_call, Failure::Read(fault)),
     }
 }
 
@@ -79,15 +79,15 @@ fn turn<M: ApiCall>(
     api_call: M,
     asked: Turn<RawCall, Result<Message, RequestError>>,
 ) -> Turn<Call<M>, M::Answer>
-    ensures { Turns M.table meaning asked result }
+    ensures { Turns M.table api_call asked result }
 {
     match asked {
-        Turn::Pending(asked) => Turn::Pending(Call::new(meaning, asked)),
-        Turn::OutOfMemory(asked) => Turn::OutOfMemory(Call::new(meaning, asked)),
-        Turn::Ready(Ok(message)) => read(alloc, meaning, message),
+        Turn::Pending(asked) => Turn::Pending(Call::new(api_call, asked)),
+        Turn::OutOfMemory(asked) => Turn::OutOfMemory(Call::new(api_call, asked)),
+        Turn::Ready(Ok(message)) => read(alloc, api_call, message),
         Turn::Ready(Err(error)) => {
             let kind = *error.kind();
-            fail(alloc, meaning, Failure::Request(kind))
+            fail(alloc, api_call, Failure::Request(kind))
         }
     }
 }
@@ -101,13 +101,13 @@ impl<M: ApiCall> State for Call<M> {
         if let Some(answer) = self.api_call.refusal() {
             return Turn::Ready(answer);
         }
-        let Call { meaning, stage } = self;
+        let Call { api_call, stage } = self;
         match stage {
-            Stage::Answered(message) => read(alloc, meaning, message),
-            Stage::Failed(failure) => fail(alloc, meaning, failure),
+            Stage::Answered(message) => read(alloc, api_call, message),
+            Stage::Failed(failure) => fail(alloc, api_call, failure),
             Stage::Asking(asked) => {
                 let asked = asked.poll(alloc, link, now);
-                turn(alloc, meaning, asked)
+                turn(alloc, api_call, asked)
             }
         }
     }

@@ -18,11 +18,11 @@ pub record Row (Self X E Needs Answer : Type 0) : Type 0 where
 
 -- a call whose other call is not answered
 abbrev pub asking : {S X E M : Type 0} → M → S → BucketCall S X E M
-asking meaning asked = record { meaning = api_call; stage = Asking asked }
+asking meaning asked = record { api_call = meaning; stage = Asking asked }
 
 -- a call whose other call has answered, which is not told yet
 abbrev pub answered : {S X E M : Type 0} → M → Result X E → BucketCall S X E M
-answered meaning given = record { meaning = api_call; stage = Answered given }
+answered meaning given = record { api_call = meaning; stage = Answered given }
 
 -- what the call answers to what the other call answered
 abbrev pub means : {M X E N A : Type 0} → Row M X E N A → (E → Source) → M → Result X E → A
@@ -52,9 +52,9 @@ GoesOn {S = S} {X = X} {E = E} t told polls meaning (Asking call) now turn old n
 abbrev pub PolledUnless : {S M X E N A : Type 0} → Option A → Row M X E N A → (E → Source) → Polls S (Result X E) → BucketCall S X E M → ℕ
     → Turn (BucketCall S X E M) A → LinkView → LinkView → Type 0
 PolledUnless (Some refusal) t told polls call now turn old new = (turn ≡ Ready refusal) × (new ≡ old)
-PolledUnless None t told polls call now turn old new = GoesOn t told polls call.meaning call.stage now turn old new
+PolledUnless None t told polls call now turn old new = GoesOn t told polls call.api_call call.stage now turn old new
 
 -- what a poll of a call does
 abbrev pub Polled : {S M X E N A : Type 0} → Row M X E N A → (E → Source) → Polls S (Result X E) → BucketCall S X E M → ℕ
     → Turn (BucketCall S X E M) A → LinkView → LinkView → Type 0
-Polled t told polls call now turn old new = PolledUnless (t.refused call.meaning) t told polls call now turn old new
+Polled t told polls call now turn old new = PolledUnless (t.refused call.api_call) t told polls call now turn old new

@@ -59,19 +59,19 @@ pub(crate) enum Stage<S, X, E> {
 impl<S, X, E, M> BucketCall<S, X, E, M> {
     /// A call that stands on this one.
     pub(crate) fn new(api_call: M, asked: S) -> BucketCall<S, X, E, M>
-        ensures { result ≡ asking meaning asked }
+        ensures { result ≡ asking api_call asked }
     {
         BucketCall {
-            meaning,
+            api_call,
             stage: Stage::Asking(asked),
         }
     }
 
     fn answered(api_call: M, given: Result<X, E>) -> BucketCall<S, X, E, M>
-        ensures { result ≡ answered meaning given }
+        ensures { result ≡ answered api_call given }
     {
         BucketCall {
-            meaning,
+            api_call,
             stage: Stage::Answered(given),
         }
     }
@@ -83,16 +83,16 @@ fn tell<S: Drop, X: Drop, E: ToSource, M: Outcome<X, E>>(
     api_call: M,
     given: Result<X, E>,
 ) -> Turn<BucketCall<S, X, E, M>, M::Answer>
-    ensures { AnswersOf M.table E.told meaning given result }
+    ensures { AnswersOf M.table E.told api_call given result }
 {
     match given {
         Ok(given) => match api_call.needs(alloc, &given) {
             Ok(needs) => Turn::Ready(api_call.accept(given, needs)),
-            Err(OutOfMemory) => Turn::OutOfMemory(BucketCall::answered(meaning, Ok(given))),
+            Err(OutOfMemory) => Turn::OutOfMemory(BucketCall::answered(api_call, Ok(given))),
         },
         Err(error) => match error.to_source(alloc) {
             Ok(source) => Turn::Ready(api_call.refuse(error, source)),
-            Err(OutOfMemory) => Turn::OutOfMemory(BucketCall::answered(meaning, Err(error))),
+            Err(OutOfMemory) => Turn::OutOfMemory(BucketCall::answered(api_call, Err(error))),
         },
     }
 }
@@ -103,12 +103,12 @@ fn turn<S: Drop, X: Drop, E: ToSource, M: Outcome<X, E>>(
     api_call: M,
     asked: Turn<S, Result<X, E>>,
 ) -> Turn<BucketCall<S, X, E, M>, M::Answer>
-    ensures { TurnsTo M.table E.told meaning asked result }
+    ensures { TurnsTo M.table E.told api_call asked result }
 {
     match asked {
-        Turn::Pending(asked) => Turn::Pending(BucketCall::new(meaning, asked)),
-        Turn::OutOfMemory(asked) => Turn::OutOfMemory(BucketCall::new(meaning, asked)),
-        Turn::Ready(given) => tell(alloc, meaning, given),
+        Turn::Pending(asked) => Turn::Pending(BucketCall::new(api_call, asked)),
+        Turn::OutOfMemory(asked) => Turn::OutOfMemory(BucketCall::new(api_call, asked)),
+        Turn::Ready(given) => tell(alloc, api_call, given),
     }
 }
 
@@ -122,12 +122,12 @@ impl<S: State<Answer = Result<X, E>>, X: Drop, E: ToSource, M: Outcome<X, E>> St
         if let Some(answer) = self.api_call.refusal() {
             return Turn::Ready(answer);
         }
-        let BucketCall { meaning, stage } = self;
+        let BucketCall { api_call, stage } = self;
         match stage {
-            Stage::Answered(given) => tell(alloc, meaning, given),
+            Stage::Answered(given) => tell(alloc, api_call, given),
             Stage::Asking(asked) => {
                 let asked = asked.poll(alloc, link, now);
-                turn(alloc, meaning, asked)
+                turn(alloc, api_call, asked)
             }
         }
     }
