@@ -22,7 +22,7 @@ pub(crate) fn decimal(alloc: Global, number: u64) -> Result<String, AllocError>
 pub(crate) fn name(alloc: Global, recreation_count: u64) -> Result<String, AllocError>
     ensures { IfOk result (λ text. string_bytes text ≡ episodes.name_of recreation_count) }
 {
-    format!(in alloc; "gen_{serial}")
+    format!(in alloc; "gen_{recreation_count}")
 }
 
 /// What the server tells of the consumer with this name.
