@@ -33,7 +33,7 @@ info_text name =
     ++ name
     ++ codes "\",\"num_ack_pending\":0,\"num_pending\":0,\"num_redelivered\":0,\"num_waiting\":0,\"stream_name\":\"events\"}"
 
--- the name of the consumer that the recreation with this serial makes
+-- the name of the consumer that the recreation with this count of recreations makes
 abbrev pub name_of : ℕ → List ℕ
 name_of recreation_count = codes "gen_" ++ decimal recreation_count
 

@@ -18,7 +18,7 @@ pub(crate) fn decimal(alloc: Global, number: u64) -> Result<String, AllocError>
     format!(in alloc; "{number}")
 }
 
-/// The name of the consumer that the recreation with this serial makes.
+/// The name of the consumer that the recreation with this count of recreations makes.
 pub(crate) fn name(alloc: Global, recreation_count: u64) -> Result<String, AllocError>
     ensures { IfOk result (λ text. string_bytes text ≡ episodes.name_of recreation_count) }
 {

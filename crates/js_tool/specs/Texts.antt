@@ -69,7 +69,7 @@ unless_empty text = if length text == 0 then [] else string text ∷ []
 abbrev pub output_cells : Output → List Data
 output_cells (out.Yield stream_sequence consumer_sequence subject payload) = string (codes "yield") ∷ count stream_sequence ∷ count consumer_sequence ∷ string payload ∷ unless_empty subject
 output_cells (out.Item kind) = string (codes "item") ∷ string (kind_name kind) ∷ []
-output_cells (out.Recreate serial start) = string (codes "recreate") ∷ count serial ∷ start_data start ∷ []
+output_cells (out.Recreate recreation_count start) = string (codes "recreate") ∷ count recreation_count ∷ start_data start ∷ []
 output_cells (out.Request n subject payload) = string (codes "request") ∷ count n ∷ string subject ∷ string payload ∷ []
 output_cells (out.Publish subject reply payload) = string (codes "publish") ∷ string subject ∷ text_or_null reply ∷ string payload ∷ []
 output_cells (out.Subscribe inbox subject) = string (codes "subscribe") ∷ count inbox ∷ string subject ∷ []

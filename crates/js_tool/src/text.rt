@@ -54,12 +54,15 @@ fn push_output(out: &mut Vec<u8>, step: u64, output: &Output) -> Result<(), Allo
                 Cell::Text(item_name(*kind)),
             ],
         ),
-        Output::Recreate { serial, start } => push_line(
+        Output::Recreate {
+            recreation_count,
+            start,
+        } => push_line(
             out,
             &[
                 Cell::Number(step),
                 Cell::Text(b"recreate"),
-                Cell::Number(*serial),
+                Cell::Number(*recreation_count),
                 start_cell(*start),
             ],
         ),
