@@ -2,7 +2,7 @@ pub mod State
 pub mod Texts
 pub mod Recreation
 pub mod Reading
-pub mod EventContext
+pub mod Turn
 pub mod Fold
 pub mod Refusal
 pub mod Gapless

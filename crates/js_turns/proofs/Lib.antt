@@ -1,7 +1,7 @@
 pub mod Walks
 pub mod Polls
 pub mod Wishes
-pub mod ReaderOutput
+pub mod Told
 pub mod Asked
 pub mod Instance
 pub mod Single
