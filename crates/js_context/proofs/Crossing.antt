@@ -4,7 +4,7 @@ use denote.Struct.Declared.{shape}
 use Rattle.std.proofs.Common.{rules}
 use Rattle.std.proofs.Crossing.{crosses}
 use Rattle.std.proofs.MapsCrossing.{crosses as maps_cross}
-use Rattle.atomic_table.proofs.shared.WindowPass.TheSendSync as seat
+use Rattle.atomic_table.proofs.shared.Seat.TheSendSync as seat
 use Rattle.atomic_table.proofs.shared.Shared.TheSendSync as shared
 use Rattle.atomic_table.proofs.send_lease.SendLease.TheSendSync as lease
 use Rattle.std.specs.contracts.collections.VecDeque as VecDeque
