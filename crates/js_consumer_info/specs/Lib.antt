@@ -1,0 +1,4 @@
+pub mod Asking
+pub mod Renewals
+pub mod Refreshes
+pub mod Resets

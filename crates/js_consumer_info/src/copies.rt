@@ -1,0 +1,27 @@
+//! What the server tells of a consumer, twice.
+ghost use Rattle.std.specs.Prelude.{◌≡◌};
+ghost use Rattle.js_consumer_info.specs.Renewals.{copies_fields};
+
+use js_base::TryClone;
+use js_fields::{FromValue, ReadError};
+use js_json::consumer::Info;
+use serde_json::Value;
+use std::alloc::Global;
+
+/// What the server tells of a consumer: once for the consumer, and once for the answer. Both are the same.
+#[derive(Drop)]
+pub struct InfoCopies {
+    pub kept: Info,
+    pub answered: Info,
+}
+
+impl FromValue for InfoCopies {
+    ghost fields = { copies_fields };
+
+    #[tactic(auto, unfolding(crate::specs::Renewals::copies_fields))]
+    fn from_fields(alloc: Global, object: &Value) -> Result<InfoCopies, ReadError> {
+        let answered = Info::from_fields(alloc, object)?;
+        let kept = answered.try_clone()?;
+        Ok(InfoCopies { kept, answered })
+    }
+}
