@@ -6,24 +6,24 @@ use Rattle.std.specs.Prelude.{⊤, not, ◌==◌, ◌≤◌, ◌≢◌, codes, o
 use Rattle.js_base.specs.declared.message.Message.{Message}
 use Rattle.js_json.specs.declared.consumer.info.Info.{Info}
 use Rattle.js_link.specs.Passing.{Passing}
-use Rattle.js_ordered.specs.declared.task.Heard.{Heard}
-use Rattle.js_ordered.specs.declared.task.Heard.TheVariants as hears
-use Rattle.js_ordered.specs.declared.task.Held.{Held}
-use Rattle.js_ordered.specs.declared.task.Inbox.{Inbox}
-use Rattle.js_ordered.specs.declared.task.Next.{Next}
-use Rattle.js_ordered.specs.declared.task.Next.TheVariants as next
-use Rattle.js_ordered.specs.declared.task.Task.{Task}
-use Rattle.js_ordered.specs.declared.task.Task.TheVariants as task
-use Rattle.js_ordered.specs.declared.task.ReaderOutput.{ReaderOutput}
-use Rattle.js_ordered.specs.declared.task.ReaderOutput.TheVariants as tells
+use Rattle.js_ordered_rows.specs.declared.task.Heard.{Heard}
+use Rattle.js_ordered_rows.specs.declared.task.Heard.TheVariants as hears
+use Rattle.js_ordered_rows.specs.declared.task.Held.{Held}
+use Rattle.js_ordered_rows.specs.declared.task.Inbox.{Inbox}
+use Rattle.js_ordered_rows.specs.declared.task.NextTasks.{NextTasks}
+use Rattle.js_ordered_rows.specs.declared.task.NextTasks.TheVariants as next
+use Rattle.js_ordered_rows.specs.declared.task.Task.{Task}
+use Rattle.js_ordered_rows.specs.declared.task.Task.TheVariants as task
+use Rattle.js_ordered_rows.specs.declared.task.RowOutput.{RowOutput}
+use Rattle.js_ordered_rows.specs.declared.task.RowOutput.TheVariants as tells
 use Rattle.js_ordered.specs.Driven.{Finishes, IsLeft, IsTry, Leads, LeadsOn, PassesTo, counted, first_held, heard_first, left_rows}
 use Rattle.js_ordered.specs.Giving.{IsInbox, IsNumber, Sends, Subscribes}
-use Rattle.js_ordered.specs.Tasks.{IsHeard, IsHeardFrom, IsOfStream, StepsTo, answered_rows, create_outputs, heard_outputs, heard_row, heard_rows, next_rows, opening_to, reader_rows, requested, requesting, rows_of, subscribed, told_outputs}
+use Rattle.js_ordered_rows.specs.Tasks.{IsHeard, IsHeardFrom, IsOfStream, StepsTo, answered_rows, create_outputs, heard_outputs, heard_row, heard_rows, next_rows, opening_to, reader_rows, requested, requesting, rows_of, subscribed, told_outputs}
 use Rattle.js_link.specs.declared.sent.Sent.{Sent}
-use Rattle.js_ordered.specs.declared.task.Due.{Due}
-use Rattle.js_ordered.specs.declared.task.Due.TheVariants as due
-use Rattle.js_ordered.specs.declared.task.Notice.{Notice}
-use Rattle.js_ordered.specs.declared.task.Notice.TheVariants as notice
+use Rattle.js_pull.specs.declared.rows.Due.{Due}
+use Rattle.js_pull.specs.declared.rows.Due.TheVariants as due
+use Rattle.js_pull.specs.declared.rows.Notice.{Notice}
+use Rattle.js_pull.specs.declared.rows.Notice.TheVariants as notice
 use Rattle.js_pull.specs.declared.kind.Kind.{Kind}
 use Rattle.js_pull.specs.declared.kind.Kind.TheVariants as pulls
 use Rattle.js_pull.specs.declared.reader.Reason.{Reason}
@@ -32,8 +32,9 @@ use Rattle.js_pull.specs.declared.reader.ReaderOutput.TheVariants as telling
 use Rattle.js_pull.specs.Kind.{pull_kind}
 use Rattle.js_pull.specs.Limits.{pull_body}
 use Rattle.js_table.specs.declared.run.Output.TheVariants as out
-use Rattle.js_ordered.specs.declared.task.Read.{Read}
-use Rattle.js_ordered.specs.Readings.{ReadsTo, brought, row_of, told_shown}
+use Rattle.js_pull.specs.declared.rows.Step.{Step as Read}
+use Rattle.js_ordered_rows.specs.Readings.{ReadsTo, brought}
+use Rattle.js_pull.specs.Steps.{row_of, told_shown}
 use Rattle.js_pull.specs.declared.reader.Reader.{Reader}
 use Rattle.js_pull.specs.declared.reader.Row.{Row as PullRow}
 use Rattle.js_pull.specs.Reader as pull
@@ -58,9 +59,9 @@ use Rattle.js_table.specs.Recreation.{answered, message_on, create_row, start_ro
 use Rattle.js_table.specs.State.{Matter, Passed, output_of, quietly, at_phase}
 use Rattle.js_table.specs.Texts.{inbox_subject}
 use Rattle.js_table.specs.Turn.{event_row, pass, row_at}
-use Rattle.js_ordered.proofs.ReaderSteps.{hear_sends, reads_row}
+use Rattle.js_ordered_rows.proofs.ReaderSteps.{hear_sends, reads_row}
 use Rattle.js_ordered.proofs.Rans.{no_more, ran_from, from_rest}
-use Rattle.js_ordered.proofs.Stepping.{from_stream, hears_as, hears_here, hears_nowhere}
+use Rattle.js_ordered_rows.proofs.Stepping.{from_stream, hears_as, hears_here, hears_nowhere}
 
 -- ---- one row
 
@@ -68,7 +69,7 @@ joined : (earlier outputs : List Output) (r : Ran) → and_then earlier (and_the
 joined earlier outputs r = ap (λ (o : List Output). record { world = r.world; outputs = o }) (sym (append_assoc earlier outputs r.outputs))
 
 -- a row that was passed with what its event gave
-pub leads_by : (g : ReplayInput) (now : ℕ) (m : Matter) (one : Row) (w u : ReplayState) (passed : Passed) (outputs earlier later : List Output) (d : Consumer) (rest : Next)
+pub leads_by : (g : ReplayInput) (now : ℕ) (m : Matter) (one : Row) (w u : ReplayState) (passed : Passed) (outputs earlier later : List Output) (d : Consumer) (rest : NextTasks)
     → pass g (passing g now w) m one w.consumer ≡ passed → StepsTo m passed outputs d rest
     → later ≡ earlier ++ outputs → u ≡ record (counted outputs w) { consumer = d }
     → Leads g now m (one ∷ []) w earlier (next_rows m rest) u later
@@ -86,7 +87,7 @@ leads_by g now m one w u passed outputs earlier later d rest is steps put to =
     ∙ ap (λ (v : ReplayState). onto later (next_rows m rest) v) there
 
 -- where the phase is known
-pub leads_at : (g : ReplayInput) (now : ℕ) (m : Matter) (one : Row) (phase : Phase) (w u : ReplayState) (p : Passing) (outputs earlier later : List Output) (d : Consumer) (rest : Next)
+pub leads_at : (g : ReplayInput) (now : ℕ) (m : Matter) (one : Row) (phase : Phase) (w u : ReplayState) (p : Passing) (outputs earlier later : List Output) (d : Consumer) (rest : NextTasks)
     → passing g now w ≡ p → StepsTo m (row_at g p m one phase (at_phase phase w.consumer)) outputs d rest
     → later ≡ earlier ++ outputs → u ≡ record (counted outputs w) { consumer = d }
     → Leads g now m (one ∷ []) (at phase w) earlier (next_rows m rest) u later
@@ -98,7 +99,7 @@ with_numbers : ReplayState → Consumer → ℕ → ℕ → ReplayState
 with_numbers w c a b = record w { consumer = c; requests_sent = a; inboxes_opened = b }
 
 -- nothing is numbered
-unnumbered : (w : ReplayState) (d : Consumer) (outputs : List Output) → count_by is_request outputs ≡ 0 → count_by is_subscribe outputs ≡ 0
+pub unnumbered : (w : ReplayState) (d : Consumer) (outputs : List Output) → count_by is_request outputs ≡ 0 → count_by is_subscribe outputs ≡ 0
     → record w { consumer = d } ≡ record (counted outputs w) { consumer = d }
 unnumbered w d outputs none neither =
     let requests_sent : w.requests_sent ≡ w.requests_sent + count_by is_request outputs = omega arith in
@@ -106,17 +107,17 @@ unnumbered w d outputs none neither =
     ap (λ (n : ℕ). record w { consumer = d; requests_sent = n }) requests_sent
     ∙ ap (λ (n : ℕ). record w { consumer = d; requests_sent = w.requests_sent + count_by is_request outputs; inboxes_opened = n }) inboxes_opened
 
-no_request : (told : ReaderOutput) → count_by is_request (told_outputs told) ≡ 0
+no_request : (told : RowOutput) → count_by is_request (told_outputs told) ≡ 0
 no_request tells.Nothing = refl
 no_request (tells.Recreates recreation_count start) = refl
 no_request (tells.Tells kind) = refl
 
-no_inbox : (told : ReaderOutput) → count_by is_subscribe (told_outputs told) ≡ 0
+no_inbox : (told : RowOutput) → count_by is_subscribe (told_outputs told) ≡ 0
 no_inbox tells.Nothing = refl
 no_inbox (tells.Recreates recreation_count start) = refl
 no_inbox (tells.Tells kind) = refl
 
-pub told_unnumbered : (w : ReplayState) (d : Consumer) (told : ReaderOutput) → record w { consumer = d } ≡ record (counted (told_outputs told) w) { consumer = d }
+pub told_unnumbered : (w : ReplayState) (d : Consumer) (told : RowOutput) → record w { consumer = d } ≡ record (counted (told_outputs told) w) { consumer = d }
 told_unnumbered w d told = unnumbered w d (told_outputs told) (no_request told) (no_inbox told)
 
 pub quiet_unnumbered : (w : ReplayState) (d : Consumer) → record w { consumer = d } ≡ record (counted [] w) { consumer = d }
@@ -152,7 +153,7 @@ heard_unnumbered w d up message heard = unnumbered w d (heard_outputs up message
 
 -- ---- a send
 
-abbrev with_request : Passing → Bool → ℕ → Passing
+abbrev pub with_request : Passing → Bool → ℕ → Passing
 with_request p up request = record p { up = up; request = request }
 
 pub request_is : (g : ReplayInput) (now : ℕ) (w : ReplayState) (number : Option ℕ) → IsNumber w.up w.requests_sent number → passing g now w ≡ requesting now number (passing g now w)
@@ -203,7 +204,7 @@ left_first m (x ∷ tasks) one =
     ap (λ (rows : List Row). rows ++ rows_of m x) (left_first m tasks one) ∙ append_assoc (rows_of m one) (left_rows m tasks) (rows_of m x)
 
 -- a task was passed: its first row, what is left of it, and what is left besides
-pub leads_on : (g : ReplayInput) (now : ℕ) (m : Matter) (one : Task) (first : List Row) (left rest : Next) (tasks middle after : List Task) (w u : ReplayState) (earlier later : List Output)
+pub leads_on : (g : ReplayInput) (now : ℕ) (m : Matter) (one : Task) (first : List Row) (left rest : NextTasks) (tasks middle after : List Task) (w u : ReplayState) (earlier later : List Output)
     → Leads g now m first w earlier (next_rows m rest) u later → rows_of m one ≡ first ++ next_rows m left
     → left_rows m middle ≡ next_rows m left ++ left_rows m tasks → left_rows m after ≡ next_rows m rest ++ left_rows m middle
     → Leads g now m (left_rows m (tasks ++ one ∷ [])) w earlier (left_rows m after) u later
@@ -244,110 +245,13 @@ pub held_first : (inbox : ℕ) (messages : List Message) (place : ℕ) (message 
 held_first inbox messages place message below is =
     ap (heard_first inbox) (drop_more messages place message below) ∙ ap (λ (x : Message). row.Hear (record { inbox = inbox; message = x }) ∷ []) (sym is)
 
--- ---- a row where it does not belong
-
-idle_row : (g : ReplayInput) (now : ℕ) (m : Matter) (one : Row) (w u : ReplayState) (outputs : List Output) (phase : Phase) → w.consumer.phase ≡ phase → u ≡ at phase w
+pub idle_row : (g : ReplayInput) (now : ℕ) (m : Matter) (one : Row) (w u : ReplayState) (outputs : List Output) (phase : Phase) → w.consumer.phase ≡ phase → u ≡ at phase w
     → row_at g (passing g now w) m one phase w.consumer ≡ quietly w.consumer [] → Leads g now m (one ∷ []) w outputs [] u outputs
 idle_row g now m one w u outputs phase is to none =
     let same : u ≡ w = to ∙ ap (λ (q : Phase). at q w) (sym is) in
     leads_by g now m one w u (quietly w.consumer []) [] outputs outputs w.consumer next.Nothing
     (ap (λ (q : Phase). row_at g (passing g now w) m one q w.consumer) is ∙ none) (record { consumer = refl; outputs = refl; next = refl })
     (sym (append-nil outputs)) (same ∙ quiet_unnumbered w w.consumer)
-
--- no recreation is open
-abbrev pub IsClosed : Phase → Type 0
-IsClosed (Recreates r) = ⊥
-IsClosed phase = ⊤
-
-try_nowhere : (g : ReplayInput) (p : Passing) (m : Matter) (phase : Phase) (c : Consumer) → IsClosed phase → row_at g p m row.Try phase c ≡ quietly c []
-try_nowhere g p m (Pulls reader) c closed = refl
-try_nowhere g p m (Pushes inbox heartbeat_timer) c closed = refl
-try_nowhere g p m Idle c closed = refl
-try_nowhere g p m Ended c closed = refl
-try_nowhere g p m Exhausted c closed = refl
-try_nowhere g p m (Recreates r) c closed = absurd closed
-
-create_nowhere : (g : ReplayInput) (p : Passing) (m : Matter) (phase : Phase) (c : Consumer) → IsClosed phase → row_at g p m row.Create phase c ≡ quietly c []
-create_nowhere g p m (Pulls reader) c closed = refl
-create_nowhere g p m (Pushes inbox heartbeat_timer) c closed = refl
-create_nowhere g p m Idle c closed = refl
-create_nowhere g p m Ended c closed = refl
-create_nowhere g p m Exhausted c closed = refl
-create_nowhere g p m (Recreates r) c closed = absurd closed
-
-ask_nowhere : (g : ReplayInput) (p : Passing) (m : Matter) (phase : Phase) (c : Consumer) → IsClosed phase → row_at g p m row.Ask phase c ≡ quietly c []
-ask_nowhere g p m (Pulls reader) c closed = refl
-ask_nowhere g p m (Pushes inbox heartbeat_timer) c closed = refl
-ask_nowhere g p m Idle c closed = refl
-ask_nowhere g p m Ended c closed = refl
-ask_nowhere g p m Exhausted c closed = refl
-ask_nowhere g p m (Recreates r) c closed = absurd closed
-
-await_nowhere : (g : ReplayInput) (p : Passing) (m : Matter) (phase : Phase) (c : Consumer) → IsClosed phase → row_at g p m row.Await phase c ≡ quietly c []
-await_nowhere g p m (Pulls reader) c closed = refl
-await_nowhere g p m (Pushes inbox heartbeat_timer) c closed = refl
-await_nowhere g p m Idle c closed = refl
-await_nowhere g p m Ended c closed = refl
-await_nowhere g p m Exhausted c closed = refl
-await_nowhere g p m (Recreates r) c closed = absurd closed
-
-fail_nowhere : (g : ReplayInput) (p : Passing) (m : Matter) (phase : Phase) (c : Consumer) → IsClosed phase → row_at g p m row.Fail phase c ≡ quietly c []
-fail_nowhere g p m (Pulls reader) c closed = refl
-fail_nowhere g p m (Pushes inbox heartbeat_timer) c closed = refl
-fail_nowhere g p m Idle c closed = refl
-fail_nowhere g p m Ended c closed = refl
-fail_nowhere g p m Exhausted c closed = refl
-fail_nowhere g p m (Recreates r) c closed = absurd closed
-
-answered_nowhere : (g : ReplayInput) (p : Passing) (m : Matter) (reply : Option Message) (phase : Phase) (c : Consumer) → IsClosed phase → row_at g p m (row.Answered reply) phase c ≡ quietly c []
-answered_nowhere g p m reply (Pulls reader) c closed = refl
-answered_nowhere g p m reply (Pushes inbox heartbeat_timer) c closed = refl
-answered_nowhere g p m reply Idle c closed = refl
-answered_nowhere g p m reply Ended c closed = refl
-answered_nowhere g p m reply Exhausted c closed = refl
-answered_nowhere g p m reply (Recreates r) c closed = absurd closed
-
-succeed_nowhere : (g : ReplayInput) (p : Passing) (m : Matter) (info : Info) (phase : Phase) (c : Consumer) → IsClosed phase → row_at g p m (row.Succeed info) phase c ≡ quietly c []
-succeed_nowhere g p m info (Pulls reader) c closed = refl
-succeed_nowhere g p m info (Pushes inbox heartbeat_timer) c closed = refl
-succeed_nowhere g p m info Idle c closed = refl
-succeed_nowhere g p m info Ended c closed = refl
-succeed_nowhere g p m info Exhausted c closed = refl
-succeed_nowhere g p m info (Recreates r) c closed = absurd closed
-
-replied_nowhere : (g : ReplayInput) (now : ℕ) (m : Matter) (reply : Option (Option Message)) (w u : ReplayState) (outputs : List Output) (phase : Phase) → IsClosed phase → w.consumer.phase ≡ phase → u ≡ at phase w
-    → Leads g now m (answered_rows reply) w outputs [] u outputs
-replied_nowhere g now m None w u outputs phase closed is to =
-    ap (λ (v : ReplayState). and_then outputs (stays v)) (sym (to ∙ ap (λ (q : Phase). at q w) (sym is)))
-replied_nowhere g now m (Some reply) w u outputs phase closed is to =
-    idle_row g now m (row.Answered reply) w u outputs phase is to (answered_nowhere g (passing g now w) m reply phase w.consumer closed)
-
--- a row of a recreation does nothing where none is open
-pub tries_nowhere : (g : ReplayInput) (now : ℕ) (m : Matter) (one : Task) (w u : ReplayState) (outputs : List Output) (phase : Phase) → IsTry one → IsClosed phase → w.consumer.phase ≡ phase → u ≡ at phase w
-    → Leads g now m (rows_of m one) w outputs [] u outputs
-tries_nowhere g now m task.Try w u outputs phase one closed is to = idle_row g now m row.Try w u outputs phase is to (try_nowhere g (passing g now w) m phase w.consumer closed)
-tries_nowhere g now m task.Create w u outputs phase one closed is to = idle_row g now m row.Create w u outputs phase is to (create_nowhere g (passing g now w) m phase w.consumer closed)
-tries_nowhere g now m task.Ask w u outputs phase one closed is to = idle_row g now m row.Ask w u outputs phase is to (ask_nowhere g (passing g now w) m phase w.consumer closed)
-tries_nowhere g now m task.Await w u outputs phase one closed is to = idle_row g now m row.Await w u outputs phase is to (await_nowhere g (passing g now w) m phase w.consumer closed)
-tries_nowhere g now m task.Fail w u outputs phase one closed is to = idle_row g now m row.Fail w u outputs phase is to (fail_nowhere g (passing g now w) m phase w.consumer closed)
-tries_nowhere g now m (task.Answered request) w u outputs phase one closed is to = replied_nowhere g now m (reply_to request m.answer) w u outputs phase closed is to
-tries_nowhere g now m (task.Succeed info) w u outputs phase one closed is to =
-    idle_row g now m (row.Succeed info) w u outputs phase is to (succeed_nowhere g (passing g now w) m info phase w.consumer closed)
-tries_nowhere g now m task.Event w u outputs phase one closed is to = absurd one
-tries_nowhere g now m task.Start w u outputs phase one closed is to = absurd one
-tries_nowhere g now m task.Hold w u outputs phase one closed is to = absurd one
-tries_nowhere g now m task.CheckArrival w u outputs phase one closed is to = absurd one
-tries_nowhere g now m (task.Hear inbox) w u outputs phase one closed is to = absurd one
-tries_nowhere g now m (task.HearHeld held) w u outputs phase one closed is to = absurd one
-tries_nowhere g now m task.CheckSilence w u outputs phase one closed is to = absurd one
-tries_nowhere g now m task.Arm w u outputs phase one closed is to = absurd one
-tries_nowhere g now m (task.Read due) w u outputs phase one closed is to = absurd one
-
--- and where one is open it was passed there
-pub tries_here : {E : Type 0} (turn : EventContext) (one : Task) (r : Recreation) (w u : ReplayState) (before after : List Output) (result : Result Next E) → w.consumer.phase ≡ Recreates r
-    → PassesTo turn (rows_of (matter_now turn) one) (at (Recreates r) w) u before after result → PassesTo turn (rows_of (matter_now turn) one) w u before after result
-tries_here turn one r w u before after result is passes =
-    subst (λ (q : Phase). PassesTo turn (rows_of (matter_now turn) one) (at q w) u before after result) (sym is) passes
 
 -- ---- what is known of a call
 
@@ -359,7 +263,7 @@ pub unit_holds : {T E P : Type 0} (result : Result T E) (value : T) → result �
 unit_holds {T} {E} {P} result value is held = subst (λ (r : Result T E). OnOk r P) is held
 
 -- a row that sends a request
-pub leads_sent : (g : ReplayInput) (now : ℕ) (m : Matter) (one : Row) (r : Recreation) (w u : ReplayState) (subject payload : List ℕ) (number : Option ℕ) (requests_sent' : ℕ) (earlier later : List Output) (d : Consumer) (rest : Next)
+pub leads_sent : (g : ReplayInput) (now : ℕ) (m : Matter) (one : Row) (r : Recreation) (w u : ReplayState) (subject payload : List ℕ) (number : Option ℕ) (requests_sent' : ℕ) (earlier later : List Output) (d : Consumer) (rest : NextTasks)
     → Sends w.up w.requests_sent requests_sent' subject payload earlier later number
     → StepsTo m (row_at g (requesting now number (passing g now w)) m one (Recreates r) (at_phase (Recreates r) w.consumer)) (requested subject payload number) d rest
     → u ≡ record w { consumer = d; requests_sent = requests_sent' }
@@ -374,12 +278,12 @@ leads_sent g now m one r w u subject payload number requests_sent' earlier later
     inboxes_opened None = omega arith
     inboxes_opened (Some n) = omega arith
 
-no_made : (subject payload : List ℕ) (number : Option ℕ) (n : ℕ) → n ≡ n + count_by is_subscribe (requested subject payload number)
+pub no_made : (subject payload : List ℕ) (number : Option ℕ) (n : ℕ) → n ≡ n + count_by is_subscribe (requested subject payload number)
 no_made subject payload None n = omega arith
 no_made subject payload (Some number) n = omega arith
 
 -- a row that opens an inbox
-pub leads_opened : (g : ReplayInput) (now : ℕ) (m : Matter) (one : Row) (r : Recreation) (w u : ReplayState) (inbox : Option Inbox) (inboxes_opened' : ℕ) (earlier later : List Output) (d : Consumer) (rest : Next)
+pub leads_opened : (g : ReplayInput) (now : ℕ) (m : Matter) (one : Row) (r : Recreation) (w u : ReplayState) (inbox : Option Inbox) (inboxes_opened' : ℕ) (earlier later : List Output) (d : Consumer) (rest : NextTasks)
     → Subscribes w.up w.inboxes_opened inboxes_opened' (inbox_subject g w.inboxes_opened) earlier later inbox
     → StepsTo m (row_at g (opening_to now inbox (passing g now w)) m one (Recreates r) (at_phase (Recreates r) w.consumer)) (subscribed inbox) d rest
     → u ≡ record w { consumer = d; inboxes_opened = inboxes_opened' }
@@ -395,7 +299,7 @@ leads_opened g now m one r w u inbox inboxes_opened' earlier later d rest opens 
     requests_sent (Some i) = omega arith
 
 -- a row of a recreation that tells something
-pub leads_told : (g : ReplayInput) (now : ℕ) (m : Matter) (one : Row) (phase : Phase) (w u : ReplayState) (told : ReaderOutput) (earlier later : List Output) (d : Consumer) (rest : Next)
+pub leads_told : (g : ReplayInput) (now : ℕ) (m : Matter) (one : Row) (phase : Phase) (w u : ReplayState) (told : RowOutput) (earlier later : List Output) (d : Consumer) (rest : NextTasks)
     → StepsTo m (row_at g (passing g now w) m one phase (at_phase phase w.consumer)) (told_outputs told) d rest
     → later ≡ earlier ++ told_outputs told → u ≡ record w { consumer = d }
     → Leads g now m (one ∷ []) (at phase w) earlier (next_rows m rest) u later
@@ -403,13 +307,13 @@ leads_told g now m one phase w u told earlier later d rest steps put to =
     leads_at g now m one phase w u (passing g now w) (told_outputs told) earlier later d rest refl steps put (to ∙ told_unnumbered w d told)
 
 -- and one that puts nothing out
-pub leads_quietly : (g : ReplayInput) (now : ℕ) (m : Matter) (one : Row) (phase : Phase) (w u : ReplayState) (outputs : List Output) (d : Consumer) (rest : Next)
+pub leads_quietly : (g : ReplayInput) (now : ℕ) (m : Matter) (one : Row) (phase : Phase) (w u : ReplayState) (outputs : List Output) (d : Consumer) (rest : NextTasks)
     → StepsTo m (row_at g (passing g now w) m one phase (at_phase phase w.consumer)) [] d rest → u ≡ record w { consumer = d }
     → Leads g now m (one ∷ []) (at phase w) outputs (next_rows m rest) u outputs
 leads_quietly g now m one phase w u outputs d rest steps to = leads_told g now m one phase w u tells.Nothing outputs outputs d rest steps (sym (append-nil outputs)) to
 
 -- the same where the consumer's phase is known
-pub told_here : (g : ReplayInput) (now : ℕ) (m : Matter) (one : Row) (phase : Phase) (w u : ReplayState) (told : ReaderOutput) (earlier later : List Output) (d : Consumer) (rest : Next) → w.consumer.phase ≡ phase
+pub told_here : (g : ReplayInput) (now : ℕ) (m : Matter) (one : Row) (phase : Phase) (w u : ReplayState) (told : RowOutput) (earlier later : List Output) (d : Consumer) (rest : NextTasks) → w.consumer.phase ≡ phase
     → StepsTo m (row_at g (passing g now w) m one phase (at_phase phase w.consumer)) (told_outputs told) d rest
     → later ≡ earlier ++ told_outputs told → u ≡ record w { consumer = d }
     → Leads g now m (one ∷ []) w earlier (next_rows m rest) u later
@@ -418,7 +322,7 @@ told_here g now m one phase w u told earlier later d rest is steps put to =
     (leads_told g now m one phase w u told earlier later d rest steps put to)
 
 -- an answer that was read
-pub reply_read : (g : ReplayInput) (now : ℕ) (m : Matter) (reply : Option (Option Message)) (r : Recreation) (w u : ReplayState) (info : Option Info) (outputs : List Output) (d : Consumer) (rest : Next)
+pub reply_read : (g : ReplayInput) (now : ℕ) (m : Matter) (reply : Option (Option Message)) (r : Recreation) (w u : ReplayState) (info : Option Info) (outputs : List Output) (d : Consumer) (rest : NextTasks)
     → option_map info_of_reply reply ≡ Some info
     → StepsTo m (quietly (at_phase (Recreates r) w.consumer) (answered g.setup info ∷ [])) [] d rest → u ≡ record w { consumer = d }
     → Leads g now m (answered_rows reply) (at (Recreates r) w) outputs (next_rows m rest) u outputs
@@ -435,7 +339,7 @@ reply_missing g now m None w u outputs is to = ap (λ (v : ReplayState). and_the
 reply_missing g now m (Some reply) w u outputs is to = cc
 
 -- a message that was heard
-pub hears_on : (g : ReplayInput) (now : ℕ) (m : Matter) (inbox : ℕ) (message : Message) (heard : Heard) (w u : ReplayState) (earlier later : List Output) (d : Consumer) (rest : Next)
+pub hears_on : (g : ReplayInput) (now : ℕ) (m : Matter) (inbox : ℕ) (message : Message) (heard : Heard) (w u : ReplayState) (earlier later : List Output) (d : Consumer) (rest : NextTasks)
     → listens_to inbox w.consumer.phase ≡ true → IsHeard w.consumer.consumer_sequence message heard
     → StepsTo m (heard_row (passing g now w) message heard (at_phase (Pushes inbox (armed now)) w.consumer)) (heard_outputs w.up message heard) d rest
     → later ≡ earlier ++ heard_outputs w.up message heard → u ≡ record w { consumer = d }
@@ -468,7 +372,7 @@ event_over g now m w outputs over =
     none Idle e = cc
 
 -- an event
-pub event_passed : (g : ReplayInput) (now : ℕ) (m : Matter) (w u : ReplayState) (told : ReaderOutput) (earlier later : List Output) (d : Consumer) (rest : Next)
+pub event_passed : (g : ReplayInput) (now : ℕ) (m : Matter) (w u : ReplayState) (told : RowOutput) (earlier later : List Output) (d : Consumer) (rest : NextTasks)
     → StepsTo m (event_row g (passing g now w) m w.consumer.phase w.consumer) (told_outputs told) d rest
     → later ≡ earlier ++ told_outputs told → u ≡ record w { consumer = d }
     → Leads g now m (row.Event ∷ []) w earlier (next_rows m rest) u later
@@ -476,7 +380,7 @@ event_passed g now m w u told earlier later d rest steps put to =
     leads_by g now m row.Event w u (event_row g (passing g now w) m w.consumer.phase w.consumer) (told_outputs told) earlier later d rest refl steps put (to ∙ told_unnumbered w d told)
 
 -- a row that begins wherever the consumer is
-pub starts : (g : ReplayInput) (now : ℕ) (m : Matter) (w u : ReplayState) (told : ReaderOutput) (earlier later : List Output) (d : Consumer) (rest : Next)
+pub starts : (g : ReplayInput) (now : ℕ) (m : Matter) (w u : ReplayState) (told : RowOutput) (earlier later : List Output) (d : Consumer) (rest : NextTasks)
     → StepsTo m (start_row g w.consumer) (told_outputs told) d rest
     → later ≡ earlier ++ told_outputs told → u ≡ record w { consumer = d }
     → Leads g now m (row.Start ∷ []) w earlier (next_rows m rest) u later
@@ -508,18 +412,18 @@ look_nowhere g now m one w outputs phase is none = idle_row g now m one w w outp
 
 -- ---- by the mode
 
-create_of : (setup : OrderedSetup) (p : Passing) (r : Recreation) (c : Consumer) → IsPush setup → (m : Matter) (inbox : Option Inbox) (d : Consumer) (rest : Next)
+create_of : (setup : OrderedSetup) (p : Passing) (r : Recreation) (c : Consumer) → IsPush setup → (m : Matter) (inbox : Option Inbox) (d : Consumer) (rest : NextTasks)
     → StepsTo m (create_row setup p r c) (create_outputs setup inbox) d rest → StepsTo m (create_row setup p r c) (subscribed inbox) d rest
 create_of (Pull setup) p r c pushes m inbox d rest steps = absurd pushes
 create_of (Push setup) p r c pushes m inbox d rest steps = steps
 
-create_none : (setup : OrderedSetup) (p q : Passing) (r : Recreation) (c : Consumer) → IsPull setup → (m : Matter) (inbox : Option Inbox) (d : Consumer) (rest : Next)
+create_none : (setup : OrderedSetup) (p q : Passing) (r : Recreation) (c : Consumer) → IsPull setup → (m : Matter) (inbox : Option Inbox) (d : Consumer) (rest : NextTasks)
     → StepsTo m (create_row setup p r c) (create_outputs setup inbox) d rest → StepsTo m (create_row setup q r c) [] d rest
 create_none (Push setup) p q r c pulls m inbox d rest steps = absurd pulls
 create_none (Pull setup) p q r c pulls m inbox d rest steps = steps
 
 -- push has opened its inbox, or could not
-pub creates_push : (g : ReplayInput) (now : ℕ) (m : Matter) (r : Recreation) (w u : ReplayState) (inbox : Option Inbox) (inboxes_opened' : ℕ) (earlier later : List Output) (d : Consumer) (rest : Next) → IsPush g.setup
+pub creates_push : (g : ReplayInput) (now : ℕ) (m : Matter) (r : Recreation) (w u : ReplayState) (inbox : Option Inbox) (inboxes_opened' : ℕ) (earlier later : List Output) (d : Consumer) (rest : NextTasks) → IsPush g.setup
     → Subscribes w.up w.inboxes_opened inboxes_opened' (inbox_subject g w.inboxes_opened) earlier later inbox
     → StepsTo m (create_row g.setup (opening_to now inbox (passing g now w)) r (at_phase (Recreates r) w.consumer)) (create_outputs g.setup inbox) d rest
     → u ≡ record w { consumer = d; inboxes_opened = inboxes_opened' }
@@ -529,7 +433,7 @@ creates_push g now m r w u inbox inboxes_opened' earlier later d rest pushes ope
     (create_of g.setup (opening_to now inbox (passing g now w)) r (at_phase (Recreates r) w.consumer) pushes m inbox d rest steps) to
 
 -- pull opens none
-pub creates_pull : (g : ReplayInput) (now : ℕ) (m : Matter) (r : Recreation) (w u : ReplayState) (outputs : List Output) (d : Consumer) (rest : Next) → IsPull g.setup
+pub creates_pull : (g : ReplayInput) (now : ℕ) (m : Matter) (r : Recreation) (w u : ReplayState) (outputs : List Output) (d : Consumer) (rest : NextTasks) → IsPull g.setup
     → StepsTo m (create_row g.setup (opening_to now None (passing g now w)) r (at_phase (Recreates r) w.consumer)) (create_outputs g.setup None) d rest
     → u ≡ record w { consumer = d }
     → Leads g now m (row.Create ∷ []) (at (Recreates r) w) outputs (next_rows m rest) u outputs
@@ -537,17 +441,17 @@ creates_pull g now m r w u outputs d rest pulls steps to =
     leads_quietly g now m row.Create (Recreates r) w u outputs d rest
     (create_none g.setup (opening_to now None (passing g now w)) (passing g now w) r (at_phase (Recreates r) w.consumer) pulls m None d rest steps) to
 
-succeed_of_pull : (setup : OrderedSetup) (g : ReplayInput) (p : Passing) (info : Info) (r : Recreation) (c : Consumer) → IsPull setup → (m : Matter) (outputs : List Output) (d : Consumer) (rest : Next)
+succeed_of_pull : (setup : OrderedSetup) (g : ReplayInput) (p : Passing) (info : Info) (r : Recreation) (c : Consumer) → IsPull setup → (m : Matter) (outputs : List Output) (d : Consumer) (rest : NextTasks)
     → StepsTo m (succeed_pull g p info c) outputs d rest → StepsTo m (succeed_row setup g p info r c) outputs d rest
 succeed_of_pull (Pull setup) g p info r c pulls m outputs d rest steps = steps
 succeed_of_pull (Push setup) g p info r c pulls m outputs d rest steps = absurd pulls
 
-succeed_of_push : (setup : OrderedSetup) (g : ReplayInput) (p : Passing) (info : Info) (r : Recreation) (c : Consumer) → IsPush setup → (m : Matter) (outputs : List Output) (d : Consumer) (rest : Next)
+succeed_of_push : (setup : OrderedSetup) (g : ReplayInput) (p : Passing) (info : Info) (r : Recreation) (c : Consumer) → IsPush setup → (m : Matter) (outputs : List Output) (d : Consumer) (rest : NextTasks)
     → StepsTo m (succeed_push p r.opened c) outputs d rest → StepsTo m (succeed_row setup g p info r c) outputs d rest
 succeed_of_push (Pull setup) g p info r c pushes m outputs d rest steps = absurd pushes
 succeed_of_push (Push setup) g p info r c pushes m outputs d rest steps = steps
 
-pub succeeds_pull : (g : ReplayInput) (now : ℕ) (m : Matter) (info : Info) (r : Recreation) (w u : ReplayState) (inbox : Option Inbox) (inboxes_opened' : ℕ) (earlier later : List Output) (d : Consumer) (rest : Next) → IsPull g.setup
+pub succeeds_pull : (g : ReplayInput) (now : ℕ) (m : Matter) (info : Info) (r : Recreation) (w u : ReplayState) (inbox : Option Inbox) (inboxes_opened' : ℕ) (earlier later : List Output) (d : Consumer) (rest : NextTasks) → IsPull g.setup
     → Subscribes w.up w.inboxes_opened inboxes_opened' (inbox_subject g w.inboxes_opened) earlier later inbox
     → StepsTo m (succeed_pull g (opening_to now inbox (passing g now w)) info (at_phase (Recreates r) w.consumer)) (subscribed inbox) d rest
     → u ≡ record w { consumer = d; inboxes_opened = inboxes_opened' }
@@ -556,205 +460,15 @@ succeeds_pull g now m info r w u inbox inboxes_opened' earlier later d rest pull
     leads_opened g now m (row.Succeed info) r w u inbox inboxes_opened' earlier later d rest opens
     (succeed_of_pull g.setup g (opening_to now inbox (passing g now w)) info r (at_phase (Recreates r) w.consumer) pulls m (subscribed inbox) d rest steps) to
 
-pub succeeds_push : (g : ReplayInput) (now : ℕ) (m : Matter) (info : Info) (r : Recreation) (w u : ReplayState) (outputs : List Output) (d : Consumer) (rest : Next) → IsPush g.setup
+pub succeeds_push : (g : ReplayInput) (now : ℕ) (m : Matter) (info : Info) (r : Recreation) (w u : ReplayState) (outputs : List Output) (d : Consumer) (rest : NextTasks) → IsPush g.setup
     → StepsTo m (succeed_push (passing g now w) r.opened (at_phase (Recreates r) w.consumer)) [] d rest → u ≡ record w { consumer = d }
     → Leads g now m (row.Succeed info ∷ []) (at (Recreates r) w) outputs (next_rows m rest) u outputs
 succeeds_push g now m info r w u outputs d rest pushes steps to =
     leads_quietly g now m (row.Succeed info) (Recreates r) w u outputs d rest
     (succeed_of_push g.setup g (passing g now w) info r (at_phase (Recreates r) w.consumer) pushes m [] d rest steps) to
 
--- ---- a task that was taken
-
-pub refused_on : (g : ReplayInput) (now : ℕ) (m : Matter) (tasks after : List Task) (one : Task) (w u : ReplayState) (earlier later : List Output) → u ≡ w → later ≡ earlier
-    → left_rows m after ≡ left_rows m (tasks ++ one ∷ []) → Leads g now m (left_rows m (tasks ++ one ∷ [])) w earlier (left_rows m after) u later
-refused_on g now m tasks after one w u earlier later to put same =
-    ap (λ (rows : List Row). and_then earlier (pass_each (ran g now m) rows w)) (sym same)
-    ∙ ap (λ (v : ReplayState). and_then earlier (pass_each (ran g now m) (left_rows m after) v)) (sym to)
-    ∙ ap (λ (o : List Output). and_then o (pass_each (ran g now m) (left_rows m after) u)) (sym put)
-
--- a row that was passed, and one that was refused
-pub ok_passes : {E : Type 0} (turn : EventContext) (rows : List Row) (w u : ReplayState) (before after : List Output) (result : Result Next E) (rest : Next) → result ≡ Ok rest → PassesTo turn rows w u before after result
-    → LeadsOn turn rows w before (next_rows (matter_now turn) rest) u after
-ok_passes {E} turn rows w u before after result rest is passes = subst (λ (r : Result Next E). PassesTo turn rows w u before after r) is passes
-
-pub err_passes : {E : Type 0} (turn : EventContext) (rows : List Row) (w u : ReplayState) (before after : List Output) (result : Result Next E) (e : E) → result ≡ Err e → PassesTo turn rows w u before after result
-    → (u ≡ w) × (after ≡ before)
-err_passes {E} turn rows w u before after result e is passes = subst (λ (r : Result Next E). PassesTo turn rows w u before after r) is passes
-
-pub tasks_same : (m : Matter) (tasks other : List Task) → tasks ≡ other → left_rows m tasks ≡ left_rows m other
-tasks_same m tasks other is = ap (left_rows m) is
-
--- what was put back is left
-pub left_again : (tasks after : List Task) (one : Task) → after ≡ tasks ++ one ∷ [] → IsLeft after
-left_again tasks after one is = subst IsLeft (sym is) (more tasks one)
-  where
-    more : (tasks : List Task) (one : Task) → IsLeft (tasks ++ one ∷ [])
-    more [] one = tt
-    more (x ∷ tasks) one = tt
-
-pub left_still : (tasks after : List Task) → after ≡ tasks → IsLeft tasks → IsLeft after
-left_still tasks after is left = subst IsLeft (sym is) left
-
-pub left_some : (tasks : List Task) → (length tasks == 0) ≡ false → IsLeft tasks
-left_some [] is = cc
-left_some (x ∷ tasks) is = tt
-
-pub left_none : (tasks : List Task) → (length tasks == 0) ≡ true → tasks ≡ []
-left_none [] is = refl
-left_none (x ∷ tasks) is = absurd (never (suc_zero (length tasks)))
-  where
-    suc_zero : (n : ℕ) → (suc n == 0) ≡ false
-    suc_zero n = grind (arith, nat_tests)
-
-    never : (length (x ∷ tasks) == 0) ≡ false → ⊥
-    never e = cc
-
--- ---- rows of a pull reader
-
--- a row that was passed, with what the consumer makes of it
-pub leads_read : (g : ReplayInput) (now : ℕ) (m : Matter) (one : PullRow) (r s : Reader) (w u : ReplayState) (p : Passing) (message : Option Message) (step : Read) (passed : pull.Passed) (sent : List Sent) (outputs earlier later : List Output) (d : Consumer) (rest : Next)
-    → passing g now w ≡ p → pull.row p m.answer (message_on r.source.inbox m.arrival) one r ≡ passed → ReadsTo (brought m.answer) message passed s step → passed.sent ≡ sent
-    → StepsTo m (with_sent [] (reader_rows m step.due) (told (told_shown step.notice message) (at_phase (Pulls s) w.consumer))) outputs d rest
-    → later ≡ earlier ++ (map output_of sent ++ outputs) → u ≡ record (counted (map output_of sent ++ outputs) w) { consumer = d }
-    → Leads g now m (row.Read one ∷ []) (at (Pulls r) w) earlier (next_rows m rest) u later
-leads_read g now m one r s w u p message step passed sent outputs earlier later d rest is row_is reads sends steps put to =
-    leads_at g now m (row.Read one) (Pulls r) w u p (map output_of sent ++ outputs) earlier later d rest is
-    (subst (λ (x : pull.Passed). StepsTo m (read_row x (at_phase (Pulls r) w.consumer)) (map output_of sent ++ outputs) d rest) (sym row_is)
-    (reads_row m message passed sent s step (at_phase (Pulls r) w.consumer) d outputs rest reads sends steps)) put to
-
--- a row that sends nothing and hears no message
-pub leads_finish : (g : ReplayInput) (now : ℕ) (m : Matter) (one : PullRow) (r s : Reader) (w u : ReplayState) (p : Passing) (step : Read) (passed : pull.Passed) (earlier later : List Output) (rest : Next)
-    → passing g now w ≡ p → pull.row p m.answer (message_on r.source.inbox m.arrival) one r ≡ passed → ReadsTo (brought m.answer) None passed s step → passed.sent ≡ []
-    → Finishes m w u s step earlier later rest
-    → Leads g now m (row.Read one ∷ []) (at (Pulls r) w) earlier (next_rows m rest) u later
-leads_finish g now m one r s w u p step passed earlier later rest is row_is reads sends finishes =
-    leads_read g now m one r s w u p None step passed [] (told_outputs finishes.told) earlier later finishes.consumer rest is row_is reads sends finishes.steps finishes.outputs
-    (finishes.world ∙ told_unnumbered w finishes.consumer finishes.told)
-
-pub sent_is : (g : ReplayInput) (now : ℕ) (w : ReplayState) (up : Bool) → w.up ≡ up → passing g now w ≡ record (passing g now w) { up = up }
-sent_is g now w up is = ap (λ (b : Bool). with_request (passing g now w) b (w.requests_sent + 1)) is
-
--- a pull request went out
-pub leads_asked : (g : ReplayInput) (now : ℕ) (m : Matter) (reason : Reason) (r s : Reader) (w u : ReplayState) (output : Output) (earlier later : List Output) → w.up ≡ true
-    → s ≡ (pull.ask (record (passing g now w) { up = true }) reason r).reader → output ≡ out.Publish (pull.pull_subject r.source) (Some r.source.subject) (pull_body r.pin r.source.config)
-    → later ≡ earlier ++ output ∷ [] → u ≡ record w { consumer = at_phase (Pulls s) w.consumer }
-    → Leads g now m (row.Read (read.Ask reason) ∷ []) (at (Pulls r) w) earlier [] u later
-leads_asked g now m reason r s w u output earlier later up reader is put to =
-    let sends : List Output = out.Publish (pull.pull_subject r.source) (Some r.source.subject) (pull_body r.pin r.source.config) ∷ [] in
-    leads_at g now m (row.Read (read.Ask reason)) (Pulls r) w u (record (passing g now w) { up = true }) sends earlier later (at_phase (Pulls s) w.consumer) next.Nothing
-    (sent_is g now w true up) (record { consumer = ap (λ (x : Reader). at_phase (Pulls x) w.consumer) reader; outputs = refl; next = refl })
-    (put ∙ ap (λ (o : Output). earlier ++ o ∷ []) is) (to ∙ unnumbered w (at_phase (Pulls s) w.consumer) sends refl refl)
-
--- the info was asked for, or could not be
-inquired : (m : Matter) (now : ℕ) (p : Passing) (number : Option ℕ) (failures : ℕ) (r s : Reader) (c : Consumer) (rest : Next) → s ≡ (pull.inquire (requesting now number p) failures r).reader
-    → next_rows m rest ≡ map row.Read (pull.inquire (requesting now number p) failures r).next
-    → StepsTo m (read_row (pull.inquire (requesting now number p) failures r) c) (requested (pull.info_subject r.source) (codes "{}") number) (at_phase (Pulls s) c) rest
-inquired m now p None failures r s c rest reader rows = record { consumer = ap (λ (x : Reader). at_phase (Pulls x) c) reader; outputs = refl; next = rows }
-inquired m now p (Some number) failures r s c rest reader rows = record { consumer = ap (λ (x : Reader). at_phase (Pulls x) c) reader; outputs = refl; next = rows }
-
-pub leads_inquired : (g : ReplayInput) (now : ℕ) (m : Matter) (failures : ℕ) (r s : Reader) (w u : ReplayState) (number : Option ℕ) (requests_sent' : ℕ) (earlier later : List Output) (step : Read) (rest : Next)
-    → Sends w.up w.requests_sent requests_sent' (pull.info_subject r.source) (codes "{}") earlier later number
-    → ReadsTo (brought m.answer) None (pull.inquire (requesting now number (passing g now w)) failures r) s step → next_rows m rest ≡ reader_rows m step.due
-    → u ≡ record w { consumer = at_phase (Pulls s) w.consumer; requests_sent = requests_sent' }
-    → Leads g now m (row.Read (read.Inquire failures) ∷ []) (at (Pulls r) w) earlier (next_rows m rest) u later
-leads_inquired g now m failures r s w u number requests_sent' earlier later step rest sends reads rows to =
-    let subject : List ℕ = pull.info_subject r.source in
-    leads_at g now m (row.Read (read.Inquire failures)) (Pulls r) w u (requesting now number (passing g now w)) (requested subject (codes "{}") number) earlier later (at_phase (Pulls s) w.consumer) rest
-    (request_is g now w number sends.number)
-    (inquired m now (passing g now w) number failures r s (at_phase (Pulls r) w.consumer) rest reads.reader (rows ∙ ap (map row.Read) reads.next))
-    sends.outputs
-    (to ∙ ap (λ (n : ℕ). record w { consumer = at_phase (Pulls s) w.consumer; requests_sent = n }) sends.requests_sent
-    ∙ ap (λ (n : ℕ). record w { consumer = at_phase (Pulls s) w.consumer; requests_sent = w.requests_sent + count_by is_request (requested subject (codes "{}") number); inboxes_opened = n }) (no_made subject (codes "{}") number w.inboxes_opened))
-
--- a message of the stream was heard
-pub leads_heard : (g : ReplayInput) (now : ℕ) (m : Matter) (message : Message) (heard_is : Heard) (r s : Reader) (w u : ReplayState) (earlier later : List Output) (d : Consumer) (rest : Next)
-    → message_on r.source.inbox m.arrival ≡ Some message → pull_kind message ≡ pulls.Delivered → IsHeardFrom w.consumer.consumer_sequence message heard_is → s ≡ pull.lowered 1 message.length (heard now message r)
-    → StepsTo m (with_sent [] (row.Read read.Threshold ∷ []) (heard_row (passing g now w) message heard_is (record (at_phase (Pulls s) w.consumer) { missed = false }))) (heard_outputs w.up message heard_is) d rest
-    → later ≡ earlier ++ heard_outputs w.up message heard_is → u ≡ record w { consumer = d }
-    → Leads g now m (row.Read read.CheckArrival ∷ []) (at (Pulls r) w) earlier (next_rows m rest) u later
-leads_heard g now m message heard_is r s w u earlier later d rest arrives kind is reader steps put to =
-    let p : Passing = passing g now w in
-    let c : Consumer = at_phase (Pulls r) w.consumer in
-    let after : Consumer = record (at_phase (Pulls (pull.lowered 1 message.length (heard now message r))) w.consumer) { missed = false } in
-    leads_at g now m (row.Read read.CheckArrival) (Pulls r) w u p (heard_outputs w.up message heard_is) earlier later d rest refl
-    (subst (λ (o : Option Message). StepsTo m (read_row (pull.check_arrival p o r) c) (heard_outputs w.up message heard_is) d rest) (sym arrives)
-    (subst (λ (k : Kind). StepsTo m (read_row (pull.hear message k (heard now message r)) c) (heard_outputs w.up message heard_is) d rest) (sym kind)
-    (subst (λ (passed : Passed). StepsTo m (with_sent [] (row.Read read.Threshold ∷ []) passed) (heard_outputs w.up message heard_is) d rest) (sym (from_stream p message heard_is after is))
-    (subst (λ (x : Reader). StepsTo m (with_sent [] (row.Read read.Threshold ∷ []) (heard_row p message heard_is (record (at_phase (Pulls x) w.consumer) { missed = false }))) (heard_outputs w.up message heard_is) d rest) reader steps))))
-    put (to ∙ heard_unnumbered w d w.up message heard_is)
-
--- what is told of another arrival needs no message
-tells_alone : (message : Message) (k : Kind) (r : Reader) (reply : Option Message) (s : Reader) (step : Read) → k ≢ pulls.Delivered → ReadsTo reply (Some message) (pull.hear message k r) s step → ReadsTo reply None (pull.hear message k r) s step
-tells_alone message k r reply s step other reads = record { reader = reads.reader; told = by_notice step.notice reads.told; next = reads.next }
-  where
-    no_hands : (k : Kind) → k ≢ pulls.Delivered → telling.Hands message ≡ (pull.hear message k r).told → ⊥
-    no_hands pulls.Delivered other is = other refl
-    no_hands pulls.Quiet other is = cc
-    no_hands pulls.Deleted other is = cc
-    no_hands pulls.PushBased other is = cc
-    no_hands pulls.Limit other is = cc
-    no_hands pulls.Gone other is = cc
-    no_hands pulls.Bad other is = cc
-    no_hands (pulls.Ledger messages bytes) other is = cc
-
-    by_notice : (n : Notice) → told_shown n (Some message) ≡ (pull.hear message k r).told → told_shown n None ≡ (pull.hear message k r).told
-    by_notice notice.Nothing is = is
-    by_notice notice.Hands is = absurd (no_hands k other is)
-    by_notice (notice.Tells kind) is = is
-
-pub leads_status : (g : ReplayInput) (now : ℕ) (m : Matter) (message : Message) (r h s : Reader) (w u : ReplayState) (step : Read) (earlier later : List Output) (rest : Next)
-    → message_on r.source.inbox m.arrival ≡ Some message → pull_kind message ≢ pulls.Delivered → h ≡ heard now message r
-    → ReadsTo (brought m.answer) (Some message) (pull.hear message (pull_kind message) h) s step
-    → Finishes m w u s step earlier later rest
-    → Leads g now m (row.Read read.CheckArrival ∷ []) (at (Pulls r) w) earlier (next_rows m rest) u later
-leads_status g now m message r h s w u step earlier later rest arrives other hears reads finishes =
-    let p : Passing = passing g now w in
-    leads_finish g now m read.CheckArrival r s w u p step (pull.hear message (pull_kind message) h) earlier later rest refl
-    (ap (λ (o : Option Message). pull.check_arrival p o r) arrives ∙ ap (λ (x : Reader). pull.hear message (pull_kind message) x) (sym hears))
-    (tells_alone message (pull_kind message) h (brought m.answer) s step other reads) (hear_sends message (pull_kind message) h) finishes
-
--- nothing arrived
-pub leads_silent : (g : ReplayInput) (now : ℕ) (m : Matter) (r : Reader) (w : ReplayState) (outputs : List Output) → None ≡ message_on r.source.inbox m.arrival
-    → Leads g now m (row.Read read.CheckArrival ∷ []) (at (Pulls r) w) outputs (row.Read read.CheckSilence ∷ []) (at (Pulls r) w) outputs
-leads_silent g now m r w outputs none =
-    let p : Passing = passing g now w in
-    let c : Consumer = at_phase (Pulls r) w.consumer in
-    leads_quietly g now m (row.Read read.CheckArrival) (Pulls r) w (at (Pulls r) w) outputs c (next.One (task.Read due.CheckSilence))
-    (subst (λ (o : Option Message). StepsTo m (read_row (pull.check_arrival p o r) c) [] c (next.One (task.Read due.CheckSilence))) none (record { consumer = refl; outputs = refl; next = refl })) refl
-
--- the heartbeat is armed
-pub leads_armed : (g : ReplayInput) (now : ℕ) (m : Matter) (r s : Reader) (w u : ReplayState) (outputs : List Output) → s ≡ pull.with_silence now r → u ≡ at (Pulls s) w
-    → Leads g now m (row.Read read.Arm ∷ []) (at (Pulls r) w) outputs [] u outputs
-leads_armed g now m r s w u outputs reader to =
-    leads_quietly g now m (row.Read read.Arm) (Pulls r) w u outputs (at_phase (Pulls s) w.consumer) next.Nothing
-    (record { consumer = ap (λ (x : Reader). at_phase (Pulls x) w.consumer) reader; outputs = refl; next = refl }) to
-
--- ---- a reader's row where none reads
-
-abbrev pub IsOther : Phase → Type 0
-IsOther (Pulls reader) = ⊥
-IsOther phase = ⊤
-
-reads_none : (g : ReplayInput) (p : Passing) (m : Matter) (one : PullRow) (phase : Phase) (c : Consumer) → IsOther phase → row_at g p m (row.Read one) phase c ≡ quietly c []
-reads_none g p m one (Pulls reader) c other = absurd other
-reads_none g p m one (Pushes inbox heartbeat_timer) c other = refl
-reads_none g p m one (Recreates r) c other = refl
-reads_none g p m one Idle c other = refl
-reads_none g p m one Ended c other = refl
-reads_none g p m one Exhausted c other = refl
-
-pub reads_nowhere : (g : ReplayInput) (now : ℕ) (m : Matter) (one : PullRow) (w u : ReplayState) (outputs : List Output) (phase : Phase) → IsOther phase → w.consumer.phase ≡ phase → u ≡ at phase w
-    → Leads g now m (row.Read one ∷ []) w outputs [] u outputs
-reads_nowhere g now m one w u outputs phase other is to =
-    idle_row g now m (row.Read one) w u outputs phase is to (reads_none g (passing g now w) m one phase w.consumer other)
-
-pub reads_here : {E : Type 0} (turn : EventContext) (rows : List Row) (r : Reader) (w u : ReplayState) (before after : List Output) (result : Result Next E) → w.consumer.phase ≡ Pulls r
-    → PassesTo turn rows (at (Pulls r) w) u before after result → PassesTo turn rows w u before after result
-reads_here turn rows r w u before after result is passes =
-    subst (λ (q : Phase). PassesTo turn rows (at q w) u before after result) (sym is) passes
-
 -- push looks, and stays where it was
-pub looks_on : (g : ReplayInput) (now : ℕ) (m : Matter) (one : Row) (phase : Phase) (w : ReplayState) (told : ReaderOutput) (earlier later : List Output) (rest : Next) → w.consumer.phase ≡ phase
+pub looks_on : (g : ReplayInput) (now : ℕ) (m : Matter) (one : Row) (phase : Phase) (w : ReplayState) (told : RowOutput) (earlier later : List Output) (rest : NextTasks) → w.consumer.phase ≡ phase
     → StepsTo m (row_at g (passing g now w) m one phase (at_phase phase w.consumer)) (told_outputs told) (at_phase phase w.consumer) rest
     → later ≡ earlier ++ told_outputs told
     → Leads g now m (one ∷ []) w earlier (next_rows m rest) w later
@@ -772,44 +486,15 @@ pub brought_nothing : (g : ReplayInput) (now : ℕ) (m : Matter) (inbox : ℕ) (
     → Leads g now m (heard_rows inbox message) w outputs [] w outputs
 brought_nothing g now m inbox message w outputs none = ap (λ (o : Option Message). and_then outputs (pass_each (ran g now m) (heard_rows inbox o) w)) (sym none)
 
-pub took_some : (old room new : List Task) (taken : Option Task) (one : Task) → room ≡ old → room ≡ new ++ option_to_list taken → taken ≡ Some one → new ++ one ∷ [] ≡ old
-took_some old room new taken one same is some = sym (sym same ∙ is ∙ ap (λ (o : Option Task). new ++ option_to_list o) some)
-
-pub leads_same : (g : ReplayInput) (now : ℕ) (m : Matter) (tasks after : List Task) (w : ReplayState) (outputs : List Output) → after ≡ tasks → Leads g now m (left_rows m tasks) w outputs (left_rows m after) w outputs
-leads_same g now m tasks after w outputs is = ap (λ (ts : List Task). and_then outputs (pass_each (ran g now m) (left_rows m ts) w)) (sym is)
-
--- a message of the stream was heard
-pub of_stream : (consumer_sequence : ℕ) (message : Message) (heard_is : Heard) → IsHeardFrom consumer_sequence message heard_is → IsOfStream heard_is
-of_stream consumer_sequence message (hears.Yields place) is = tt
-of_stream consumer_sequence message hears.Unreadable is = tt
-of_stream consumer_sequence message hears.Gap is = tt
-of_stream consumer_sequence message (hears.Beat last) is = is
-of_stream consumer_sequence message hears.Quiet is = is
-
 -- the message that was brought was heard
-pub brought_heard : {E : Type 0} (turn : EventContext) (inbox : ℕ) (brings : Option Message) (message : Message) (w u : ReplayState) (before after : List Output) (result : Result Next E) → Some message ≡ brings
+pub brought_heard : {E : Type 0} (turn : EventContext) (inbox : ℕ) (brings : Option Message) (message : Message) (w u : ReplayState) (before after : List Output) (result : Result NextTasks E) → Some message ≡ brings
     → PassesTo turn (row.Hear (record { inbox = inbox; message = message }) ∷ []) w u before after result → PassesTo turn (heard_rows inbox brings) w u before after result
 brought_heard turn inbox brings message w u before after result is passes = subst (λ (o : Option Message). PassesTo turn (heard_rows inbox o) w u before after result) is passes
 
 -- and the first of what was held
-pub held_heard : {E : Type 0} (turn : EventContext) (inbox : ℕ) (messages same : List Message) (place : ℕ) (message : Message) (w u : ReplayState) (before after : List Output) (result : Result Next E) → same ≡ messages
+pub held_heard : {E : Type 0} (turn : EventContext) (inbox : ℕ) (messages same : List Message) (place : ℕ) (message : Message) (w u : ReplayState) (before after : List Output) (result : Result NextTasks E) → same ≡ messages
     → place < length messages → message ≡ get_or same place message
     → PassesTo turn (row.Hear (record { inbox = inbox; message = message }) ∷ []) w u before after result → PassesTo turn (heard_first inbox (drop place messages)) w u before after result
 held_heard turn inbox messages same place message w u before after result are below is passes =
     subst (λ (rows : List Row). PassesTo turn rows w u before after result)
     (sym (held_first inbox messages place message below (is ∙ ap (λ (ms : List Message). get_or ms place message) are))) passes
-
--- a reader's row that is known
-pub due_leads : (g : ReplayInput) (now : ℕ) (m : Matter) (one known : Due) (r : Reader) (w u : ReplayState) (before after : List Output) (rest : List Row) → one ≡ known
-    → Leads g now m (row.Read (row_of (brought m.answer) known) ∷ []) (at (Pulls r) w) before rest u after
-    → Leads g now m (row.Read (row_of (brought m.answer) one) ∷ []) (at (Pulls r) w) before rest u after
-due_leads g now m one known r w u before after rest is leads =
-    subst (λ (d : Due). Leads g now m (row.Read (row_of (brought m.answer) d) ∷ []) (at (Pulls r) w) before rest u after) (sym is) leads
-
--- a task was taken, and passed
-pub took_on : (g : ReplayInput) (now : ℕ) (m : Matter) (old room new : List Task) (taken : Option Task) (one : Task) (after : List Task) (w u : ReplayState) (before given later : List Output)
-    → room ≡ old → room ≡ new ++ option_to_list taken → taken ≡ Some one → given ≡ before
-    → Leads g now m (left_rows m (new ++ one ∷ [])) w given (left_rows m after) u later → Leads g now m (left_rows m old) w before (left_rows m after) u later
-took_on g now m old room new taken one after w u before given later same is some put leads =
-    subst (λ (o : List Output). Leads g now m (left_rows m old) w o (left_rows m after) u later) put
-    (subst (λ (tasks : List Task). Leads g now m (left_rows m tasks) w given (left_rows m after) u later) (took_some old room new taken one same is some) leads)

@@ -1,6 +1,7 @@
 pub mod Rans
 pub mod Replaying
 pub mod Coursing
-pub mod Stepping
-pub mod ReaderSteps
 pub mod Driving
+pub mod ReadDriving
+pub mod Nowhere
+pub mod Taking

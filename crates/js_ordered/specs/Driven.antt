@@ -1,15 +1,15 @@
 -- What the code of a replay says that passes the rows of an event.
 use Rattle.std.specs.Prelude.{◌≡◌, ℕ, ◌+◌, List, [], ◌∷◌, ◌++◌, None, Result, Ok, Err, count_by, drop, ⊤}
-use Rattle.js_ordered.specs.declared.task.Next.{Next}
+use Rattle.js_ordered_rows.specs.declared.task.NextTasks.{NextTasks}
 use Rattle.js_base.specs.declared.message.Message.{Message}
-use Rattle.js_ordered.specs.declared.task.Held.{Held}
-use Rattle.js_ordered.specs.declared.task.Read.{Read}
-use Rattle.js_ordered.specs.declared.task.Task.{Task}
-use Rattle.js_ordered.specs.declared.task.ReaderOutput.{ReaderOutput}
-use Rattle.js_ordered.specs.declared.task.Task.TheVariants as task
-use Rattle.js_ordered.specs.Tasks.{StepsTo, next_rows, reader_rows, rows_of, told_outputs}
+use Rattle.js_ordered_rows.specs.declared.task.Held.{Held}
+use Rattle.js_pull.specs.declared.rows.Step.{Step as Read}
+use Rattle.js_ordered_rows.specs.declared.task.Task.{Task}
+use Rattle.js_ordered_rows.specs.declared.task.RowOutput.{RowOutput}
+use Rattle.js_ordered_rows.specs.declared.task.Task.TheVariants as task
+use Rattle.js_ordered_rows.specs.Tasks.{StepsTo, next_rows, reader_rows, rows_of, told_outputs}
 use Rattle.js_table.specs.declared.consumer.ReplayInput.{ReplayInput}
-use Rattle.js_ordered.specs.Readings.{told_shown}
+use Rattle.js_pull.specs.Steps.{told_shown}
 use Rattle.js_pull.specs.declared.reader.Reader.{Reader}
 use Rattle.js_table.specs.declared.consumer.Consumer.{Consumer}
 use Rattle.js_table.specs.declared.consumer.Phase.TheVariants.{Pulls}
@@ -32,7 +32,7 @@ abbrev pub LeadsOn : EventContext → List Row → ReplayState → List Output �
 LeadsOn turn rows w earlier rest u later = Leads (given_of turn) turn.moment (matter_now turn) rows w earlier rest u later
 
 -- rows were passed up to those that follow, or there was no memory and all is as it was
-abbrev pub PassesTo : {E : Type 0} → EventContext → List Row → ReplayState → ReplayState → List Output → List Output → Result Next E → Type 0
+abbrev pub PassesTo : {E : Type 0} → EventContext → List Row → ReplayState → ReplayState → List Output → List Output → Result NextTasks E → Type 0
 PassesTo turn rows old new before after (Ok rest) = LeadsOn turn rows old before (next_rows (matter_now turn) rest) new after
 PassesTo turn rows old new before after (Err e) = (new ≡ old) × (after ≡ before)
 
@@ -80,9 +80,9 @@ first_rows m other = rows_of m other
 -- ---- what a reader tells
 
 -- the reader went on, and what it told without a message was put out
-pub record Finishes (m : Matter) (w u : ReplayState) (r : Reader) (step : Read) (earlier later : List Output) (rest : Next) : Type 0 where
-  pub told : ReaderOutput
+pub record Finishes (m : Matter) (w u : ReplayState) (r : Reader) (step : Read) (earlier later : List Output) (rest : NextTasks) : Type 0 where
+  pub told : RowOutput
   pub consumer : Consumer
-  pub steps : StepsTo m (with_sent [] (reader_rows m step.due) (told_by (told_shown step.notice None) (at_phase (Pulls r) w.consumer))) (told_outputs told) consumer rest
+  pub steps : StepsTo m (with_sent [] (reader_rows m step.next) (told_by (told_shown step.told None) (at_phase (Pulls r) w.consumer))) (told_outputs told) consumer rest
   pub outputs : later ≡ earlier ++ told_outputs told
   pub world : u ≡ record w { consumer = consumer }

@@ -1,5 +1,3 @@
 pub mod IncrementalReplay
-pub mod Readings
-pub mod Tasks
 pub mod Giving
 pub mod Driven

@@ -4,22 +4,24 @@
 //! what the whole event comes to.
 ghost use Rattle.std.specs.Prelude.{◌≡◌, ◌+◌, ◌≤◌, ◌++◌, ◌∷◌, [], OnErr, OnOk, drop, vec_capacity, vec_len};
 ghost use Rattle.js_ordered.specs.Driven.{IsLeft, IsTry, LeadsOn, PassesTo, first_held, first_rows, left_rows};
-ghost use Rattle.js_ordered.specs.Tasks.{heard_rows, next_rows, rows_of};
+ghost use Rattle.js_ordered_rows.specs.Tasks.{heard_rows, next_rows, rows_of};
 ghost use Rattle.js_table.specs.Passes.{at, hearings, matter_now};
 ghost use Rattle.js_table.specs.Recreation.{message_on};
 ghost use Rattle.js_table.specs.State.{Matter};
 ghost use Rattle.js_table.specs.declared.row.Row.TheVariants as row;
 
+pub(crate) mod arrivals;
 pub(crate) mod give;
 pub(crate) mod listening;
 pub(crate) mod reading;
 pub(crate) mod recreation;
+pub(crate) mod success;
 
 use crate::drive::give::tell;
-use crate::rows::event::{is_over, pass_event};
-use crate::task::{Held, Next, Step, Task};
 use crate::todo::Todo;
 use js_base::OutOfMemory;
+use js_ordered_rows::event::{is_over, pass_event};
+use js_ordered_rows::{Held, NextTasks, Step, Task};
 use js_table::{EventContext, Output, Phase, Recreation, ReplayState, change_of};
 use std::alloc::Global;
 use std::mem;
@@ -34,7 +36,7 @@ fn pass_recreating(
     recreation: Recreation,
     task: &Task,
     outputs: &mut Vec<Output>,
-) -> Result<Next, OutOfMemory>
+) -> Result<NextTasks, OutOfMemory>
     requires task { IsTry task.now }
     requires room { vec_len outputs.old + 1 ≤ vec_capacity outputs.old }
     ensures { PassesTo turn.now (rows_of (matter_now turn.now) task.now) (at (Phase.Recreates recreation) world.old) world.new outputs.old.items outputs.new.items result }
@@ -48,30 +50,30 @@ fn pass_recreating(
             recreation::answered(alloc, turn, world, recreation, *request, outputs)
         }
         Task::Succeed(info) => {
-            recreation::succeed(alloc, turn, world, recreation, info.get(), outputs)
+            success::succeed(alloc, turn, world, recreation, info.get(), outputs)
         }
         Task::Fail => recreation::fail(turn, world, recreation, outputs),
-        Task::Event => Ok(Next::Nothing),
-        Task::Start => Ok(Next::Nothing),
-        Task::Hold => Ok(Next::Nothing),
-        Task::CheckArrival => Ok(Next::Nothing),
-        Task::Hear { .. } => Ok(Next::Nothing),
-        Task::HearHeld(_) => Ok(Next::Nothing),
-        Task::CheckSilence => Ok(Next::Nothing),
-        Task::Arm => Ok(Next::Nothing),
-        Task::Read(_) => Ok(Next::Nothing),
+        Task::Event => Ok(NextTasks::Nothing),
+        Task::Start => Ok(NextTasks::Nothing),
+        Task::Hold => Ok(NextTasks::Nothing),
+        Task::CheckArrival => Ok(NextTasks::Nothing),
+        Task::Hear { .. } => Ok(NextTasks::Nothing),
+        Task::HearHeld(_) => Ok(NextTasks::Nothing),
+        Task::CheckSilence => Ok(NextTasks::Nothing),
+        Task::Arm => Ok(NextTasks::Nothing),
+        Task::Read(_) => Ok(NextTasks::Nothing),
     }
 }
 
 /// A row that belongs to an open recreation is passed. Where none is open, it does nothing.
-#[tactic(auto, using(std::proofs::lemmas::Grind::common_steps, crate::proofs::Driving::tries_nowhere))]
+#[tactic(auto, using(std::proofs::lemmas::Grind::common_steps, crate::proofs::Nowhere::tries_nowhere))]
 fn pass_try(
     alloc: Global,
     turn: &EventContext<'_>,
     world: &mut ReplayState,
     task: &Task,
     outputs: &mut Vec<Output>,
-) -> Result<Next, OutOfMemory>
+) -> Result<NextTasks, OutOfMemory>
     requires task { IsTry task.now }
     requires room { vec_len outputs.old + 1 ≤ vec_capacity outputs.old }
     ensures { PassesTo turn.now (rows_of (matter_now turn.now) task.now) world.old world.new outputs.old.items outputs.new.items result }
@@ -82,7 +84,7 @@ fn pass_try(
         }
         Phase::Pulls(reader) => {
             world.consumer.phase = Phase::Pulls(reader);
-            Ok(Next::Nothing)
+            Ok(NextTasks::Nothing)
         }
         Phase::Pushes {
             inbox,
@@ -92,19 +94,19 @@ fn pass_try(
                 inbox,
                 heartbeat_timer,
             };
-            Ok(Next::Nothing)
+            Ok(NextTasks::Nothing)
         }
         Phase::Idle => {
             world.consumer.phase = Phase::Idle;
-            Ok(Next::Nothing)
+            Ok(NextTasks::Nothing)
         }
         Phase::Ended => {
             world.consumer.phase = Phase::Ended;
-            Ok(Next::Nothing)
+            Ok(NextTasks::Nothing)
         }
         Phase::Exhausted => {
             world.consumer.phase = Phase::Exhausted;
-            Ok(Next::Nothing)
+            Ok(NextTasks::Nothing)
         }
     }
 }
@@ -113,12 +115,12 @@ fn pass_try(
 
 /// What an event does first. An ended consumer passes nothing.
 #[inline]
-fn event(turn: &EventContext<'_>, world: &mut ReplayState, outputs: &mut Vec<Output>) -> Next
+fn event(turn: &EventContext<'_>, world: &mut ReplayState, outputs: &mut Vec<Output>) -> NextTasks
     requires room { vec_len outputs.old + 1 ≤ vec_capacity outputs.old }
     ensures { LeadsOn turn.now (row.Event ∷ []) world.old outputs.old.items (next_rows (matter_now turn.now) result) world.new outputs.new.items }
 {
     if is_over(&world.consumer.phase) {
-        return Next::Nothing;
+        return NextTasks::Nothing;
     }
     let Step { told, next } = pass_event(turn, &mut world.consumer, change_of(turn.what));
     tell(told, outputs);
@@ -131,14 +133,14 @@ fn hear_held(
     world: &mut ReplayState,
     held: &Held,
     outputs: &mut Vec<Output>,
-) -> Result<Next, OutOfMemory>
+) -> Result<NextTasks, OutOfMemory>
     requires room { vec_len outputs.old + 1 ≤ vec_capacity outputs.old }
     ensures { PassesTo turn.now (first_held held.now) world.old world.new outputs.old.items outputs.new.items result }
 {
     let messages = held.messages.as_slice();
     let place = held.place;
     if place >= messages.len() {
-        return Ok(Next::Nothing);
+        return Ok(NextTasks::Nothing);
     }
     listening::hear(turn, world, held.inbox, &messages[place], outputs)
 }
@@ -149,12 +151,12 @@ fn hear_brought(
     world: &mut ReplayState,
     inbox: u64,
     outputs: &mut Vec<Output>,
-) -> Result<Next, OutOfMemory>
+) -> Result<NextTasks, OutOfMemory>
     requires room { vec_len outputs.old + 1 ≤ vec_capacity outputs.old }
     ensures { PassesTo turn.now (heard_rows inbox (message_on inbox (matter_now turn.now).arrival)) world.old world.new outputs.old.items outputs.new.items result }
 {
     match turn.what.message_on(inbox) {
-        None => Ok(Next::Nothing),
+        None => Ok(NextTasks::Nothing),
         Some(message) => listening::hear(turn, world, inbox, message, outputs),
     }
 }
@@ -164,11 +166,11 @@ fn hold(
     turn: &EventContext<'_>,
     world: &mut ReplayState,
     outputs: &mut Vec<Output>,
-) -> Result<Next, OutOfMemory>
+) -> Result<NextTasks, OutOfMemory>
     ensures { PassesTo turn.now (row.Hold ∷ []) world.old world.new outputs.old.items outputs.new.items result }
 {
     recreation::hold_at(turn.what, &mut world.consumer.phase)?;
-    Ok(Next::Nothing)
+    Ok(NextTasks::Nothing)
 }
 
 /// A row is passed, and those that follow it at once are answered. Of what was held only the first message is heard.
@@ -179,7 +181,7 @@ fn pass(
     world: &mut ReplayState,
     task: &Task,
     outputs: &mut Vec<Output>,
-) -> Result<Next, OutOfMemory>
+) -> Result<NextTasks, OutOfMemory>
     requires room { vec_len outputs.old + 1 ≤ vec_capacity outputs.old }
     ensures { PassesTo turn.now (first_rows (matter_now turn.now) task.now) world.old world.new outputs.old.items outputs.new.items result }
 {
@@ -200,7 +202,7 @@ fn pass(
         Task::CheckSilence => Ok(listening::look_at_silence(turn, world, outputs)),
         Task::Arm => {
             listening::arm(turn, world);
-            Ok(Next::Nothing)
+            Ok(NextTasks::Nothing)
         }
         Task::Read(due) => reading::pass_read(alloc, turn, world, *due, outputs),
     }
@@ -209,7 +211,7 @@ fn pass(
 // ---- what is left
 
 /// What is left of what was held.
-fn held_left(held: Held) -> Next
+fn held_left(held: Held) -> NextTasks
     ensures { (m : Matter) → hearings held.inbox (drop held.place held.messages) ≡ first_held held ++ next_rows m result }
 {
     let Held {
@@ -218,37 +220,37 @@ fn held_left(held: Held) -> Next
         place,
     } = held;
     if place < messages.as_slice().len() {
-        return Next::One(Task::HearHeld(Held {
+        return NextTasks::One(Task::HearHeld(Held {
             inbox,
             messages,
             place: place + 1,
         }));
     }
-    Next::Nothing
+    NextTasks::Nothing
 }
 
 /// What is left of a task after its first row.
 #[inline]
-fn left_of(task: Task) -> Next
+fn left_of(task: Task) -> NextTasks
     ensures { (m : Matter) → rows_of m task ≡ first_rows m task ++ next_rows m result }
 {
     match task {
         Task::HearHeld(held) => held_left(held),
-        Task::Event => Next::Nothing,
-        Task::Start => Next::Nothing,
-        Task::Try => Next::Nothing,
-        Task::Create => Next::Nothing,
-        Task::Ask => Next::Nothing,
-        Task::Await => Next::Nothing,
-        Task::Answered { .. } => Next::Nothing,
-        Task::Hold => Next::Nothing,
-        Task::Succeed(_) => Next::Nothing,
-        Task::Fail => Next::Nothing,
-        Task::CheckArrival => Next::Nothing,
-        Task::Hear { .. } => Next::Nothing,
-        Task::CheckSilence => Next::Nothing,
-        Task::Arm => Next::Nothing,
-        Task::Read(_) => Next::Nothing,
+        Task::Event => NextTasks::Nothing,
+        Task::Start => NextTasks::Nothing,
+        Task::Try => NextTasks::Nothing,
+        Task::Create => NextTasks::Nothing,
+        Task::Ask => NextTasks::Nothing,
+        Task::Await => NextTasks::Nothing,
+        Task::Answered { .. } => NextTasks::Nothing,
+        Task::Hold => NextTasks::Nothing,
+        Task::Succeed(_) => NextTasks::Nothing,
+        Task::Fail => NextTasks::Nothing,
+        Task::CheckArrival => NextTasks::Nothing,
+        Task::Hear { .. } => NextTasks::Nothing,
+        Task::CheckSilence => NextTasks::Nothing,
+        Task::Arm => NextTasks::Nothing,
+        Task::Read(_) => NextTasks::Nothing,
     }
 }
 

@@ -9,11 +9,11 @@ ghost use Rattle.js_table.specs.declared.event.Event as events;
 
 use crate::drive::pass_left;
 use crate::replay::{is_exhausted, link_after, open};
-use crate::rows::event::is_over;
-use crate::task::Task;
 use crate::todo::Todo;
 use js_base::{Items, Moment, OutOfMemory};
 use js_json::consumer::Info;
+use js_ordered_rows::Task;
+use js_ordered_rows::event::is_over;
 use js_table::{
     Event, EventContext, EventKind, OrderedSetup, Output, ReplayError, ReplayState, Settings,
     next_number, refuse_input,

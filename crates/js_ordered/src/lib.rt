@@ -4,8 +4,6 @@
 mod drive;
 mod incremental_replay;
 mod replay;
-mod rows;
-mod task;
 mod todo;
 
 pub use incremental_replay::IncrementalReplay;

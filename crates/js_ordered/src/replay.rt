@@ -8,13 +8,13 @@ ghost use Rattle.js_table.specs.Valid.{IsAnswer, IsFolded, IsValid};
 ghost use Rattle.js_table.specs.declared.event.EventKind.TheVariants.{Tick};
 
 use crate::drive::pass_left;
-use crate::rows::event::is_over;
-use crate::rows::listening::listen;
-use crate::task::{Due, Next, Task};
 use crate::todo::Todo;
 use js_base::{Items, Moment, OutOfMemory, State, TryClone};
 use js_json::consumer::Info;
-use js_pull::Reader;
+use js_ordered_rows::event::is_over;
+use js_ordered_rows::listening::listen;
+use js_ordered_rows::{NextTasks, Task};
+use js_pull::{Due, Reader};
 use js_table::{
     Consumer, Event, EventContext, EventKind, OrderedSetup, Output, Phase, ReplayError,
     ReplayState, Run, Settings, Step, refuse_input, texts,
@@ -72,7 +72,7 @@ fn open_pull(
     let reader = first_reader(alloc, turn)?;
     world.consumer.phase = Phase::Pulls(reader);
     todo.make_room()?;
-    todo.put(Next::Two(Task::Read(Due::Threshold), Task::Read(Due::Arm)));
+    todo.put(NextTasks::Two(Task::Read(Due::Threshold), Task::Read(Due::Arm)));
     pass_left(alloc, turn, world, todo, outputs)?;
     Ok(())
 }

@@ -1,11 +1,11 @@
 //! The rows that are left of an event.
 ghost use Rattle.std.specs.Prelude.{◌≡◌, ◌==◌, ◌+◌, ◌≤◌, ◌++◌, ◌∷◌, [], OnOk, length, option_to_list, vec_capacity, vec_len};
 ghost use Rattle.js_ordered.specs.Driven.{left_rows};
-ghost use Rattle.js_ordered.specs.Tasks.{next_rows};
+ghost use Rattle.js_ordered_rows.specs.Tasks.{next_rows};
 ghost use Rattle.js_table.specs.State.{Matter};
 
-use crate::task::{Next, Task};
 use js_base::OutOfMemory;
+use js_ordered_rows::{NextTasks, Task};
 use std::alloc::Global;
 
 /// The rows that are left of an event, the first of which lies last.
@@ -65,16 +65,16 @@ impl Todo {
 
     /// These come first.
     #[inline]
-    pub(crate) fn put(&mut self, next: Next)
+    pub(crate) fn put(&mut self, next: NextTasks)
         requires { vec_len self.old.tasks + 2 ≤ vec_capacity self.old.tasks }
         ensures tasks { (m : Matter) → left_rows m self.new.tasks.items ≡ next_rows m next ++ left_rows m self.old.tasks.items }
         ensures len { vec_len self.new.tasks ≤ vec_len self.old.tasks + 2 }
         ensures capacity { vec_capacity self.new.tasks ≡ vec_capacity self.old.tasks }
     {
         match next {
-            Next::Nothing => {}
-            Next::One(task) => self.tasks.push_reserved(task),
-            Next::Two(first, second) => {
+            NextTasks::Nothing => {}
+            NextTasks::One(task) => self.tasks.push_reserved(task),
+            NextTasks::Two(first, second) => {
                 self.tasks.push_reserved(second);
                 self.tasks.push_reserved(first);
             }

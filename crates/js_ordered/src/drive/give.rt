@@ -1,11 +1,11 @@
 //! What a replay gives to the sends of a row: where the link is up they go out, with the next number.
 ghost use Rattle.std.specs.Prelude.{◌≡◌, ◌+◌, ◌≤◌, ◌++◌, ◌∷◌, [], ℕ, List, Bool, true, Some, IfOk, option_to_list, vec_capacity, vec_len};
 ghost use Rattle.js_ordered.specs.Giving.{IsOpening, IsSending, Sends, Subscribes};
-ghost use Rattle.js_ordered.specs.Tasks.{told_outputs};
+ghost use Rattle.js_ordered_rows.specs.Tasks.{told_outputs};
 
-use crate::task::{Inbox, ReaderOutput};
 use bytes::Bytes;
 use js_base::{OutOfMemory, Subject, TryClone};
+use js_ordered_rows::{Inbox, RowOutput};
 use js_table::{Output, next_number};
 
 /// A request that is ready to go out, and its number.
@@ -109,13 +109,13 @@ pub(crate) fn subscribe(
 
 /// What a row tells is put out.
 #[inline]
-pub(crate) fn tell(told: ReaderOutput, outputs: &mut Vec<Output>)
+pub(crate) fn tell(told: RowOutput, outputs: &mut Vec<Output>)
     requires room { vec_len outputs.old + 1 ≤ vec_capacity outputs.old }
     ensures { outputs.new.items ≡ outputs.old.items ++ told_outputs told }
 {
     match told {
-        ReaderOutput::Nothing => {}
-        ReaderOutput::Recreates {
+        RowOutput::Nothing => {}
+        RowOutput::Recreates {
             recreation_count,
             start,
         } => {
@@ -124,7 +124,7 @@ pub(crate) fn tell(told: ReaderOutput, outputs: &mut Vec<Output>)
                 start,
             });
         }
-        ReaderOutput::Tells(kind) => outputs.push_reserved(Output::Item { kind }),
+        RowOutput::Tells(kind) => outputs.push_reserved(Output::Item { kind }),
     }
 }
 

@@ -1,7 +1,7 @@
 //! The rows by which push reads its inbox, in a replay: what arrives is lent by the event, and what is put out of it is made first.
 ghost use Rattle.std.specs.Prelude.{◌≡◌, ◌+◌, ◌≤◌, ◌++◌, ◌∷◌, [], IfOk, List, is_some, option_to_list, vec_capacity, vec_len};
 ghost use Rattle.js_ordered.specs.Driven.{LeadsOn, PassesTo};
-ghost use Rattle.js_ordered.specs.Tasks.{heard_outputs, next_rows};
+ghost use Rattle.js_ordered_rows.specs.Tasks.{heard_outputs, next_rows};
 ghost use Rattle.js_table.specs.Passes.{listens_to, matter_now};
 ghost use Rattle.js_table.specs.Fold.{matter_of};
 ghost use Rattle.js_table.specs.Reading.{beat_answer};
@@ -10,10 +10,10 @@ ghost use Rattle.js_table.specs.declared.row.Row.TheVariants as row;
 ghost use Rattle.js_table.specs.declared.run.Output.{Output as SpecOutput};
 
 use crate::drive::give::{put, tell};
-use crate::rows::listening::{arrival_next, heard_as, listen, pass_hear, pass_silence};
-use crate::task::{Heard, Next, Step};
 use bytes::Bytes;
 use js_base::{Message, OutOfMemory, TryClone};
+use js_ordered_rows::listening::{arrival_next, heard_as, listen, pass_hear, pass_silence};
+use js_ordered_rows::{Heard, NextTasks, Step};
 use js_table::{EventContext, EventKind, ItemKind, Output, Phase, ReplayState, yield_of};
 
 /// The event brings something on this inbox.
@@ -29,16 +29,16 @@ fn arrives(what: &EventKind, inbox: u64) -> bool
 
 /// Push looks for an arrival.
 #[inline]
-pub(crate) fn look(turn: &EventContext<'_>, world: &ReplayState) -> Next
+pub(crate) fn look(turn: &EventContext<'_>, world: &ReplayState) -> NextTasks
     ensures { (outputs : List SpecOutput) → LeadsOn turn.now (row.CheckArrival ∷ []) world.now outputs (next_rows (matter_now turn.now) result) world.now outputs }
 {
     match world.consumer.phase {
         Phase::Pushes { inbox, .. } => arrival_next(inbox, arrives(turn.what, inbox)),
-        Phase::Pulls(_) => Next::Nothing,
-        Phase::Recreates(_) => Next::Nothing,
-        Phase::Idle => Next::Nothing,
-        Phase::Ended => Next::Nothing,
-        Phase::Exhausted => Next::Nothing,
+        Phase::Pulls(_) => NextTasks::Nothing,
+        Phase::Recreates(_) => NextTasks::Nothing,
+        Phase::Idle => NextTasks::Nothing,
+        Phase::Ended => NextTasks::Nothing,
+        Phase::Exhausted => NextTasks::Nothing,
     }
 }
 
@@ -48,7 +48,7 @@ pub(crate) fn look_at_silence(
     turn: &EventContext<'_>,
     world: &ReplayState,
     outputs: &mut Vec<Output>,
-) -> Next
+) -> NextTasks
     requires room { vec_len outputs.old + 1 ≤ vec_capacity outputs.old }
     ensures { LeadsOn turn.now (row.CheckSilence ∷ []) world.now outputs.old.items (next_rows (matter_now turn.now) result) world.now outputs.new.items }
 {
@@ -61,11 +61,11 @@ pub(crate) fn look_at_silence(
             tell(told, outputs);
             next
         }
-        Phase::Pulls(_) => Next::Nothing,
-        Phase::Recreates(_) => Next::Nothing,
-        Phase::Idle => Next::Nothing,
-        Phase::Ended => Next::Nothing,
-        Phase::Exhausted => Next::Nothing,
+        Phase::Pulls(_) => NextTasks::Nothing,
+        Phase::Recreates(_) => NextTasks::Nothing,
+        Phase::Idle => NextTasks::Nothing,
+        Phase::Ended => NextTasks::Nothing,
+        Phase::Exhausted => NextTasks::Nothing,
     }
 }
 
@@ -143,12 +143,12 @@ pub(crate) fn hear(
     inbox: u64,
     message: &Message,
     outputs: &mut Vec<Output>,
-) -> Result<Next, OutOfMemory>
+) -> Result<NextTasks, OutOfMemory>
     requires room { vec_len outputs.old + 1 ≤ vec_capacity outputs.old }
     ensures { PassesTo turn.now (row.Hear (record { inbox = inbox; message = message.now }) ∷ []) world.old world.new outputs.old.items outputs.new.items result }
 {
     if !listens(world, inbox) {
-        return Ok(Next::Nothing);
+        return Ok(NextTasks::Nothing);
     }
     let heard = heard_as(world.consumer.consumer_sequence, message);
     let output = output_of(world.up, message, heard)?;

@@ -3,10 +3,11 @@ ghost use Rattle.std.specs.Prelude.{◌≡◌, ◌≢◌, ◌+◌, ◌≤◌, �
 ghost use Rattle.std.specs.Option.{option_copied};
 ghost use Rattle.js_ordered.specs.Driven.{Finishes, PassesTo};
 ghost use Rattle.js_ordered.specs.Giving.{IsPublishing, IsSending};
-ghost use Rattle.js_ordered.specs.Readings.{IsInquired, brought, row_of};
+ghost use Rattle.js_ordered_rows.specs.Readings.{IsInquired, brought};
+ghost use Rattle.js_pull.specs.Steps.{row_of};
 ghost use Rattle.js_pull.specs.Kind.{pull_kind as kind_of};
 ghost use Rattle.js_pull.specs.Reader.{info_subject};
-ghost use Rattle.js_ordered.specs.Tasks.{IsHeardFrom, heard_outputs};
+ghost use Rattle.js_ordered_rows.specs.Tasks.{IsHeardFrom, heard_outputs};
 ghost use Rattle.js_table.specs.Recreation.{message_on};
 ghost use Rattle.js_pull.specs.declared.reader.Row.TheVariants as read;
 ghost use Rattle.js_table.specs.Fold.{matter_of};
@@ -14,27 +15,32 @@ ghost use Rattle.js_table.specs.Passes.{at, heard, informed_by, matter_now};
 ghost use Rattle.js_table.specs.State.{Matter};
 ghost use Rattle.js_table.specs.declared.row.Row.TheVariants as row;
 
+use crate::drive::arrivals::check_arrival;
 use crate::drive::give::{Sending, put, request_for, send, tell};
 use crate::drive::listening::output_of;
 use crate::drive::recreation::has_reply;
-use crate::rows::listening::heard_from;
-use crate::rows::reading;
-use crate::task::{Due, Heard, Next, Read, Step, Task};
 use bytes::Bytes;
 use js_base::{Message, OutOfMemory, TryClone};
-use js_pull::{InfoRequest, Kind, Reader, Reason, info_of_reply, pull_kind};
+use js_ordered_rows::listening::heard_from;
+use js_ordered_rows::{Heard, NextTasks, Step, Task, reading};
+use js_pull::{Due, InfoRequest, Kind, Reader, Reason, Step as Read, info_of_reply, pull_kind};
 use js_table::{EventContext, EventKind, Output, Phase, ReplayState};
 use std::alloc::Global;
 use std::mem;
 
 /// The reader goes on, and what it tells without a message is put out.
 #[inline]
-fn finish(world: &mut ReplayState, reader: Reader, step: Read, outputs: &mut Vec<Output>) -> Next
+pub(crate) fn finish(
+    world: &mut ReplayState,
+    reader: Reader,
+    step: Read,
+    outputs: &mut Vec<Output>,
+) -> NextTasks
     requires room { vec_len outputs.old + 1 ≤ vec_capacity outputs.old }
     ensures { (m : Matter) → Finishes m world.old world.new reader step outputs.old.items outputs.new.items result }
 {
     world.consumer.phase = Phase::Pulls(reader);
-    let Step { told, next } = reading::take_notice(&mut world.consumer, step.notice, step.due);
+    let Step { told, next } = reading::take_notice(&mut world.consumer, step.told, step.next);
     tell(told, outputs);
     next
 }
@@ -63,7 +69,7 @@ fn ask(
     mut reader: Reader,
     reason: Reason,
     outputs: &mut Vec<Output>,
-) -> Result<Next, OutOfMemory>
+) -> Result<NextTasks, OutOfMemory>
     requires room { vec_len outputs.old + 1 ≤ vec_capacity outputs.old }
     ensures { PassesTo turn.now (row.Read (read.Ask reason) ∷ []) (at (Phase.Pulls reader) world.old) world.new outputs.old.items outputs.new.items result }
 {
@@ -81,7 +87,7 @@ fn ask(
                 reading::ask(&mut reader, turn.moment, reason, true);
                 world.consumer.phase = Phase::Pulls(reader);
                 outputs.push_reserved(output);
-                Ok(Next::Nothing)
+                Ok(NextTasks::Nothing)
             }
         },
     }
@@ -111,7 +117,7 @@ fn inquire(
     mut reader: Reader,
     failures: u64,
     outputs: &mut Vec<Output>,
-) -> Result<Next, OutOfMemory>
+) -> Result<NextTasks, OutOfMemory>
     requires room { vec_len outputs.old + 1 ≤ vec_capacity outputs.old }
     ensures { PassesTo turn.now (row.Read (read.Inquire failures) ∷ []) (at (Phase.Pulls reader) world.old) world.new outputs.old.items outputs.new.items result }
 {
@@ -124,7 +130,7 @@ fn inquire(
             let number = send(&mut world.requests_sent, request, outputs);
             let step = reading::inquire(&mut reader, turn.moment, failures, number);
             world.consumer.phase = Phase::Pulls(reader);
-            Ok(reading::after(step.due))
+            Ok(reading::after(step.next))
         }
     }
 }
@@ -168,7 +174,7 @@ fn answered(
     mut reader: Reader,
     failures: u64,
     outputs: &mut Vec<Output>,
-) -> Result<Next, OutOfMemory>
+) -> Result<NextTasks, OutOfMemory>
     requires room { vec_len outputs.old + 1 ≤ vec_capacity outputs.old }
     ensures { PassesTo turn.now (row.Read (read.Answered (brought (matter_now turn.now).answer) failures) ∷ []) (at (Phase.Pulls reader) world.old) world.new outputs.old.items outputs.new.items result }
 {
@@ -201,175 +207,13 @@ fn check_inquiry(
     world: &mut ReplayState,
     reader: Reader,
     outputs: &mut Vec<Output>,
-) -> Result<Next, OutOfMemory>
+) -> Result<NextTasks, OutOfMemory>
     requires room { vec_len outputs.old + 1 ≤ vec_capacity outputs.old }
     ensures { PassesTo turn.now (row.Read read.CheckInfoRequest ∷ []) (at (Phase.Pulls reader) world.old) world.new outputs.old.items outputs.new.items result }
 {
     let answered = is_answered(turn.what, reader.inquiry);
     let step = reading::check_inquiry(reader.inquiry, turn.moment, answered);
     Ok(finish(world, reader, step, outputs))
-}
-
-// ---- arrivals
-
-/// What an arrival needs before it is heard.
-#[derive(Drop)]
-struct Brought {
-    heard: Heard,
-    output: Option<Output>,
-}
-
-/// What is put out of a message of the stream.
-#[inline]
-fn make_ready(world: &ReplayState, message: &Message) -> Result<Brought, OutOfMemory>
-    ensures heard { IfOk result (λ ready. IsHeardFrom world.now.consumer.consumer_sequence message.now ready.heard) }
-    ensures output { IfOk result (λ ready. option_to_list ready.output ≡ heard_outputs world.now.up message.now ready.heard) }
-{
-    let heard = heard_from(world.consumer.consumer_sequence, message);
-    let output = output_of(world.up, message, heard)?;
-    Ok(Brought { heard, output })
-}
-
-/// A reader hears an arrival: it keeps the pin that the message names, and its heartbeat is armed.
-#[inline]
-fn note(
-    alloc: Global,
-    turn: &EventContext<'_>,
-    reader: &mut Reader,
-    message: &Message,
-) -> Result<(), OutOfMemory>
-    ensures heard { OnOk result (reader.new ≡ heard turn.now.moment message.now reader.old) }
-    ensures kept { OnErr result (reader.new ≡ reader.old) }
-{
-    reader.note_pin(alloc, message)?;
-    reader.arm_silence(turn.moment);
-    Ok(())
-}
-
-/// A message of the stream is heard.
-#[inline]
-fn hear_message(
-    alloc: Global,
-    turn: &EventContext<'_>,
-    world: &mut ReplayState,
-    mut reader: Reader,
-    message: &Message,
-    ready: Brought,
-    outputs: &mut Vec<Output>,
-) -> Result<Next, OutOfMemory>
-    requires arrives { message_on reader.source.inbox (matter_now turn.now).arrival ≡ Some message.now }
-    requires kind { kind_of message.now ≡ Kind.Delivered }
-    requires heard { IsHeardFrom world.old.consumer.consumer_sequence message.now ready.heard }
-    requires output { option_to_list ready.output ≡ heard_outputs world.old.up message.now ready.heard }
-    requires room { vec_len outputs.old + 1 ≤ vec_capacity outputs.old }
-    ensures { PassesTo turn.now (row.Read read.CheckArrival ∷ []) (at (Phase.Pulls reader) world.old) world.new outputs.old.items outputs.new.items result }
-{
-    match note(alloc, turn, &mut reader, message) {
-        Err(refused) => {
-            world.consumer.phase = Phase::Pulls(reader);
-            Err(refused)
-        }
-        Ok(()) => {
-            reader.lower(1, message.length);
-            world.consumer.phase = Phase::Pulls(reader);
-            let next = reading::take_message(
-                &mut world.consumer,
-                ready.heard,
-                Some(Due::Threshold),
-            );
-            put(ready.output, outputs);
-            Ok(next)
-        }
-    }
-}
-
-/// An arrival with a status is heard.
-fn hear_status(
-    alloc: Global,
-    turn: &EventContext<'_>,
-    world: &mut ReplayState,
-    mut reader: Reader,
-    message: &Message,
-    outputs: &mut Vec<Output>,
-) -> Result<Next, OutOfMemory>
-    requires arrives { message_on reader.source.inbox (matter_now turn.now).arrival ≡ Some message.now }
-    requires kind { kind_of message.now ≢ Kind.Delivered }
-    requires room { vec_len outputs.old + 1 ≤ vec_capacity outputs.old }
-    ensures { PassesTo turn.now (row.Read read.CheckArrival ∷ []) (at (Phase.Pulls reader) world.old) world.new outputs.old.items outputs.new.items result }
-{
-    match note(alloc, turn, &mut reader, message) {
-        Err(refused) => {
-            world.consumer.phase = Phase::Pulls(reader);
-            Err(refused)
-        }
-        Ok(()) => {
-            let step = reading::hear(&mut reader, message);
-            Ok(finish(world, reader, step, outputs))
-        }
-    }
-}
-
-/// An arrival on the reader's inbox.
-#[inline]
-fn hear_arrival(
-    alloc: Global,
-    turn: &EventContext<'_>,
-    world: &mut ReplayState,
-    reader: Reader,
-    message: &Message,
-    outputs: &mut Vec<Output>,
-) -> Result<Next, OutOfMemory>
-    requires arrives { message_on reader.source.inbox (matter_now turn.now).arrival ≡ Some message.now }
-    requires room { vec_len outputs.old + 1 ≤ vec_capacity outputs.old }
-    ensures { PassesTo turn.now (row.Read read.CheckArrival ∷ []) (at (Phase.Pulls reader) world.old) world.new outputs.old.items outputs.new.items result }
-{
-    if !is_delivered(message) {
-        return hear_status(alloc, turn, world, reader, message, outputs);
-    }
-    match make_ready(world, message) {
-        Err(refused) => {
-            world.consumer.phase = Phase::Pulls(reader);
-            Err(refused)
-        }
-        Ok(ready) => hear_message(alloc, turn, world, reader, message, ready, outputs),
-    }
-}
-
-/// A message of the stream.
-fn is_delivered(message: &Message) -> bool
-    ensures { IsTrue result ↔ (kind_of message.now ≡ Kind.Delivered) }
-{
-    match pull_kind(message) {
-        Kind::Delivered => true,
-        Kind::Quiet => false,
-        Kind::Deleted => false,
-        Kind::PushBased => false,
-        Kind::Limit => false,
-        Kind::Gone => false,
-        Kind::Bad => false,
-        Kind::Ledger { .. } => false,
-    }
-}
-
-/// What arrives on the reader's inbox is heard. Where nothing does, the heartbeat is looked at.
-#[inline]
-fn check_arrival(
-    alloc: Global,
-    turn: &EventContext<'_>,
-    world: &mut ReplayState,
-    reader: Reader,
-    outputs: &mut Vec<Output>,
-) -> Result<Next, OutOfMemory>
-    requires room { vec_len outputs.old + 1 ≤ vec_capacity outputs.old }
-    ensures { PassesTo turn.now (row.Read read.CheckArrival ∷ []) (at (Phase.Pulls reader) world.old) world.new outputs.old.items outputs.new.items result }
-{
-    match turn.what.message_on(reader.source.inbox) {
-        Some(message) => hear_arrival(alloc, turn, world, reader, message, outputs),
-        None => {
-            world.consumer.phase = Phase::Pulls(reader);
-            Ok(Next::One(Task::Read(Due::CheckSilence)))
-        }
-    }
 }
 
 // ---- any row
@@ -383,7 +227,7 @@ fn read(
     mut reader: Reader,
     due: Due,
     outputs: &mut Vec<Output>,
-) -> Result<Next, OutOfMemory>
+) -> Result<NextTasks, OutOfMemory>
     requires room { vec_len outputs.old + 1 ≤ vec_capacity outputs.old }
     ensures { PassesTo turn.now (row.Read (row_of (brought (matter_now turn.now).answer) due) ∷ []) (at (Phase.Pulls reader) world.old) world.new outputs.old.items outputs.new.items result }
 {
@@ -400,7 +244,7 @@ fn read(
         Due::Arm => {
             reader.arm_silence(turn.moment);
             world.consumer.phase = Phase::Pulls(reader);
-            Ok(Next::Nothing)
+            Ok(NextTasks::Nothing)
         }
         Due::FailInfoRequest { failures } => {
             let step = reading::fail_inquiry(&mut reader, turn.moment, failures);
@@ -425,7 +269,7 @@ pub(crate) fn pass_read(
     world: &mut ReplayState,
     due: Due,
     outputs: &mut Vec<Output>,
-) -> Result<Next, OutOfMemory>
+) -> Result<NextTasks, OutOfMemory>
     requires room { vec_len outputs.old + 1 ≤ vec_capacity outputs.old }
     ensures { PassesTo turn.now (row.Read (row_of (brought (matter_now turn.now).answer) due) ∷ []) world.old world.new outputs.old.items outputs.new.items result }
 {
@@ -433,7 +277,7 @@ pub(crate) fn pass_read(
         Phase::Pulls(reader) => read(alloc, turn, world, reader, due, outputs),
         Phase::Recreates(recreation) => {
             world.consumer.phase = Phase::Recreates(recreation);
-            Ok(Next::Nothing)
+            Ok(NextTasks::Nothing)
         }
         Phase::Pushes {
             inbox,
@@ -443,19 +287,19 @@ pub(crate) fn pass_read(
                 inbox,
                 heartbeat_timer,
             };
-            Ok(Next::Nothing)
+            Ok(NextTasks::Nothing)
         }
         Phase::Idle => {
             world.consumer.phase = Phase::Idle;
-            Ok(Next::Nothing)
+            Ok(NextTasks::Nothing)
         }
         Phase::Ended => {
             world.consumer.phase = Phase::Ended;
-            Ok(Next::Nothing)
+            Ok(NextTasks::Nothing)
         }
         Phase::Exhausted => {
             world.consumer.phase = Phase::Exhausted;
-            Ok(Next::Nothing)
+            Ok(NextTasks::Nothing)
         }
     }
 }

@@ -1,5 +1,5 @@
 use Rattle.std.proofs.Common.{◌≡◌, refl, sym, ap, ◌∙◌}
-use Rattle.js_ordered.proofs.Driving.{left_some, left_none}
+use Rattle.js_ordered.proofs.Taking.{left_some, left_none}
 use Rattle.js_ordered.proofs.drive.pass_left.Goals as goal
 
 pub loop-preserved : goal.loop-preserved

@@ -1,5 +1,5 @@
 use Rattle.js_table.specs.Passes.{given_of, matter_now}
-use Rattle.js_ordered.proofs.Driving.{took_on}
+use Rattle.js_ordered.proofs.Taking.{took_on}
 use Rattle.js_ordered.proofs.drive.pass_next.Goals as goal
 
 pub returns-in-Some-clause-leads : goal.returns-in-Some-clause-leads

@@ -1,13 +1,14 @@
 use Rattle.std.proofs.Common.{refl, sym, ap, ◌∙◌, Option, Some, None, [], ◌∷◌}
-use Rattle.js_ordered.specs.Readings.{brought}
+use Rattle.js_ordered_rows.specs.Readings.{brought}
 use Rattle.js_pull.specs.declared.reader.Row.TheVariants as read
 use Rattle.js_pull.specs.Reader as pull
 use Rattle.js_table.specs.Fold.{passing}
 use Rattle.js_table.specs.Passes.{given_of, matter_now}
-use Rattle.js_ordered.proofs.Driving.{leads_finish, leads_read, ok_holds}
+use Rattle.js_ordered.proofs.Driving.{ok_holds}
+use Rattle.js_ordered.proofs.ReadDriving.{leads_finish, leads_read}
 use Rattle.js_table.specs.Passes.{informed_by}
 use Rattle.std.specs.Prelude.{◌≡◌}
-use Rattle.js_ordered.proofs.ReaderSteps.{answered_sends}
+use Rattle.js_ordered_rows.proofs.ReaderSteps.{answered_sends}
 use Rattle.js_ordered.proofs.drive.reading.answered.Goals as goal
 
 pub returns-in-Ok : goal.returns-in-Ok

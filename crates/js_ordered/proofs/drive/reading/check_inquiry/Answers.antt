@@ -1,11 +1,12 @@
 use Rattle.std.proofs.Common.{refl, sym, ap, ◌∙◌, Option, Some, None, [], ◌∷◌}
-use Rattle.js_ordered.specs.Readings.{brought}
+use Rattle.js_ordered_rows.specs.Readings.{brought}
 use Rattle.js_pull.specs.declared.reader.Row.TheVariants as read
 use Rattle.js_pull.specs.Reader as pull
 use Rattle.js_table.specs.Fold.{passing}
 use Rattle.js_table.specs.Passes.{given_of, matter_now}
-use Rattle.js_ordered.proofs.Driving.{leads_finish, leads_read, ok_holds}
-use Rattle.js_ordered.proofs.ReaderSteps.{inquiry_sends}
+use Rattle.js_ordered.proofs.Driving.{ok_holds}
+use Rattle.js_ordered.proofs.ReadDriving.{leads_finish, leads_read}
+use Rattle.js_ordered_rows.proofs.ReaderSteps.{inquiry_sends}
 use Rattle.js_ordered.proofs.drive.reading.check_inquiry.Goals as goal
 
 pub returns : goal.returns

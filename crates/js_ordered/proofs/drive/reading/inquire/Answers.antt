@@ -1,5 +1,5 @@
 use Rattle.std.proofs.Common.{◌≡◌, refl, sym, ap, ◌∙◌, Option, Some, None, [], ◌∷◌, List, ◌++◌}
-use Rattle.js_ordered.specs.Readings.{brought}
+use Rattle.js_ordered_rows.specs.Readings.{brought}
 use Rattle.js_pull.specs.declared.reader.Row.TheVariants as read
 use Rattle.js_pull.specs.Reader as pull
 use Rattle.js_table.specs.declared.run.Output.{Output}
@@ -7,7 +7,8 @@ use Rattle.js_table.specs.Fold.{passing}
 use Rattle.js_table.specs.Passes.{given_of, matter_now}
 use Rattle.std.specs.Prelude.{codes}
 use Rattle.js_ordered.specs.Giving.{IsSending}
-use Rattle.js_ordered.proofs.Driving.{leads_inquired, ok_holds}
+use Rattle.js_ordered.proofs.Driving.{ok_holds}
+use Rattle.js_ordered.proofs.ReadDriving.{leads_inquired}
 use Rattle.js_ordered.proofs.drive.reading.inquire.Goals as goal
 
 pub returns-in-Ok : goal.returns-in-Ok

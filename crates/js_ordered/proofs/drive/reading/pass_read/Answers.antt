@@ -1,5 +1,6 @@
 use Rattle.std.proofs.Common.{◌≡◌, refl, sym, ap, ◌∙◌, Option, Some, None, [], ◌∷◌, List, ◌++◌}
-use Rattle.js_ordered.specs.Readings.{brought, row_of}
+use Rattle.js_ordered_rows.specs.Readings.{brought}
+use Rattle.js_pull.specs.Steps.{row_of}
 use Rattle.js_pull.specs.declared.reader.Row.TheVariants as read
 use Rattle.js_pull.specs.Reader as pull
 use Rattle.js_table.specs.declared.run.Output.{Output}
@@ -7,7 +8,7 @@ use Rattle.js_table.specs.Fold.{passing}
 use Rattle.js_table.specs.Passes.{given_of, matter_now}
 use Rattle.js_table.specs.declared.consumer.Phase.TheVariants.{Pulls, Pushes, Recreates, Idle, Ended, Exhausted}
 use Rattle.js_table.specs.declared.row.Row.TheVariants as row
-use Rattle.js_ordered.proofs.Driving.{reads_here, reads_nowhere}
+use Rattle.js_ordered.proofs.Nowhere.{reads_here, reads_nowhere}
 use Rattle.js_ordered.proofs.drive.reading.pass_read.Goals as goal
 
 pub returns-in-Pushes : goal.returns-in-Pushes

@@ -1,14 +1,14 @@
 use Rattle.std.proofs.Common.{refl, sym, ap, ◌∙◌, Option, Some, None, [], ◌∷◌}
-use Rattle.js_ordered.specs.Readings.{brought}
+use Rattle.js_ordered_rows.specs.Readings.{brought}
 use Rattle.js_pull.specs.declared.reader.Row.TheVariants as read
 use Rattle.js_pull.specs.Reader as pull
 use Rattle.js_table.specs.Fold.{passing}
-use Rattle.js_ordered.specs.declared.task.Due.TheVariants as due
-use Rattle.js_ordered.specs.Tasks.{next_rows}
+use Rattle.js_pull.specs.declared.rows.Due.TheVariants as due
+use Rattle.js_ordered_rows.specs.Tasks.{next_rows}
 use Rattle.js_table.specs.declared.consumer.Phase.TheVariants.{Pulls}
 use Rattle.js_table.specs.Passes.{at, given_of, matter_now}
-use Rattle.js_ordered.proofs.Driving.{due_leads, leads_armed, leads_finish}
-use Rattle.js_ordered.proofs.ReaderSteps.{threshold_sends, fail_sends, silence_sends}
+use Rattle.js_ordered.proofs.ReadDriving.{due_leads, leads_armed, leads_finish}
+use Rattle.js_ordered_rows.proofs.ReaderSteps.{threshold_sends, fail_sends, silence_sends}
 use Rattle.js_ordered.proofs.drive.reading.read.Goals as goal
 
 pub returns-in-Arm : goal.returns-in-Arm

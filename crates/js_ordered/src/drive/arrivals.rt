@@ -1,0 +1,188 @@
+//! The arrivals of a pull reader in a replay: the event lends them, and what is put out of one is made before it is heard.
+ghost use Rattle.std.specs.Prelude.{◌≡◌, ◌≢◌, ◌+◌, ◌≤◌, ◌∷◌, ◌↔◌, [], IfOk, OnOk, OnErr, IsTrue, Some, codes, option_to_list, vec_capacity, vec_len};
+ghost use Rattle.std.specs.Option.{option_copied};
+ghost use Rattle.js_ordered.specs.Driven.{Finishes, PassesTo};
+ghost use Rattle.js_ordered.specs.Giving.{IsPublishing, IsSending};
+ghost use Rattle.js_ordered_rows.specs.Readings.{IsInquired, brought};
+ghost use Rattle.js_pull.specs.Steps.{row_of};
+ghost use Rattle.js_pull.specs.Kind.{pull_kind as kind_of};
+ghost use Rattle.js_pull.specs.Reader.{info_subject};
+ghost use Rattle.js_ordered_rows.specs.Tasks.{IsHeardFrom, heard_outputs};
+ghost use Rattle.js_table.specs.Recreation.{message_on};
+ghost use Rattle.js_pull.specs.declared.reader.Row.TheVariants as read;
+ghost use Rattle.js_table.specs.Fold.{matter_of};
+ghost use Rattle.js_table.specs.Passes.{at, heard, informed_by, matter_now};
+ghost use Rattle.js_table.specs.State.{Matter};
+ghost use Rattle.js_table.specs.declared.row.Row.TheVariants as row;
+
+use crate::drive::give::{Sending, put, request_for, send, tell};
+use crate::drive::listening::output_of;
+use crate::drive::reading::finish;
+use bytes::Bytes;
+use js_base::{Message, OutOfMemory, TryClone};
+use js_ordered_rows::listening::heard_from;
+use js_ordered_rows::{Heard, NextTasks, Step, Task, reading};
+use js_pull::{Due, InfoRequest, Kind, Reader, Reason, Step as Read, info_of_reply, pull_kind};
+use js_table::{EventContext, EventKind, Output, Phase, ReplayState};
+use std::alloc::Global;
+use std::mem;
+
+/// What an arrival needs before it is heard.
+#[derive(Drop)]
+struct Brought {
+    heard: Heard,
+    output: Option<Output>,
+}
+
+/// What is put out of a message of the stream.
+#[inline]
+fn make_ready(world: &ReplayState, message: &Message) -> Result<Brought, OutOfMemory>
+    ensures heard { IfOk result (λ ready. IsHeardFrom world.now.consumer.consumer_sequence message.now ready.heard) }
+    ensures output { IfOk result (λ ready. option_to_list ready.output ≡ heard_outputs world.now.up message.now ready.heard) }
+{
+    let heard = heard_from(world.consumer.consumer_sequence, message);
+    let output = output_of(world.up, message, heard)?;
+    Ok(Brought { heard, output })
+}
+
+/// A reader hears an arrival: it keeps the pin that the message names, and its heartbeat is armed.
+#[inline]
+fn note(
+    alloc: Global,
+    turn: &EventContext<'_>,
+    reader: &mut Reader,
+    message: &Message,
+) -> Result<(), OutOfMemory>
+    ensures heard { OnOk result (reader.new ≡ heard turn.now.moment message.now reader.old) }
+    ensures kept { OnErr result (reader.new ≡ reader.old) }
+{
+    reader.note_pin(alloc, message)?;
+    reader.arm_silence(turn.moment);
+    Ok(())
+}
+
+/// A message of the stream is heard.
+#[inline]
+fn hear_message(
+    alloc: Global,
+    turn: &EventContext<'_>,
+    world: &mut ReplayState,
+    mut reader: Reader,
+    message: &Message,
+    ready: Brought,
+    outputs: &mut Vec<Output>,
+) -> Result<NextTasks, OutOfMemory>
+    requires arrives { message_on reader.source.inbox (matter_now turn.now).arrival ≡ Some message.now }
+    requires kind { kind_of message.now ≡ Kind.Delivered }
+    requires heard { IsHeardFrom world.old.consumer.consumer_sequence message.now ready.heard }
+    requires output { option_to_list ready.output ≡ heard_outputs world.old.up message.now ready.heard }
+    requires room { vec_len outputs.old + 1 ≤ vec_capacity outputs.old }
+    ensures { PassesTo turn.now (row.Read read.CheckArrival ∷ []) (at (Phase.Pulls reader) world.old) world.new outputs.old.items outputs.new.items result }
+{
+    match note(alloc, turn, &mut reader, message) {
+        Err(refused) => {
+            world.consumer.phase = Phase::Pulls(reader);
+            Err(refused)
+        }
+        Ok(()) => {
+            reader.lower(1, message.length);
+            world.consumer.phase = Phase::Pulls(reader);
+            let next = reading::take_message(
+                &mut world.consumer,
+                ready.heard,
+                Some(Due::Threshold),
+            );
+            put(ready.output, outputs);
+            Ok(next)
+        }
+    }
+}
+
+/// An arrival with a status is heard.
+fn hear_status(
+    alloc: Global,
+    turn: &EventContext<'_>,
+    world: &mut ReplayState,
+    mut reader: Reader,
+    message: &Message,
+    outputs: &mut Vec<Output>,
+) -> Result<NextTasks, OutOfMemory>
+    requires arrives { message_on reader.source.inbox (matter_now turn.now).arrival ≡ Some message.now }
+    requires kind { kind_of message.now ≢ Kind.Delivered }
+    requires room { vec_len outputs.old + 1 ≤ vec_capacity outputs.old }
+    ensures { PassesTo turn.now (row.Read read.CheckArrival ∷ []) (at (Phase.Pulls reader) world.old) world.new outputs.old.items outputs.new.items result }
+{
+    match note(alloc, turn, &mut reader, message) {
+        Err(refused) => {
+            world.consumer.phase = Phase::Pulls(reader);
+            Err(refused)
+        }
+        Ok(()) => {
+            let step = reading::hear(&mut reader, message);
+            Ok(finish(world, reader, step, outputs))
+        }
+    }
+}
+
+/// An arrival on the reader's inbox.
+#[inline]
+fn hear_arrival(
+    alloc: Global,
+    turn: &EventContext<'_>,
+    world: &mut ReplayState,
+    reader: Reader,
+    message: &Message,
+    outputs: &mut Vec<Output>,
+) -> Result<NextTasks, OutOfMemory>
+    requires arrives { message_on reader.source.inbox (matter_now turn.now).arrival ≡ Some message.now }
+    requires room { vec_len outputs.old + 1 ≤ vec_capacity outputs.old }
+    ensures { PassesTo turn.now (row.Read read.CheckArrival ∷ []) (at (Phase.Pulls reader) world.old) world.new outputs.old.items outputs.new.items result }
+{
+    if !is_delivered(message) {
+        return hear_status(alloc, turn, world, reader, message, outputs);
+    }
+    match make_ready(world, message) {
+        Err(refused) => {
+            world.consumer.phase = Phase::Pulls(reader);
+            Err(refused)
+        }
+        Ok(ready) => hear_message(alloc, turn, world, reader, message, ready, outputs),
+    }
+}
+
+/// A message of the stream.
+fn is_delivered(message: &Message) -> bool
+    ensures { IsTrue result ↔ (kind_of message.now ≡ Kind.Delivered) }
+{
+    match pull_kind(message) {
+        Kind::Delivered => true,
+        Kind::Quiet => false,
+        Kind::Deleted => false,
+        Kind::PushBased => false,
+        Kind::Limit => false,
+        Kind::Gone => false,
+        Kind::Bad => false,
+        Kind::Ledger { .. } => false,
+    }
+}
+
+/// What arrives on the reader's inbox is heard. Where nothing does, the heartbeat is looked at.
+#[inline]
+pub(crate) fn check_arrival(
+    alloc: Global,
+    turn: &EventContext<'_>,
+    world: &mut ReplayState,
+    reader: Reader,
+    outputs: &mut Vec<Output>,
+) -> Result<NextTasks, OutOfMemory>
+    requires room { vec_len outputs.old + 1 ≤ vec_capacity outputs.old }
+    ensures { PassesTo turn.now (row.Read read.CheckArrival ∷ []) (at (Phase.Pulls reader) world.old) world.new outputs.old.items outputs.new.items result }
+{
+    match turn.what.message_on(reader.source.inbox) {
+        Some(message) => hear_arrival(alloc, turn, world, reader, message, outputs),
+        None => {
+            world.consumer.phase = Phase::Pulls(reader);
+            Ok(NextTasks::One(Task::Read(Due::CheckSilence)))
+        }
+    }
+}

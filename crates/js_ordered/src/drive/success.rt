@@ -1,0 +1,120 @@
+//! The end of a recreation in a replay: what the next reader needs is made before it reads.
+ghost use Rattle.std.specs.Prelude.{◌≡◌, ◌+◌, ◌≤◌, ◌∷◌, [], Some, IfOk, OnOk, OnErr, codes, is_some, option_map, vec_capacity, vec_len};
+ghost use Rattle.js_ordered.specs.Driven.{PassesTo};
+ghost use Rattle.js_ordered.specs.Giving.{IsOpening, IsSending};
+ghost use Rattle.js_ordered_rows.specs.Tasks.{IsAnswered, answered_rows};
+ghost use Rattle.js_pull.specs.Reader.{info_of_reply as info_in, reply_to};
+ghost use Rattle.js_table.specs.Fold.{matter_of};
+ghost use Rattle.js_table.specs.Kept.{IsPull, IsPush};
+ghost use Rattle.js_table.specs.Passes.{at, given_of, holding, matter_now};
+ghost use Rattle.js_table.specs.Recreation.{held_in};
+ghost use Rattle.js_table.specs.Texts as texts_of;
+ghost use Rattle.js_table.specs.declared.row.Row.TheVariants as row;
+
+use crate::drive::give::{Opening, Sending, inbox_for, request_for, send, subscribe, tell};
+use crate::drive::recreation::create_inbox;
+use bytes::Bytes;
+use js_base::{Boxed, Message, OutOfMemory, Subject, TryClone};
+use js_json::consumer::Info;
+use js_ordered_rows::recreation::{
+    pass_answered, pass_ask, pass_await, pass_create, pass_fail, pass_start, pass_succeed_pull,
+    pass_succeed_push, pass_try,
+};
+use js_ordered_rows::{NextTasks, Step};
+use js_pull::{Source, info_of_reply};
+use js_table::{
+    EventContext, EventKind, Opened, OrderedSetup, Output, Phase, Recreation, ReplayState,
+    RequestOutcome, Stage, texts,
+};
+use std::alloc::Global;
+
+/// Whom the next reader asks, but for its inbox.
+fn source_for(
+    alloc: Global,
+    turn: &EventContext<'_>,
+    recreation_count: u64,
+    info: &Info,
+) -> Result<Source, OutOfMemory>
+    ensures { IfOk result (λ source. source ≡ texts_of.source_of (given_of turn.now) recreation_count 0 [] info.now) }
+{
+    let unknown = Subject::from(String::new(alloc));
+    Ok(texts::source_of(turn, recreation_count, 0, unknown, info)?)
+}
+
+/// What pull needs for its next reader.
+#[derive(Drop)]
+struct Reading {
+    source: Source,
+    opening: Option<Opening>,
+}
+
+fn reading_for(
+    alloc: Global,
+    turn: &EventContext<'_>,
+    world: &ReplayState,
+    info: &Info,
+) -> Result<Reading, OutOfMemory>
+    ensures source { IfOk result (λ reading. reading.source ≡ texts_of.source_of (given_of turn.now) world.now.consumer.recreation_count 0 [] info.now) }
+    ensures opening { IfOk result (λ reading. IsOpening world.now.up world.now.inboxes_opened (texts_of.inbox_subject (given_of turn.now) world.now.inboxes_opened) reading.opening) }
+{
+    let source = source_for(alloc, turn, world.consumer.recreation_count, info)?;
+    let opening = create_inbox(alloc, turn, world)?;
+    Ok(Reading { source, opening })
+}
+
+/// Pull subscribes the next inbox, and reads it.
+fn succeed_pull(
+    alloc: Global,
+    turn: &EventContext<'_>,
+    world: &mut ReplayState,
+    recreation: Recreation,
+    info: &Info,
+    outputs: &mut Vec<Output>,
+) -> Result<NextTasks, OutOfMemory>
+    requires pull { IsPull turn.now.setup.now }
+    requires room { vec_len outputs.old + 1 ≤ vec_capacity outputs.old }
+    ensures { PassesTo turn.now (row.Succeed info.now ∷ []) (at (Phase.Recreates recreation) world.old) world.new outputs.old.items outputs.new.items result }
+{
+    match reading_for(alloc, turn, world, info) {
+        Err(refused) => {
+            world.consumer.phase = Phase::Recreates(recreation);
+            Err(refused)
+        }
+        Ok(Reading { source, opening }) => {
+            let inbox = subscribe(&mut world.inboxes_opened, opening, outputs);
+            Ok(pass_succeed_pull(turn, &mut world.consumer, recreation, source, inbox))
+        }
+    }
+}
+
+/// Push hears its inbox from now on.
+fn succeed_push(
+    turn: &EventContext<'_>,
+    world: &mut ReplayState,
+    recreation: Recreation,
+    info: &Info,
+    outputs: &mut Vec<Output>,
+) -> Result<NextTasks, OutOfMemory>
+    requires push { IsPush turn.now.setup.now }
+    ensures { PassesTo turn.now (row.Succeed info.now ∷ []) (at (Phase.Recreates recreation) world.old) world.new outputs.old.items outputs.new.items result }
+{
+    Ok(pass_succeed_push(turn, &mut world.consumer, recreation))
+}
+
+/// A create was answered well.
+pub(crate) fn succeed(
+    alloc: Global,
+    turn: &EventContext<'_>,
+    world: &mut ReplayState,
+    recreation: Recreation,
+    info: &Info,
+    outputs: &mut Vec<Output>,
+) -> Result<NextTasks, OutOfMemory>
+    requires room { vec_len outputs.old + 1 ≤ vec_capacity outputs.old }
+    ensures { PassesTo turn.now (row.Succeed info.now ∷ []) (at (Phase.Recreates recreation) world.old) world.new outputs.old.items outputs.new.items result }
+{
+    match turn.setup {
+        OrderedSetup::Pull(_) => succeed_pull(alloc, turn, world, recreation, info, outputs),
+        OrderedSetup::Push(_) => succeed_push(turn, world, recreation, info, outputs),
+    }
+}

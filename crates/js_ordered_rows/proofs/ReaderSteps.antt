@@ -1,0 +1,194 @@
+-- A row of a pull reader that was passed, where a case is not computed.
+use Rattle.std.proofs.Common.{◌≡◌, ℕ, Bool, true, false, List, [], ◌∷◌, ◌++◌, Option, Some, None, refl, sym, ap, ◌∙◌, subst}
+use Rattle.std.specs.Prelude.{◌==◌, ◌&&◌, ◌+◌, nat_lt, not, is_some, map, option_map, if◌then◌else◌}
+use Rattle.js_base.specs.declared.clock.Timer.{Timer}
+use Rattle.js_base.specs.Clock.{is_any_due}
+use Rattle.js_base.specs.declared.message.Message.{Message}
+use Rattle.js_json.specs.declared.consumer.info.Info.{Info}
+use Rattle.js_link.specs.Passing.{Passing}
+use Rattle.js_pull.specs.declared.rows.Due.{Due}
+use Rattle.js_pull.specs.declared.rows.Due.TheVariants as due
+use Rattle.js_pull.specs.declared.rows.Notice.TheVariants as notice
+use Rattle.js_pull.specs.declared.rows.Step.{Step as Read}
+use Rattle.js_ordered_rows.specs.Readings.{IsInquired, ReadsTo, brought}
+use Rattle.js_pull.specs.Steps.{row_list, told_shown}
+use Rattle.js_pull.specs.declared.reader.InfoRequest.{InfoRequest}
+use Rattle.js_pull.specs.declared.reader.InfoRequest.TheVariants.{NoInfoRequest, Asked, Resting}
+use Rattle.js_pull.specs.declared.kind.Kind.{Kind}
+use Rattle.js_pull.specs.declared.kind.Kind.TheVariants.{Delivered, Quiet, Deleted, PushBased, Limit, Gone, Bad, Ledger}
+use Rattle.js_pull.specs.declared.reader.Reader.{Reader}
+use Rattle.js_pull.specs.declared.reader.Reason.{Reason}
+use Rattle.js_pull.specs.declared.reader.Reason.TheVariants.{Low, Informed}
+use Rattle.js_pull.specs.declared.reader.Row.{Row}
+use Rattle.js_pull.specs.declared.reader.Row.TheVariants as read
+use Rattle.js_pull.specs.Passes.{asks_if}
+use Rattle.js_pull.specs.Reader as pull
+use Rattle.js_pull.specs.Reader.{Answer, reply_to}
+use Rattle.js_link.specs.declared.sent.Sent.{Sent}
+use Rattle.js_ordered_rows.specs.declared.task.NextTasks.{NextTasks}
+use Rattle.js_ordered_rows.specs.Tasks.{StepsTo, reader_rows}
+use Rattle.js_pull.specs.declared.reader.ReaderOutput.{ReaderOutput}
+use Rattle.js_table.specs.declared.consumer.Consumer.{Consumer}
+use Rattle.js_table.specs.declared.consumer.Phase.TheVariants.{Pulls}
+use Rattle.js_table.specs.declared.row.Row.{Row as TableRow}
+use Rattle.js_table.specs.declared.row.Row.TheVariants as row
+use Rattle.js_table.specs.declared.run.Output.{Output}
+use Rattle.js_table.specs.Passes.{informed_by}
+use Rattle.js_table.specs.Reading.{read_row, told, with_sent}
+use Rattle.js_table.specs.State.{Matter, Passed as TablePassed, at_phase, output_of}
+
+-- ---- the threshold
+
+threshold_is : (r : Reader) (low asking : Bool)
+    → (let after : pull.Passed = (if low then pull.quietly (record r { waiting = true }) (if asking then [] else read.Ask Low ∷ []) else pull.quietly r []) in after ≡ pull.quietly after.reader after.next)
+threshold_is r true asking = refl
+threshold_is r false asking = refl
+
+threshold_quiet : (r : Reader) → pull.threshold r ≡ pull.quietly (pull.threshold r).reader (pull.threshold r).next
+threshold_quiet r = threshold_is r (pull.is_low r && not r.waiting) (pull.is_asking r.inquiry)
+
+reads_quietly : (reply message : Option Message) (passed : pull.Passed) (s : Reader) (next : Option Due) (step : Read) → passed ≡ pull.quietly passed.reader passed.next → s ≡ passed.reader → row_list reply next ≡ passed.next
+    → step ≡ record { told = notice.Nothing; next = next } → ReadsTo reply message passed s step
+reads_quietly reply message passed s next step is reader rows to =
+    subst (λ (x : Read). ReadsTo reply message passed s x) (sym to) (record { reader = reader; told = sym (ap (λ (p : pull.Passed). p.told) is); next = rows })
+
+pub threshold_asks : (reply message : Option Message) (r s : Reader) (step : Read) → s ≡ (pull.threshold r).reader → asks_if true ≡ (pull.threshold r).next
+    → step ≡ record { told = notice.Nothing; next = Some (due.Ask Low) } → ReadsTo reply message (pull.threshold r) s step
+threshold_asks reply message r s step reader rows to = reads_quietly reply message (pull.threshold r) s (Some (due.Ask Low)) step (threshold_quiet r) reader rows to
+
+pub threshold_rests : (reply message : Option Message) (r s : Reader) (step : Read) → s ≡ (pull.threshold r).reader → asks_if false ≡ (pull.threshold r).next
+    → step ≡ record { told = notice.Nothing; next = None } → ReadsTo reply message (pull.threshold r) s step
+threshold_rests reply message r s step reader rows to = reads_quietly reply message (pull.threshold r) s None step (threshold_quiet r) reader rows to
+
+-- ---- the consumer's info
+
+answered_badly : (failures : ℕ) (info : Option Info) (r : Reader) → option_map (λ (i : Info). Informed (i.num_waiting == 0)) info ≡ None → pull.answered failures info r ≡ pull.quietly r (read.FailInfoRequest failures ∷ [])
+answered_badly failures None r none = refl
+answered_badly failures (Some info) r none = cc
+
+answered_well : (failures : ℕ) (info : Option Info) (reason : Reason) (r : Reader) → option_map (λ (i : Info). Informed (i.num_waiting == 0)) info ≡ Some reason → pull.answered failures info r ≡ pull.quietly (record r { inquiry = NoInfoRequest }) (read.Ask reason ∷ [])
+answered_well failures None reason r some = cc
+answered_well failures (Some info) reason r some =
+    let same : Informed (info.num_waiting == 0) ≡ reason = cc in
+    ap (λ (reason : Reason). pull.quietly (record r { inquiry = NoInfoRequest }) (read.Ask reason ∷ [])) same
+
+-- an answer that is bad
+pub info_bad : (reply message : Option Message) (failures : ℕ) (r : Reader) (step : Read) → informed_by reply ≡ None → step ≡ record { told = notice.Nothing; next = Some (due.FailInfoRequest failures) }
+    → ReadsTo reply message (pull.answered failures (pull.info_of_reply reply) r) r step
+info_bad reply message failures r step none to =
+    subst (λ (p : pull.Passed). ReadsTo reply message p r step) (sym (answered_badly failures (pull.info_of_reply reply) r none))
+    (subst (λ (x : Read). ReadsTo reply message (pull.quietly r (read.FailInfoRequest failures ∷ [])) r x) (sym to) (record { reader = refl; told = refl; next = refl }))
+
+-- an answer that is good
+pub info_good : (reply message : Option Message) (failures : ℕ) (reason : Reason) (r s : Reader) (step : Read) → informed_by reply ≡ Some reason → s ≡ record r { inquiry = NoInfoRequest }
+    → step ≡ record { told = notice.Nothing; next = Some (due.Ask reason) }
+    → ReadsTo reply message (pull.answered failures (pull.info_of_reply reply) r) s step
+info_good reply message failures reason r s step some reader to =
+    subst (λ (p : pull.Passed). ReadsTo reply message p s step) (sym (answered_well failures (pull.info_of_reply reply) reason r some))
+    (subst (λ (x : Read). ReadsTo reply message (pull.quietly (record r { inquiry = NoInfoRequest }) (read.Ask reason ∷ [])) s x) (sym to) (record { reader = reader; told = refl; next = refl }))
+
+-- the reply is there
+pub reply_there : (p : Passing) (answer : Option Answer) (request : ℕ) (timeout : Option Timer) (failures : ℕ) (r : Reader) → true ≡ is_some (reply_to request answer)
+    → pull.check_asked p timeout failures (reply_to request answer) r ≡ pull.quietly r (read.Answered (brought answer) failures ∷ [])
+reply_there p None request timeout failures r is = cc
+reply_there p (Some answer) request timeout failures r is = by_test (request == answer.request) is
+  where
+    by_test : (b : Bool) → true ≡ is_some (if b then Some answer.reply else None)
+        → pull.check_asked p timeout failures (if b then Some answer.reply else None) r ≡ pull.quietly r (read.Answered answer.reply failures ∷ [])
+    by_test true is = refl
+    by_test false is = cc
+
+-- no reply is there
+pub reply_waits : (p : Passing) (reply : Option (Option Message)) (timeout : Option Timer) (failures : ℕ) (r : Reader) → false ≡ is_some reply
+    → pull.check_asked p timeout failures reply r ≡ pull.quietly r (if is_any_due timeout p.now then read.FailInfoRequest failures ∷ [] else [])
+reply_waits p None timeout failures r is = refl
+reply_waits p (Some reply) timeout failures r is = cc
+
+-- ---- what the consumer makes of what its reader tells
+
+-- what the reader sent goes out first
+with_prefix : (m : Matter) (sent : List Output) (rows : List TableRow) (passed : TablePassed) (outputs : List Output) (d : Consumer) (rest : NextTasks) → StepsTo m (with_sent [] rows passed) outputs d rest
+    → StepsTo m (with_sent sent rows passed) (sent ++ outputs) d rest
+with_prefix m sent rows passed outputs d rest steps = record { consumer = steps.consumer; outputs = ap (λ (o : List Output). sent ++ o) steps.outputs; next = steps.next }
+
+-- a reader's row, with what the consumer makes of it
+pub reads_row : (m : Matter) (message : Option Message) (passed : pull.Passed) (sent : List Sent) (r : Reader) (step : Read) (c d : Consumer) (outputs : List Output) (rest : NextTasks)
+    → ReadsTo (brought m.answer) message passed r step → passed.sent ≡ sent
+    → StepsTo m (with_sent [] (reader_rows m step.next) (told (told_shown step.told message) (at_phase (Pulls r) c))) outputs d rest
+    → StepsTo m (read_row passed c) (map output_of sent ++ outputs) d rest
+reads_row m message passed sent r step c d outputs rest reads is steps =
+    let rows : StepsTo m (with_sent [] (map row.Read passed.next) (told (told_shown step.told message) (at_phase (Pulls r) c))) outputs d rest =
+    subst (λ (rows : List Row). StepsTo m (with_sent [] (map row.Read rows) (told (told_shown step.told message) (at_phase (Pulls r) c))) outputs d rest) reads.next steps in
+    let tells : StepsTo m (with_sent [] (map row.Read passed.next) (told passed.told (at_phase (Pulls r) c))) outputs d rest =
+    subst (λ (t : ReaderOutput). StepsTo m (with_sent [] (map row.Read passed.next) (told t (at_phase (Pulls r) c))) outputs d rest) reads.told rows in
+    let reader : StepsTo m (with_sent [] (map row.Read passed.next) (told passed.told (at_phase (Pulls passed.reader) c))) outputs d rest =
+    subst (λ (x : Reader). StepsTo m (with_sent [] (map row.Read passed.next) (told passed.told (at_phase (Pulls x) c))) outputs d rest) reads.reader tells in
+    subst (λ (x : List Sent). StepsTo m (read_row passed c) (map output_of x ++ outputs) d rest) is
+    (with_prefix m (map output_of passed.sent) (map row.Read passed.next) (told passed.told (at_phase (Pulls passed.reader) c)) outputs d rest reader)
+
+-- ---- what a row does not send
+
+pub threshold_sends : (r : Reader) → (pull.threshold r).sent ≡ []
+threshold_sends r = ap (λ (p : pull.Passed). p.sent) (threshold_quiet r)
+
+if_sends : (b : Bool) (one other : pull.Passed) → one.sent ≡ [] → other.sent ≡ [] → (if b then one else other).sent ≡ []
+if_sends true one other none neither = none
+if_sends false one other none neither = neither
+
+pub fail_sends : (p : Passing) (failures : ℕ) (r : Reader) → (pull.fail_inquiry p failures r).sent ≡ []
+fail_sends p failures r = if_sends (nat_lt (failures + 1) 6) _ _ refl refl
+
+pub silence_sends : (p : Passing) (r : Reader) → (pull.check_silence p r).sent ≡ []
+silence_sends p r = if_sends (is_any_due r.heartbeat_timer p.now) _ _ refl refl
+
+asked_sends : (p : Passing) (timeout : Option Timer) (failures : ℕ) (reply : Option (Option Message)) (r : Reader) → (pull.check_asked p timeout failures reply r).sent ≡ []
+asked_sends p timeout failures None r = refl
+asked_sends p timeout failures (Some reply) r = refl
+
+pub inquiry_sends : (p : Passing) (answer : Option Answer) (inquiry : InfoRequest) (r : Reader) → (pull.check_inquiry p answer inquiry r).sent ≡ []
+inquiry_sends p answer NoInfoRequest r = refl
+inquiry_sends p answer (Asked request timeout failures) r = asked_sends p timeout failures (reply_to request answer) r
+inquiry_sends p answer (Resting wait failures) r = refl
+
+pub answered_sends : (failures : ℕ) (info : Option Info) (r : Reader) → (pull.answered failures info r).sent ≡ []
+answered_sends failures None r = refl
+answered_sends failures (Some info) r = refl
+
+pub hear_sends : (message : Message) (k : Kind) (r : Reader) → (pull.hear message k r).sent ≡ []
+hear_sends message Delivered r = refl
+hear_sends message Quiet r = refl
+hear_sends message Deleted r = refl
+hear_sends message PushBased r = refl
+hear_sends message Limit r = refl
+hear_sends message Gone r = refl
+hear_sends message Bad r = refl
+hear_sends message (Ledger messages bytes) r = refl
+
+-- ---- an open info
+
+pub asked_there : (p : Passing) (answer : Option Answer) (message : Option Message) (request : ℕ) (timeout : Option Timer) (failures : ℕ) (r : Reader) (step : Read) → true ≡ is_some (reply_to request answer)
+    → step ≡ record { told = notice.Nothing; next = Some (due.Answered failures) }
+    → ReadsTo (brought answer) message (pull.check_asked p timeout failures (reply_to request answer) r) r step
+asked_there p answer message request timeout failures r step is to =
+    subst (λ (x : pull.Passed). ReadsTo (brought answer) message x r step) (sym (reply_there p answer request timeout failures r is))
+    (subst (λ (x : Read). ReadsTo (brought answer) message (pull.quietly r (read.Answered (brought answer) failures ∷ [])) r x) (sym to) (record { reader = refl; told = refl; next = refl }))
+
+pub asked_waits : (p : Passing) (answer : Option Answer) (message : Option Message) (request : ℕ) (timeout : Option Timer) (failures : ℕ) (r : Reader) (is_due : Bool) (next : Option Due) (step : Read) → false ≡ is_some (reply_to request answer)
+    → is_due ≡ is_any_due timeout p.now → next ≡ (if is_due then Some (due.FailInfoRequest failures) else None) → step ≡ record { told = notice.Nothing; next = next }
+    → ReadsTo (brought answer) message (pull.check_asked p timeout failures (reply_to request answer) r) r step
+asked_waits p answer message request timeout failures r is_due next step is due_is next_is to =
+    subst (λ (x : pull.Passed). ReadsTo (brought answer) message x r step) (sym (reply_waits p (reply_to request answer) timeout failures r is))
+    (subst (λ (b : Bool). ReadsTo (brought answer) message (pull.quietly r (if b then read.FailInfoRequest failures ∷ [] else [])) r step) due_is
+    (subst (λ (x : Read). ReadsTo (brought answer) message (pull.quietly r (if is_due then read.FailInfoRequest failures ∷ [] else [])) r x) (sym (to ∙ ap (λ (n : Option Due). record { told = notice.Nothing; next = n }) next_is))
+    (by_due is_due)))
+  where
+    by_due : (b : Bool) → ReadsTo (brought answer) message (pull.quietly r (if b then read.FailInfoRequest failures ∷ [] else [])) r (record { told = notice.Nothing; next = (if b then Some (due.FailInfoRequest failures) else None) })
+    by_due true = record { reader = refl; told = refl; next = refl }
+    by_due false = record { reader = refl; told = refl; next = refl }
+
+-- an open info that is known
+pub asked_at : (p : Passing) (answer : Option Answer) (message : Option Message) (inquiry known : InfoRequest) (replied : Bool) (r : Reader) (step : Read) → inquiry ≡ known
+    → (IsInquired answer known replied → ReadsTo (brought answer) message (pull.check_inquiry p answer known r) r step) → IsInquired answer inquiry replied
+    → ReadsTo (brought answer) message (pull.check_inquiry p answer inquiry r) r step
+asked_at p answer message inquiry known replied r step is reads there =
+    subst (λ (i : InfoRequest). IsInquired answer i replied → ReadsTo (brought answer) message (pull.check_inquiry p answer i r) r step) (sym is) reads there

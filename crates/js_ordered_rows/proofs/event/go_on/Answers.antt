@@ -1,0 +1,11 @@
+use Rattle.std.proofs.Common.{refl, sym, subst, ◌≡◌}
+use Rattle.js_ordered_rows.specs.Tasks.{StepsTo, at_moment, goes_on}
+use Rattle.js_table.specs.Passes.{given_of}
+use Rattle.js_table.specs.declared.consumer.Phase.{Phase}
+use Rattle.js_ordered_rows.proofs.Stepping.{reader_begins, goes_at}
+use Rattle.js_ordered_rows.proofs.event.go_on.Goals as goal
+
+pub returns-in-Pulls : goal.returns-in-Pulls
+returns-in-Pulls c = λ p m.
+    goes_at (given_of c.args.turn.now) (at_moment c.args.turn.now.moment p) m c.args.change _ c.args.consumer.now _ _ c.in-Pulls.is
+    (reader_begins (at_moment c.args.turn.now.moment p) m c.args.change _ _ c.args.consumer.now _ _ (c.begin.ensures.reader p) (c.begin.ensures.next m p) refl)

@@ -1,0 +1,396 @@
+//! The rows of a recreation: the old consumer is deleted, and a new one is made that goes on after the last yield.
+ghost use Rattle.std.specs.Prelude.{ℕ, ◌≡◌, ◌<◌, ◌+◌, [], ◌∷◌, codes, is_some, min};
+ghost use Rattle.js_link.specs.Passing.{Passing};
+ghost use Rattle.js_ordered_rows.specs.Tasks.{IsAnswered, StepsTo, at_moment, create_outputs, next_rows, opening_to, requested, requesting, rows_of, subscribed, told_outputs};
+ghost use Rattle.js_pull.specs.Reader.{reply_to, u64_max};
+ghost use Rattle.js_table.specs.Passes.{given_of, timeout_at, waiting};
+ghost use Rattle.js_table.specs.Recreation as rows;
+ghost use Rattle.js_table.specs.State.{Matter, at_phase, quietly as passes_quietly};
+ghost use Rattle.js_table.specs.Texts as texts_of;
+ghost use Rattle.js_json.specs.declared.consumer.info.Info.{Info as SpecInfo};
+
+use crate::event::quietly;
+use crate::task::{Held, Inbox, NextTasks, RowOutput, Step, Task};
+use js_base::{Boxed, Items, Moment, Text, Timer};
+use js_json::consumer::Info;
+use js_pull::{Due, Reader, Source, retry_wait};
+use js_table::{
+    Consumer, EventContext, ItemKind, Opened, OrderedSetup, Phase, Recreation, Stage, Start, texts,
+};
+use std::alloc::Global;
+use std::mem;
+
+// ---- a recreation starts
+
+/// Where it starts: after the last yield, else where the setup starts.
+fn start_after(setup: &OrderedSetup, last: u64) -> Start
+    requires { last < u64.MAX }
+    ensures { result ≡ rows.start_after (texts_of.configured_start setup.now) last }
+{
+    if last > 0 {
+        return Start::From(last + 1);
+    }
+    match setup.configured_start() {
+        None => Start::All,
+        Some(sequence) => Start::From(sequence),
+    }
+}
+
+/// A recreation starts: what is current was dropped, and the first try follows. The name is the next consumer's.
+pub fn pass_start(
+    turn: &EventContext<'_>,
+    consumer: &mut Consumer,
+    name: Text,
+    new_name: Text,
+) -> Step
+    requires name { name ≡ texts_of.consumer_name (given_of turn.now) (min (consumer.old.recreation_count + 1) u64_max) }
+    requires again { new_name ≡ texts_of.consumer_name (given_of turn.now) (min (consumer.old.recreation_count + 1) u64_max) }
+    ensures { (m : Matter) → StepsTo m (rows.start_row (given_of turn.now) consumer.old) (told_outputs result.told) consumer.new result.next }
+{
+    let last = consumer.last;
+    if last == u64::MAX {
+        consumer.phase = Phase::Exhausted;
+        return quietly(NextTasks::Nothing);
+    }
+    let start = start_after(turn.setup, last);
+    let recreation_count = consumer.recreation_count.saturating_add(1);
+    let old_name = mem::replace(&mut consumer.name, name);
+    consumer.consumer_sequence = 0;
+    consumer.recreation_count = recreation_count;
+    consumer.phase = Phase::Recreates(Recreation {
+        old_name,
+        new_name,
+        start,
+        failures: 0,
+        opened: None,
+        stage: Stage::Between,
+    });
+    Step {
+        told: RowOutput::Recreates {
+            recreation_count,
+            start,
+        },
+        next: NextTasks::One(Task::Try),
+    }
+}
+
+// ---- a try
+
+/// The bound on an answer that is waited for from now on.
+fn timeout(turn: &EventContext<'_>) -> Timer
+    ensures { result ≡ timeout_at (given_of turn.now) turn.now.moment }
+{
+    Timer {
+        set: turn.moment,
+        wait: texts::recreation_timeout(turn.settings),
+    }
+}
+
+/// A try begins: the deletion of the old consumer was asked for with this number, or is passed over.
+pub fn pass_try(
+    turn: &EventContext<'_>,
+    consumer: &mut Consumer,
+    mut recreation: Recreation,
+    request: Option<u64>,
+) -> NextTasks
+    ensures { (m : Matter) → (p : Passing)
+        → StepsTo m (rows.try_row (given_of turn.now) (requesting turn.now.moment request p) recreation (at_phase (Phase.Recreates recreation) consumer.old))
+        (requested (texts_of.delete_subject (given_of turn.now) recreation) (codes "{}") request) consumer.new result }
+{
+    match request {
+        None => {
+            consumer.phase = Phase::Recreates(recreation);
+            NextTasks::One(Task::Create)
+        }
+        Some(request) => {
+            recreation.stage = Stage::Deleting {
+                request,
+                timeout: timeout(turn),
+            };
+            consumer.phase = Phase::Recreates(recreation);
+            NextTasks::Nothing
+        }
+    }
+}
+
+/// The new consumer is to be asked for. Push has opened its inbox before that, or could not.
+pub fn pass_create(
+    alloc: Global,
+    turn: &EventContext<'_>,
+    consumer: &mut Consumer,
+    mut recreation: Recreation,
+    inbox: Option<Inbox>,
+) -> NextTasks
+    ensures { (m : Matter) → (p : Passing)
+        → StepsTo m (rows.create_row turn.now.setup.now (opening_to turn.now.moment inbox p) recreation (at_phase (Phase.Recreates recreation) consumer.old))
+        (create_outputs turn.now.setup.now inbox) consumer.new result }
+{
+    match turn.setup {
+        OrderedSetup::Pull(_) => {
+            consumer.phase = Phase::Recreates(recreation);
+            NextTasks::One(Task::Ask)
+        }
+        OrderedSetup::Push(_) => match inbox {
+            None => {
+                consumer.phase = Phase::Recreates(recreation);
+                NextTasks::One(Task::Fail)
+            }
+            Some(Inbox { number, subject }) => {
+                recreation.opened = Some(Opened {
+                    inbox: number,
+                    subject,
+                    held: Items::new(alloc),
+                });
+                consumer.phase = Phase::Recreates(recreation);
+                NextTasks::One(Task::Ask)
+            }
+        },
+    }
+}
+
+/// The new consumer was asked for with this number, or could not be.
+pub fn pass_ask(
+    turn: &EventContext<'_>,
+    consumer: &mut Consumer,
+    mut recreation: Recreation,
+    request: Option<u64>,
+) -> NextTasks
+    ensures { (m : Matter) → (p : Passing)
+        → StepsTo m (rows.ask_row (given_of turn.now) (requesting turn.now.moment request p) recreation (at_phase (Phase.Recreates recreation) consumer.old))
+        (requested (texts_of.create_subject (given_of turn.now) recreation) (texts_of.create_body (given_of turn.now) recreation) request) consumer.new result }
+{
+    match request {
+        None => {
+            consumer.phase = Phase::Recreates(recreation);
+            NextTasks::One(Task::Fail)
+        }
+        Some(request) => {
+            recreation.stage = Stage::Creating {
+                request,
+                timeout: timeout(turn),
+            };
+            consumer.phase = Phase::Recreates(recreation);
+            NextTasks::Nothing
+        }
+    }
+}
+
+/// The recreation waits for its next try, after one more that has failed.
+fn rest(recreation: &mut Recreation, now: Moment)
+    requires { recreation.old.failures < u64.MAX }
+    ensures { recreation.new ≡ waiting now recreation.old }
+{
+    let failures = recreation.failures + 1;
+    recreation.failures = failures;
+    recreation.opened = None;
+    recreation.stage = Stage::Waiting {
+        wait: Timer {
+            set: now,
+            wait: retry_wait(failures),
+        },
+    };
+}
+
+/// A try has failed: after more failures than retries an item closes the recreation, otherwise the next try waits.
+pub fn pass_fail(
+    turn: &EventContext<'_>,
+    consumer: &mut Consumer,
+    mut recreation: Recreation,
+) -> Step
+    ensures { (m : Matter) → (p : Passing)
+        → StepsTo m (rows.fail_row (given_of turn.now) (at_moment turn.now.moment p) recreation (at_phase (Phase.Recreates recreation) consumer.old))
+        (told_outputs result.told) consumer.new result.next }
+{
+    if recreation.failures >= u64::from(turn.settings.retries) {
+        consumer.phase = Phase::Idle;
+        return Step {
+            told: RowOutput::Tells(ItemKind::Recreate),
+            next: NextTasks::Nothing,
+        };
+    }
+    rest(&mut recreation, turn.moment);
+    consumer.phase = Phase::Recreates(recreation);
+    quietly(NextTasks::Nothing)
+}
+
+// ---- an open recreation
+
+/// The deletion looks at its answer before its clock. Either brings the create.
+fn delete_next(turn: &EventContext<'_>, timeout: Timer, is_answered: bool) -> NextTasks
+    ensures { (m : Matter) → (p : Passing) → (request : ℕ) → is_answered ≡ is_some (reply_to request m.answer)
+        → next_rows m result ≡ rows.stage_rows (given_of turn.now) (at_moment turn.now.moment p) m (Stage.Deleting request timeout) }
+{
+    if is_answered {
+        return NextTasks::One(Task::Create);
+    }
+    if timeout.is_due(turn.moment) {
+        return NextTasks::One(Task::Create);
+    }
+    NextTasks::Nothing
+}
+
+/// The create looks at its answer before its clock.
+#[tactic(auto, using(std::proofs::lemmas::Grind::common_steps, crate::proofs::Stepping::create_answered))]
+fn create_next(
+    turn: &EventContext<'_>,
+    request: u64,
+    timeout: Timer,
+    is_answered: bool,
+) -> NextTasks
+    ensures { (m : Matter) → (p : Passing) → is_answered ≡ is_some (reply_to request m.answer)
+        → next_rows m result ≡ rows.stage_rows (given_of turn.now) (at_moment turn.now.moment p) m (Stage.Creating request timeout) }
+{
+    if is_answered {
+        return NextTasks::One(Task::Answered { request });
+    }
+    if timeout.is_due(turn.moment) {
+        return NextTasks::One(Task::Fail);
+    }
+    NextTasks::Nothing
+}
+
+/// The next try waits.
+fn wait_next(turn: &EventContext<'_>, wait: Timer) -> NextTasks
+    ensures { (m : Matter) → (p : Passing) → next_rows m result ≡ rows.stage_rows (given_of turn.now) (at_moment turn.now.moment p) m (Stage.Waiting wait) }
+{
+    if wait.is_due(turn.moment) {
+        return NextTasks::One(Task::Try);
+    }
+    NextTasks::Nothing
+}
+
+/// What follows where a stage has its answer or not.
+fn stage_next(turn: &EventContext<'_>, stage: Stage, is_answered: bool) -> NextTasks
+    ensures { (m : Matter) → (p : Passing) → IsAnswered m stage is_answered
+        → next_rows m result ≡ rows.stage_rows (given_of turn.now) (at_moment turn.now.moment p) m stage }
+{
+    match stage {
+        Stage::Between => NextTasks::Nothing,
+        Stage::Deleting { timeout, .. } => delete_next(turn, timeout, is_answered),
+        Stage::Creating { request, timeout } => create_next(turn, request, timeout, is_answered),
+        Stage::Waiting { wait } => wait_next(turn, wait),
+    }
+}
+
+/// An open recreation goes on where what it waits for has come: an answer, or its time.
+pub fn pass_await(
+    turn: &EventContext<'_>,
+    consumer: &mut Consumer,
+    recreation: Recreation,
+    is_answered: bool,
+) -> NextTasks
+    ensures { (m : Matter) → (p : Passing) → IsAnswered m recreation.stage is_answered
+        → StepsTo m (passes_quietly (at_phase (Phase.Recreates recreation) consumer.old) (rows.stage_rows (given_of turn.now) (at_moment turn.now.moment p) m recreation.stage))
+        [] consumer.new result }
+{
+    let next = stage_next(turn, recreation.stage, is_answered);
+    consumer.phase = Phase::Recreates(recreation);
+    next
+}
+
+// ---- an answer to the create
+
+/// Push needs a subject that is delivered to.
+fn has_subject(setup: &OrderedSetup, info: &Info) -> bool
+    ensures { result ≡ rows.has_subject setup.now info.now }
+{
+    match setup {
+        OrderedSetup::Pull(_) => true,
+        OrderedSetup::Push(_) => info.config.deliver_subject.is_some(),
+    }
+}
+
+/// A create was answered: well or not.
+fn answered(setup: &OrderedSetup, info: Option<Boxed<Info>>) -> Task
+    ensures { (m : Matter) → rows_of m result ≡ rows.answered setup.now info ∷ [] }
+{
+    match info {
+        None => Task::Fail,
+        Some(info) => {
+            if has_subject(setup, info.get()) {
+                Task::Succeed(info)
+            } else {
+                Task::Fail
+            }
+        }
+    }
+}
+
+/// The reply to a create was read.
+pub fn pass_answered(
+    turn: &EventContext<'_>,
+    consumer: &mut Consumer,
+    recreation: Recreation,
+    info: Option<Boxed<Info>>,
+) -> NextTasks
+    ensures { (m : Matter)
+        → StepsTo m (passes_quietly (at_phase (Phase.Recreates recreation) consumer.old) (rows.answered turn.now.setup.now info ∷ [])) [] consumer.new result }
+{
+    let task = answered(turn.setup, info);
+    consumer.phase = Phase::Recreates(recreation);
+    NextTasks::One(task)
+}
+
+/// A create was answered well: pull reads the inbox that was opened, or could not be. The source knows no inbox yet.
+pub fn pass_succeed_pull(
+    turn: &EventContext<'_>,
+    consumer: &mut Consumer,
+    recreation: Recreation,
+    mut source: Source,
+    inbox: Option<Inbox>,
+) -> NextTasks
+    ensures { (m : Matter) → (p : Passing) → (info : SpecInfo) → source ≡ texts_of.source_of (given_of turn.now) consumer.old.recreation_count 0 [] info
+        → StepsTo m (rows.succeed_pull (given_of turn.now) (opening_to turn.now.moment inbox p) info (at_phase (Phase.Recreates recreation) consumer.old))
+        (subscribed inbox) consumer.new result }
+{
+    match inbox {
+        None => {
+            consumer.phase = Phase::Recreates(recreation);
+            NextTasks::One(Task::Fail)
+        }
+        Some(Inbox { number, subject }) => {
+            source.inbox = number;
+            source.subject = subject;
+            consumer.phase = Phase::Pulls(Reader::new(source));
+            NextTasks::Two(Task::Read(Due::Threshold), Task::Read(Due::Arm))
+        }
+    }
+}
+
+/// Push's inbox becomes the current one: what was held is heard, and then the heartbeat is armed.
+pub fn pass_succeed_push(
+    turn: &EventContext<'_>,
+    consumer: &mut Consumer,
+    mut recreation: Recreation,
+) -> NextTasks
+    ensures { (m : Matter) → (p : Passing)
+        → StepsTo m (rows.succeed_push (at_moment turn.now.moment p) recreation.opened (at_phase (Phase.Recreates recreation) consumer.old)) [] consumer.new result }
+{
+    match recreation.opened.take() {
+        None => {
+            consumer.phase = Phase::Recreates(recreation);
+            NextTasks::Nothing
+        }
+        Some(
+            Opened {
+                inbox,
+                held: messages,
+                ..
+            },
+        ) => {
+            consumer.phase = Phase::Pushes {
+                inbox,
+                heartbeat_timer: Timer {
+                    set: turn.moment,
+                    wait: 10_000_000_000,
+                },
+            };
+            let held = Held {
+                inbox,
+                messages,
+                place: 0,
+            };
+            NextTasks::Two(Task::HearHeld(held), Task::Arm)
+        }
+    }
+}
