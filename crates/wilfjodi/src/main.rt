@@ -1,7 +1,7 @@
-//! `wilfjodi`: JetStream consumers replayed from transcripts and from numbers, acknowledgement subjects and publish windows, on a command line.
+//! `wilfjodi`: JetStream consumers replayed from transcripts and from numbers, tables and mirrors of their logs, acknowledgement subjects and publish windows, on a command line.
 #![tactic(auto)]
 
-use js_tool::{ReadSource, Status, WriteSink, run};
+use js_words::{ReadSource, Status, WriteSink, run};
 use std::process::ExitCode;
 use std::{env, io};
 
@@ -11,6 +11,10 @@ const HELP: &str = "\
 wilfjodi: JetStream consumers, replayed
 
   wilfjodi replay         reads a transcript from standard input, and writes the text of its run to standard output
+  wilfjodi project FILTER [SEQUENCE]
+                          reads a transcript that has a configured start, and writes the last entry of each subject that
+                          FILTER matches, of all that was handed out or of what was up to SEQUENCE; empty payloads delete
+  wilfjodi mirror         reads the same, and writes all that was handed out, with the holes between
   wilfjodi generate SEED EVENTS
                           replays the first EVENTS events (at most 200000) of the transcript that the number SEED gives,
                           and writes how much its run puts out

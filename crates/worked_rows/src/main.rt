@@ -3,7 +3,7 @@
 //! goes to standard output, which the gate compares with the stored text.
 #![tactic(auto)]
 
-use js_tool::{PlainSource, Status, WriteSink, run};
+use js_words::{PlainSource, Status, WriteSink, run};
 use std::alloc::{AllocError, Global};
 use std::io::{BufRead, BufReader, Write};
 use std::sync::Wait;

@@ -1,0 +1,5 @@
+mod Applying
+mod LogsShown
+mod Passing
+mod Telling
+mod Worked

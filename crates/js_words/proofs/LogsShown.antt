@@ -1,0 +1,148 @@
+-- What the written texts say of an honest server's log.
+use Rattle.std.proofs.Common.{◌≡◌, ℕ, suc, zero, ◌+◌, ◌-◌, ◌<◌, ◌≤◌, ◌==◌, nat_lt, Bool, true, false, cond, List, [], ◌∷◌, map, Option, Some, None, IfSome, refl, subst, sym, ap, ◌∙◌, arith}
+use Rattle.std.proofs.lemmas.Bool.Decides.{nat_tests}
+use Rattle.std.specs.Io.KnownBytes.{Appends}
+use Rattle.js_base.specs.declared.message.Entry.{Entry}
+use Rattle.js_json.specs.declared.consumer.deliver_policy.DeliverPolicy.{DeliverPolicy}
+use Rattle.js_json.specs.declared.consumer.deliver_policy.DeliverPolicy.TheVariants as policy
+use Rattle.js_log_table.specs.Honest.{matching_between}
+use Rattle.js_log_table.specs.Kept.{HasTableOf}
+use Rattle.js_log_table.specs.Yielded.{as_entry, not_rising}
+use Rattle.js_log_table.proofs.OnHonestLog.{run_has_table}
+use Rattle.js_mirror.specs.Mirrored.{IsMirror, RisesFrom}
+use Rattle.js_project.specs.Table.{last_sequence, table, matched}
+use Rattle.js_relay.specs.Copied.{IsCopy}
+use Rattle.js_relay.specs.Handed.{handed}
+use Rattle.js_relay.proofs.Shown.{shows_each_log}
+use Rattle.js_table.specs.declared.run.ReplayError.{ReplayError}
+use Rattle.js_table.specs.Gapless as gapless
+use Rattle.js_table.specs.Gapless.{yields, all_outputs}
+use Rattle.js_table.specs.Refusal.{refuse}
+use Rattle.js_table.specs.Texts.{config_of, configured_start, start_of_policy}
+use Rattle.js_table.proofs.Promises.{fold_replays}
+use Rattle.js_tool.specs.declared.status.Status.{Status}
+use Rattle.js_tool.specs.declared.status.Status.TheVariants as status
+use Rattle.js_tool.specs.declared.transcript.Transcript.{Transcript}
+use Rattle.js_tool.specs.Program.{given}
+use Rattle.js_words.specs.Commands.{Wanted, Project, Mirror}
+use Rattle.js_words.specs.declared.report.Report.{Report}
+use Rattle.js_words.specs.declared.report.Report.TheVariants as report
+use Rattle.js_words.specs.Gathered.{ends}
+use Rattle.js_words.specs.LogTexts.{rows_text, table_text, mirror_text}
+use Rattle.js_words.specs.OnLogs.{run_of, yields_of, mirror_of, WritesLogsTable, WritesLogsMirror}
+use Rattle.js_words.specs.Reports.{unless_falling, log_report, report_from, report_of}
+use Rattle.js_words.specs.Told.{Reads, AnswersBytes, AnswersLog}
+
+-- ---- a text that was made
+
+-- the setup has a configured start, the replay is not refused, and this is made of what it yields
+record IsMade (wanted : Wanted) (t : Transcript) (text : List ℕ) : Type 0 where
+  start : ℕ
+  configured : configured_start t.setup.setup ≡ Some start
+  accepted : refuse (given t.setup) t.setup.start t.events ≡ None
+  says : log_report wanted start (yields_of t) ≡ report.Done text
+
+made_of : (wanted : Wanted) (t : Transcript) (text : List ℕ) → report_of wanted t ≡ report.Done text → IsMade wanted t text
+made_of wanted t text is = by_cases (configured_start t.setup.setup) refl (refuse (given t.setup) t.setup.start t.events) refl is
+  where
+    by_cases : (start : Option ℕ) → configured_start t.setup.setup ≡ start → (refusal : Option ReplayError) → refuse (given t.setup) t.setup.start t.events ≡ refusal
+        → report_from wanted start (ends refusal (yields_of t)) ≡ report.Done text → IsMade wanted t text
+    by_cases None configured refusal refuses is = absurd (cc)
+    by_cases (Some start) configured (Some refusal) refuses is = absurd (cc)
+    by_cases (Some start) configured None accepted is = record { start = start; configured = configured; accepted = accepted; says = is }
+
+-- the sequences rise, and the text is the one that was made
+risen : (found : Option ℕ) (made text : List ℕ) → unless_falling found made ≡ report.Done text → (found ≡ None) × (text ≡ made)
+risen None made text is = (refl, injected text made (sym is))
+  where
+    injected : (x y : List ℕ) → report.Done x ≡ report.Done y → x ≡ y
+    injected x y same = cc
+risen (Some last) made text is = absurd (cc)
+
+-- ---- the table
+
+table_on_log : (filter bytes : List ℕ) (taken taken_after : Option (List ℕ)) (t : Transcript) (text : List ℕ) → Reads bytes t → report_of (Project filter None) t ≡ report.Done text
+    → Appends taken taken_after text → WritesLogsTable filter bytes taken taken_after
+table_on_log filter bytes taken taken_after t text reads is appends =
+    let made : IsMade (Project filter None) t text = made_of (Project filter None) t text is in
+    let rose = risen (not_rising 0 (yields_of t)) (table_text filter None (yields_of t)) text made.says in
+    record {
+      transcript = t;
+      reads = reads;
+      written = λ s start honest configured overtaken.
+          let last = last_sequence (yields_of t) in
+          let has : HasTableOf (matching_between t.setup.setup s.log start last) (yields_of t) =
+          run_has_table (given t.setup) t.setup.start t.events s start honest configured overtaken in
+          subst (λ (text : List ℕ). Appends taken taken_after text) (rose.1 ∙ ap (λ (rows : List Entry). rows_text rows last) (has.rows filter)) appends;
+    }
+
+pub table_told : (filter : List ℕ) (left left_after taken taken_after : Option (List ℕ)) (faults faults_after : ℕ) (s : Status)
+    → AnswersLog (report_of (Project filter None)) left left_after taken taken_after faults faults_after s → s ≡ status.Done
+    → IfSome left (λ bytes. WritesLogsTable filter bytes taken taken_after)
+table_told filter None left_after taken taken_after faults faults_after s answers done = tt
+table_told filter (Some bytes) left_after taken taken_after faults faults_after s answers done =
+    let (t, text, reads, is, appends) = answers.told.done done in
+    table_on_log filter bytes taken taken_after t text reads is appends
+
+-- ---- the mirror
+
+-- sequences that rise from above a number are at or past the next one
+rises_from : (last : ℕ) (entries : List Entry) → not_rising last entries ≡ None → RisesFrom (last + 1) entries
+rises_from last [] risen = tt
+rises_from last (entry ∷ entries) risen = by_test (nat_lt last entry.sequence) refl (rises_from entry.sequence entries) risen
+  where
+    by_test : (above : Bool) → nat_lt last entry.sequence ≡ above → (not_rising entry.sequence entries ≡ None → RisesFrom (entry.sequence + 1) entries)
+        → cond above (not_rising entry.sequence entries) (Some last) ≡ None → (last + 1 ≤ entry.sequence) × RisesFrom (entry.sequence + 1) entries
+    by_test true above rest risen = (grind (arith, nat_tests), rest risen)
+    by_test false above rest risen = absurd (cc)
+
+-- a configured start is above 0
+start_above : (p : DeliverPolicy) (start : ℕ) → start_of_policy p ≡ Some start → 0 < start
+start_above (policy.ByStartSequence sequence) start is = by_test (sequence == 0) refl is
+  where
+    injected : (x y : ℕ) → Some x ≡ Some y → x ≡ y
+    injected x y same = cc
+
+    by_test : (nothing : Bool) → (sequence == 0) ≡ nothing → cond nothing None (Some sequence) ≡ Some start → 0 < start
+    by_test true same is = absurd (cc)
+    by_test false other is =
+        let same : sequence ≡ start = injected sequence start is in
+        grind (arith, nat_tests)
+start_above policy.All start is = absurd (cc)
+start_above policy.Last start is = absurd (cc)
+start_above policy.New start is = absurd (cc)
+start_above (policy.ByStartTime time) start is = absurd (cc)
+start_above policy.LastPerSubject start is = absurd (cc)
+
+handed_yields : (ys : List gapless.Entry) → map handed (map as_entry ys) ≡ ys
+handed_yields [] = refl
+handed_yields (y ∷ ys) = ap (λ (rest : List gapless.Entry). y ∷ rest) (handed_yields ys)
+
+mirror_on_log : (bytes : List ℕ) (taken taken_after : Option (List ℕ)) (t : Transcript) (text : List ℕ) → Reads bytes t → report_of Mirror t ≡ report.Done text
+    → Appends taken taken_after text → WritesLogsMirror bytes taken taken_after
+mirror_on_log bytes taken taken_after t text reads is appends =
+    let made : IsMade Mirror t text = made_of Mirror t text is in
+    let rose = risen (not_rising (made.start - 1) (yields_of t)) (mirror_text made.start (yields_of t)) text made.says in
+    let above : 0 < made.start = start_above (config_of t.setup.setup).deliver_policy made.start made.configured in
+    let from : made.start - 1 + 1 ≡ made.start = omega (arith, above) in
+    let mirror : IsMirror (mirror_of made.start t) = (above, subst (λ (n : ℕ). RisesFrom n (yields_of t)) from (rises_from (made.start - 1) (yields_of t) rose.0)) in
+    let copy : IsCopy t.setup.setup (run_of t) (mirror_of made.start t) = record { start = made.configured; entries = handed_yields (yields (all_outputs (run_of t))) } in
+    record {
+      transcript = t;
+      start = made.start;
+      reads = reads;
+      configured = made.configured;
+      mirror = mirror;
+      written = subst (λ (text : List ℕ). Appends taken taken_after text) rose.1 appends;
+      shows = λ s honest.
+          shows_each_log (mirror_of made.start t) mirror s (given t.setup) t.setup.start t.events (run_of t)
+          (fold_replays (given t.setup) t.setup.start t.events (run_of t) made.accepted refl) honest copy;
+    }
+
+pub mirror_told : (left left_after taken taken_after : Option (List ℕ)) (faults faults_after : ℕ) (s : Status)
+    → AnswersLog (report_of Mirror) left left_after taken taken_after faults faults_after s → s ≡ status.Done
+    → IfSome left (λ bytes. WritesLogsMirror bytes taken taken_after)
+mirror_told None left_after taken taken_after faults faults_after s answers done = tt
+mirror_told (Some bytes) left_after taken taken_after faults faults_after s answers done =
+    let (t, text, reads, is, appends) = answers.told.done done in
+    mirror_on_log bytes taken taken_after t text reads is appends

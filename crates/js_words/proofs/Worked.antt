@@ -1,0 +1,47 @@
+-- Worked examples, which the definitions compute.
+use Rattle.std.specs.Prelude.{◌≡◌, ℕ, List, [], ◌∷◌, Some, None, refl, codes}
+use Rattle.js_base.specs.declared.message.Entry.{Entry}
+use Rattle.js_table.specs.declared.run.ReplayError.TheVariants.{BadEvent}
+use Rattle.js_words.specs.Commands.{Wanted, Project, Mirror, wanted_of, project_of, project_up_to, with_two}
+use Rattle.js_words.specs.declared.gathering.Ending.TheVariants as ending
+use Rattle.js_words.specs.declared.report.Report.TheVariants as report
+use Rattle.js_words.specs.LogTexts.{no_start_text, not_rising_text, hole_text}
+use Rattle.js_words.specs.Reports.{log_report, report_from}
+
+abbrev entry : ℕ → List ℕ → List ℕ → Entry
+entry sequence subject payload = record { subject = subject; sequence = sequence; payload = payload }
+
+-- ---- words
+
+one_filter : wanted_of (codes "project" ∷ codes "a.*" ∷ []) ≡ Some (Project (codes "a.*") None)
+unfolding project_of
+one_filter = refl
+
+-- a body that takes any word for a filter answers a command here
+no_filter : wanted_of (codes "project" ∷ codes ".a" ∷ []) ≡ None
+unfolding project_of
+no_filter = refl
+
+up_to_two : wanted_of (codes "project" ∷ codes ">" ∷ codes "02" ∷ []) ≡ Some (Project (codes ">") (Some 2))
+unfolding project_of project_up_to with_two
+up_to_two = refl
+
+-- ---- refusals
+
+-- a body that tells of the replay's refusal first answers another line
+no_start_first : report_from Mirror None (ending.Refused (BadEvent 3)) ≡ report.Refused no_start_text
+no_start_first = refl
+
+-- a body that lets an equal sequence pass answers a text
+equal : log_report (Project (codes ">") None) 1 (entry 5 [] [] ∷ entry 5 [] [] ∷ []) ≡ report.Refused (not_rising_text 5)
+equal = refl
+
+-- a mirror's first sequence is at its start or past it: a body that lets any first one pass answers a text
+below : log_report Mirror 5 (entry 3 [] [] ∷ entry 5 [] [] ∷ []) ≡ report.Refused (not_rising_text 4)
+below = refl
+
+-- ---- holes
+
+-- a body that takes neighbours for a hole writes a line
+no_hole : hole_text 4 5 ≡ []
+no_hole = refl

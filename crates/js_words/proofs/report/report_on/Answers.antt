@@ -1,0 +1,37 @@
+use Rattle.std.proofs.Common.{◌≡◌, ◌∷◌, ℕ, List, sym, ap, subst, ◌∙◌}
+use Rattle.std.specs.Prelude.{Result}
+use Rattle.js_lines.specs.Lines.{lines_of}
+use Rattle.js_tool.specs.declared.transcript.Transcript.{Transcript}
+use Rattle.js_tool.specs.Transcripts.{StopsAt, transcript, with_lines}
+use Rattle.js_tool.proofs.Passing.{with_setup}
+use Rattle.js_words.specs.Commands.{wanted}
+use Rattle.js_words.specs.Reports.{report_from}
+use Rattle.js_words.proofs.Passing.{no_line, first_stops}
+use Rattle.js_words.proofs.report.report_on.Goals as goal
+
+pub returns-then-not-read : goal.returns-then-not-read
+returns-then-not-read c = no_line c.args.bytes (sym c.new-lines.ensures.lines ∙ c.if-not-read.ensures)
+
+pub returns-in-Err : goal.returns-in-Err
+returns-in-Err c =
+    let left = c.read.new.self.left in
+    let cut : lines_of c.args.bytes ≡ c.line.result.now ∷ left =
+    sym c.new-lines.ensures.lines ∙ c.if-not-read.ensures ∙ ap (λ (line : List ℕ). line ∷ left) (sym c.line.ensures) in
+    first_stops c.args.bytes c.line.result.now left c.in-Err.unread cut c.in-Err.ensures
+
+pub returns-in-Err-gather : goal.returns-in-Err-gather
+returns-in-Err-gather c =
+    let left = c.read.new.self.left in
+    let cut : lines_of c.args.bytes ≡ c.line.result.now ∷ left =
+    sym c.new-lines.ensures.lines ∙ c.if-not-read.ensures ∙ ap (λ (line : List ℕ). line ∷ left) (sym c.line.ensures) in
+    let read : transcript c.args.bytes ≡ with_lines c.in-Ok.setup left = with_setup c.args.bytes c.line.result.now left c.in-Ok.setup cut c.in-Ok.ensures in
+    subst (λ (reading : Result Transcript ℕ). StopsAt c.in-Err-gather.unread reading) (sym read) c.in-Err-gather.ensures
+
+pub returns-in-Ok-report_ending : goal.returns-in-Ok-report_ending
+returns-in-Ok-report_ending c =
+    let left = c.read.new.self.left in
+    let cut : lines_of c.args.bytes ≡ c.line.result.now ∷ left =
+    sym c.new-lines.ensures.lines ∙ c.if-not-read.ensures ∙ ap (λ (line : List ℕ). line ∷ left) (sym c.line.ensures) in
+    let read : transcript c.args.bytes ≡ with_lines c.in-Ok.setup left = with_setup c.args.bytes c.line.result.now left c.in-Ok.setup cut c.in-Ok.ensures in
+    let gathered = c.in-Ok-gather.ensures in
+    (_, read ∙ gathered.1, c.in-Ok-report_ending.ensures ∙ ap (report_from (wanted c.args.command) c.in-Ok.setup.setup) gathered.2)

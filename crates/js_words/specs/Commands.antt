@@ -1,0 +1,36 @@
+-- Which words are a command over a log, and what they ask for.
+use Rattle.std.specs.Prelude.{ℕ, List, [], ◌∷◌, codes, Option, Some, None, option_and_then, if◌then◌else◌}
+use Rattle.std.specs.Str.{bytes_eq}
+use Rattle.js_base.specs.Match.{is_valid_subject}
+use Rattle.js_tool.specs.Commands.{number_of}
+use Rattle.js_words.specs.declared.command.LogCommand.{LogCommand}
+use Rattle.js_words.specs.declared.command.LogCommand.TheVariants as command
+
+-- what words ask for: the table of the yields whose subject a filter matches, at their end or up to a sequence; or the yields with the holes between them
+pub data Wanted : Type 0 where
+  Project : (filter : List ℕ) → (sequence : Option ℕ) → Wanted
+  Mirror : Wanted
+
+-- what a command asks for
+abbrev pub wanted : LogCommand → Wanted
+wanted (command.Project filter sequence) = Project filter.now sequence
+wanted command.Mirror = Mirror
+
+-- a filter that may be a subject
+unfoldable pub project_of : List ℕ → Option ℕ → Option Wanted
+project_of filter sequence = if is_valid_subject filter then Some (Project filter sequence) else None
+
+-- and a number of 64 bits
+unfoldable pub project_up_to : List ℕ → List ℕ → Option Wanted
+project_up_to filter word = option_and_then (λ sequence. project_of filter (Some sequence)) (number_of word)
+
+-- a word with two others behind it
+unfoldable pub with_two : List ℕ → List ℕ → List ℕ → Option Wanted
+with_two name first second = if bytes_eq name (codes "project") then project_up_to first second else None
+
+-- what the words ask for, where they are in one of the forms
+abbrev pub wanted_of : List (List ℕ) → Option Wanted
+wanted_of (name ∷ []) = if bytes_eq name (codes "mirror") then Some Mirror else None
+wanted_of (name ∷ filter ∷ []) = if bytes_eq name (codes "project") then project_of filter None else None
+wanted_of (name ∷ first ∷ second ∷ []) = with_two name first second
+wanted_of words = None

@@ -1,0 +1,6 @@
+pub mod Commands
+pub mod Gathered
+pub mod LogTexts
+pub mod Reports
+pub mod Told
+pub mod OnLogs

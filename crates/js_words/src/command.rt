@@ -1,0 +1,81 @@
+//! The words of a command over a log.
+
+ghost use Rattle.std.specs.Prelude.{◌≡◌, ◌∷◌, [], map, codes, false, option_map, string_bytes, None, IfSome};
+ghost use Rattle.std.specs.Str.{bytes_eq};
+ghost use Rattle.js_tool.specs.Commands.{command_of as command_in};
+ghost use Rattle.js_words.specs.Commands.{wanted, wanted_of, project_of as project_in, project_up_to as project_up_to_in, with_two as with_two_in};
+
+use js_base::is_valid_subject;
+use js_tool::read_number;
+
+/// What the program is asked to do with the yields of a transcript's replay. It is borrowed from the words.
+#[derive(Clone, Copy, Debug, PartialEq, Eq)]
+pub enum LogCommand<'a> {
+    /// To write the last entry of each subject that a filter matches: of all yields, or of those up to a sequence.
+    Project {
+        filter: &'a str,
+        sequence: Option<u64>,
+    },
+    /// To write all yields, and the holes between them.
+    Mirror,
+}
+
+/// The command over a log that the words name, if they are in one of its forms. Then they are no other command.
+pub fn log_command_of(words: &[String]) -> Option<LogCommand<'_>>
+    ensures form { option_map wanted result ≡ wanted_of (map string_bytes words.now) }
+    ensures apart { IfSome result (λ _. command_in (map string_bytes words.now) ≡ None) }
+{
+    match words {
+        [] => None,
+        [name] => alone(name.as_str()),
+        [name, filter] => {
+            if name.as_str() == "project" {
+                project_of(filter.as_str(), None)
+            } else {
+                None
+            }
+        }
+        [name, first, second] => with_two(name.as_str(), first.as_str(), second.as_str()),
+        [_, _, _, _, ..] => None,
+    }
+}
+
+fn alone<'a>(name: &str) -> Option<LogCommand<'a>>
+    ensures form { option_map wanted result ≡ wanted_of (name.now ∷ []) }
+    ensures apart { IfSome result (λ _. bytes_eq name.now (codes "replay") ≡ false) }
+{
+    match name {
+        "mirror" => Some(LogCommand::Mirror),
+        _ => None,
+    }
+}
+
+#[tactic(auto, unfolding(crate::specs::Commands::project_of))]
+fn project_of(filter: &str, sequence: Option<u64>) -> Option<LogCommand<'_>>
+    ensures { option_map wanted result ≡ project_in filter.now sequence }
+{
+    if is_valid_subject(filter) {
+        Some(LogCommand::Project { filter, sequence })
+    } else {
+        None
+    }
+}
+
+#[tactic(auto, unfolding(crate::specs::Commands::project_up_to))]
+fn project_up_to<'a>(filter: &'a str, sequence: &str) -> Option<LogCommand<'a>>
+    ensures { option_map wanted result ≡ project_up_to_in filter.now sequence.now }
+{
+    let sequence = read_number(sequence)?;
+    project_of(filter, Some(sequence))
+}
+
+#[tactic(auto, unfolding(crate::specs::Commands::with_two))]
+fn with_two<'a>(name: &str, first: &'a str, second: &'a str) -> Option<LogCommand<'a>>
+    ensures form { option_map wanted result ≡ with_two_in name.now first.now second.now }
+    ensures apart { IfSome result (λ _. bytes_eq name.now (codes "generate") ≡ false) }
+{
+    match name {
+        "project" => project_up_to(first, second),
+        _ => None,
+    }
+}

@@ -1,0 +1,19 @@
+//! The words over logs: what a transcript's replay yields, as a table or as a mirror. All other words are those of js_tool.
+#![tactic(auto)]
+
+mod command;
+mod gathering;
+mod mirror;
+mod program;
+mod project;
+mod report;
+mod telling;
+
+pub use command::{LogCommand, log_command_of};
+pub use gathering::Ending;
+pub use js_tool::{
+    Failed, MemorySink, MemorySource, PlainSink, PlainSource, ReadSource, Sink, Source, Status,
+    WriteSink,
+};
+pub use program::{run, run_plain};
+pub use report::Report;

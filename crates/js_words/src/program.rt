@@ -1,0 +1,122 @@
+//! The top call: the words over logs, and all others.
+
+ghost use Rattle.std.specs.Prelude.{◌≡◌, ◌<◌, ◌↔◌, ℕ, List, length, map, Some, None, IfSome, string_bytes};
+ghost use Rattle.std.specs.Io.KnownBytes.{Keeps};
+ghost use Rattle.js_io.specs.Causes.{Rose};
+ghost use Rattle.js_tool.specs.Commands.{Replay, Generate, Info, Window, command_of as command_in};
+ghost use Rattle.js_tool.specs.Program.{AnswersReplay, AnswersGenerate, AnswersInfo, AnswersWindow, FirstUnread, SaysNothing, without_threads};
+ghost use Rattle.js_words.specs.Commands.{Wanted, Project, Mirror, wanted_of};
+ghost use Rattle.js_words.specs.OnLogs.{WritesLogsTable, WritesLogsMirror};
+ghost use Rattle.js_words.specs.Reports.{report_of};
+ghost use Rattle.js_words.specs.Told.{AnswersLog};
+
+use crate::command::log_command_of;
+use crate::telling::tell;
+use js_io::{Sink, Source};
+use js_tool::Status;
+use std::alloc::Global;
+use std::sync::Wait;
+use std::thread::Threads;
+
+/// Does what the words say, with a source and a sink. What it promises of words that are not those of `window` is what
+/// [`run_plain`] promises.
+///
+/// `project` reads a transcript to its end, replays it, and writes the last entry of each subject that a filter matches.
+/// `mirror` writes all that the replay yields, with the holes between. All other words are those of [`js_tool::run`]. It may
+/// wait in `window` alone.
+pub fn run<R: Threads + Wait + Sync, S: Source, K: Sink>(
+    rt: &R,
+    alloc: Global,
+    words: &[String],
+    input: &mut S,
+    output: &mut K,
+) -> Status
+    ensures usage { (result ≡ Status.Usage)
+        ↔ ((wanted_of (map string_bytes words.now) ≡ None) × (command_in (map string_bytes words.now) ≡ None)) }
+
+    // What each command answers and writes. Of `replay`, `done` is that the text of the input's run was written, which
+    // leaves no gap where the server was honest.
+    ensures replay { command_in (map string_bytes words.now) ≡ Some Replay
+        → AnswersReplay (S.left input.old) (S.left input.new) (K.taken output.old) (K.taken output.new)
+        (K.faults output.old) (K.faults output.new) result }
+    ensures generate { (seed events : ℕ) → command_in (map string_bytes words.now) ≡ Some (Generate seed events)
+        → AnswersGenerate seed events (K.taken output.old) (K.taken output.new) result }
+    ensures info { (subject : List ℕ) → command_in (map string_bytes words.now) ≡ Some (Info subject)
+        → AnswersInfo subject (K.taken output.old) (K.taken output.new) (K.faults output.old) (K.faults output.new) result }
+    ensures window { (capacity threads calls : ℕ)
+        → command_in (map string_bytes words.now) ≡ Some (Window capacity threads calls)
+        → AnswersWindow capacity threads calls (K.taken output.old) (K.taken output.new) result }
+    ensures logs { (command : Wanted) → wanted_of (map string_bytes words.now) ≡ Some command
+        → AnswersLog (report_of command) (S.left input.old) (S.left input.new)
+        (K.taken output.old) (K.taken output.new) (K.faults output.old) (K.faults output.new) result }
+    // Where the server was honest, the table is that of the log, and the mirror shows it.
+    ensures logs_table { (filter : List ℕ) → wanted_of (map string_bytes words.now) ≡ Some (Project filter None)
+        → result ≡ Status.Done
+        → IfSome (S.left input.old) (λ bytes. WritesLogsTable filter bytes (K.taken output.old) (K.taken output.new)) }
+    ensures logs_mirror { wanted_of (map string_bytes words.now) ≡ Some Mirror → result ≡ Status.Done
+        → IfSome (S.left input.old) (λ bytes. WritesLogsMirror bytes (K.taken output.old) (K.taken output.new)) }
+
+    // What else a status tells.
+    ensures write_fault { result ≡ Status.WriteFault → Rose (K.faults output.old) (K.faults output.new) }
+    ensures silent { SaysNothing result → Keeps (K.taken output.old) (K.taken output.new) }
+    ensures read_fault { result ≡ Status.ReadFault → Rose (S.faults input.old) (S.faults input.new) }
+    ensures too_long { result ≡ Status.TooLong
+        → IfSome (S.left input.old) (λ bytes. 67_108_864 < length bytes) }
+    ensures bad_line { (line : ℕ) → result ≡ Status.BadLine line
+        → IfSome (S.left input.old) (λ bytes. FirstUnread bytes line) }
+    // Words that read no transcript leave the source as it was.
+    ensures unread { (command_in (map string_bytes words.now) ≡ Some Replay → ⊥)
+        → wanted_of (map string_bytes words.now) ≡ None → input.new ≡ input.old }
+{
+    match log_command_of(words) {
+        Some(command) => tell(alloc, command, input, output),
+        None => js_tool::run(rt, alloc, words, input, output),
+    }
+}
+
+/// Does what the words say without threads, and always returns. To the words of `window` it answers `Usage`.
+pub fn run_plain<S: Source, K: Sink>(
+    alloc: Global,
+    words: &[String],
+    input: &mut S,
+    output: &mut K,
+) -> Status
+    ensures usage { (result ≡ Status.Usage)
+        ↔ ((wanted_of (map string_bytes words.now) ≡ None) × (without_threads (command_in (map string_bytes words.now)) ≡ None)) }
+
+    // What each command answers and writes. Of `replay`, `done` is that the text of the input's run was written, which
+    // leaves no gap where the server was honest.
+    ensures replay { command_in (map string_bytes words.now) ≡ Some Replay
+        → AnswersReplay (S.left input.old) (S.left input.new) (K.taken output.old) (K.taken output.new)
+        (K.faults output.old) (K.faults output.new) result }
+    ensures generate { (seed events : ℕ) → command_in (map string_bytes words.now) ≡ Some (Generate seed events)
+        → AnswersGenerate seed events (K.taken output.old) (K.taken output.new) result }
+    ensures info { (subject : List ℕ) → command_in (map string_bytes words.now) ≡ Some (Info subject)
+        → AnswersInfo subject (K.taken output.old) (K.taken output.new) (K.faults output.old) (K.faults output.new) result }
+    ensures logs { (command : Wanted) → wanted_of (map string_bytes words.now) ≡ Some command
+        → AnswersLog (report_of command) (S.left input.old) (S.left input.new)
+        (K.taken output.old) (K.taken output.new) (K.faults output.old) (K.faults output.new) result }
+    // Where the server was honest, the table is that of the log, and the mirror shows it.
+    ensures logs_table { (filter : List ℕ) → wanted_of (map string_bytes words.now) ≡ Some (Project filter None)
+        → result ≡ Status.Done
+        → IfSome (S.left input.old) (λ bytes. WritesLogsTable filter bytes (K.taken output.old) (K.taken output.new)) }
+    ensures logs_mirror { wanted_of (map string_bytes words.now) ≡ Some Mirror → result ≡ Status.Done
+        → IfSome (S.left input.old) (λ bytes. WritesLogsMirror bytes (K.taken output.old) (K.taken output.new)) }
+
+    // What else a status tells.
+    ensures write_fault { result ≡ Status.WriteFault → Rose (K.faults output.old) (K.faults output.new) }
+    ensures silent { SaysNothing result → Keeps (K.taken output.old) (K.taken output.new) }
+    ensures read_fault { result ≡ Status.ReadFault → Rose (S.faults input.old) (S.faults input.new) }
+    ensures too_long { result ≡ Status.TooLong
+        → IfSome (S.left input.old) (λ bytes. 67_108_864 < length bytes) }
+    ensures bad_line { (line : ℕ) → result ≡ Status.BadLine line
+        → IfSome (S.left input.old) (λ bytes. FirstUnread bytes line) }
+    // Words that read no transcript leave the source as it was.
+    ensures unread { (command_in (map string_bytes words.now) ≡ Some Replay → ⊥)
+        → wanted_of (map string_bytes words.now) ≡ None → input.new ≡ input.old }
+{
+    match log_command_of(words) {
+        Some(command) => tell(alloc, command, input, output),
+        None => js_tool::run_plain(alloc, words, input, output),
+    }
+}

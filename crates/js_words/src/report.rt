@@ -1,0 +1,143 @@
+//! What a command over a log makes of a transcript.
+
+ghost use Rattle.std.specs.Prelude.{◌≡◌, ◌≤◌, length, IfOk};
+ghost use Rattle.js_tool.specs.Transcripts.{transcript};
+ghost use Rattle.js_words.specs.Commands.{wanted};
+ghost use Rattle.js_words.specs.LogTexts.{no_start_text, not_rising_text};
+ghost use Rattle.js_table.specs.Texts.{configured_start};
+ghost use Rattle.js_words.specs.Reports.{Reports, log_report as log_report_in, report_from, report_of};
+ghost use Rattle.js_words.specs.declared.report.Report.TheVariants.{Done, Refused};
+
+use crate::command::LogCommand;
+use crate::gathering::{Ending, gather};
+use crate::mirror::mirror;
+use crate::project::project;
+use js_base::{Entry, Items, OutOfMemory};
+use js_io::Pieces;
+use js_lines::Lines;
+use js_ordered::OrderedSetup;
+use js_tool::{Cell, Unread, first_line, push_line, refusal_line};
+use std::alloc::{AllocError, Global};
+
+/// What a transcript calls for.
+#[derive(Debug, PartialEq, Eq, Drop)]
+pub enum Report {
+    /// This text.
+    Done(Items<u8>),
+    /// It is refused, and this line says why.
+    Refused(Items<u8>),
+}
+
+/// A text that is written.
+pub(crate) fn done(text: Vec<u8>) -> Report
+    ensures { result ≡ Done text.items }
+{
+    Report::Done(Items::from(text))
+}
+
+/// The line of a refusal.
+pub(crate) fn refused(line: Vec<u8>) -> Report
+    ensures { result ≡ Refused line.items }
+{
+    Report::Refused(Items::from(line))
+}
+
+/// The refusal of a sequence that is not above this one, which came before it.
+pub(crate) fn not_rising(alloc: Global, last: u64) -> Result<Report, OutOfMemory>
+    ensures { IfOk result (λ r. r ≡ Refused (not_rising_text last)) }
+{
+    let line = not_rising_line(alloc, last)?;
+    Ok(refused(line))
+}
+
+fn not_rising_line(alloc: Global, last: u64) -> Result<Vec<u8>, AllocError>
+    ensures { IfOk result (λ line. line.items ≡ not_rising_text last) }
+{
+    let mut out = Vec::new(alloc);
+    push_line(
+        &mut out,
+        &[
+            Cell::Text(b"refused"),
+            Cell::Text(b"NotRising"),
+            Cell::Number(last),
+        ],
+    )?;
+    Ok(out)
+}
+
+// The refusal of a setup that has no configured start.
+fn no_start(alloc: Global) -> Result<Report, OutOfMemory>
+    ensures { IfOk result (λ r. r ≡ Refused no_start_text) }
+{
+    let line = no_start_line(alloc)?;
+    Ok(refused(line))
+}
+
+fn no_start_line(alloc: Global) -> Result<Vec<u8>, AllocError>
+    ensures { IfOk result (λ line. line.items ≡ no_start_text) }
+{
+    let mut out = Vec::new(alloc);
+    push_line(&mut out, &[Cell::Text(b"refused"), Cell::Text(b"NoStart")])?;
+    Ok(out)
+}
+
+fn log_report(
+    alloc: Global,
+    command: LogCommand<'_>,
+    start: u64,
+    entries: Items<Entry>,
+) -> Result<Report, OutOfMemory>
+    ensures { IfOk result (λ r. r ≡ log_report_in (wanted command.entry) start entries) }
+{
+    match command {
+        LogCommand::Project { filter, sequence } => project(alloc, filter, sequence, entries),
+        LogCommand::Mirror => mirror(alloc, start, entries),
+    }
+}
+
+fn report_ending(
+    alloc: Global,
+    command: LogCommand<'_>,
+    setup: &OrderedSetup,
+    ending: Ending,
+) -> Result<Report, OutOfMemory>
+    ensures { IfOk result (λ r. r ≡ report_from (wanted command.entry) (configured_start setup.now) ending) }
+{
+    let Some(start) = setup.configured_start() else {
+        return no_start(alloc);
+    };
+    match ending {
+        Ending::Yields(entries) => log_report(alloc, command, start, entries),
+        Ending::Refused(refusal) => {
+            let line = refusal_line(alloc, refusal)?;
+            Ok(refused(line))
+        }
+    }
+}
+
+/// What the bytes call for, which are given up as they are read.
+pub(crate) fn report_on(
+    alloc: Global,
+    command: LogCommand<'_>,
+    bytes: Pieces,
+) -> Result<Report, Unread>
+    requires { length bytes ≤ 67_108_864 }
+    ensures { Reports (report_of (wanted command.entry)) (transcript bytes) result }
+{
+    let mut lines = Lines::new(alloc, bytes);
+    if !lines.read(alloc) {
+        return Err(Unread::BadLine(1));
+    }
+    let setup = match first_line(alloc, lines.line()) {
+        Ok(setup) => setup,
+        Err(unread) => return Err(unread),
+    };
+    let ending = match gather(alloc, &setup, &mut lines) {
+        Ok(ending) => ending,
+        Err(unread) => return Err(unread),
+    };
+    match report_ending(alloc, command, &setup.setup, ending) {
+        Ok(report) => Ok(report),
+        Err(OutOfMemory) => Err(Unread::OutOfMemory),
+    }
+}
