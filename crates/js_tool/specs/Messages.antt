@@ -12,7 +12,7 @@ use Rattle.js_fields.specs.declared.error.ReadError.TheVariants.{Float, WrongKin
 use Rattle.js_fields.specs.Reading.{◌>>=◌, Reads, optional, defaulted, text, natural_of, list_of}
 
 abbrev pub message_keys : List Key
-message_keys = key.Subject ∷ key.CommandOutcome ∷ key.Payload ∷ key.Status ∷ key.Description ∷ key.Headers ∷ []
+message_keys = key.Subject ∷ key.Reply ∷ key.Payload ∷ key.Status ∷ key.Description ∷ key.Headers ∷ []
 
 -- the compact text of a value in which no float stands
 abbrev pub json_text : Data → Result (List ℕ) ReadError
@@ -53,7 +53,7 @@ status_code n = record { 0 = n }
 unfoldable pub message_fields : Data → Result Message ReadError
 message_fields d = do
   subject ← optional text key.Subject d
-  reply ← optional text key.CommandOutcome d
+  reply ← optional text key.Reply d
   payload ← defaulted payload key.Payload [] d
   status ← optional (natural_of 16) key.Status d
   description ← optional text key.Description d

@@ -49,7 +49,7 @@ fn arrival(
         &[
             Key::Inbox,
             Key::Subject,
-            Key::CommandOutcome,
+            Key::Reply,
             Key::Payload,
             Key::Status,
             Key::Description,
@@ -114,7 +114,7 @@ fn answer(
         &[
             Key::Request,
             Key::Subject,
-            Key::CommandOutcome,
+            Key::Reply,
             Key::Payload,
             Key::Status,
             Key::Description,

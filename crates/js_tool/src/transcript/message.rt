@@ -151,7 +151,7 @@ pub(crate) fn message_fields(
     ensures { Gives result (message_in (view object.now)) }
 {
     let subject = optional(alloc, object, Key::Subject)?;
-    let reply = optional(alloc, object, Key::CommandOutcome)?;
+    let reply = optional(alloc, object, Key::Reply)?;
     let payload = payload_member(alloc, payloads, object)?;
     let status = optional(alloc, object, Key::Status)?;
     let description = optional(alloc, object, Key::Description)?;
