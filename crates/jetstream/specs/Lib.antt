@@ -1,2 +1,4 @@
 pub mod Received
 pub mod Configs
+pub mod Messages
+pub mod Drives

@@ -3,8 +3,12 @@ ghost use Rattle.std.specs.Prelude.{◌≡◌};
 ghost use Rattle.jetstream.specs.declared.any_error.AnyError.TheVariants as any;
 
 use js_base::OutOfMemory;
+use js_consumer_calls::ConsumerError;
 use js_context::PublishError;
 use js_link::LinkError;
+use js_pull::MessagesErrorKind;
+use js_pull_stream::MessagesError;
+use js_stream_calls::{CreateStreamError, GetStreamError};
 use std::alloc::{AllocError, AllocFailed};
 use std::{error, fmt, io};
 
@@ -15,8 +19,16 @@ pub enum AnyError {
     OutOfMemory,
     /// A call of the link was refused.
     Link(LinkError),
+    /// A stream was not made.
+    CreateStream(CreateStreamError),
+    /// A stream was not got.
+    GetStream(GetStreamError),
+    /// A consumer was not made or not got.
+    Consumer(ConsumerError),
     /// A message was not sent or not stored.
     Publish(PublishError),
+    /// A stream of messages told of something in place of a message.
+    Messages(MessagesError),
     /// Something was not read or written.
     Io(io::Error),
 }
@@ -26,9 +38,26 @@ impl fmt::Display for AnyError {
         match self {
             AnyError::OutOfMemory => write!(f, "out of memory"),
             AnyError::Link(error) => write!(f, "{error}"),
+            AnyError::CreateStream(error) => write!(f, "{error}"),
+            AnyError::GetStream(error) => write!(f, "{error}"),
+            AnyError::Consumer(error) => write!(f, "{error}"),
             AnyError::Publish(error) => write!(f, "{error}"),
+            AnyError::Messages(error) => write!(f, "{}", told(*error.kind())),
             AnyError::Io(error) => write!(f, "{error}"),
         }
+    }
+}
+
+/// What a stream of messages told of.
+fn told(kind: MessagesErrorKind) -> &'static str {
+    match kind {
+        MessagesErrorKind::MissingHeartbeat => "missed idle heartbeat",
+        MessagesErrorKind::ConsumerDeleted => "consumer deleted",
+        MessagesErrorKind::Pull => "pull request failed",
+        MessagesErrorKind::Other => "error",
+        MessagesErrorKind::NoResponders => "no responders",
+        MessagesErrorKind::RequestLimitExceeded => "request limit exceeded",
+        MessagesErrorKind::PushBasedConsumer => "cannot use with push consumer",
     }
 }
 
@@ -79,5 +108,37 @@ impl From<io::Error> for AnyError {
 
     fn from(error: io::Error) -> AnyError {
         AnyError::Io(error)
+    }
+}
+
+impl From<CreateStreamError> for AnyError {
+    ghost from_gives = { λ error told. told ≡ any.CreateStream error };
+
+    fn from(error: CreateStreamError) -> AnyError {
+        AnyError::CreateStream(error)
+    }
+}
+
+impl From<GetStreamError> for AnyError {
+    ghost from_gives = { λ error told. told ≡ any.GetStream error };
+
+    fn from(error: GetStreamError) -> AnyError {
+        AnyError::GetStream(error)
+    }
+}
+
+impl From<ConsumerError> for AnyError {
+    ghost from_gives = { λ error told. told ≡ any.Consumer error };
+
+    fn from(error: ConsumerError) -> AnyError {
+        AnyError::Consumer(error)
+    }
+}
+
+impl From<MessagesError> for AnyError {
+    ghost from_gives = { λ error told. told ≡ any.Messages error };
+
+    fn from(error: MessagesError) -> AnyError {
+        AnyError::Messages(error)
     }
 }

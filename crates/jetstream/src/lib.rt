@@ -12,12 +12,13 @@
 //! # The loop
 //!
 //! ```text
-//! let mut call = context.get_stream(alloc, "events")?;       // 1. a call: memory is all that it can want
+//! let mut call = Some(context.get_stream(alloc, "events")?); // 1. a call: memory is all that it can want
 //! loop {
-//!     match call.poll(alloc, &mut link, now()) {              // 2. a poll: sends, or looks at what came, and never waits
-//!         Turn::Ready(answer) => break answer,                //    the answer, or the error with its kind and source
-//!         Turn::Pending(later) => call = later,               //    nothing can be done yet: the state comes back
-//!         Turn::OutOfMemory(later) => call = later,           //    the state as it was: free memory, and poll again
+//!     match drive(&mut call, alloc, &mut link, now()) {       // 2. a poll: sends, or looks at what came, and never waits
+//!         Next::Item(answer) => break answer,                 //    the answer, or the error with its kind and source
+//!         Next::Pending => {}                                 //    nothing can be done yet
+//!         Next::OutOfMemory => {}                             //    the call is what it was: free memory, and poll again
+//!         Next::End => break ..                               //    the answer was handed out already
 //!     }
 //!     while let Some(item) = link.next_outgoing() { .. }      // 3. what is to be sent goes to the connection, in order
 //!     link.deliver(subscription, message)?;                   // 4. what came is brought, under its subscription's number
@@ -27,12 +28,13 @@
 //! **The order.** Poll, then take all that is to be sent, then wait for the connection or for the next moment, then bring what came, and poll
 //! again. What a poll sent is not on its way before it was taken. What came between two polls is seen by the next.
 //!
-//! **Which calls take what.** What makes a call takes the allocator and its arguments. A poll of a call takes the allocator, the link and the moment. A poll
-//! that publishes ([`publish::Sending`], [`publish::PublishAckFuture`]) also takes the runtime and the context, whose permits other threads may share.
-//! A reader or a list has `poll_next`, which answers a [`Next`] and keeps the state.
+//! **Which calls take what.** What makes a call takes the allocator and its arguments. A poll of a call takes the allocator, the link and the moment; it spends the
+//! state and hands it back, and [`drive`] does it in the state's place. A poll that publishes ([`publish::Sending`], [`publish::PublishAckFuture`]) also takes the runtime and the context, whose permits other threads may share.
+//! A reader or a list has `poll_next`, which answers a [`Next`] and keeps the state: a [`consumer::pull::Stream`] hands out one message, or one error, a poll.
 //!
 //! **When to wake.** After `Pending`: when anything was brought, and at the latest when the state's wait is over. Its wait began at its first poll and
-//! lasts for the timeout of its call, of the context or of the link. [`link::OutboxLink::deliver`] answers which inbox or request wanted the message, so that
+//! lasts for the timeout of its call, of the context or of the link. A stream of messages tells it: a poll before [`consumer::pull::Stream::wakes_at`]
+//! for which nothing came does nothing. [`link::OutboxLink::deliver`] answers which inbox or request wanted the message, so that
 //! a program that keeps many states polls the one whose request it was.
 //!
 //! **Before anything is sent,** a bad name or subject is answered by the first poll, with its own kind of error, and nothing goes out. What must not
@@ -50,7 +52,7 @@
 //! |---|---|
 //! | [`context`] | the context, its builder, what makes requests, lists of streams |
 //! | [`stream`] | configurations and infos of streams, and the calls on them |
-//! | [`consumer`] | the same of consumers; [`consumer::pull`] and [`consumer::push`] |
+//! | [`consumer`] | the same of consumers; [`consumer::pull`], where the stream of messages stands, and [`consumer::push`] |
 //! | [`publish`] | messages that are published, and their acks |
 //! | [`message`] | messages that came from a stream, and their acknowledgement |
 //! | [`link`] | the trait `Link`, and the links |
@@ -62,6 +64,7 @@ pub mod account;
 mod any_error;
 pub mod consumer;
 pub mod context;
+mod driving;
 pub mod errors;
 pub mod link;
 pub mod message;
@@ -70,6 +73,7 @@ pub mod stream;
 
 pub use any_error::AnyError;
 pub use bytes::Bytes;
+pub use driving::drive;
 pub use js_base::{
     Error, HeaderMap, Items, Moment, Nanos, Next, OutOfMemory, Source, Subject, Text, TryClone,
     Turn,

@@ -1,8 +1,11 @@
 -- A poll of a consumer with an honest server keeps what is known, and the yield that it hands out joins the last one.
-use Rattle.std.proofs.Common.{◌≡◌, ℕ, Bool, true, false, List, [], ◌∷◌, subst, sym}
+use Rattle.std.proofs.Common.{◌≡◌, ℕ, Bool, true, false, List, [], ◌∷◌, Option, Some, None, subst, sym}
 use Rattle.std.specs.Prelude.{⊤}
 use Rattle.js_table.specs.declared.consumer.ReplayInput.{ReplayInput}
-use Rattle.js_turns.specs.Turns.{Position, Stride, Moved, Answer, Hands, HandsEnd, Waits, Ends, Lacks, walk, handed, handed_by, closed_at, IsHonestWalk, IsKeptPosition, JoinsAnswer, KeepsPoll, HasWholeLists}
+use Rattle.js_base.specs.declared.message.Message.{Message}
+use Rattle.js_message.specs.Ack.{Place, readable_as}
+use Rattle.js_turns.specs.Turns.{Position, Stride, Moved, walk, handed, IsHonestWalk, IsKeptPosition}
+use Rattle.js_turns.specs.Polling.{Answer, Yields, Tells, HandsEnd, Waits, Ends, Lacks, yielded, handed_by, closed_at, JoinsPlace, JoinsAnswer, KeepsPoll, HasWholeLists}
 use Rattle.js_table.specs.declared.setup.OrderedSetup.{OrderedSetup}
 use Rattle.js_table.specs.declared.run.Output.{Output}
 use Rattle.js_table.specs.declared.run.Output.TheVariants as out
@@ -25,13 +28,13 @@ first_joins setup s last after (out.Request number subject payload ∷ outputs) 
 first_joins setup s last after (out.Publish subject reply payload ∷ outputs) e = first_joins setup s last after outputs e
 first_joins setup s last after (out.Subscribe inbox subject ∷ outputs) e = first_joins setup s last after outputs e
 
+yield_joins : (setup : OrderedSetup) (s : Server) (last : ℕ) (place : Option Place) (message : Message) → JoinsFirst setup s last (yielded place message ∷ []) → JoinsPlace setup s last place message
+yield_joins setup s last None message j = tt
+yield_joins setup s last (Some place) message j = j
+
 answer_joins : (setup : OrderedSetup) (s : Server) (last : ℕ) (answer : Answer) → JoinsFirst setup s last (handed_by answer) → JoinsAnswer setup s last answer
-answer_joins setup s last (Hands (out.Yield sequence number subject payload)) j = j
-answer_joins setup s last (Hands (out.Item kind)) j = tt
-answer_joins setup s last (Hands (out.Recreate recreation_count start)) j = tt
-answer_joins setup s last (Hands (out.Request number subject payload)) j = tt
-answer_joins setup s last (Hands (out.Publish subject reply payload)) j = tt
-answer_joins setup s last (Hands (out.Subscribe inbox subject)) j = tt
+answer_joins setup s last (Yields message) j = yield_joins setup s last (readable_as message.reply) message j
+answer_joins setup s last (Tells kind) j = tt
 answer_joins setup s last HandsEnd j = tt
 answer_joins setup s last Waits j = tt
 answer_joins setup s last Ends j = tt

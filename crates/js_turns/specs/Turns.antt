@@ -1,8 +1,8 @@
 -- A polled consumer passes row after row, each as the link then answers. A poll may stop between any two rows, and the next one goes on there.
-use Rattle.std.specs.Prelude.{◌≡◌, ℕ, Bool, true, false, List, [], ◌∷◌, ◌++◌, filter, is_some, ◌↔◌, ⊤}
-use Rattle.std.specs.List.{AllByRecursion, list_any}
+use Rattle.std.specs.Prelude.{◌≡◌, ℕ, Bool, true, false, List, [], ◌∷◌, ◌++◌, filter, ⊤}
+use Rattle.std.specs.List.{AllByRecursion}
 use Rattle.js_link.specs.Passing.{Passing}
-use Rattle.js_link.specs.Met.{Wish, Met, passing_of, IsClosing}
+use Rattle.js_link.specs.Met.{Wish, Met, passing_of}
 use Rattle.js_table.specs.declared.replay_state.ReplayState.{ReplayState}
 use Rattle.js_turns.specs.Wishes.{wish, matter_of, met_in}
 use Rattle.js_table.specs.declared.consumer.Consumer.{Consumer}
@@ -10,11 +10,10 @@ use Rattle.js_table.specs.State.{Matter, Passed}
 use Rattle.js_table.specs.declared.row.Row.{Row}
 use Rattle.js_table.specs.declared.row.Row.TheVariants.{Event}
 use Rattle.js_table.specs.declared.consumer.ReplayInput.{ReplayInput}
-use Rattle.js_table.specs.declared.consumer.Phase.TheVariants.{Ended, Exhausted}
-use Rattle.js_table.specs.Fold.{is_subscribe, passing, after}
+use Rattle.js_table.specs.Fold.{passing, after}
 use Rattle.js_table.specs.Turn.{pass}
-use Rattle.js_table.specs.Gapless.{Server, IsWhole}
-use Rattle.js_table.specs.Kept.{Joins, IsKept, IsHonestRow, IsHonestMatter, OpensAsAsked}
+use Rattle.js_table.specs.Gapless.{Server}
+use Rattle.js_table.specs.Kept.{IsKept, IsHonestRow, IsHonestMatter, OpensAsAsked}
 use Rattle.js_table.specs.declared.setup.OrderedSetup.{OrderedSetup}
 use Rattle.js_table.specs.declared.run.Output.{Output}
 use Rattle.js_table.specs.declared.run.Output.TheVariants as out
@@ -95,14 +94,6 @@ pub record IsStride (now : ℕ) (wish : Wish) (met : Met) (stride : Stride) : Ty
   pub passing : stride.passing ≡ passing_of now met
   pub matter : stride.matter ≡ matter_of wish met
 
--- at each row the link does the one thing that the row asks, as `meets` says it of the link before and after the row
-abbrev pub IsMet : {V : Type 0} → ReplayInput → ℕ → (Wish → Met → V → V → Type 0) → List Stride → Position → V → V → Type 0
-IsMet g now meets [] at before after = after ≡ before
-IsMet {V} g now meets (stride ∷ strides) at before after =
-    (met : Met) × (between : V) × IsStride now (wish_next g at) met stride
-    × meets (wish_next g at) met before between
-    × IsMet g now meets strides (step g stride at).position between after
-
 -- where a consumer stands beside the link of a replay
 abbrev pub position_of : ReplayState → List Row → Position
 position_of w todo = record { consumer = w.consumer; todo = todo }
@@ -132,59 +123,3 @@ IsHonestWalk g s (stride ∷ strides) at =
 pub record IsKeptPosition (setup : OrderedSetup) (s : Server) (at : Position) : Type 0 where
   pub consumer : IsKept setup s at.consumer
   pub todo : AllByRecursion (IsHonestRow setup s) at.todo
-
--- ---- a poll
-
--- what a poll answers: a yield or an item, that there is no sequence to go on from, that it waits, the end, or want of memory
-pub data Answer : Type 0 where
-  Hands : Output → Answer
-  HandsEnd Waits Ends Lacks : Answer
-
--- what an answer hands out
-abbrev pub handed_by : Answer → List Output
-handed_by (Hands output) = output ∷ []
-handed_by _ = []
-
--- a closed inbox ends a consumer
-abbrev pub closed_at : Bool → Position → Position
-closed_at true at = record { consumer = record at.consumer { phase = Ended }; todo = [] }
-closed_at false at = at
-
--- a message is taken
-abbrev pub arrives : Stride → Bool
-arrives stride = is_some stride.matter.arrival
-
--- a turn that begins where nothing is left to do ends there again, without an arrival and without a new inbox
-abbrev pub IsQuietTurn : ReplayInput → List Stride → Position → Type 0
-IsQuietTurn g strides from =
-    (from.todo ≡ []) × ((walk g strides from).position.todo ≡ []) × (list_any arrives strides ≡ false)
-    × (list_any is_subscribe (walk g strides from).outputs ≡ false)
-
--- a yield that is handed out joins the last one before the poll
-abbrev pub JoinsAnswer : OrderedSetup → Server → ℕ → Answer → Type 0
-JoinsAnswer setup s last (Hands (out.Yield sequence number subject payload)) =
-    Joins setup s last (record { subject = subject; sequence = sequence; payload = payload })
-JoinsAnswer setup s last _ = ⊤
-
--- what a poll keeps where the server is honest
-pub record KeepsPoll (setup : OrderedSetup) (s : Server) (last : ℕ) (new : Position) (answer : Answer) : Type 0 where
-  pub kept : IsKeptPosition setup s new
-  pub joins : JoinsAnswer setup s last answer
-
--- the lists of a server are whole
-abbrev pub HasWholeLists : OrderedSetup → Server → Type 0
-HasWholeLists setup s = (inbox : ℕ) → IsWhole setup s.log s.removed (s.starts inbox) (s.lists inbox)
-
--- a poll passes rows at its moment from where the last one stopped, up to the first that hands something out
-pub record IsPoll {V : Type 0} (g : ReplayInput) (meets : Wish → Met → V → V → Type 0) (now : ℕ) (old new : Position) (before after : V) (answer : Answer) : Type 0 where
-  pub strides : List Stride
-  pub closed : Bool
-  pub leads : new ≡ closed_at closed (walk g strides old).position
-  pub between : V
-  pub met : IsMet g now meets strides old before between
-  pub closing : IsClosing meets (wish_next g (walk g strides old).position) closed between after
-  pub out : handed (walk g strides old).outputs ≡ handed_by answer
-  pub exhausted : answer ≡ HandsEnd ↔ (new.consumer.phase ≡ Exhausted)
-  pub ended : answer ≡ Ends → new.consumer.phase ≡ Ended
-  pub gapless : (s : Server) → HasWholeLists g.setup s → IsKeptPosition g.setup s old → IsHonestWalk g s strides old → KeepsPoll g.setup s old.consumer.last new answer
-  pub waits : answer ≡ Waits → (first : List Stride) × (last : List Stride) × (strides ≡ first ++ last) × IsQuietTurn g last (walk g first old).position

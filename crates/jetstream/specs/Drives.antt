@@ -1,0 +1,24 @@
+-- A call that is polled in its place.
+use Rattle.std.specs.Prelude.{◌≡◌, ℕ, Option, Some, None}
+use Rattle.js_base.specs.declared.turn.Next.{Next}
+use Rattle.js_base.specs.declared.turn.Next.TheVariants as next
+use Rattle.js_base.specs.declared.turn.Turn.{Turn}
+use Rattle.js_base.specs.declared.turn.Turn.TheVariants as turn
+use Rattle.js_link.specs.LinkView.{LinkView}
+
+-- what stands in the place after a poll of this call that answers so
+abbrev pub Leaves : {S A : Type 0} → (S → ℕ → Turn S A → LinkView → LinkView → Type 0) → S → Option S → ℕ → Next A → LinkView → LinkView → Type 0
+Leaves polled call after now (next.Item answer) old new = polled call now (turn.Ready answer) old new × (after ≡ None)
+Leaves {S = S} polled call after now next.Pending old new = (later : S) × polled call now (turn.Pending later) old new × (after ≡ Some later)
+Leaves {S = S} polled call after now next.OutOfMemory old new = (later : S) × polled call now (turn.OutOfMemory later) old new × (after ≡ Some later)
+Leaves polled call after now next.End old new = ⊥
+
+-- an empty place answers `End` and does nothing
+abbrev pub StaysEmpty : {S A : Type 0} → Option S → Next A → LinkView → LinkView → Type 0
+StaysEmpty after next.End old new = (after ≡ None) × (new ≡ old)
+StaysEmpty after _ old new = ⊥
+
+-- what a poll in a place does: the call's poll, where there is a call
+abbrev pub Drives : {S A : Type 0} → (S → ℕ → Turn S A → LinkView → LinkView → Type 0) → Option S → Option S → ℕ → Next A → LinkView → LinkView → Type 0
+Drives polled None after now result old new = StaysEmpty after result old new
+Drives polled (Some call) after now result old new = Leaves polled call after now result old new
