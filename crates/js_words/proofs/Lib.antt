@@ -1,5 +1,5 @@
+mod Answered
 mod Applying
 mod LogsShown
 mod Passing
-mod Telling
 mod Worked

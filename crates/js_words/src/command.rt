@@ -28,13 +28,7 @@ pub fn log_command_of(words: &[String]) -> Option<LogCommand<'_>>
     match words {
         [] => None,
         [name] => alone(name.as_str()),
-        [name, filter] => {
-            if name.as_str() == "project" {
-                project_of(filter.as_str(), None)
-            } else {
-                None
-            }
-        }
+        [name, filter] => with_one(name.as_str(), filter.as_str()),
         [name, first, second] => with_two(name.as_str(), first.as_str(), second.as_str()),
         [_, _, _, _, ..] => None,
     }
@@ -46,6 +40,16 @@ fn alone<'a>(name: &str) -> Option<LogCommand<'a>>
 {
     match name {
         "mirror" => Some(LogCommand::Mirror),
+        _ => None,
+    }
+}
+
+fn with_one<'a>(name: &str, filter: &'a str) -> Option<LogCommand<'a>>
+    ensures form { option_map wanted result ≡ wanted_of (name.now ∷ filter.now ∷ []) }
+    ensures apart { IfSome result (λ _. bytes_eq name.now (codes "info") ≡ false) }
+{
+    match name {
+        "project" => project_of(filter, None),
         _ => None,
     }
 }

@@ -1,0 +1,20 @@
+use Rattle.std.proofs.Common.{None, map}
+use Rattle.std.specs.Prelude.{string_bytes}
+use Rattle.js_words.specs.Commands.{Project, Mirror, wanted, wanted_of}
+use Rattle.js_words.proofs.Answered.{answers_asked}
+use Rattle.js_words.proofs.LogsShown.{table_told, mirror_told}
+use Rattle.js_words.proofs.program.run_plain.Goals as goal
+
+pub returns-in-Some-clause-logs : goal.returns-in-Some-clause-logs
+returns-in-Some-clause-logs g c = λ command named.
+    answers_asked _ _ _ _ _ _ c.tell.result (wanted c.in-Some.command) command (wanted_of (map string_bytes c.args.words.now)) c.in-Some.ensures.form c.tell.ensures.answers named
+
+pub returns-in-Some-clause-logs_table : goal.returns-in-Some-clause-logs_table
+returns-in-Some-clause-logs_table g c = λ filter named done.
+    table_told filter (g.S.Source.left c.args.input.now) _ _ _ _ _ c.tell.result
+    (answers_asked _ _ _ _ _ _ c.tell.result (wanted c.in-Some.command) (Project filter None) (wanted_of (map string_bytes c.args.words.now)) c.in-Some.ensures.form c.tell.ensures.answers named) done
+
+pub returns-in-Some-clause-logs_mirror : goal.returns-in-Some-clause-logs_mirror
+returns-in-Some-clause-logs_mirror g c = λ named done.
+    mirror_told (g.S.Source.left c.args.input.now) _ _ _ _ _ c.tell.result
+    (answers_asked _ _ _ _ _ _ c.tell.result (wanted c.in-Some.command) Mirror (wanted_of (map string_bytes c.args.words.now)) c.in-Some.ensures.form c.tell.ensures.answers named) done
