@@ -1,6 +1,7 @@
 use Rattle.std.proofs.Common.{◌≡◌, ◌∷◌, ℕ, List, sym, ap, subst, ◌∙◌}
 use Rattle.std.specs.Prelude.{Result}
 use Rattle.js_lines.specs.Lines.{lines_of}
+use Rattle.js_table.specs.Texts.{configured_start}
 use Rattle.js_tool.specs.declared.transcript.Transcript.{Transcript}
 use Rattle.js_tool.specs.Transcripts.{StopsAt, transcript, with_lines}
 use Rattle.js_tool.proofs.Passing.{with_setup}
@@ -34,4 +35,4 @@ returns-in-Ok-report_ending c =
     sym c.new-lines.ensures.lines ∙ c.if-not-read.ensures ∙ ap (λ (line : List ℕ). line ∷ left) (sym c.line.ensures) in
     let read : transcript c.args.bytes ≡ with_lines c.in-Ok.setup left = with_setup c.args.bytes c.line.result.now left c.in-Ok.setup cut c.in-Ok.ensures in
     let gathered = c.in-Ok-gather.ensures in
-    (_, read ∙ gathered.1, c.in-Ok-report_ending.ensures ∙ ap (report_from (wanted c.args.command) c.in-Ok.setup.setup) gathered.2)
+    (_, read ∙ gathered.1, c.in-Ok-report_ending.ensures ∙ ap (report_from (wanted c.args.command) (configured_start c.in-Ok.setup.setup)) gathered.2)

@@ -12,8 +12,8 @@ returns-in-Ok-clause-answers g c =
     answers_done (report_of (wanted c.args.command)) _ _ _ _ c.args.bytes made.0 c.in-Ok-Done.text c.requires made.1 (sym c.in-Ok-Done.field-0-is ∙ made.2)
     (rw c.as_slice.ensures at c.in-Ok.ensures.ok)
 
-pub returns-in-Err-clause-answers : goal.returns-in-Err-clause-answers
-returns-in-Err-clause-answers g c =
+pub returns-in-Ok-Done-clause-answers : goal.returns-in-Ok-Done-clause-answers
+returns-in-Ok-Done-clause-answers g c =
     let made = c.in-Ok-Done.ensures in
     answers_fault (report_of (wanted c.args.command)) _ _ _ _ c.args.bytes made.0 c.in-Ok-Done.text c.requires made.1 (sym c.in-Ok-Done.field-0-is ∙ made.2)
     (rw c.as_slice.ensures at c.in-Err.ensures.err)
@@ -22,7 +22,8 @@ pub returns-in-Ok-Refused-clause-answers : goal.returns-in-Ok-Refused-clause-ans
 returns-in-Ok-Refused-clause-answers g c =
     let made = c.in-Ok-Refused.ensures in
     answers_refused (report_of (wanted c.args.command)) _ _ _ _ c.args.bytes made.0 c.in-Ok-Refused.line c.requires made.1 (sym c.in-Ok-Refused.field-0-is ∙ made.2)
-    (writes_unless_fault _ _ _ _ c.in-Ok-Refused.line c.write_all.result (rw c.as_slice.ensures at c.write_all.ensures.ok) (rw c.as_slice.ensures at c.write_all.ensures.err) c.write_all.ensures.cause)
+    (writes_unless_fault _ _ _ _ c.in-Ok-Refused.line c.write_all-in-Ok-Refused.result (rw c.as_slice-in-Ok-Refused.ensures at c.write_all-in-Ok-Refused.ensures.ok)
+    (rw c.as_slice-in-Ok-Refused.ensures at c.write_all-in-Ok-Refused.ensures.err) c.write_all-in-Ok-Refused.ensures.cause)
 
 pub returns-in-Err-BadLine-clause-answers : goal.returns-in-Err-BadLine-clause-answers
 returns-in-Err-BadLine-clause-answers g c =
