@@ -1,0 +1,5 @@
+pub mod Texts
+pub mod Builders
+pub mod Consumers
+pub mod Streams
+pub mod Requests
