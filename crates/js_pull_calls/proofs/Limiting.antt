@@ -1,11 +1,9 @@
 -- A default keeps the limits of its consumer.
-use Rattle.std.proofs.Common.{◌≡◌, ℕ, ◌+◌, ◌*◌, ◌/◌, ◌≤◌, Option, Some, None, min, refl, sym, subst, arith}
+use Rattle.std.proofs.Common.{◌≡◌, ℕ, ◌*◌, ◌≤◌, Option, Some, None, arith}
 use Rattle.std.specs.Prelude.{ℤ, pos, negsuc, zero, suc, true, unwrap_or}
 use Rattle.js_base.specs.Clock.{second}
 use Rattle.js_pull.specs.Limits.{clamp_batch, clamp_expires, clamp_heartbeat}
-use Rattle.js_pull_calls.specs.declared.settings.Settings.{Settings}
-use Rattle.js_pull_calls.specs.declared.settings.BuilderKind.TheVariants.{Streams}
-use Rattle.js_pull_calls.specs.Builders.{KeepsLimits, IsWithinLimits, IsWithinBatch, IsWithinExpiry, IsWithinHalf, asked_for, defaults_of, lowered, set_or}
+use Rattle.js_pull_calls.specs.Builders.{KeepsLimits, IsWithinBatch, IsWithinExpiry, IsWithinHalf, lowered, set_or}
 
 batch_within : (batch : ℕ) (limit : ℤ) → IsWithinBatch (clamp_batch batch limit) limit
 batch_within batch (pos zero) = tt

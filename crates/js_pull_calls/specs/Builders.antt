@@ -8,7 +8,7 @@ use Rattle.js_pull.specs.Limits.{clamp_batch, clamp_expires, clamp_heartbeat, ba
 use Rattle.js_pull_calls.specs.declared.settings.Settings.{Settings}
 use Rattle.js_pull_calls.specs.declared.settings.Defaults.{Defaults}
 use Rattle.js_pull_calls.specs.declared.settings.BuilderKind.{BuilderKind}
-use Rattle.js_pull_calls.specs.declared.settings.BuilderKind.TheVariants.{Streams}
+use Rattle.js_pull_calls.specs.declared.settings.BuilderKind.TheVariants.{Streams, Fetches, Batches}
 
 -- nothing is set
 abbrev pub unset : Settings
@@ -23,8 +23,8 @@ unset = record {
   priority = None;
 }
 
--- The table: a row for each builder, for a consumer with these limits. A stream asks for 200 messages at a time and for 30 seconds, both as
--- the limits cap them, and a heartbeat is lowered.
+-- The table: a row for each builder, for a consumer with these limits. What is not set is 200 messages; 30 seconds, no expiry or none to wait
+-- for; whether the server answers at once; and whether a heartbeat is lowered.
 abbrev pub defaults_of : BuilderKind → ℤ → ℕ → Defaults
 defaults_of Streams max_batch max_expires = record {
   batch = clamp_batch 200 max_batch;
@@ -32,6 +32,8 @@ defaults_of Streams max_batch max_expires = record {
   no_wait = false;
   lowers = true;
 }
+defaults_of Fetches max_batch max_expires = record { batch = 200; expires = None; no_wait = true; lowers = false }
+defaults_of Batches max_batch max_expires = record { batch = 200; expires = Some 0; no_wait = false; lowers = false }
 
 -- the row for a consumer, by the info that is known of it
 abbrev pub defaults_for : BuilderKind → Consumer pull.Config → Defaults
@@ -68,6 +70,10 @@ asked_for d s = record {
 abbrev pub messages_config : Consumer pull.Config → BatchConfig
 messages_config c = asked_for (defaults_for Streams c) (record unset { heartbeat = 15 * second })
 
+-- batches of one size, for each of which 60 seconds are waited
+abbrev pub sequence_config : ℕ → BatchConfig
+sequence_config batch = asked_for (defaults_of Batches (pos 0) 0) (record unset { batch = Some batch; expires = Some (60 * second) })
+
 -- ---- examples
 
 -- `messages` of a consumer of which 100 messages may be asked for
@@ -85,6 +91,12 @@ lowers_the_heartbeat = refl
 -- a heartbeat of 10 seconds under an expiry of 12 that was set
 keeps_a_set_expiry : asked_for (defaults_of Streams (pos 0) (5 * second)) (record unset { heartbeat = 10 * second; expires = Some (12 * second) }) ≡ record (batch_of 200) { expires = Some (12 * second); idle_heartbeat = 10 * second }
 keeps_a_set_expiry = refl
+
+fetches_at_once : asked_for (defaults_of Fetches (pos 100) (5 * second)) unset ≡ record (batch_of 200) { no_wait = true }
+fetches_at_once = refl
+
+sequences_wait : sequence_config 2 ≡ record (batch_of 2) { expires = Some (60 * second) }
+sequences_wait = refl
 
 -- ---- what the defaults keep
 

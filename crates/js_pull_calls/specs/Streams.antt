@@ -1,5 +1,5 @@
 -- A stream of messages.
-use Rattle.std.specs.Prelude.{ℕ, ◌≡◌, ⊤, Option, None, List, Result, Ok, Err}
+use Rattle.std.specs.Prelude.{ℕ, ◌≡◌, ⊤, None, List, Result, Ok, Err}
 use Rattle.js_base.specs.Errors.{plain}
 use Rattle.js_base.specs.declared.error.Error.{Error}
 use Rattle.js_base.specs.declared.turn.Next.{Next}

@@ -4,6 +4,8 @@ use Rattle.js_pull.specs.declared.reader.MessagesErrorKind.{MessagesErrorKind}
 use Rattle.js_pull.specs.declared.reader.MessagesErrorKind.TheVariants as messages
 use Rattle.js_pull_calls.specs.declared.error.StreamErrorKind.{StreamErrorKind}
 use Rattle.js_pull_calls.specs.declared.error.StreamErrorKind.TheVariants as stream
+use Rattle.js_pull_calls.specs.declared.error.BatchErrorKind.{BatchErrorKind}
+use Rattle.js_pull_calls.specs.declared.error.BatchErrorKind.TheVariants as batch
 use Rattle.js_pull_calls.specs.declared.error.BatchRequestErrorKind.{BatchRequestErrorKind}
 use Rattle.js_pull_calls.specs.declared.error.BatchRequestErrorKind.TheVariants as request
 
@@ -12,6 +14,15 @@ abbrev pub stream_text : StreamErrorKind → List ℕ
 stream_text stream.TimedOut = codes "timed out"
 stream_text stream.Other = codes "failed"
 stream_text stream.OutOfMemory = codes "out of memory"
+
+-- why no batch was asked for
+abbrev pub batch_text : BatchErrorKind → List ℕ
+batch_text batch.Subscribe = codes "subscribe failed"
+batch_text batch.Pull = codes "pull request failed"
+batch_text batch.Flush = codes "flush failed"
+batch_text batch.Serialize = codes "serialize failed"
+batch_text batch.PinnedClient = codes "pinned client consumers need a pull stream"
+batch_text batch.OutOfMemory = codes "out of memory"
 
 -- why a pull request was not sent
 abbrev pub request_text : BatchRequestErrorKind → List ℕ

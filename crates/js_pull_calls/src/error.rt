@@ -1,6 +1,6 @@
 //! Why a pull consumer is not read.
 ghost use Rattle.std.specs.Prelude.{◌≡◌, Some};
-ghost use Rattle.js_pull_calls.specs.Texts.{messages_text, request_text, stream_text};
+ghost use Rattle.js_pull_calls.specs.Texts.{batch_text, messages_text, request_text, stream_text};
 
 use js_base::Error;
 use js_pull::MessagesErrorKind;
@@ -28,6 +28,43 @@ impl fmt::Display for StreamErrorKind {
             StreamErrorKind::TimedOut => write!(f, "timed out"),
             StreamErrorKind::Other => write!(f, "failed"),
             StreamErrorKind::OutOfMemory => write!(f, "out of memory"),
+        }
+    }
+}
+
+/// Why no batch was asked for.
+#[derive(Clone, Copy, Debug, PartialEq, Eq)]
+pub enum BatchErrorKind {
+    /// The link failed to open an inbox. Nothing was sent.
+    Subscribe,
+    /// The link failed to send the request. The inbox that was opened for the batch is closed again.
+    Pull,
+    /// Never given.
+    Flush,
+    /// Never given.
+    Serialize,
+    /// Clients of the consumer are pinned, and only a stream tells the server which one it is. Nothing was sent.
+    PinnedClient,
+    /// Memory ran out. No request was sent, and no inbox is left open.
+    OutOfMemory,
+}
+
+/// Why no batch was asked for, as an error.
+pub type BatchError = Error<BatchErrorKind>;
+
+impl fmt::Display for BatchErrorKind {
+    ghost output = { λ kind. Some (batch_text kind) };
+
+    fn fmt<W: fmt::Write>(&self, f: &mut fmt::Formatter<W>) -> fmt::Result {
+        match self {
+            BatchErrorKind::Subscribe => write!(f, "subscribe failed"),
+            BatchErrorKind::Pull => write!(f, "pull request failed"),
+            BatchErrorKind::Flush => write!(f, "flush failed"),
+            BatchErrorKind::Serialize => write!(f, "serialize failed"),
+            BatchErrorKind::PinnedClient => {
+                write!(f, "pinned client consumers need a pull stream")
+            }
+            BatchErrorKind::OutOfMemory => write!(f, "out of memory"),
         }
     }
 }

@@ -4,6 +4,7 @@ ghost use Rattle.js_link.specs.Calls.{PublishesOf};
 ghost use Rattle.js_pull.specs.Limits.{pull_body};
 ghost use Rattle.js_pull.specs.Reader.{api_subject};
 ghost use Rattle.js_pull_calls.specs.Consumers.{pull_request};
+ghost use Rattle.js_pull_calls.specs.Opening.{OpensFor, opening_fault, publishing_fault};
 
 use bytes::Bytes;
 use js_base::{OutOfMemory, Subject};
@@ -18,6 +19,34 @@ use std::alloc::Global;
 pub(crate) struct PullRequest {
     subject: Subject,
     payload: Bytes,
+}
+
+/// Why no inbox waits for the messages of a request.
+#[derive(Clone, Copy, Debug, PartialEq, Eq)]
+pub(crate) enum OpenFault {
+    /// None was opened.
+    Subscribe,
+    /// The request was not sent, and the inbox is closed again.
+    Pull,
+    OutOfMemory,
+}
+
+fn opening_fault(error: LinkError) -> OpenFault
+    ensures { result ≡ opening_fault error }
+{
+    match error {
+        LinkError::Failed => OpenFault::Subscribe,
+        LinkError::OutOfMemory => OpenFault::OutOfMemory,
+    }
+}
+
+fn publishing_fault(error: LinkError) -> OpenFault
+    ensures { result ≡ publishing_fault error }
+{
+    match error {
+        LinkError::Failed => OpenFault::Pull,
+        LinkError::OutOfMemory => OpenFault::OutOfMemory,
+    }
 }
 
 fn body_of(alloc: Global, config: &BatchConfig) -> Result<Bytes, OutOfMemory>
@@ -68,5 +97,22 @@ impl PullRequest {
             None,
             self.payload.as_slice(),
         )
+    }
+
+    /// Opens an inbox, and sends the request for what comes to it.
+    pub fn open<L: Link>(&self, alloc: Global, link: &mut L) -> Result<u64, OpenFault>
+        ensures { OpensFor result self.now (L.view link.old) (L.view link.new) }
+    {
+        let (inbox, subject) = match link.open_inbox(alloc) {
+            Ok(opened) => opened,
+            Err(error) => return Err(opening_fault(error)),
+        };
+        match self.publish(alloc, link, subject.as_str()) {
+            Ok(()) => Ok(inbox.0),
+            Err(error) => {
+                link.unsubscribe(inbox);
+                Err(publishing_fault(error))
+            }
+        }
     }
 }

@@ -29,6 +29,8 @@ pub(crate) struct Settings {
 #[derive(Clone, Copy, Debug, PartialEq, Eq)]
 pub(crate) enum BuilderKind {
     Streams,
+    Fetches,
+    Batches,
 }
 
 /// A row: what is asked for where nothing is set.
@@ -52,6 +54,18 @@ pub(crate) fn defaults_of(kind: BuilderKind, limits: &Config) -> Defaults
             expires: Some(clamp_expires(30 * SECOND, limits.max_expires)),
             no_wait: false,
             lowers: true,
+        },
+        BuilderKind::Fetches => Defaults {
+            batch: 200,
+            expires: None,
+            no_wait: true,
+            lowers: false,
+        },
+        BuilderKind::Batches => Defaults {
+            batch: 200,
+            expires: Some(0),
+            no_wait: false,
+            lowers: false,
         },
     }
 }
