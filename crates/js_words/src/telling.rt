@@ -41,12 +41,7 @@ pub(crate) fn tell<S: Source, K: Sink>(
 }
 
 // Writes what the command makes of the bytes.
-fn answer<K: Sink>(
-    alloc: Global,
-    command: LogCommand<'_>,
-    bytes: Pieces,
-    output: &mut K,
-) -> Status
+fn answer<K: Sink>(alloc: Global, command: LogCommand<'_>, bytes: Pieces, output: &mut K) -> Status
     requires { length bytes ≤ 67_108_864 }
     ensures not_usage { result ≡ Status.Usage → ⊥ }
     ensures not_read_fault { result ≡ Status.ReadFault → ⊥ }
