@@ -9,6 +9,9 @@ pub use js_consumer_calls::{
     DeleteConsumerFromStream, GetConsumerFromStream, GetInfo, OrderedPullConsumer,
     OrderedPushConsumer, PullConsumer, PushConsumer, UpdateConsumerOnStream,
 };
+pub use js_consumer_info::{
+    ConsumerCalls, ConsumerResetError, InfoCall, RefreshingConsumer, Reset, ResettingConsumer,
+};
 pub use js_json::consumer::{
     AckPolicy, Action, ClusterInfo, Config, ConfigError, CreateRequest, DeliverPolicy,
     FromConsumer, Info, IntoConsumerConfig, PriorityGroupState, PriorityPolicy, ReplayPolicy,

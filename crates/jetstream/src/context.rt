@@ -1,4 +1,4 @@
-//! A client's end of JetStream, what makes its requests, and the lists of its streams.
+//! A client's end of JetStream, what makes its requests, the lists of its streams, and its calls on buckets.
 pub use js_call::{
     ApiRequest, ApiScope, RawCall, RawRequest, RequestError, RequestErrorKind, SendError,
 };
@@ -9,4 +9,10 @@ pub use js_context::{
 pub use js_listing::{
     FindingStream as SearchingStream, GetStreamByNameError, GetStreamByNameErrorKind,
     StreamBySubject, StreamNames, Streams, StreamsError, StreamsErrorKind,
+};
+pub use js_store::{
+    CreateKeyValueError, CreateKeyValueErrorKind, CreateObjectStoreError,
+    CreateObjectStoreErrorKind, DeleteObjectStore, DeleteObjectStoreKind, KeyValueError,
+    KeyValueErrorKind, ObjectStoreError, ObjectStoreErrorKind, StoreCalls, UpdateKeyValueError,
+    UpdateKeyValueErrorKind,
 };

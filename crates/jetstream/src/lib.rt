@@ -56,6 +56,7 @@
 //! | [`publish`] | messages that are published, and their acks |
 //! | [`message`] | messages that came from a stream, and their acknowledgement |
 //! | [`link`] | the trait `Link`, and the links |
+//! | [`kv`], [`object_store`] | buckets of keys and of objects |
 //! | [`errors`] | the server's errors, by number |
 //! | [`account`] | what an account may use |
 #![tactic(auto)]
@@ -66,8 +67,10 @@ pub mod consumer;
 pub mod context;
 mod driving;
 pub mod errors;
+pub mod kv;
 pub mod link;
 pub mod message;
+pub mod object_store;
 pub mod publish;
 pub mod stream;
 

@@ -1,0 +1,7 @@
+//! Buckets of keys and their values: how they are configured, and the calls on them that a context makes
+//! ([`StoreCalls`](crate::context::StoreCalls)). A [`Store`] says where the values are.
+pub use js_store::kv::{Config, MAX_HISTORY, stream_name};
+pub use js_store::{
+    CreateKeyValue, CreateOrUpdateKeyValue, DeleteKeyValue, GetKeyValue, Store, UpdateKeyValue,
+    is_valid_bucket_name,
+};

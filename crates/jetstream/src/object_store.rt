@@ -1,0 +1,6 @@
+//! Buckets of objects: how they are configured, and the calls on them that a context makes
+//! ([`StoreCalls`](crate::context::StoreCalls)).
+pub use js_store::object_store::{Config, stream_name};
+pub use js_store::{
+    CreateObjectStore, DeleteObjects, GetObjectStore, ObjectStore, is_valid_bucket_name,
+};

@@ -1,0 +1,10 @@
+pub mod Texts
+pub mod Builders
+pub mod Consumers
+pub mod Opening
+pub mod Streams
+pub mod Arrivals
+pub mod Batches
+pub mod Runs
+pub mod Sequences
+pub mod Requests

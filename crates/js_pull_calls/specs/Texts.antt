@@ -1,0 +1,42 @@
+-- How the kinds of errors are printed.
+use Rattle.std.specs.Prelude.{ℕ, List, codes}
+use Rattle.js_pull.specs.declared.reader.MessagesErrorKind.{MessagesErrorKind}
+use Rattle.js_pull.specs.declared.reader.MessagesErrorKind.TheVariants as messages
+use Rattle.js_pull_calls.specs.declared.error.StreamErrorKind.{StreamErrorKind}
+use Rattle.js_pull_calls.specs.declared.error.StreamErrorKind.TheVariants as stream
+use Rattle.js_pull_calls.specs.declared.error.BatchErrorKind.{BatchErrorKind}
+use Rattle.js_pull_calls.specs.declared.error.BatchErrorKind.TheVariants as batch
+use Rattle.js_pull_calls.specs.declared.error.BatchRequestErrorKind.{BatchRequestErrorKind}
+use Rattle.js_pull_calls.specs.declared.error.BatchRequestErrorKind.TheVariants as request
+
+-- why no stream was opened
+abbrev pub stream_text : StreamErrorKind → List ℕ
+stream_text stream.TimedOut = codes "timed out"
+stream_text stream.Other = codes "failed"
+stream_text stream.OutOfMemory = codes "out of memory"
+
+-- why no batch was asked for
+abbrev pub batch_text : BatchErrorKind → List ℕ
+batch_text batch.Subscribe = codes "subscribe failed"
+batch_text batch.Pull = codes "pull request failed"
+batch_text batch.Flush = codes "flush failed"
+batch_text batch.Serialize = codes "serialize failed"
+batch_text batch.PinnedClient = codes "pinned client consumers need a pull stream"
+batch_text batch.OutOfMemory = codes "out of memory"
+
+-- why a pull request was not sent
+abbrev pub request_text : BatchRequestErrorKind → List ℕ
+request_text request.Publish = codes "publish failed"
+request_text request.Flush = codes "flush failed"
+request_text request.Serialize = codes "serialize failed"
+request_text request.OutOfMemory = codes "out of memory"
+
+-- what a stream or a sequence tells in place of a message
+abbrev pub messages_text : MessagesErrorKind → List ℕ
+messages_text messages.MissingHeartbeat = codes "missed idle heartbeat"
+messages_text messages.ConsumerDeleted = codes "consumer deleted"
+messages_text messages.Pull = codes "pull request failed"
+messages_text messages.Other = codes "error"
+messages_text messages.NoResponders = codes "no responders"
+messages_text messages.RequestLimitExceeded = codes "pull request exceeded consumer limits"
+messages_text messages.PushBasedConsumer = codes "cannot use with push consumer"

@@ -1,0 +1,114 @@
+//! Why a pull consumer is not read.
+ghost use Rattle.std.specs.Prelude.{◌≡◌, Some};
+ghost use Rattle.js_pull_calls.specs.Texts.{batch_text, messages_text, request_text, stream_text};
+
+use js_base::Error;
+use js_pull::MessagesErrorKind;
+use std::fmt;
+
+/// Why no stream of messages was opened.
+#[derive(Clone, Copy, Debug, PartialEq, Eq)]
+pub enum StreamErrorKind {
+    /// Never given.
+    TimedOut,
+    /// The link failed to open an inbox. Nothing was sent.
+    Other,
+    /// Memory ran out. Nothing was sent.
+    OutOfMemory,
+}
+
+/// Why no stream of messages was opened, as an error.
+pub type StreamError = Error<StreamErrorKind>;
+
+impl fmt::Display for StreamErrorKind {
+    ghost output = { λ kind. Some (stream_text kind) };
+
+    fn fmt<W: fmt::Write>(&self, f: &mut fmt::Formatter<W>) -> fmt::Result {
+        match self {
+            StreamErrorKind::TimedOut => write!(f, "timed out"),
+            StreamErrorKind::Other => write!(f, "failed"),
+            StreamErrorKind::OutOfMemory => write!(f, "out of memory"),
+        }
+    }
+}
+
+/// Why no batch was asked for.
+#[derive(Clone, Copy, Debug, PartialEq, Eq)]
+pub enum BatchErrorKind {
+    /// The link failed to open an inbox. Nothing was sent.
+    Subscribe,
+    /// The link failed to send the request. The inbox that was opened for the batch is closed again.
+    Pull,
+    /// Never given.
+    Flush,
+    /// Never given.
+    Serialize,
+    /// Clients of the consumer are pinned, and only a stream tells the server which one it is. Nothing was sent.
+    PinnedClient,
+    /// Memory ran out. No request was sent, and no inbox is left open.
+    OutOfMemory,
+}
+
+/// Why no batch was asked for, as an error.
+pub type BatchError = Error<BatchErrorKind>;
+
+impl fmt::Display for BatchErrorKind {
+    ghost output = { λ kind. Some (batch_text kind) };
+
+    fn fmt<W: fmt::Write>(&self, f: &mut fmt::Formatter<W>) -> fmt::Result {
+        match self {
+            BatchErrorKind::Subscribe => write!(f, "subscribe failed"),
+            BatchErrorKind::Pull => write!(f, "pull request failed"),
+            BatchErrorKind::Flush => write!(f, "flush failed"),
+            BatchErrorKind::Serialize => write!(f, "serialize failed"),
+            BatchErrorKind::PinnedClient => {
+                write!(f, "pinned client consumers need a pull stream")
+            }
+            BatchErrorKind::OutOfMemory => write!(f, "out of memory"),
+        }
+    }
+}
+
+/// Why a pull request was not sent.
+#[derive(Clone, Copy, Debug, PartialEq, Eq)]
+pub enum BatchRequestErrorKind {
+    /// The link failed. Nothing was sent.
+    Publish,
+    /// Never given.
+    Flush,
+    /// Never given.
+    Serialize,
+    /// Memory ran out. Nothing was sent.
+    OutOfMemory,
+}
+
+/// Why a pull request was not sent, as an error.
+pub type BatchRequestError = Error<BatchRequestErrorKind>;
+
+impl fmt::Display for BatchRequestErrorKind {
+    ghost output = { λ kind. Some (request_text kind) };
+
+    fn fmt<W: fmt::Write>(&self, f: &mut fmt::Formatter<W>) -> fmt::Result {
+        match self {
+            BatchRequestErrorKind::Publish => write!(f, "publish failed"),
+            BatchRequestErrorKind::Flush => write!(f, "flush failed"),
+            BatchRequestErrorKind::Serialize => write!(f, "serialize failed"),
+            BatchRequestErrorKind::OutOfMemory => write!(f, "out of memory"),
+        }
+    }
+}
+
+/// What an error of a stream or of a sequence says.
+pub fn messages_error_text(kind: MessagesErrorKind) -> &'static str
+    ensures { result.now ≡ messages_text kind }
+{
+    match kind {
+        MessagesErrorKind::MissingHeartbeat => "missed idle heartbeat",
+        MessagesErrorKind::ConsumerDeleted => "consumer deleted",
+        MessagesErrorKind::Pull => "pull request failed",
+        MessagesErrorKind::Other => "error",
+        MessagesErrorKind::NoResponders => "no responders",
+        MessagesErrorKind::RequestLimitExceeded => "pull request exceeded consumer limits",
+        MessagesErrorKind::PushBasedConsumer => "cannot use with push consumer",
+    }
+}

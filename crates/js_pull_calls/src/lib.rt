@@ -1,0 +1,35 @@
+//! The calls of a pull consumer: streams that ask again and again, single batches, and batches one after the other.
+//!
+//! What is asked for stands in one table, by the builder (`specs/Builders.antt`): what was set, and else the default of the builder's row.
+#![tactic(auto)]
+
+mod batch;
+mod batch_builder;
+mod batch_item;
+mod calls;
+mod error;
+mod fetch_builder;
+mod known;
+mod opening;
+mod request;
+mod sequence;
+mod settings;
+mod stream;
+mod stream_builder;
+
+pub use batch::{Batch, batches_keep_their_number, ended_batches_stay_ended};
+pub use batch_builder::BatchBuilder;
+pub use batch_item::BatchItemError;
+pub use calls::PullCalls;
+pub use error::{
+    BatchError, BatchErrorKind, BatchRequestError, BatchRequestErrorKind, StreamError,
+    StreamErrorKind, messages_error_text,
+};
+pub use fetch_builder::FetchBuilder;
+pub use js_message::Message;
+pub use js_pull::MessagesErrorKind;
+pub use js_pull_stream::MessagesError;
+pub use sequence::Sequence;
+pub use settings::defaults_keep_limits;
+pub use stream::Stream;
+pub use stream_builder::StreamBuilder;

@@ -1,0 +1,63 @@
+//! How a batch is opened.
+ghost use Rattle.std.specs.Prelude.{◌≡◌};
+ghost use Rattle.js_pull_calls.specs.Batches.{OpensBatch, batch_fault, batch_timer};
+
+use crate::batch::Batch;
+use crate::error::{BatchError, BatchErrorKind};
+use crate::known::{is_pinned, message_timeout};
+use crate::request::{OpenFault, PullRequest};
+use js_base::{Error, Moment, Nanos, OutOfMemory, Timer};
+use js_consumer_calls::PullConsumer;
+use js_json::pull::BatchConfig;
+use js_link::Link;
+use std::alloc::Global;
+
+/// Five seconds after the expiry, where there is one.
+fn batch_timer(now: Moment, expires: Option<Nanos>) -> Option<Timer>
+    ensures { result ≡ batch_timer now expires }
+{
+    match expires {
+        None => None,
+        Some(expires) => match expires.checked_add(5_000_000_000) {
+            None => None,
+            Some(wait) => Some(Timer { set: now, wait }),
+        },
+    }
+}
+
+fn batch_fault(fault: OpenFault) -> BatchErrorKind
+    ensures { result ≡ batch_fault fault }
+{
+    match fault {
+        OpenFault::Subscribe => BatchErrorKind::Subscribe,
+        OpenFault::Pull => BatchErrorKind::Pull,
+        OpenFault::OutOfMemory => BatchErrorKind::OutOfMemory,
+    }
+}
+
+/// Opens an inbox, and asks the consumer for a batch to it. A consumer with pinned clients is refused before that.
+pub(crate) fn open_batch<L: Link>(
+    alloc: Global,
+    link: &mut L,
+    now: Moment,
+    consumer: &PullConsumer,
+    config: BatchConfig,
+) -> Result<Batch, BatchError>
+    ensures { OpensBatch result now consumer.now config (L.view link.old) (L.view link.new) }
+{
+    if is_pinned(consumer.config.priority_policy) {
+        return Err(Error::new(BatchErrorKind::PinnedClient));
+    }
+    let request = match PullRequest::of(alloc, consumer, &config) {
+        Ok(request) => request,
+        Err(OutOfMemory) => return Err(Error::new(BatchErrorKind::OutOfMemory)),
+    };
+    match request.open(alloc, link) {
+        Ok(inbox) => {
+            let timer = batch_timer(now, config.expires);
+            let timeout = message_timeout(&consumer.scope);
+            Ok(Batch::new(inbox, config.batch, timer, timeout))
+        }
+        Err(fault) => Err(Error::new(batch_fault(fault))),
+    }
+}
