@@ -5,7 +5,7 @@ ghost use Rattle.std.specs.Option.{option_copied};
 ghost use Rattle.js_base.specs.Errors.{plain, caused, kind_of, source_of, sent_by_api, parts_of, described, api_text, source_text, printed};
 
 use crate::text::Text;
-use std::fmt;
+use std::{error, fmt};
 
 /// Where an error comes from.
 #[derive(Debug, PartialEq, Eq, Drop)]
@@ -89,6 +89,8 @@ impl fmt::Display for ApiError<'_> {
     }
 }
 
+impl error::Error for ApiError<'_> {}
+
 /// The description, where there is one.
 fn or_unknown(description: Option<&Text>) -> &str
     ensures { result.now ≡ described (option_copied description.entry) }
@@ -161,3 +163,5 @@ impl<K: fmt::Display> fmt::Display for Error<K> {
         }
     }
 }
+
+impl<K: fmt::Debug + fmt::Display + Drop> error::Error for Error<K> {}

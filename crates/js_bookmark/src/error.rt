@@ -6,7 +6,7 @@ ghost use Rattle.js_bookmark.specs.Texts.{error_text, field_text};
 use js_base::OutOfMemory;
 use js_ordered::{Field, ReplayError};
 use std::alloc::AllocError;
-use std::fmt;
+use std::{error, fmt};
 
 /// Why sessions are refused. Sessions are counted from 1 and looked at in their order, each by these tests in this order; want of memory may come
 /// before or after any of them.
@@ -91,6 +91,8 @@ impl fmt::Display for SessionsError {
         }
     }
 }
+
+impl error::Error for SessionsError {}
 
 impl From<OutOfMemory> for SessionsError {
     ghost use Rattle.std.specs.Prelude.{◌≡◌};

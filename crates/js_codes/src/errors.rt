@@ -8,7 +8,7 @@ use js_base::{ApiError, OutOfMemory, Source, Text, TryClone};
 use js_fields::{FromValue, Key, Object, ReadError, ToValue, defaulted, optional, required};
 use serde_json::Value;
 use std::alloc::Global;
-use std::fmt;
+use std::{error, fmt};
 
 /// What the API answers in place of a result. It prints as `js_base::ApiError` does:
 /// `stream not found (code 404, error code 10059)`.
@@ -71,6 +71,8 @@ impl fmt::Display for Error {
         write!(f, "{error}")
     }
 }
+
+impl error::Error for Error {}
 
 impl TryClone for Error {
     fn try_clone(&self) -> Result<Error, OutOfMemory> {

@@ -4,7 +4,7 @@ ghost use Rattle.js_context.specs.Builders.{build_text};
 ghost use Rattle.js_context.specs.declared.build_error.BuildError.TheVariants.{OutOfMemory as memory};
 
 use js_base::OutOfMemory;
-use std::fmt;
+use std::{error, fmt};
 
 /// Why a context was not built.
 #[derive(Clone, Copy, Debug, PartialEq, Eq)]
@@ -36,3 +36,5 @@ impl fmt::Display for BuildError {
         }
     }
 }
+
+impl error::Error for BuildError {}

@@ -5,7 +5,7 @@ ghost use Rattle.js_link.specs.Texts.{link_text};
 use crate::link::LinkError;
 use js_base::OutOfMemory;
 use std::alloc::{AllocError, AllocFailed};
-use std::fmt;
+use std::{error, fmt};
 
 impl fmt::Display for LinkError {
     ghost output = { λ error. Some (link_text error) };
@@ -17,6 +17,8 @@ impl fmt::Display for LinkError {
         }
     }
 }
+
+impl error::Error for LinkError {}
 
 impl From<OutOfMemory> for LinkError {
     ghost use Rattle.std.specs.Prelude.{◌≡◌};

@@ -8,7 +8,7 @@ use crate::double_ack::{DoubleAck, double_acknowledge};
 use js_base::{Nanos, OutOfMemory, Subject};
 use js_link::{Link, LinkError};
 use std::alloc::Global;
-use std::fmt;
+use std::{error, fmt};
 
 /// Why a message was not acknowledged.
 #[derive(Clone, Copy, Debug, PartialEq, Eq)]
@@ -41,6 +41,8 @@ impl fmt::Display for AckError {
         }
     }
 }
+
+impl error::Error for AckError {}
 
 /// Sends a body to a reply subject.
 pub(crate) fn acknowledge<L: Link>(

@@ -2,7 +2,7 @@
 ghost use Rattle.std.specs.Prelude.{Some};
 ghost use Rattle.js_message.specs.Texts.{info_text};
 
-use std::fmt;
+use std::{error, fmt};
 
 /// Why a text is no acknowledgement subject.
 #[derive(Clone, Copy, Debug, PartialEq, Eq)]
@@ -29,3 +29,5 @@ impl fmt::Display for InfoError {
         }
     }
 }
+
+impl error::Error for InfoError {}

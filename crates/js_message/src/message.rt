@@ -11,7 +11,7 @@ use crate::parse::parse_info;
 use js_base::{Nanos, OutOfMemory};
 use js_link::Link;
 use std::alloc::Global;
-use std::fmt;
+use std::{error, fmt};
 
 /// Why a message does not tell where it stands in its stream.
 #[derive(Clone, Copy, Debug, PartialEq, Eq)]
@@ -37,6 +37,8 @@ impl fmt::Display for MessageInfoError {
         }
     }
 }
+
+impl error::Error for MessageInfoError {}
 
 /// A message of a stream, as a consumer delivers it.
 #[derive(Debug, PartialEq, Eq, Drop)]

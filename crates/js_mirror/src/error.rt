@@ -5,7 +5,7 @@ ghost use Rattle.js_mirror.specs.Causes.{error_text};
 
 use js_base::OutOfMemory;
 use std::alloc::AllocError;
-use std::fmt;
+use std::{error, fmt};
 
 /// Why a call of a mirror was refused. The mirror is as it was before.
 #[derive(Clone, Copy, Debug, PartialEq, Eq)]
@@ -46,6 +46,8 @@ impl fmt::Display for MirrorError {
         }
     }
 }
+
+impl error::Error for MirrorError {}
 
 impl From<AllocError> for MirrorError {
     ghost use Rattle.std.specs.Prelude.{◌≡◌};

@@ -5,7 +5,7 @@ ghost use Rattle.js_project.specs.Applied.{error_text};
 
 use js_base::OutOfMemory;
 use std::alloc::AllocError;
-use std::fmt;
+use std::{error, fmt};
 
 /// Why an entry was not applied. The projection is as it was before.
 #[derive(Clone, Copy, Debug, PartialEq, Eq)]
@@ -29,6 +29,8 @@ impl fmt::Display for ApplyError {
         }
     }
 }
+
+impl error::Error for ApplyError {}
 
 impl From<AllocError> for ApplyError {
     ghost use Rattle.std.specs.Prelude.{◌≡◌};

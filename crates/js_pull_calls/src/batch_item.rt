@@ -3,7 +3,7 @@ ghost use Rattle.std.specs.Prelude.{◌≡◌, Some};
 ghost use Rattle.js_pull_calls.specs.Arrivals.{arrival_of, item_text};
 
 use js_base::{StatusCode, Text};
-use std::fmt;
+use std::{error, fmt};
 
 /// What the server says in place of a message, as status 409 where the consumer is deleted or the request was too large, and 503 where
 /// nobody listens. It prints the status, and the description after a colon where there is one.
@@ -24,6 +24,8 @@ impl fmt::Display for BatchItemError {
         }
     }
 }
+
+impl error::Error for BatchItemError {}
 
 /// What an arrival is to a batch, by its status.
 #[derive(Clone, Copy, Debug, PartialEq, Eq)]

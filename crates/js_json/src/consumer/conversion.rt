@@ -7,7 +7,7 @@ ghost use Rattle.js_json.specs.declared.consumer.conversion.ConfigError.{ConfigE
 use crate::consumer::config::Config;
 use js_base::Nanos;
 use std::alloc::Global;
-use std::fmt;
+use std::{error, fmt};
 
 /// How long an ordered consumer outlives its last reader: 30 seconds.
 pub(crate) const ORDERED_INACTIVE_THRESHOLD: Nanos = 30_000_000_000;
@@ -38,6 +38,8 @@ impl fmt::Display for ConfigError {
         }
     }
 }
+
+impl error::Error for ConfigError {}
 
 /// A configuration that the server is sent as a general one.
 pub trait IntoConsumerConfig: Drop {
