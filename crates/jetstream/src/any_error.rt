@@ -6,7 +6,6 @@ use js_base::OutOfMemory;
 use js_consumer_calls::ConsumerError;
 use js_context::PublishError;
 use js_link::LinkError;
-use js_pull::MessagesErrorKind;
 use js_pull_stream::MessagesError;
 use js_stream_calls::{CreateStreamError, GetStreamError};
 use std::alloc::{AllocError, AllocFailed};
@@ -42,22 +41,9 @@ impl fmt::Display for AnyError {
             AnyError::GetStream(error) => write!(f, "{error}"),
             AnyError::Consumer(error) => write!(f, "{error}"),
             AnyError::Publish(error) => write!(f, "{error}"),
-            AnyError::Messages(error) => write!(f, "{}", told(*error.kind())),
+            AnyError::Messages(error) => write!(f, "{error}"),
             AnyError::Io(error) => write!(f, "{error}"),
         }
-    }
-}
-
-/// What a stream of messages told of.
-fn told(kind: MessagesErrorKind) -> &'static str {
-    match kind {
-        MessagesErrorKind::MissingHeartbeat => "missed idle heartbeat",
-        MessagesErrorKind::ConsumerDeleted => "consumer deleted",
-        MessagesErrorKind::Pull => "pull request failed",
-        MessagesErrorKind::Other => "error",
-        MessagesErrorKind::NoResponders => "no responders",
-        MessagesErrorKind::RequestLimitExceeded => "request limit exceeded",
-        MessagesErrorKind::PushBasedConsumer => "cannot use with push consumer",
     }
 }
 

@@ -42,7 +42,7 @@ use Rattle.js_table.specs.Fold.{Ran, after, stays, and_then, pass_each, pass_to,
 use Rattle.js_generate.proofs.Lists.{if_both}
 use Rattle.js_generate.proofs.Follows.{Follows, follows_append}
 
--- ---- worlds
+-- ---- states
 
 -- what a reader keeps of its requests and of the time
 pub record Ledger : Type 0 where
@@ -71,37 +71,37 @@ reader source l = record {
 -- what a consumer keeps of what it heard
 pub record Course : Type 0 where
   pub consumer_sequence : ℕ
-  pub last : ℕ
+  pub stream_sequence : ℕ
   pub recreation_count : ℕ
   pub name : List ℕ
   pub missed : Bool
   pub limited : Bool
   pub connection : State
 
-abbrev pub world_at : Phase → Course → ℕ → ℕ → ReplayState
-world_at phase c requests_sent inboxes_opened = record {
+abbrev pub state_at : Phase → Course → ℕ → ℕ → ReplayState
+state_at phase c requests_sent inboxes_opened = record {
   consumer = record {
     phase = phase;
     consumer_sequence = c.consumer_sequence;
-    last = c.last;
+    stream_sequence = c.stream_sequence;
     recreation_count = c.recreation_count;
     name = c.name;
     missed = c.missed;
     limited = c.limited;
     connection = c.connection;
   };
-  up = true;
+  link_up = true;
   requests_sent = requests_sent;
   inboxes_opened = inboxes_opened;
 }
 
 same_counts : (phase : Phase) (c : Course) (requests_sent inboxes_opened asked_now made_now : ℕ) → requests_sent ≡ asked_now → inboxes_opened ≡ made_now
-    → world_at phase c requests_sent inboxes_opened ≡ world_at phase c asked_now made_now
-same_counts phase c requests_sent inboxes_opened asked_now made_now a m = ap₂ (λ (requests_sent inboxes_opened : ℕ). world_at phase c requests_sent inboxes_opened) a m
+    → state_at phase c requests_sent inboxes_opened ≡ state_at phase c asked_now made_now
+same_counts phase c requests_sent inboxes_opened asked_now made_now a m = ap₂ (λ (requests_sent inboxes_opened : ℕ). state_at phase c requests_sent inboxes_opened) a m
 
 -- the reader reads
 abbrev pub IsOn : Source → Course → ℕ → ℕ → ReplayState → Type 0
-IsOn source c requests_sent inboxes_opened w = (l : Ledger) × (w ≡ world_at (Pulls (reader source l)) c requests_sent inboxes_opened)
+IsOn source c requests_sent inboxes_opened w = (l : Ledger) × (w ≡ state_at (Pulls (reader source l)) c requests_sent inboxes_opened)
 
 recounted : (source : Source) (c : Course) (requests_sent inboxes_opened asked_now made_now : ℕ) → requests_sent ≡ asked_now → inboxes_opened ≡ made_now
     → (w : ReplayState) → IsOn source c requests_sent inboxes_opened w → IsOn source c asked_now made_now w
@@ -123,9 +123,9 @@ pub record IsRecreating (stage : ℕ → Timer → Stage) (request last inboxes_
   pub last_now : ℕ
   pub requests_sent : ℕ
   pub made_now : ℕ
-  pub world : w ≡ world_at
+  pub state : w ≡ state_at
       (Recreates (record { old_name = old_name; new_name = new_name; start = start; failures = failures; opened = None; stage = stage request_now timeout }))
-      (record { consumer_sequence = 0; last = last_now; recreation_count = recreation_count; name = name; missed = false; limited = limited; connection = connection })
+      (record { consumer_sequence = 0; stream_sequence = last_now; recreation_count = recreation_count; name = name; missed = false; limited = limited; connection = connection })
       requests_sent made_now
   pub request_is : request_now ≡ request
   pub asked_is : requests_sent ≡ request
@@ -141,7 +141,7 @@ pub record IsOpened (request last inboxes_opened : ℕ) (w : ReplayState) : Type
   pub on : IsOn source c requests_sent made_now w
   pub inbox_is : source.inbox ≡ inboxes_opened
   pub num_is : c.consumer_sequence ≡ 0
-  pub last_is : c.last ≡ last
+  pub last_is : c.stream_sequence ≡ last
   pub missed_is : c.missed ≡ false
   pub asked_is : requests_sent ≡ request
   pub made_is : made_now ≡ inboxes_opened + 1
@@ -158,30 +158,30 @@ equal a b e = (Decides-eqb a b).1 e
 
 -- ---- what is put out
 
--- outputs that go on, and a world of some kind
+-- outputs that go on, and a state of some kind
 pub record Leads (starts : ℕ → ℕ) (last from : ℕ) (next : ReplayState → Type 0) (last_now from_now : ℕ) (ran : Ran) : Type 0 where
-  pub world : next ran.world
+  pub state : next ran.state
   pub outputs : Follows starts last from ran.outputs last_now from_now
 
 pub leads_weaker : (starts : ℕ → ℕ) (last from last_now from_now : ℕ) (next other : ReplayState → Type 0) (ran : Ran)
     → ((w : ReplayState) → next w → other w) → Leads starts last from next last_now from_now ran → Leads starts last from other last_now from_now ran
-leads_weaker starts last from last_now from_now next other ran f h = record { world = f ran.world h.world; outputs = h.outputs }
+leads_weaker starts last from last_now from_now next other ran f h = record { state = f ran.state h.state; outputs = h.outputs }
 
 pub leads_alone : (starts : ℕ → ℕ) (last from last_now from_now : ℕ) (next : ReplayState → Type 0) (ran : Ran)
-    → Leads starts last from next last_now from_now ran → Leads starts last from next last_now from_now (and_then ran.outputs (stays ran.world))
+    → Leads starts last from next last_now from_now ran → Leads starts last from next last_now from_now (and_then ran.outputs (stays ran.state))
 leads_alone starts last from last_now from_now next ran h = record {
-  world = h.world;
+  state = h.state;
   outputs = subst (λ outputs. Follows starts last from outputs last_now from_now) (sym (append-nil ran.outputs)) h.outputs;
 }
 
 pub leads_then : (starts : ℕ → ℕ) (last from last_then from_then last_now from_now : ℕ) (next other : ReplayState → Type 0) (ran : Ran) (rest : ReplayState → Ran)
     → Leads starts last from next last_then from_then ran → ((w : ReplayState) → next w → Leads starts last_then from_then other last_now from_now (rest w))
-    → Leads starts last from other last_now from_now (and_then ran.outputs (rest ran.world))
+    → Leads starts last from other last_now from_now (and_then ran.outputs (rest ran.state))
 leads_then starts last from last_then from_then last_now from_now next other ran rest h more =
-    let after_it : Leads starts last_then from_then other last_now from_now (rest ran.world) = more ran.world h.world in
+    let after_it : Leads starts last_then from_then other last_now from_now (rest ran.state) = more ran.state h.state in
     record {
-      world = after_it.world;
-      outputs = follows_append starts last from ran.outputs (rest ran.world).outputs last_then from_then last_now from_now h.outputs after_it.outputs;
+      state = after_it.state;
+      outputs = follows_append starts last from ran.outputs (rest ran.state).outputs last_then from_then last_now from_now h.outputs after_it.outputs;
     }
 
 -- ---- the rows of a reader
@@ -198,9 +198,9 @@ module _ (settings : Settings) (config : OrderedConfig) (first : Info) (starts :
 
   module _ (now : ℕ) (m : Matter) (last from : ℕ) (source : Source) (c : Course) (requests_sent inboxes_opened : ℕ) where
     asks : (depth : ℕ) (l : Ledger) (reason : Reason)
-        → Leads starts last from (IsOn source c requests_sent inboxes_opened) last from (pass_to given now m (suc depth) (Read (read.Ask reason)) (world_at (Pulls (reader source l)) c requests_sent inboxes_opened))
+        → Leads starts last from (IsOn source c requests_sent inboxes_opened) last from (pass_to given now m (suc depth) (Read (read.Ask reason)) (state_at (Pulls (reader source l)) c requests_sent inboxes_opened))
     asks depth l reason = record {
-      world = (
+      state = (
         record {
           pending = pull.raised (pull.resets reason) source.config.batch l.pending;
           pending_bytes = pull.raised (pull.resets reason) source.config.max_bytes l.pending_bytes;
@@ -215,21 +215,21 @@ module _ (settings : Settings) (config : OrderedConfig) (first : Info) (starts :
       outputs = (refl, refl);
     }
 
-    stays_on : (l : Ledger) → Leads starts last from (IsOn source c requests_sent inboxes_opened) last from (stays (world_at (Pulls (reader source l)) c requests_sent inboxes_opened))
-    stays_on l = record { world = (l, refl); outputs = (refl, refl) }
+    stays_on : (l : Ledger) → Leads starts last from (IsOn source c requests_sent inboxes_opened) last from (stays (state_at (Pulls (reader source l)) c requests_sent inboxes_opened))
+    stays_on l = record { state = (l, refl); outputs = (refl, refl) }
 
     arms : (depth : ℕ) (l : Ledger)
-        → Leads starts last from (IsOn source c requests_sent inboxes_opened) last from (pass_to given now m (suc depth) (Read read.Arm) (world_at (Pulls (reader source l)) c requests_sent inboxes_opened))
+        → Leads starts last from (IsOn source c requests_sent inboxes_opened) last from (pass_to given now m (suc depth) (Read read.Arm) (state_at (Pulls (reader source l)) c requests_sent inboxes_opened))
     arms depth l = record {
-      world = (record l { heartbeat_timer = pull.armed_silence now source.config.idle_heartbeat }, same_counts _ _ _ _ _ _ (omega arith) (omega arith));
+      state = (record l { heartbeat_timer = pull.armed_silence now source.config.idle_heartbeat }, same_counts _ _ _ _ _ _ (omega arith) (omega arith));
       outputs = (refl, refl);
     }
 
     asks_if : (depth : ℕ) (l : Ledger) (reason : Reason) (b : Bool)
-        → Leads starts last from (IsOn source c requests_sent inboxes_opened) last from (pass_each (pass_to given now m (suc depth)) (map Read (if b then read.Ask reason ∷ [] else [])) (world_at (Pulls (reader source l)) c requests_sent inboxes_opened))
+        → Leads starts last from (IsOn source c requests_sent inboxes_opened) last from (pass_each (pass_to given now m (suc depth)) (map Read (if b then read.Ask reason ∷ [] else [])) (state_at (Pulls (reader source l)) c requests_sent inboxes_opened))
     asks_if depth l reason true =
         leads_alone starts last from last from (IsOn source c requests_sent inboxes_opened)
-        (pass_to given now m (suc depth) (Read (read.Ask reason)) (world_at (Pulls (reader source l)) c requests_sent inboxes_opened)) (asks depth l reason)
+        (pass_to given now m (suc depth) (Read (read.Ask reason)) (state_at (Pulls (reader source l)) c requests_sent inboxes_opened)) (asks depth l reason)
     asks_if depth l reason false = stays_on l
 
   module _ (now : ℕ) (m : Matter) (last from : ℕ) (source : Source) (c : Course) (requests_sent inboxes_opened : ℕ) where
@@ -238,13 +238,13 @@ module _ (settings : Settings) (config : OrderedConfig) (first : Info) (starts :
         (recounted source c (requests_sent + 0) (inboxes_opened + 0) requests_sent inboxes_opened (omega arith) (omega arith))
 
     expires : (depth : ℕ) (l : Ledger)
-        → Leads starts last from (IsOn source c requests_sent inboxes_opened) last from (pass_to given now m (suc (suc depth)) (Read read.CheckExpiry) (world_at (Pulls (reader source l)) c requests_sent inboxes_opened))
+        → Leads starts last from (IsOn source c requests_sent inboxes_opened) last from (pass_to given now m (suc (suc depth)) (Read read.CheckExpiry) (state_at (Pulls (reader source l)) c requests_sent inboxes_opened))
     expires depth l = again _ (asks_if now m last from source c (requests_sent + 0) (inboxes_opened + 0) depth l Expired (is_any_due l.expiry now))
 
     refills : (depth : ℕ) (l : Ledger)
-        → Leads starts last from (IsOn source c requests_sent inboxes_opened) last from (pass_to given now m (suc (suc depth)) (Read read.Threshold) (world_at (Pulls (reader source l)) c requests_sent inboxes_opened))
+        → Leads starts last from (IsOn source c requests_sent inboxes_opened) last from (pass_to given now m (suc (suc depth)) (Read read.Threshold) (state_at (Pulls (reader source l)) c requests_sent inboxes_opened))
     refills depth l =
-        if_both (λ (passed : pull.Passed). Leads starts last from (IsOn source c requests_sent inboxes_opened) last from (done now m (suc depth) (world_at (Pulls (reader source l)) c requests_sent inboxes_opened) passed))
+        if_both (λ (passed : pull.Passed). Leads starts last from (IsOn source c requests_sent inboxes_opened) last from (done now m (suc depth) (state_at (Pulls (reader source l)) c requests_sent inboxes_opened) passed))
         (pull.is_low (reader source l) && not l.waiting)
         (pull.quietly (record (reader source l) { waiting = true }) (read.Ask Low ∷ []))
         (pull.quietly (reader source l) [])
@@ -258,14 +258,14 @@ module _ (settings : Settings) (config : OrderedConfig) (first : Info) (starts :
 
   -- the course after a yield
   abbrev pub accepted : Place → Course → Course
-  accepted place c = record c { consumer_sequence = place.number; last = place.sequence; missed = false; limited = false }
+  accepted place c = record c { consumer_sequence = place.number; stream_sequence = place.sequence; missed = false; limited = false }
 
   module _ (now last from : ℕ) (source : Source) (c : Course) (requests_sent inboxes_opened inbox : ℕ) (reply payload : List ℕ) (place : Place) where
     abbrev arrives : Matter
     arrives = matter_of (what.Arrival inbox (message reply payload))
 
-    abbrev heard_world : ℕ → ℕ → Ledger → ReplayState
-    heard_world a m l = world_at (Pulls (reader source l)) (accepted place c) a m
+    abbrev heard_state : ℕ → ℕ → Ledger → ReplayState
+    heard_state a m l = state_at (Pulls (reader source l)) (accepted place c) a m
 
     -- after the message the reader has this
     abbrev kept : Ledger → Ledger
@@ -280,31 +280,31 @@ module _ (settings : Settings) (config : OrderedConfig) (first : Info) (starts :
     }
 
     goes_on : (depth : ℕ) (l : Ledger) → Leads starts place.sequence from (IsOn source (accepted place c) requests_sent inboxes_opened) place.sequence from
-        (pass_each (pass_to given now arrives (suc (suc depth))) (Read read.Threshold ∷ []) (heard_world (requests_sent + 0) (inboxes_opened + 0) (kept l)))
+        (pass_each (pass_to given now arrives (suc (suc depth))) (Read read.Threshold ∷ []) (heard_state (requests_sent + 0) (inboxes_opened + 0) (kept l)))
     goes_on depth l =
         again now arrives place.sequence from source (accepted place c) requests_sent inboxes_opened _
         (leads_alone starts place.sequence from place.sequence from (IsOn source (accepted place c) (requests_sent + 0) (inboxes_opened + 0))
-        (pass_to given now arrives (suc (suc depth)) (Read read.Threshold) (heard_world (requests_sent + 0) (inboxes_opened + 0) (kept l)))
+        (pass_to given now arrives (suc (suc depth)) (Read read.Threshold) (heard_state (requests_sent + 0) (inboxes_opened + 0) (kept l)))
         (refills now arrives place.sequence from source (accepted place c) (requests_sent + 0) (inboxes_opened + 0) depth (kept l)))
 
     -- the next message is yielded
     pub yields : (depth : ℕ) (l : Ledger) → (source.inbox == inbox) ≡ true → readable_as (Some reply) ≡ Some place → (place.number == c.consumer_sequence + 1) ≡ true → place.sequence ≡ last + 1
         → Leads starts last from (IsOn source (accepted place c) requests_sent inboxes_opened) place.sequence from
-        (pass_to given now arrives (suc (suc (suc depth))) (Read read.CheckArrival) (world_at (Pulls (reader source l)) c requests_sent inboxes_opened))
+        (pass_to given now arrives (suc (suc (suc depth))) (Read read.CheckArrival) (state_at (Pulls (reader source l)) c requests_sent inboxes_opened))
     yields depth l here reads next rises =
-        rw (here, reads, next) (record { world = (goes_on depth l).world; outputs = (rises, (goes_on depth l).outputs) })
+        rw (here, reads, next) (record { state = (goes_on depth l).state; outputs = (rises, (goes_on depth l).outputs) })
 
     -- another one begins a recreation
     pub restarts : (depth : ℕ) (l : Ledger) → (source.inbox == inbox) ≡ true → readable_as (Some reply) ≡ Some place → (place.number == c.consumer_sequence + 1) ≡ false
-        → (c.last == pull.u64_max) ≡ false → (c.last == 0) ≡ false → c.last ≡ last
+        → (c.stream_sequence == pull.u64_max) ≡ false → (c.stream_sequence == 0) ≡ false → c.stream_sequence ≡ last
         → Leads starts last from (IsRecreating Deleting (requests_sent + 1) last inboxes_opened) last (last + 1)
-        (pass_to given now arrives (suc (suc (suc depth))) (Read read.CheckArrival) (world_at (Pulls (reader source l)) c requests_sent inboxes_opened))
+        (pass_to given now arrives (suc (suc (suc depth))) (Read read.CheckArrival) (state_at (Pulls (reader source l)) c requests_sent inboxes_opened))
     restarts depth l here reads next below some is =
         rw (here, reads, next, below, some) (record {
-          world = record {
+          state = record {
             old_name = c.name;
             new_name = consumer_name given (min (c.recreation_count + 1) pull.u64_max);
-            start = start.From (c.last + 1);
+            start = start.From (c.stream_sequence + 1);
             failures = 0;
             timeout = record { set = now; wait = recreation_timeout settings };
             recreation_count = min (c.recreation_count + 1) pull.u64_max;
@@ -312,10 +312,10 @@ module _ (settings : Settings) (config : OrderedConfig) (first : Info) (starts :
             limited = c.limited;
             connection = c.connection;
             request_now = requests_sent + 0 + 0 + 1;
-            last_now = c.last;
+            last_now = c.stream_sequence;
             requests_sent = requests_sent + 0 + 0 + 1;
             made_now = inboxes_opened + 0 + 0 + 0;
-            world = refl;
+            state = refl;
             request_is = omega arith;
             asked_is = omega arith;
             last_is = is;
@@ -327,17 +327,17 @@ module _ (settings : Settings) (config : OrderedConfig) (first : Info) (starts :
     -- one on another inbox does nothing
     pub passes_over : (depth : ℕ) (l : Ledger) → (source.inbox == inbox) ≡ false → c.missed ≡ false
         → Leads starts last from (λ w. (missed : Bool) × IsOn source (record c { missed = missed }) requests_sent inboxes_opened w) last from
-        (pass_to given now arrives (suc (suc depth)) (Read read.CheckArrival) (world_at (Pulls (reader source l)) c requests_sent inboxes_opened))
+        (pass_to given now arrives (suc (suc depth)) (Read read.CheckArrival) (state_at (Pulls (reader source l)) c requests_sent inboxes_opened))
     passes_over depth l other found =
         rw other (leads_alone starts last from last from (λ w. (missed : Bool) × IsOn source (record c { missed = missed }) requests_sent inboxes_opened w)
-        (pass_to given now arrives (suc depth) (Read read.CheckSilence) (world_at (Pulls (reader source l)) c (requests_sent + 0) (inboxes_opened + 0)))
+        (pass_to given now arrives (suc depth) (Read read.CheckSilence) (state_at (Pulls (reader source l)) c (requests_sent + 0) (inboxes_opened + 0)))
         (if_both (λ (passed : pull.Passed). Leads starts last from (λ w. (missed : Bool) × IsOn source (record c { missed = missed }) requests_sent inboxes_opened w) last from
-        (done now arrives depth (world_at (Pulls (reader source l)) c (requests_sent + 0) (inboxes_opened + 0)) passed))
+        (done now arrives depth (state_at (Pulls (reader source l)) c (requests_sent + 0) (inboxes_opened + 0)) passed))
         (is_any_due l.heartbeat_timer now)
         (pull.tell error.MissingHeartbeat (record (reader source l) { heartbeat_timer = pull.armed_silence now source.config.idle_heartbeat }) [])
         (pull.quietly (reader source l) [])
-        (rw found (record { world = (true, (record l { heartbeat_timer = pull.armed_silence now source.config.idle_heartbeat }, same_counts _ _ _ _ _ _ (omega arith) (omega arith))); outputs = (refl, refl) }))
-        (record { world = (c.missed, (l, same_counts _ _ _ _ _ _ (omega arith) (omega arith))); outputs = (refl, refl) })))
+        (rw found (record { state = (true, (record l { heartbeat_timer = pull.armed_silence now source.config.idle_heartbeat }, same_counts _ _ _ _ _ _ (omega arith) (omega arith))); outputs = (refl, refl) }))
+        (record { state = (c.missed, (l, same_counts _ _ _ _ _ _ (omega arith) (omega arith))); outputs = (refl, refl) })))
 
   -- ---- the whole event of an arrival
 
@@ -345,18 +345,18 @@ module _ (settings : Settings) (config : OrderedConfig) (first : Info) (starts :
     abbrev comes : Matter
     comes = matter_of (what.Arrival inbox (message reply payload))
 
-    heard_then : ((l : Ledger) → Leads starts last from next last_now from_now (pass_to given now comes 9 (Read read.CheckArrival) (world_at (Pulls (reader source l)) c (requests_sent + 0) (inboxes_opened + 0))))
+    heard_then : ((l : Ledger) → Leads starts last from next last_now from_now (pass_to given now comes 9 (Read read.CheckArrival) (state_at (Pulls (reader source l)) c (requests_sent + 0) (inboxes_opened + 0))))
         → (w : ReplayState) → IsOn source c (requests_sent + 0) (inboxes_opened + 0) w → Leads starts last from next last_now from_now (pass_each (pass_to given now comes 9) (Read read.CheckArrival ∷ []) w)
     heard_then row w on = subst (λ (w : ReplayState). Leads starts last from next last_now from_now (pass_each (pass_to given now comes 9) (Read read.CheckArrival ∷ []) w)) (sym on.1)
-        (leads_alone starts last from last_now from_now next (pass_to given now comes 9 (Read read.CheckArrival) (world_at (Pulls (reader source on.0)) c (requests_sent + 0) (inboxes_opened + 0))) (row on.0))
+        (leads_alone starts last from last_now from_now next (pass_to given now comes 9 (Read read.CheckArrival) (state_at (Pulls (reader source on.0)) c (requests_sent + 0) (inboxes_opened + 0))) (row on.0))
 
-    pub heard : ((l : Ledger) → Leads starts last from next last_now from_now (pass_to given now comes 9 (Read read.CheckArrival) (world_at (Pulls (reader source l)) c (requests_sent + 0) (inboxes_opened + 0))))
+    pub heard : ((l : Ledger) → Leads starts last from next last_now from_now (pass_to given now comes 9 (Read read.CheckArrival) (state_at (Pulls (reader source l)) c (requests_sent + 0) (inboxes_opened + 0))))
         → (w : ReplayState) → IsOn source c requests_sent inboxes_opened w → Leads starts last from next last_now from_now (event given (record { at = now; what = what.Arrival inbox (message reply payload) }) w)
     unfolding event
     heard row w on = subst (λ (w : ReplayState). Leads starts last from next last_now from_now (event given (record { at = now; what = what.Arrival inbox (message reply payload) }) w)) (sym on.1)
-        (leads_alone starts last from last_now from_now next (pass_to given now comes 10 Event (world_at (Pulls (reader source on.0)) c requests_sent inboxes_opened))
+        (leads_alone starts last from last_now from_now next (pass_to given now comes 10 Event (state_at (Pulls (reader source on.0)) c requests_sent inboxes_opened))
         (leads_then starts last from last from last_now from_now (IsOn source c (requests_sent + 0) (inboxes_opened + 0)) next
-        (pass_to given now comes 9 (Read read.CheckExpiry) (world_at (Pulls (reader source on.0)) c (requests_sent + 0) (inboxes_opened + 0)))
+        (pass_to given now comes 9 (Read read.CheckExpiry) (state_at (Pulls (reader source on.0)) c (requests_sent + 0) (inboxes_opened + 0)))
         (λ (w : ReplayState). pass_each (pass_to given now comes 9) (Read read.CheckArrival ∷ []) w)
         (expires now comes last from source c (requests_sent + 0) (inboxes_opened + 0) 7 on.0) (heard_then row)))
 
@@ -375,9 +375,9 @@ module _ (settings : Settings) (config : OrderedConfig) (first : Info) (starts :
     unfolding event
     deletes request inboxes_opened w at same =
         let here : (at.request_now == answered) ≡ true = equal at.request_now answered (at.request_is ∙ same) in
-        subst (λ (w : ReplayState). Leads starts last from (IsRecreating Creating (request + 1) last inboxes_opened) last from (event given (record { at = now; what = what.Answer answered (Some answer) }) w)) (sym at.world)
+        subst (λ (w : ReplayState). Leads starts last from (IsRecreating Creating (request + 1) last inboxes_opened) last from (event given (record { at = now; what = what.Answer answered (Some answer) }) w)) (sym at.state)
         (rw here (record {
-          world = record {
+          state = record {
             old_name = at.old_name;
             new_name = at.new_name;
             start = at.start;
@@ -391,7 +391,7 @@ module _ (settings : Settings) (config : OrderedConfig) (first : Info) (starts :
             last_now = at.last_now;
             requests_sent = at.requests_sent + 0 + 0 + 0 + 1;
             made_now = at.made_now + 0 + 0 + 0 + 0;
-            world = refl;
+            state = refl;
             request_is = let a = at.asked_is in omega arith;
             asked_is = let a = at.asked_is in omega arith;
             last_is = at.last_is;
@@ -403,14 +403,14 @@ module _ (settings : Settings) (config : OrderedConfig) (first : Info) (starts :
     arms_then : (source : Source) (c : Course) (requests_sent inboxes_opened : ℕ) (w : ReplayState) → IsOn source c requests_sent inboxes_opened w
         → Leads starts last from (IsOn source c requests_sent inboxes_opened) last from (pass_each (pass_to given now says 6) (Read read.Arm ∷ []) w)
     arms_then source c requests_sent inboxes_opened w on = subst (λ (w : ReplayState). Leads starts last from (IsOn source c requests_sent inboxes_opened) last from (pass_each (pass_to given now says 6) (Read read.Arm ∷ []) w)) (sym on.1)
-        (leads_alone starts last from last from (IsOn source c requests_sent inboxes_opened) (pass_to given now says 6 (Read read.Arm) (world_at (Pulls (reader source on.0)) c requests_sent inboxes_opened)) (arms now says last from source c requests_sent inboxes_opened 5 on.0))
+        (leads_alone starts last from last from (IsOn source c requests_sent inboxes_opened) (pass_to given now says 6 (Read read.Arm) (state_at (Pulls (reader source on.0)) c requests_sent inboxes_opened)) (arms now says last from source c requests_sent inboxes_opened 5 on.0))
 
     -- a new reader asks for messages and listens
     opens : (source : Source) (c : Course) (requests_sent inboxes_opened : ℕ) (l : Ledger)
-        → Leads starts last from (IsOn source c requests_sent inboxes_opened) last from (pass_each (pass_to given now says 6) (Read read.Threshold ∷ Read read.Arm ∷ []) (world_at (Pulls (reader source l)) c requests_sent inboxes_opened))
+        → Leads starts last from (IsOn source c requests_sent inboxes_opened) last from (pass_each (pass_to given now says 6) (Read read.Threshold ∷ Read read.Arm ∷ []) (state_at (Pulls (reader source l)) c requests_sent inboxes_opened))
     opens source c requests_sent inboxes_opened l =
         leads_then starts last from last from last from (IsOn source c requests_sent inboxes_opened) (IsOn source c requests_sent inboxes_opened)
-        (pass_to given now says 6 (Read read.Threshold) (world_at (Pulls (reader source l)) c requests_sent inboxes_opened))
+        (pass_to given now says 6 (Read read.Threshold) (state_at (Pulls (reader source l)) c requests_sent inboxes_opened))
         (λ (w : ReplayState). pass_each (pass_to given now says 6) (Read read.Arm ∷ []) w)
         (refills now says last from source c requests_sent inboxes_opened 4 l) (arms_then source c requests_sent inboxes_opened)
 
@@ -423,19 +423,19 @@ module _ (settings : Settings) (config : OrderedConfig) (first : Info) (starts :
         let here : (at.request_now == answered) ≡ true = equal at.request_now answered (at.request_is ∙ same) in
         let inbox : ℕ = at.made_now + 0 + 0 + 0 in
         let source : Source = source_of given at.recreation_count inbox (inbox_subject given inbox) info in
-        let c : Course = record { consumer_sequence = 0; last = at.last_now; recreation_count = at.recreation_count; name = at.name; missed = false; limited = at.limited; connection = at.connection } in
+        let c : Course = record { consumer_sequence = 0; stream_sequence = at.last_now; recreation_count = at.recreation_count; name = at.name; missed = false; limited = at.limited; connection = at.connection } in
         let requests_sent : ℕ = at.requests_sent + 0 + 0 + 0 + 0 in
         let rest : Leads starts last from (IsOn source c requests_sent (inbox + 1)) last from
-        (pass_each (pass_to given now says 6) (Read read.Threshold ∷ Read read.Arm ∷ []) (world_at (Pulls (reader source new)) c requests_sent (inbox + 1))) =
+        (pass_each (pass_to given now says 6) (Read read.Threshold ∷ Read read.Arm ∷ []) (state_at (Pulls (reader source new)) c requests_sent (inbox + 1))) =
         opens source c requests_sent (inbox + 1) new in
-        subst (λ (w : ReplayState). Leads starts last from (IsOpened request last inboxes_opened) last from (event given (record { at = now; what = what.Answer answered (Some answer) }) w)) (sym at.world)
+        subst (λ (w : ReplayState). Leads starts last from (IsOpened request last inboxes_opened) last from (event given (record { at = now; what = what.Answer answered (Some answer) }) w)) (sym at.state)
         (rw (here, reads) (record {
-          world = record {
+          state = record {
             source = source;
             c = c;
             requests_sent = requests_sent;
             made_now = inbox + 1;
-            on = rest.world;
+            on = rest.state;
             inbox_is = let m = at.made_is in omega arith;
             num_is = refl;
             last_is = at.last_is;
@@ -443,19 +443,19 @@ module _ (settings : Settings) (config : OrderedConfig) (first : Info) (starts :
             asked_is = let a = at.asked_is in omega arith;
             made_is = let m = at.made_is in omega arith;
           };
-          outputs = (ap starts (let m = at.made_is in omega arith) ∙ begins, subst (λ (o : List Output). Follows starts last from o last from) (sym (four_nils (pass_each (pass_to given now says 6) (Read read.Threshold ∷ Read read.Arm ∷ []) (world_at (Pulls (reader source new)) c requests_sent (inbox + 1))).outputs)) rest.outputs);
+          outputs = (ap starts (let m = at.made_is in omega arith) ∙ begins, subst (λ (o : List Output). Follows starts last from o last from) (sym (four_nils (pass_each (pass_to given now says 6) (Read read.Threshold ∷ Read read.Arm ∷ []) (state_at (Pulls (reader source new)) c requests_sent (inbox + 1))).outputs)) rest.outputs);
         }))
 
   -- ---- the opening
 
-  pub opened : (start : ℕ) → Leads starts 0 0 (IsOn (source_of given 0 0 (inbox_subject given 0) first) (record { consumer_sequence = 0; last = 0; recreation_count = 0; name = first.name; missed = false; limited = false; connection = Connected }) 0 1) 0 0 (opening given start)
+  pub opened : (start : ℕ) → Leads starts 0 0 (IsOn (source_of given 0 0 (inbox_subject given 0) first) (record { consumer_sequence = 0; stream_sequence = 0; recreation_count = 0; name = first.name; missed = false; limited = false; connection = Connected }) 0 1) 0 0 (opening given start)
   unfolding opening
   opened start =
       let source : Source = source_of given 0 0 (inbox_subject given 0) first in
-      let c : Course = record { consumer_sequence = 0; last = 0; recreation_count = 0; name = first.name; missed = false; limited = false; connection = Connected } in
+      let c : Course = record { consumer_sequence = 0; stream_sequence = 0; recreation_count = 0; name = first.name; missed = false; limited = false; connection = Connected } in
       leads_then starts 0 0 0 0 0 0 (IsOn source c 0 1) (IsOn source c 0 1)
-      (pass_to given start tick 2 (Read read.Threshold) (world_at (Pulls (reader source new)) c 0 1))
+      (pass_to given start tick 2 (Read read.Threshold) (state_at (Pulls (reader source new)) c 0 1))
       (λ (w : ReplayState). pass_each (λ row. pass_to given start tick (suc (rank row)) row) (Read read.Arm ∷ []) w)
       (refills start tick 0 0 source c 0 1 0 new)
       (λ w on. subst (λ (w : ReplayState). Leads starts 0 0 (IsOn source c 0 1) 0 0 (pass_each (λ row. pass_to given start tick (suc (rank row)) row) (Read read.Arm ∷ []) w)) (sym on.1)
-      (leads_alone starts 0 0 0 0 (IsOn source c 0 1) (pass_to given start tick 1 (Read read.Arm) (world_at (Pulls (reader source on.0)) c 0 1)) (arms start tick 0 0 source c 0 1 0 on.0)))
+      (leads_alone starts 0 0 0 0 (IsOn source c 0 1) (pass_to given start tick 1 (Read read.Arm) (state_at (Pulls (reader source on.0)) c 0 1)) (arms start tick 0 0 source c 0 1 0 on.0)))

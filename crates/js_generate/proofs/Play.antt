@@ -27,7 +27,7 @@ use Rattle.js_generate.proofs.Runs.{plays, plays_append}
 not_equal : (a b : ℕ) → (a ≡ b → ⊥) → (a == b) ≡ false
 not_equal a b h = grind (arith, nat_tests)
 
--- ---- the world between events
+-- ---- the state between events
 
 -- an inbox is read up to a number
 pub record IsReading (inbox number before : ℕ) (w : ReplayState) : Type 0 where
@@ -38,7 +38,7 @@ pub record IsReading (inbox number before : ℕ) (w : ReplayState) : Type 0 wher
   pub on : IsOn source c requests_sent inboxes_opened w
   pub inbox_is : source.inbox ≡ inbox
   pub num_is : c.consumer_sequence ≡ number
-  pub last_is : c.last ≡ before + number
+  pub last_is : c.stream_sequence ≡ before + number
   pub asked_is : requests_sent ≡ 2 * inbox
   pub made_is : inboxes_opened ≡ inbox + 1
 
@@ -81,7 +81,7 @@ module _ (settings : Settings) (config : OrderedConfig) (first : Info) (starts :
       → Leads starts (before + number) from (IsReading inbox (number + left) before) (before + (number + left)) from
       (plays given place (deliveries inbox before (number + 1) left) w)
   all_in_order zero place inbox number before from w s n r = record {
-    world = subst (λ (k : ℕ). IsReading inbox k before w) (omega arith) r;
+    state = subst (λ (k : ℕ). IsReading inbox k before w) (omega arith) r;
     outputs = (omega arith, refl);
   }
   all_in_order (suc left) place inbox number before from w s n r =
@@ -113,8 +113,8 @@ module _ (settings : Settings) (config : OrderedConfig) (first : Info) (starts :
         (at.restarts settings config first starts now (before + number) from r.source r.c (r.requests_sent + 0) (r.inboxes_opened + 0) inbox (reply (before + (number + 2)) (number + 2)) (decimal (before + (number + 2))) gap_place 6 l
         ((Decides-eqb r.source.inbox inbox).1 r.inbox_is) (reply_reads (before + (number + 2)) (number + 2) (omega arith) (omega arith))
         (not_equal (number + 2) (r.c.consumer_sequence + 1) (λ e. let n = r.num_is in absurd (omega arith)))
-        (not_equal r.c.last u64_max (λ e. let n = r.last_is in absurd (omega arith)))
-        (not_equal r.c.last 0 (λ e. let n = r.last_is in absurd (omega arith)))
+        (not_equal r.c.stream_sequence u64_max (λ e. let n = r.last_is in absurd (omega arith)))
+        (not_equal r.c.stream_sequence 0 (λ e. let n = r.last_is in absurd (omega arith)))
         r.last_is))
         w r.on
 
@@ -192,12 +192,12 @@ module _ (settings : Settings) (config : OrderedConfig) (first : Info) (starts :
         let next : ℕ = before seed (suc episode) in
         let same : suc episode ≡ episode + 1 = sym (add-one episode) in
         let ran : Ran = plays given place (happens seed episode) w in
-        let more = episodes_play left (episode + 1) place_then (next + 1) ran.world (omega arith) (subst (λ (n : ℕ). IsReading (episode + 1) 0 (before seed n) ran.world) same one.world) in
+        let more = episodes_play left (episode + 1) place_then (next + 1) ran.state (omega arith) (subst (λ (n : ℕ). IsReading (episode + 1) 0 (before seed n) ran.state) same one.state) in
         let end : episode + 1 + left ≡ episode + suc left = omega arith in (
           more.0,
           subst (λ (whole : Ran). Follows starts (before seed episode) from whole.outputs (before seed (episode + suc left)) more.0)
               (sym (plays_append given place place_then (happens seed episode) (episodes seed (episode + 1) left) w refl))
               (follows_append starts (before seed episode) from ran.outputs _ next (next + 1) (before seed (episode + suc left)) more.0 one.outputs
-              (subst (λ (n : ℕ). Follows starts (before seed n) (next + 1) (plays given place_then (episodes seed (episode + 1) left) ran.world).outputs (before seed (episode + suc left)) more.0) (sym same)
-              (subst (λ (n : ℕ). Follows starts (before seed (episode + 1)) (next + 1) (plays given place_then (episodes seed (episode + 1) left) ran.world).outputs (before seed n) more.0) end more.1))),
+              (subst (λ (n : ℕ). Follows starts (before seed n) (next + 1) (plays given place_then (episodes seed (episode + 1) left) ran.state).outputs (before seed (episode + suc left)) more.0) (sym same)
+              (subst (λ (n : ℕ). Follows starts (before seed (episode + 1)) (next + 1) (plays given place_then (episodes seed (episode + 1) left) ran.state).outputs (before seed n) more.0) end more.1))),
         )

@@ -31,11 +31,11 @@ starts seed inbox = before seed inbox + 1
 
 -- what the whole of the episodes puts out goes on
 all_follow : (seed count : ℕ) → count ≤ 200_000
-    → (from : ℕ) × Follows (starts seed) 0 0 ((opening given 0).outputs ++ outputs_of (run_events given (at_places 1 (episodes seed 0 count)) (opening given 0).world)) (before seed (0 + count)) from
+    → (from : ℕ) × Follows (starts seed) 0 0 ((opening given 0).outputs ++ outputs_of (run_events given (at_places 1 (episodes seed 0 count)) (opening given 0).state)) (before seed (0 + count)) from
 all_follow seed count small =
     let o = at.opened settings new_ordered_pull_config (info (codes "gen")) (starts seed) 0 in
-    let w : ReplayState = (opening given 0).world in
-    let r : IsReading 0 0 0 w = record { source = _; c = _; requests_sent = 0; inboxes_opened = 1; on = o.world; inbox_is = refl; num_is = refl; last_is = refl; asked_is = refl; made_is = refl } in
+    let w : ReplayState = (opening given 0).state in
+    let r : IsReading 0 0 0 w = record { source = _; c = _; requests_sent = 0; inboxes_opened = 1; on = o.state; inbox_is = refl; num_is = refl; last_is = refl; asked_is = refl; made_is = refl } in
     let played = episodes_play settings new_ordered_pull_config (info (codes "gen")) (starts seed) seed (λ inbox. refl) count 0 1 0 w (omega arith) r in (
       played.0,
       follows_append (starts seed) 0 0 (opening given 0).outputs _ 0 0 (before seed (0 + count)) played.0 o.outputs
@@ -47,7 +47,7 @@ run_follows : (seed count : ℕ) → count ≤ 200_000
     → (last : ℕ) × (from : ℕ) × Follows (starts seed) 0 0 (all_outputs (fold given 0 (generated seed count))) last from
 unfolding fold
 run_follows seed count small =
-    let w : ReplayState = (opening given 0).world in
+    let w : ReplayState = (opening given 0).state in
     let all : List events.Event = at_places 1 (episodes seed 0 count) in
     let whole = all_follow seed count small in
     let front = run_front given (take count all) (drop count all) w in

@@ -15,30 +15,30 @@ use Rattle.js_ordered.proofs.Replaying.{event_begun, led_to}
 use Rattle.js_table.specs.declared.row.Row.TheVariants.{Event}
 use Rattle.js_table.specs.declared.run.Output.{Output}
 use Rattle.js_table.specs.Passes.{ran}
-use Rattle.js_table.specs.Fold.{Ran, and_then, link_after, matter_of, pass_each, event, run_events, opening, is_over, last_world, step_of, fold}
+use Rattle.js_table.specs.Fold.{Ran, and_then, link_after, matter_of, pass_each, event, run_events, opening, is_over, last_state, step_of, fold}
 use Rattle.js_table.specs.Refusal.{first_of, unless, bad_field, lacks_subject, is_exhausted, first_early, first_exhausted, refuse_input, refuse}
 use Rattle.js_ordered.specs.IncrementalReplay.{course_given, course_rest, rest_of, last_moment, last_ran, last, HasCome, IsEnd, IsWithin}
 
 -- ---- lists of events
 
 -- one event more is passed last
-pub run_on : (g : ReplayInput) (es : List events.Event) (e : events.Event) (w : ReplayState) → run_events g (es ++ e ∷ []) w ≡ run_events g es w ++ event g e (last_world w (run_events g es w)) ∷ []
+pub run_on : (g : ReplayInput) (es : List events.Event) (e : events.Event) (w : ReplayState) → run_events g (es ++ e ∷ []) w ≡ run_events g es w ++ event g e (last_state w (run_events g es w)) ∷ []
 unfolding run_events
 run_on g [] e w = refl
-run_on g (x ∷ es) e w = ap (λ (rans : List Ran). event g x w ∷ rans) (run_on g es e (event g x w).world)
+run_on g (x ∷ es) e w = ap (λ (rans : List Ran). event g x w ∷ rans) (run_on g es e (event g x w).state)
 
 count_run : (g : ReplayInput) (es : List events.Event) (w : ReplayState) → length (run_events g es w) ≡ length es
 unfolding run_events
 count_run g [] w = refl
-count_run g (x ∷ es) w = ap (λ (n : ℕ). suc n) (count_run g es (event g x w).world)
+count_run g (x ∷ es) w = ap (λ (n : ℕ). suc n) (count_run g es (event g x w).state)
 
 last_of_more : (first : Ran) (rans : List Ran) (ran : Ran) → last_ran first (rans ++ ran ∷ []) ≡ ran
 last_of_more first [] ran = refl
 last_of_more first (x ∷ rans) ran = last_of_more x rans ran
 
-last_world_is : (first : Ran) (rans : List Ran) → (last_ran first rans).world ≡ last_world first.world rans
-last_world_is first [] = refl
-last_world_is first (x ∷ rans) = last_world_is x rans
+last_state_is : (first : Ran) (rans : List Ran) → (last_ran first rans).state ≡ last_state first.state rans
+last_state_is first [] = refl
+last_state_is first (x ∷ rans) = last_state_is x rans
 
 pub moment_on : (start : ℕ) (es : List events.Event) (e : events.Event) → last_moment start (es ++ e ∷ []) ≡ e.at
 moment_on start [] e = refl
@@ -69,27 +69,27 @@ early_on place before (x ∷ es) e =
 
 -- and so is the first event at the end of the sequences
 exhausted_on : (place : ℕ) (rans : List Ran) (ran : Ran)
-    → first_exhausted place (rans ++ ran ∷ []) ≡ first_of (first_exhausted place rans) (here (is_exhausted ran.world.consumer.phase) (place + length rans))
-exhausted_on place [] ran = here_at (is_exhausted ran.world.consumer.phase) place (place + 0) (omega arith)
+    → first_exhausted place (rans ++ ran ∷ []) ≡ first_of (first_exhausted place rans) (here (is_exhausted ran.state.consumer.phase) (place + length rans))
+exhausted_on place [] ran = here_at (is_exhausted ran.state.consumer.phase) place (place + 0) (omega arith)
 exhausted_on place (x ∷ rans) ran =
-    onward (is_exhausted x.world.consumer.phase) place (first_exhausted (place + 1) rans) (first_exhausted (place + 1) (rans ++ ran ∷ [])) (here (is_exhausted ran.world.consumer.phase) (place + suc (length rans)))
+    onward (is_exhausted x.state.consumer.phase) place (first_exhausted (place + 1) rans) (first_exhausted (place + 1) (rans ++ ran ∷ [])) (here (is_exhausted ran.state.consumer.phase) (place + suc (length rans)))
     (exhausted_on (place + 1) rans ran
     ∙ ap (λ (more : Option ℕ). first_of (first_exhausted (place + 1) rans) more)
-    (here_at (is_exhausted ran.world.consumer.phase) (place + 1 + length rans) (place + suc (length rans)) (omega arith)))
+    (here_at (is_exhausted ran.state.consumer.phase) (place + 1 + length rans) (place + suc (length rans)) (omega arith)))
 
 -- ---- what a course has come to
 
-last_is : (g : ReplayInput) (start : ℕ) (es : List events.Event) → (last g start es).world ≡ last_world (opening g start).world (run_events g es (opening g start).world)
+last_is : (g : ReplayInput) (start : ℕ) (es : List events.Event) → (last g start es).state ≡ last_state (opening g start).state (run_events g es (opening g start).state)
 unfolding last
-last_is g start es = last_world_is (opening g start) (run_events g es (opening g start).world)
+last_is g start es = last_state_is (opening g start) (run_events g es (opening g start).state)
 
-last_on : (g : ReplayInput) (start : ℕ) (es : List events.Event) (e : events.Event) → last g start (es ++ e ∷ []) ≡ event g e (last g start es).world
+last_on : (g : ReplayInput) (start : ℕ) (es : List events.Event) (e : events.Event) → last g start (es ++ e ∷ []) ≡ event g e (last g start es).state
 unfolding last
 last_on g start es e =
     let first : Ran = opening g start in
-    ap (λ (rans : List Ran). last_ran first rans) (run_on g es e first.world)
-    ∙ last_of_more first (run_events g es first.world) (event g e (last_world first.world (run_events g es first.world)))
-    ∙ ap (λ (w : ReplayState). event g e w) (sym (last_world_is first (run_events g es first.world)))
+    ap (λ (rans : List Ran). last_ran first rans) (run_on g es e first.state)
+    ∙ last_of_more first (run_events g es first.state) (event g e (last_state first.state (run_events g es first.state)))
+    ∙ ap (λ (w : ReplayState). event g e w) (sym (last_state_is first (run_events g es first.state)))
 
 noted : (found found' : Option ℕ) (test test' : Bool) (place place' : ℕ) → found ≡ found' → test ≡ test' → place ≡ place' → first_of found (here test place) ≡ first_of found' (here test' place')
 noted found found' test test' place place' same_found same_test same_place =
@@ -105,10 +105,10 @@ length_on es e = simp length-append (omega arith)
 
 -- with no events
 pub comes_first : (g : ReplayInput) (start : ℕ) (c : IncrementalReplay) → course_given c ≡ g → c.count ≡ 0 → c.moment ≡ start → c.early ≡ None → c.exhausted ≡ None
-    → c.world ≡ (opening g start).world → c.outputs ≡ (opening g start).outputs → c.todo.tasks.items ≡ [] → HasCome g start [] c
+    → c.state ≡ (opening g start).state → c.outputs ≡ (opening g start).outputs → c.todo.tasks.items ≡ [] → HasCome g start [] c
 unfolding last run_events
-comes_first g start c given count moment early exhausted world outputs rested =
-    record { given = given; count = count; moment = moment; early = early; exhausted = exhausted; world = world; outputs = outputs; rested = rested }
+comes_first g start c given count moment early exhausted state outputs rested =
+    record { given = given; count = count; moment = moment; early = early; exhausted = exhausted; state = state; outputs = outputs; rested = rested }
 
 -- before an event nothing of it was passed
 pub within_first : (g : ReplayInput) (start : ℕ) (es : List events.Event) (e : events.Event) (c : IncrementalReplay) → HasCome g start es c → IsWithin g start es e c
@@ -119,13 +119,13 @@ within_first g start es e c come = record {
   early = come.early;
   exhausted = come.exhausted;
   rest =
-      ap (λ (tasks : List Task). rest_of (course_given c) e tasks c.world c.outputs) come.rested
-      ∙ ap (λ (by : ReplayInput). event by e c.world) come.given ∙ ap (λ (w : ReplayState). event g e w) come.world;
+      ap (λ (tasks : List Task). rest_of (course_given c) e tasks c.state c.outputs) come.rested
+      ∙ ap (λ (by : ReplayInput). event by e c.state) come.given ∙ ap (λ (w : ReplayState). event g e w) come.state;
 }
 
 -- within it the rest is what it was
 pub within_still : (g : ReplayInput) (start : ℕ) (es : List events.Event) (e : events.Event) (c next : IncrementalReplay) → IsWithin g start es e c
-    → record next { world = c.world; outputs = c.outputs; todo = c.todo } ≡ c → course_rest e next ≡ course_rest e c → IsWithin g start es e next
+    → record next { state = c.state; outputs = c.outputs; todo = c.todo } ≡ c → course_rest e next ≡ course_rest e c → IsWithin g start es e next
 within_still g start es e c next within kept rest = record {
   given = ap course_given kept ∙ within.given;
   count = ap (λ (x : IncrementalReplay). x.count) kept ∙ within.count;
@@ -139,14 +139,14 @@ within_still g start es e c next within kept rest = record {
 pub comes_on : (g : ReplayInput) (start : ℕ) (es : List events.Event) (e : events.Event) (c next : IncrementalReplay) → IsWithin g start es e c
     → course_given next ≡ course_given c → next.count ≡ c.count + 1 → next.moment ≡ e.at
     → next.early ≡ first_of c.early (if nat_lt e.at c.moment then Some c.count else None)
-    → next.exhausted ≡ first_of c.exhausted (if is_exhausted next.world.consumer.phase then Some c.count else None)
-    → course_rest e c ≡ record { world = next.world; outputs = next.outputs } → next.todo.tasks.items ≡ []
+    → next.exhausted ≡ first_of c.exhausted (if is_exhausted next.state.consumer.phase then Some c.count else None)
+    → course_rest e c ≡ record { state = next.state; outputs = next.outputs } → next.todo.tasks.items ≡ []
     → HasCome g start (es ++ e ∷ []) next
 comes_on g start es e c next within given count moment early exhausted passed rested =
     let first : Ran = opening g start in
-    let rans : List Ran = run_events g es first.world in
-    let ran : Ran = record { world = next.world; outputs = next.outputs } in
-    let last_one : Ran = event g e (last_world first.world rans) in
+    let rans : List Ran = run_events g es first.state in
+    let ran : Ran = record { state = next.state; outputs = next.outputs } in
+    let last_one : Ran = event g e (last_state first.state rans) in
     let same : ran ≡ last g start (es ++ e ∷ []) = sym passed ∙ within.rest ∙ sym (last_on g start es e) in
     let is_last : ran ≡ last_one = sym passed ∙ within.rest ∙ ap (λ (w : ReplayState). event g e w) (last_is g start es) in
     record {
@@ -158,10 +158,10 @@ comes_on g start es e c next within given count moment early exhausted passed re
           within.early (ap (λ (n : ℕ). nat_lt e.at n) within.moment) (within.count ∙ zero_more (length es))
           ∙ sym (early_on 0 start es e);
       exhausted =
-          exhausted ∙ noted c.exhausted (first_exhausted 0 rans) (is_exhausted next.world.consumer.phase) (is_exhausted last_one.world.consumer.phase) c.count (0 + length rans)
-          within.exhausted (ap (λ (r : Ran). is_exhausted r.world.consumer.phase) is_last) (within.count ∙ sym (count_run g es first.world) ∙ zero_more (length rans))
-          ∙ sym (exhausted_on 0 rans last_one) ∙ ap (λ (all : List Ran). first_exhausted 0 all) (sym (run_on g es e first.world));
-      world = ap (λ (r : Ran). r.world) same;
+          exhausted ∙ noted c.exhausted (first_exhausted 0 rans) (is_exhausted next.state.consumer.phase) (is_exhausted last_one.state.consumer.phase) c.count (0 + length rans)
+          within.exhausted (ap (λ (r : Ran). is_exhausted r.state.consumer.phase) is_last) (within.count ∙ sym (count_run g es first.state) ∙ zero_more (length rans))
+          ∙ sym (exhausted_on 0 rans last_one) ∙ ap (λ (all : List Ran). first_exhausted 0 all) (sym (run_on g es e first.state));
+      state = ap (λ (r : Ran). r.state) same;
       outputs = ap (λ (r : Ran). r.outputs) same;
       rested = rested;
     }
@@ -177,7 +177,7 @@ rest_left g e (one ∷ tasks) w outputs left = refl
 -- where the rest was passed
 pub rest_passed : (g : ReplayInput) (e : events.Event) (tasks left : List Task) (w u : ReplayState) (before later : List Output) → IsLeft tasks → left ≡ []
     → Leads g e.at (matter_of e.what) (left_rows (matter_of e.what) tasks) w before (left_rows (matter_of e.what) left) u later
-    → rest_of g e tasks w before ≡ record { world = u; outputs = later }
+    → rest_of g e tasks w before ≡ record { state = u; outputs = later }
 rest_passed g e tasks left w u before later some over leads =
     led_to (rest_of g e tasks w before) (ran g e.at (matter_of e.what)) (left_rows (matter_of e.what) left) u later (ap (left_rows (matter_of e.what)) over)
     (rest_left g e tasks w before some ∙ leads)
@@ -190,11 +190,11 @@ rest_kept g e tasks left w u before later some more leads =
     rest_left g e left u later more ∙ sym leads ∙ sym (rest_left g e tasks w before some)
 
 -- where it begins
-pub rest_begins : (g : ReplayInput) (e : events.Event) (up : Bool) (room tasks left : List Task) (w : ReplayState) (before later : List Output) → up ≡ link_after e.what w.up → room ≡ [] → tasks ≡ [] → left ≡ room ++ task.Event ∷ [] → later ≡ []
-    → rest_of g e left (record w { up = up }) later ≡ rest_of g e tasks w before
+pub rest_begins : (g : ReplayInput) (e : events.Event) (up : Bool) (room tasks left : List Task) (w : ReplayState) (before later : List Output) → up ≡ link_after e.what w.link_up → room ≡ [] → tasks ≡ [] → left ≡ room ++ task.Event ∷ [] → later ≡ []
+    → rest_of g e left (record w { link_up = up }) later ≡ rest_of g e tasks w before
 rest_begins g e up room tasks left w before later is empty none put cleared =
-    let v : ReplayState = record w { up = link_after e.what w.up } in
-    ap (λ (b : Bool). rest_of g e left (record w { up = b }) later) is
+    let v : ReplayState = record w { link_up = link_after e.what w.link_up } in
+    ap (λ (b : Bool). rest_of g e left (record w { link_up = b }) later) is
     ∙ ap (λ (ts : List Task). rest_of g e ts v later) (put ∙ ap (λ (r : List Task). r ++ task.Event ∷ []) empty)
     ∙ ap (λ (o : List Output). and_then o (pass_each (ran g e.at (matter_of e.what)) (Event ∷ []) v)) cleared
     ∙ sym (event_begun g e w) ∙ sym (ap (λ (ts : List Task). rest_of g e ts w before) none)
@@ -202,9 +202,9 @@ rest_begins g e up room tasks left w before later is empty none put cleared =
 -- the same of outputs that were lent
 pub rest_passed_as : (g : ReplayInput) (e : events.Event) (tasks left : List Task) (w u : ReplayState) (before lent later back : List Output) → lent ≡ before → back ≡ later → IsLeft tasks → left ≡ []
     → Leads g e.at (matter_of e.what) (left_rows (matter_of e.what) tasks) w lent (left_rows (matter_of e.what) left) u later
-    → rest_of g e tasks w before ≡ record { world = u; outputs = back }
+    → rest_of g e tasks w before ≡ record { state = u; outputs = back }
 rest_passed_as g e tasks left w u before lent later back was is some over leads =
-    let inboxes_opened : List Output → Ran = λ o. record { world = u; outputs = o } in
+    let inboxes_opened : List Output → Ran = λ o. record { state = u; outputs = o } in
     ap (λ (o : List Output). rest_of g e tasks w o) (sym was) ∙ rest_passed g e tasks left w u lent later some over leads ∙ ap inboxes_opened (sym is)
 
 pub rest_kept_as : (g : ReplayInput) (e : events.Event) (tasks left : List Task) (w u : ReplayState) (before lent later back : List Output) → lent ≡ before → back ≡ later → IsLeft tasks → IsLeft left
@@ -235,14 +235,14 @@ parts None None three four = refl
 
 -- what is refused is so by the input with no events, or at the first early event, or at the end of the sequences
 pub refusals : (g : ReplayInput) (start at : ℕ) (es : List events.Event)
-    → refuse g start es ≡ first_of (refuse_input g at []) (first_of (option_map error.BadEvent (first_early 0 start es)) (option_map error.SequenceEnd (first_exhausted 0 (run_events g es (opening g start).world))))
+    → refuse g start es ≡ first_of (refuse_input g at []) (first_of (option_map error.BadEvent (first_early 0 start es)) (option_map error.SequenceEnd (first_exhausted 0 (run_events g es (opening g start).state))))
 unfolding refuse refuse_input
 refusals g start at es =
     parts (unless (not (lacks_subject g.setup g.first.config.deliver_subject)) error.NoDeliverSubject) (option_map error.BadSettings (bad_field g))
-    (option_map error.BadEvent (first_early 0 start es)) (option_map error.SequenceEnd (first_exhausted 0 (run_events g es (opening g start).world)))
+    (option_map error.BadEvent (first_early 0 start es)) (option_map error.SequenceEnd (first_exhausted 0 (run_events g es (opening g start).state)))
 
--- the fold ends as its last world does
-pub ends_as : (g : ReplayInput) (start : ℕ) (es : List events.Event) → (fold g start es).ended ≡ is_over (last g start es).world.consumer.phase
+-- the fold ends as its last state does
+pub ends_as : (g : ReplayInput) (start : ℕ) (es : List events.Event) → (fold g start es).ended ≡ is_over (last g start es).state.consumer.phase
 unfolding fold
 ends_as g start es = ap (λ (w : ReplayState). is_over w.consumer.phase) (sym (last_is g start es))
 
@@ -257,9 +257,9 @@ no_steps g start = refl
 pub steps_on : (g : ReplayInput) (start : ℕ) (es : List events.Event) (e : events.Event) → (fold g start (es ++ e ∷ [])).steps ≡ (fold g start es).steps ++ step_of (last g start (es ++ e ∷ [])) ∷ []
 unfolding fold
 steps_on g start es e =
-    let first : ReplayState = (opening g start).world in
+    let first : ReplayState = (opening g start).state in
     ap (λ (rans : List Ran). map step_of rans) (run_on g es e first)
-    ∙ map_on (run_events g es first) (event g e (last_world first (run_events g es first)))
+    ∙ map_on (run_events g es first) (event g e (last_state first (run_events g es first)))
     ∙ ap (λ (ran : Ran). map step_of (run_events g es first) ++ step_of ran ∷ [])
     (ap (λ (w : ReplayState). event g e w) (sym (last_is g start es)) ∙ sym (last_on g start es e))
   where
@@ -275,7 +275,7 @@ opening_is g start es = refl
 -- there is a step for each event
 pub steps_count : (g : ReplayInput) (start : ℕ) (es : List events.Event) → length (fold g start es).steps ≡ length es
 unfolding fold
-steps_count g start es = counted (run_events g es (opening g start).world) ∙ count_run g es (opening g start).world
+steps_count g start es = counted (run_events g es (opening g start).state) ∙ count_run g es (opening g start).state
   where
     counted : (rans : List Ran) → length (map step_of rans) ≡ length rans
     counted [] = refl
@@ -288,15 +288,15 @@ pub ends_input : (g : ReplayInput) (start : ℕ) (es : List events.Event) (c : I
     → refuse g start es ≡ Some refusal
 ends_input g start es c refusal come refused =
     let input : refuse_input g c.moment [] ≡ Some refusal = ap (λ (by : ReplayInput). refuse_input by c.moment []) (sym come.given) ∙ refused in
-    refusals g start c.moment es ∙ ap (λ (first : Option ReplayError). first_of first (first_of (option_map error.BadEvent (first_early 0 start es)) (option_map error.SequenceEnd (first_exhausted 0 (run_events g es (opening g start).world))))) input
+    refusals g start c.moment es ∙ ap (λ (first : Option ReplayError). first_of first (first_of (option_map error.BadEvent (first_early 0 start es)) (option_map error.SequenceEnd (first_exhausted 0 (run_events g es (opening g start).state))))) input
 
 rest : (g : ReplayInput) (start : ℕ) (es : List events.Event) (c : IncrementalReplay) → HasCome g start es c → refuse_input (course_given c) c.moment [] ≡ None
     → refuse g start es ≡ first_of (option_map error.BadEvent c.early) (option_map error.SequenceEnd c.exhausted)
 rest g start es c come accepted =
     let input : refuse_input g c.moment [] ≡ None = ap (λ (by : ReplayInput). refuse_input by c.moment []) (sym come.given) ∙ accepted in
     refusals g start c.moment es
-    ∙ ap (λ (first : Option ReplayError). first_of first (first_of (option_map error.BadEvent (first_early 0 start es)) (option_map error.SequenceEnd (first_exhausted 0 (run_events g es (opening g start).world))))) input
-    ∙ ap (λ (early : Option ℕ). first_of (option_map error.BadEvent early) (option_map error.SequenceEnd (first_exhausted 0 (run_events g es (opening g start).world)))) (sym come.early)
+    ∙ ap (λ (first : Option ReplayError). first_of first (first_of (option_map error.BadEvent (first_early 0 start es)) (option_map error.SequenceEnd (first_exhausted 0 (run_events g es (opening g start).state))))) input
+    ∙ ap (λ (early : Option ℕ). first_of (option_map error.BadEvent early) (option_map error.SequenceEnd (first_exhausted 0 (run_events g es (opening g start).state)))) (sym come.early)
     ∙ ap (λ (end : Option ℕ). first_of (option_map error.BadEvent c.early) (option_map error.SequenceEnd end)) (sym come.exhausted)
 
 -- or an event is early,
@@ -315,10 +315,10 @@ ends_exhausted g start es c place come accepted early exhausted =
 
 -- or nothing is refused
 pub ends_run : (g : ReplayInput) (start : ℕ) (es : List events.Event) (c : IncrementalReplay) (ended : Bool) → HasCome g start es c → refuse_input (course_given c) c.moment [] ≡ None → c.early ≡ None → c.exhausted ≡ None
-    → ended ≡ is_over c.world.consumer.phase → IsEnd g start es (Ok ended)
+    → ended ≡ is_over c.state.consumer.phase → IsEnd g start es (Ok ended)
 ends_run g start es c ended come accepted early exhausted over = (
   rest g start es c come accepted
       ∙ ap (λ (early : Option ℕ). first_of (option_map error.BadEvent early) (option_map error.SequenceEnd c.exhausted)) early
       ∙ ap (λ (end : Option ℕ). option_map error.SequenceEnd end) exhausted,
-  over ∙ ap (λ (w : ReplayState). is_over w.consumer.phase) come.world ∙ sym (ends_as g start es),
+  over ∙ ap (λ (w : ReplayState). is_over w.consumer.phase) come.state ∙ sym (ends_as g start es),
 )

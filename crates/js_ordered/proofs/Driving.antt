@@ -66,7 +66,7 @@ use Rattle.js_ordered_rows.proofs.Stepping.{from_stream, hears_as, hears_here, h
 -- ---- one row
 
 joined : (earlier outputs : List Output) (r : Ran) → and_then earlier (and_then outputs r) ≡ and_then (earlier ++ outputs) r
-joined earlier outputs r = ap (λ (o : List Output). record { world = r.world; outputs = o }) (sym (append_assoc earlier outputs r.outputs))
+joined earlier outputs r = ap (λ (o : List Output). record { state = r.state; outputs = o }) (sym (append_assoc earlier outputs r.outputs))
 
 -- a row that was passed with what its event gave
 pub leads_by : (g : ReplayInput) (now : ℕ) (m : Matter) (one : Row) (w u : ReplayState) (passed : Passed) (outputs earlier later : List Output) (d : Consumer) (rest : NextTasks)
@@ -138,14 +138,14 @@ heard_request up message (hears.Yields place) = refl
 heard_request up message hears.Unreadable = refl
 heard_request up message hears.Gap = refl
 heard_request up message (hears.Beat last) = beat_request up message.reply
-heard_request up message hears.Quiet = refl
+heard_request up message hears.OtherStatus = refl
 
 heard_inbox : (up : Bool) (message : Message) (heard : Heard) → count_by is_subscribe (heard_outputs up message heard) ≡ 0
 heard_inbox up message (hears.Yields place) = refl
 heard_inbox up message hears.Unreadable = refl
 heard_inbox up message hears.Gap = refl
 heard_inbox up message (hears.Beat last) = beat_inbox up message.reply
-heard_inbox up message hears.Quiet = refl
+heard_inbox up message hears.OtherStatus = refl
 
 pub heard_unnumbered : (w : ReplayState) (d : Consumer) (up : Bool) (message : Message) (heard : Heard)
     → record w { consumer = d } ≡ record (counted (heard_outputs up message heard) w) { consumer = d }
@@ -156,12 +156,12 @@ heard_unnumbered w d up message heard = unnumbered w d (heard_outputs up message
 abbrev pub with_request : Passing → Bool → ℕ → Passing
 with_request p up request = record p { up = up; request = request }
 
-pub request_is : (g : ReplayInput) (now : ℕ) (w : ReplayState) (number : Option ℕ) → IsNumber w.up w.requests_sent number → passing g now w ≡ requesting now number (passing g now w)
+pub request_is : (g : ReplayInput) (now : ℕ) (w : ReplayState) (number : Option ℕ) → IsNumber w.link_up w.requests_sent number → passing g now w ≡ requesting now number (passing g now w)
 request_is g now w None refused = ap (λ (up : Bool). with_request (passing g now w) up (w.requests_sent + 1)) refused
 request_is g now w (Some number) (up, is) =
     ap (λ (b : Bool). with_request (passing g now w) b (w.requests_sent + 1)) up ∙ ap (λ (n : ℕ). with_request (passing g now w) true n) (sym is)
 
-pub inbox_is : (g : ReplayInput) (now : ℕ) (w : ReplayState) (inbox : Option Inbox) → IsInbox w.up w.inboxes_opened (inbox_subject g w.inboxes_opened) inbox → passing g now w ≡ opening_to now inbox (passing g now w)
+pub inbox_is : (g : ReplayInput) (now : ℕ) (w : ReplayState) (inbox : Option Inbox) → IsInbox w.link_up w.inboxes_opened (inbox_subject g w.inboxes_opened) inbox → passing g now w ≡ opening_to now inbox (passing g now w)
 inbox_is g now w None refused = ap (λ (up : Bool). with_request (passing g now w) up (w.requests_sent + 1)) refused
 inbox_is g now w (Some inbox) (up, is) =
     ap (λ (b : Bool). with_request (passing g now w) b (w.requests_sent + 1)) up
@@ -171,21 +171,21 @@ inbox_is g now w (Some inbox) (up, is) =
 
 -- some rows, and then others
 each_append : (one : Row → ReplayState → Ran) (rows more : List Row) (w : ReplayState)
-    → pass_each one (rows ++ more) w ≡ (let first = pass_each one rows w in and_then first.outputs (pass_each one more first.world))
+    → pass_each one (rows ++ more) w ≡ (let first = pass_each one rows w in and_then first.outputs (pass_each one more first.state))
 each_append one [] more w = refl
 each_append one (next ∷ rows) more w =
     let first : Ran = one next w in
-    let some : Ran = pass_each one rows first.world in
-    ap (λ (r : Ran). and_then first.outputs r) (each_append one rows more first.world) ∙ joined first.outputs some.outputs (pass_each one more some.world)
+    let some : Ran = pass_each one rows first.state in
+    ap (λ (r : Ran). and_then first.outputs r) (each_append one rows more first.state) ∙ joined first.outputs some.outputs (pass_each one more some.state)
 
 abbrev onward : (Row → ReplayState → Ran) → List Row → Ran → Ran
-onward one more r = and_then r.outputs (pass_each one more r.world)
+onward one more r = and_then r.outputs (pass_each one more r.state)
 
 after_rows : (one : Row → ReplayState → Ran) (rows more : List Row) (w : ReplayState) (earlier : List Output)
     → and_then earlier (pass_each one (rows ++ more) w) ≡ onward one more (and_then earlier (pass_each one rows w))
 after_rows one rows more w earlier =
     let first : Ran = pass_each one rows w in
-    ap (λ (r : Ran). and_then earlier r) (each_append one rows more w) ∙ joined earlier first.outputs (pass_each one more first.world)
+    ap (λ (r : Ran). and_then earlier r) (each_append one rows more w) ∙ joined earlier first.outputs (pass_each one more first.state)
 
 -- with more rows behind
 pub leads_more : (g : ReplayInput) (now : ℕ) (m : Matter) (rows rest more : List Row) (w u : ReplayState) (earlier later : List Output)
@@ -264,7 +264,7 @@ unit_holds {T} {E} {P} result value is held = subst (λ (r : Result T E). OnOk r
 
 -- a row that sends a request
 pub leads_sent : (g : ReplayInput) (now : ℕ) (m : Matter) (one : Row) (r : Recreation) (w u : ReplayState) (subject payload : List ℕ) (number : Option ℕ) (requests_sent' : ℕ) (earlier later : List Output) (d : Consumer) (rest : NextTasks)
-    → Sends w.up w.requests_sent requests_sent' subject payload earlier later number
+    → Sends w.link_up w.requests_sent requests_sent' subject payload earlier later number
     → StepsTo m (row_at g (requesting now number (passing g now w)) m one (Recreates r) (at_phase (Recreates r) w.consumer)) (requested subject payload number) d rest
     → u ≡ record w { consumer = d; requests_sent = requests_sent' }
     → Leads g now m (one ∷ []) (at (Recreates r) w) earlier (next_rows m rest) u later
@@ -284,7 +284,7 @@ no_made subject payload (Some number) n = omega arith
 
 -- a row that opens an inbox
 pub leads_opened : (g : ReplayInput) (now : ℕ) (m : Matter) (one : Row) (r : Recreation) (w u : ReplayState) (inbox : Option Inbox) (inboxes_opened' : ℕ) (earlier later : List Output) (d : Consumer) (rest : NextTasks)
-    → Subscribes w.up w.inboxes_opened inboxes_opened' (inbox_subject g w.inboxes_opened) earlier later inbox
+    → Subscribes w.link_up w.inboxes_opened inboxes_opened' (inbox_subject g w.inboxes_opened) earlier later inbox
     → StepsTo m (row_at g (opening_to now inbox (passing g now w)) m one (Recreates r) (at_phase (Recreates r) w.consumer)) (subscribed inbox) d rest
     → u ≡ record w { consumer = d; inboxes_opened = inboxes_opened' }
     → Leads g now m (one ∷ []) (at (Recreates r) w) earlier (next_rows m rest) u later
@@ -341,14 +341,14 @@ reply_missing g now m (Some reply) w u outputs is to = cc
 -- a message that was heard
 pub hears_on : (g : ReplayInput) (now : ℕ) (m : Matter) (inbox : ℕ) (message : Message) (heard : Heard) (w u : ReplayState) (earlier later : List Output) (d : Consumer) (rest : NextTasks)
     → listens_to inbox w.consumer.phase ≡ true → IsHeard w.consumer.consumer_sequence message heard
-    → StepsTo m (heard_row (passing g now w) message heard (at_phase (Pushes inbox (armed now)) w.consumer)) (heard_outputs w.up message heard) d rest
-    → later ≡ earlier ++ heard_outputs w.up message heard → u ≡ record w { consumer = d }
+    → StepsTo m (heard_row (passing g now w) message heard (at_phase (Pushes inbox (armed now)) w.consumer)) (heard_outputs w.link_up message heard) d rest
+    → later ≡ earlier ++ heard_outputs w.link_up message heard → u ≡ record w { consumer = d }
     → Leads g now m (row.Hear (record { inbox = inbox; message = message }) ∷ []) w earlier (next_rows m rest) u later
 hears_on g now m inbox message heard w u earlier later d rest here is steps put to =
-    leads_by g now m (row.Hear (record { inbox = inbox; message = message })) w u (heard_row (passing g now w) message heard (at_phase (Pushes inbox (armed now)) w.consumer)) (heard_outputs w.up message heard) earlier later d rest
+    leads_by g now m (row.Hear (record { inbox = inbox; message = message })) w u (heard_row (passing g now w) message heard (at_phase (Pushes inbox (armed now)) w.consumer)) (heard_outputs w.link_up message heard) earlier later d rest
     (hears_here g (passing g now w) m inbox message w.consumer.phase w.consumer here
     ∙ hears_as (passing g now w) message (push_kind message) heard (at_phase (Pushes inbox (armed now)) w.consumer) is)
-    steps put (to ∙ heard_unnumbered w d w.up message heard)
+    steps put (to ∙ heard_unnumbered w d w.link_up message heard)
 
 pub heard_elsewhere : (g : ReplayInput) (now : ℕ) (m : Matter) (inbox : ℕ) (message : Message) (w : ReplayState) (outputs : List Output) → listens_to inbox w.consumer.phase ≡ false
     → Leads g now m (row.Hear (record { inbox = inbox; message = message }) ∷ []) w outputs [] w outputs
@@ -424,7 +424,7 @@ create_none (Pull setup) p q r c pulls m inbox d rest steps = steps
 
 -- push has opened its inbox, or could not
 pub creates_push : (g : ReplayInput) (now : ℕ) (m : Matter) (r : Recreation) (w u : ReplayState) (inbox : Option Inbox) (inboxes_opened' : ℕ) (earlier later : List Output) (d : Consumer) (rest : NextTasks) → IsPush g.setup
-    → Subscribes w.up w.inboxes_opened inboxes_opened' (inbox_subject g w.inboxes_opened) earlier later inbox
+    → Subscribes w.link_up w.inboxes_opened inboxes_opened' (inbox_subject g w.inboxes_opened) earlier later inbox
     → StepsTo m (create_row g.setup (opening_to now inbox (passing g now w)) r (at_phase (Recreates r) w.consumer)) (create_outputs g.setup inbox) d rest
     → u ≡ record w { consumer = d; inboxes_opened = inboxes_opened' }
     → Leads g now m (row.Create ∷ []) (at (Recreates r) w) earlier (next_rows m rest) u later
@@ -452,7 +452,7 @@ succeed_of_push (Pull setup) g p info r c pushes m outputs d rest steps = absurd
 succeed_of_push (Push setup) g p info r c pushes m outputs d rest steps = steps
 
 pub succeeds_pull : (g : ReplayInput) (now : ℕ) (m : Matter) (info : Info) (r : Recreation) (w u : ReplayState) (inbox : Option Inbox) (inboxes_opened' : ℕ) (earlier later : List Output) (d : Consumer) (rest : NextTasks) → IsPull g.setup
-    → Subscribes w.up w.inboxes_opened inboxes_opened' (inbox_subject g w.inboxes_opened) earlier later inbox
+    → Subscribes w.link_up w.inboxes_opened inboxes_opened' (inbox_subject g w.inboxes_opened) earlier later inbox
     → StepsTo m (succeed_pull g (opening_to now inbox (passing g now w)) info (at_phase (Recreates r) w.consumer)) (subscribed inbox) d rest
     → u ≡ record w { consumer = d; inboxes_opened = inboxes_opened' }
     → Leads g now m (row.Succeed info ∷ []) (at (Recreates r) w) earlier (next_rows m rest) u later
@@ -487,14 +487,14 @@ pub brought_nothing : (g : ReplayInput) (now : ℕ) (m : Matter) (inbox : ℕ) (
 brought_nothing g now m inbox message w outputs none = ap (λ (o : Option Message). and_then outputs (pass_each (ran g now m) (heard_rows inbox o) w)) (sym none)
 
 -- the message that was brought was heard
-pub brought_heard : {E : Type 0} (turn : EventContext) (inbox : ℕ) (brings : Option Message) (message : Message) (w u : ReplayState) (before after : List Output) (result : Result NextTasks E) → Some message ≡ brings
-    → PassesTo turn (row.Hear (record { inbox = inbox; message = message }) ∷ []) w u before after result → PassesTo turn (heard_rows inbox brings) w u before after result
-brought_heard turn inbox brings message w u before after result is passes = subst (λ (o : Option Message). PassesTo turn (heard_rows inbox o) w u before after result) is passes
+pub brought_heard : {E : Type 0} (context : EventContext) (inbox : ℕ) (brings : Option Message) (message : Message) (w u : ReplayState) (before after : List Output) (result : Result NextTasks E) → Some message ≡ brings
+    → PassesTo context (row.Hear (record { inbox = inbox; message = message }) ∷ []) w u before after result → PassesTo context (heard_rows inbox brings) w u before after result
+brought_heard context inbox brings message w u before after result is passes = subst (λ (o : Option Message). PassesTo context (heard_rows inbox o) w u before after result) is passes
 
 -- and the first of what was held
-pub held_heard : {E : Type 0} (turn : EventContext) (inbox : ℕ) (messages same : List Message) (place : ℕ) (message : Message) (w u : ReplayState) (before after : List Output) (result : Result NextTasks E) → same ≡ messages
+pub held_heard : {E : Type 0} (context : EventContext) (inbox : ℕ) (messages same : List Message) (place : ℕ) (message : Message) (w u : ReplayState) (before after : List Output) (result : Result NextTasks E) → same ≡ messages
     → place < length messages → message ≡ get_or same place message
-    → PassesTo turn (row.Hear (record { inbox = inbox; message = message }) ∷ []) w u before after result → PassesTo turn (heard_first inbox (drop place messages)) w u before after result
-held_heard turn inbox messages same place message w u before after result are below is passes =
-    subst (λ (rows : List Row). PassesTo turn rows w u before after result)
+    → PassesTo context (row.Hear (record { inbox = inbox; message = message }) ∷ []) w u before after result → PassesTo context (heard_first inbox (drop place messages)) w u before after result
+held_heard context inbox messages same place message w u before after result are below is passes =
+    subst (λ (rows : List Row). PassesTo context rows w u before after result)
     (sym (held_first inbox messages place message below (is ∙ ap (λ (ms : List Message). get_or ms place message) are))) passes

@@ -156,10 +156,10 @@ tries_nowhere g now m task.Arm w u outputs phase one closed is to = absurd one
 tries_nowhere g now m (task.Read due) w u outputs phase one closed is to = absurd one
 
 -- and where one is open it was passed there
-pub tries_here : {E : Type 0} (turn : EventContext) (one : Task) (r : Recreation) (w u : ReplayState) (before after : List Output) (result : Result NextTasks E) → w.consumer.phase ≡ Recreates r
-    → PassesTo turn (rows_of (matter_now turn) one) (at (Recreates r) w) u before after result → PassesTo turn (rows_of (matter_now turn) one) w u before after result
-tries_here turn one r w u before after result is passes =
-    subst (λ (q : Phase). PassesTo turn (rows_of (matter_now turn) one) (at q w) u before after result) (sym is) passes
+pub tries_here : {E : Type 0} (context : EventContext) (one : Task) (r : Recreation) (w u : ReplayState) (before after : List Output) (result : Result NextTasks E) → w.consumer.phase ≡ Recreates r
+    → PassesTo context (rows_of (matter_now context) one) (at (Recreates r) w) u before after result → PassesTo context (rows_of (matter_now context) one) w u before after result
+tries_here context one r w u before after result is passes =
+    subst (λ (q : Phase). PassesTo context (rows_of (matter_now context) one) (at q w) u before after result) (sym is) passes
 
 -- ---- a reader's row where none reads
 
@@ -180,7 +180,7 @@ pub reads_nowhere : (g : ReplayInput) (now : ℕ) (m : Matter) (one : PullRow) (
 reads_nowhere g now m one w u outputs phase other is to =
     idle_row g now m (row.Read one) w u outputs phase is to (reads_none g (passing g now w) m one phase w.consumer other)
 
-pub reads_here : {E : Type 0} (turn : EventContext) (rows : List Row) (r : Reader) (w u : ReplayState) (before after : List Output) (result : Result NextTasks E) → w.consumer.phase ≡ Pulls r
-    → PassesTo turn rows (at (Pulls r) w) u before after result → PassesTo turn rows w u before after result
-reads_here turn rows r w u before after result is passes =
-    subst (λ (q : Phase). PassesTo turn rows (at q w) u before after result) (sym is) passes
+pub reads_here : {E : Type 0} (context : EventContext) (rows : List Row) (r : Reader) (w u : ReplayState) (before after : List Output) (result : Result NextTasks E) → w.consumer.phase ≡ Pulls r
+    → PassesTo context rows (at (Pulls r) w) u before after result → PassesTo context rows w u before after result
+reads_here context rows r w u before after result is passes =
+    subst (λ (q : Phase). PassesTo context rows (at q w) u before after result) (sym is) passes

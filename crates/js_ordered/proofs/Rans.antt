@@ -57,9 +57,9 @@ after_is w c outputs rows requests_sent inboxes_opened e f =
     ap (λ (a : ℕ). same a (w.inboxes_opened + count_by is_subscribe outputs)) e ∙ ap (λ (b : ℕ). same requests_sent b) f
 
 -- nothing comes after it
-pub no_more : (r : Ran) → and_then r.outputs (stays r.world) ≡ r
+pub no_more : (r : Ran) → and_then r.outputs (stays r.state) ≡ r
 no_more r =
-    let with_outputs : List Output → Ran = λ outputs. record { world = r.world; outputs = outputs } in
+    let with_outputs : List Output → Ran = λ outputs. record { state = r.state; outputs = outputs } in
     ap with_outputs (append-nil r.outputs)
 
 -- the last of its rows
@@ -85,7 +85,7 @@ from_rows g now m c rows w = ap (λ (u : ReplayState). pass_each (ran g now m) r
 pub two_rows : (g : ReplayInput) (now : ℕ) (m : Matter) (first second : Row) (w : ReplayState) → pass_each (ran g now m) (first ∷ second ∷ []) w ≡ then_row g now m second (ran g now m first w)
 two_rows g now m first second w =
     let r : Ran = ran g now m first w in
-    ap (λ (rest : Ran). and_then r.outputs rest) (ends g now m second r.world r.world refl)
+    ap (λ (rest : Ran). and_then r.outputs rest) (ends g now m second r.state r.state refl)
 
 -- two rows follow
 pub from_two : (g : ReplayInput) (now : ℕ) (m : Matter) (c : Consumer) (first second : Row) (w : ReplayState) → from g now m (quietly c (first ∷ second ∷ [])) w ≡ then_row g now m second (ran g now m first (with_consumer c w))
@@ -93,11 +93,11 @@ from_two g now m c first second w = from_rows g now m c (first ∷ second ∷ []
 
 -- something is put out, of which nothing is numbered
 pub from_output : (g : ReplayInput) (now : ℕ) (m : Matter) (c : Consumer) (outputs : List Output) (w : ReplayState) → count_by is_request outputs ≡ 0 → count_by is_subscribe outputs ≡ 0
-    → from g now m (put_out c outputs []) w ≡ record { world = with_consumer c w; outputs = outputs }
+    → from g now m (put_out c outputs []) w ≡ record { state = with_consumer c w; outputs = outputs }
 unfolding from
 from_output g now m c outputs w none neither =
-    no_more (record { world = after w (put_out c outputs []); outputs = outputs })
-    ∙ ap (λ (u : ReplayState). record { world = u; outputs = outputs }) (after_is w c outputs [] w.requests_sent w.inboxes_opened (omega arith) (omega arith))
+    no_more (record { state = after w (put_out c outputs []); outputs = outputs })
+    ∙ ap (λ (u : ReplayState). record { state = u; outputs = outputs }) (after_is w c outputs [] w.requests_sent w.inboxes_opened (omega arith) (omega arith))
 
 -- and one row follows
 pub from_output_step : (g : ReplayInput) (now : ℕ) (m : Matter) (c : Consumer) (outputs : List Output) (next : Row) (w : ReplayState) → count_by is_request outputs ≡ 0 → count_by is_subscribe outputs ≡ 0
@@ -108,14 +108,14 @@ from_output_step g now m c outputs next w none neither =
 
 -- a request is made
 pub from_request : (g : ReplayInput) (now : ℕ) (m : Matter) (c : Consumer) (number : ℕ) (subject payload : List ℕ) (w : ReplayState)
-    → from g now m (put_out c (out.Request number subject payload ∷ []) []) w ≡ record { world = record w { consumer = c; requests_sent = w.requests_sent + 1 }; outputs = out.Request number subject payload ∷ [] }
+    → from g now m (put_out c (out.Request number subject payload ∷ []) []) w ≡ record { state = record w { consumer = c; requests_sent = w.requests_sent + 1 }; outputs = out.Request number subject payload ∷ [] }
 unfolding from
 from_request g now m c number subject payload w =
     let outputs : List Output = out.Request number subject payload ∷ [] in
-    no_more (record { world = after w (put_out c outputs []); outputs = outputs })
-    ∙ ap (λ (u : ReplayState). record { world = u; outputs = outputs }) (after_is w c outputs [] (w.requests_sent + 1) w.inboxes_opened (omega arith) (omega arith))
+    no_more (record { state = after w (put_out c outputs []); outputs = outputs })
+    ∙ ap (λ (u : ReplayState). record { state = u; outputs = outputs }) (after_is w c outputs [] (w.requests_sent + 1) w.inboxes_opened (omega arith) (omega arith))
 
--- the world with one inbox more
+-- the state with one inbox more
 abbrev pub with_inbox : Consumer → ReplayState → ReplayState
 with_inbox c w = record w { consumer = c; inboxes_opened = w.inboxes_opened + 1 }
 

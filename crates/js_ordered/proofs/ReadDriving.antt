@@ -84,13 +84,13 @@ pub leads_finish : (g : ReplayInput) (now : ℕ) (m : Matter) (one : PullRow) (r
     → Leads g now m (row.Read one ∷ []) (at (Pulls r) w) earlier (next_rows m rest) u later
 leads_finish g now m one r s w u p step passed earlier later rest is row_is reads sends finishes =
     leads_read g now m one r s w u p None step passed [] (told_outputs finishes.told) earlier later finishes.consumer rest is row_is reads sends finishes.steps finishes.outputs
-    (finishes.world ∙ told_unnumbered w finishes.consumer finishes.told)
+    (finishes.state ∙ told_unnumbered w finishes.consumer finishes.told)
 
-pub sent_is : (g : ReplayInput) (now : ℕ) (w : ReplayState) (up : Bool) → w.up ≡ up → passing g now w ≡ record (passing g now w) { up = up }
+pub sent_is : (g : ReplayInput) (now : ℕ) (w : ReplayState) (up : Bool) → w.link_up ≡ up → passing g now w ≡ record (passing g now w) { up = up }
 sent_is g now w up is = ap (λ (b : Bool). with_request (passing g now w) b (w.requests_sent + 1)) is
 
 -- a pull request went out
-pub leads_asked : (g : ReplayInput) (now : ℕ) (m : Matter) (reason : Reason) (r s : Reader) (w u : ReplayState) (output : Output) (earlier later : List Output) → w.up ≡ true
+pub leads_asked : (g : ReplayInput) (now : ℕ) (m : Matter) (reason : Reason) (r s : Reader) (w u : ReplayState) (output : Output) (earlier later : List Output) → w.link_up ≡ true
     → s ≡ (pull.ask (record (passing g now w) { up = true }) reason r).reader → output ≡ out.Publish (pull.pull_subject r.source) (Some r.source.subject) (pull_body r.pin r.source.config)
     → later ≡ earlier ++ output ∷ [] → u ≡ record w { consumer = at_phase (Pulls s) w.consumer }
     → Leads g now m (row.Read (read.Ask reason) ∷ []) (at (Pulls r) w) earlier [] u later
@@ -108,7 +108,7 @@ inquired m now p None failures r s c rest reader rows = record { consumer = ap (
 inquired m now p (Some number) failures r s c rest reader rows = record { consumer = ap (λ (x : Reader). at_phase (Pulls x) c) reader; outputs = refl; next = rows }
 
 pub leads_inquired : (g : ReplayInput) (now : ℕ) (m : Matter) (failures : ℕ) (r s : Reader) (w u : ReplayState) (number : Option ℕ) (requests_sent' : ℕ) (earlier later : List Output) (step : Read) (rest : NextTasks)
-    → Sends w.up w.requests_sent requests_sent' (pull.info_subject r.source) (codes "{}") earlier later number
+    → Sends w.link_up w.requests_sent requests_sent' (pull.info_subject r.source) (codes "{}") earlier later number
     → ReadsTo (brought m.answer) None (pull.inquire (requesting now number (passing g now w)) failures r) s step → next_rows m rest ≡ reader_rows m step.next
     → u ≡ record w { consumer = at_phase (Pulls s) w.consumer; requests_sent = requests_sent' }
     → Leads g now m (row.Read (read.Inquire failures) ∷ []) (at (Pulls r) w) earlier (next_rows m rest) u later
@@ -124,19 +124,19 @@ leads_inquired g now m failures r s w u number requests_sent' earlier later step
 -- a message of the stream was heard
 pub leads_heard : (g : ReplayInput) (now : ℕ) (m : Matter) (message : Message) (heard_is : Heard) (r s : Reader) (w u : ReplayState) (earlier later : List Output) (d : Consumer) (rest : NextTasks)
     → message_on r.source.inbox m.arrival ≡ Some message → pull_kind message ≡ pulls.Delivered → IsHeardFrom w.consumer.consumer_sequence message heard_is → s ≡ pull.lowered 1 message.length (heard now message r)
-    → StepsTo m (with_sent [] (row.Read read.Threshold ∷ []) (heard_row (passing g now w) message heard_is (record (at_phase (Pulls s) w.consumer) { missed = false }))) (heard_outputs w.up message heard_is) d rest
-    → later ≡ earlier ++ heard_outputs w.up message heard_is → u ≡ record w { consumer = d }
+    → StepsTo m (with_sent [] (row.Read read.Threshold ∷ []) (heard_row (passing g now w) message heard_is (record (at_phase (Pulls s) w.consumer) { missed = false }))) (heard_outputs w.link_up message heard_is) d rest
+    → later ≡ earlier ++ heard_outputs w.link_up message heard_is → u ≡ record w { consumer = d }
     → Leads g now m (row.Read read.CheckArrival ∷ []) (at (Pulls r) w) earlier (next_rows m rest) u later
 leads_heard g now m message heard_is r s w u earlier later d rest arrives kind is reader steps put to =
     let p : Passing = passing g now w in
     let c : Consumer = at_phase (Pulls r) w.consumer in
     let after : Consumer = record (at_phase (Pulls (pull.lowered 1 message.length (heard now message r))) w.consumer) { missed = false } in
-    leads_at g now m (row.Read read.CheckArrival) (Pulls r) w u p (heard_outputs w.up message heard_is) earlier later d rest refl
-    (subst (λ (o : Option Message). StepsTo m (read_row (pull.check_arrival p o r) c) (heard_outputs w.up message heard_is) d rest) (sym arrives)
-    (subst (λ (k : Kind). StepsTo m (read_row (pull.hear message k (heard now message r)) c) (heard_outputs w.up message heard_is) d rest) (sym kind)
-    (subst (λ (passed : Passed). StepsTo m (with_sent [] (row.Read read.Threshold ∷ []) passed) (heard_outputs w.up message heard_is) d rest) (sym (from_stream p message heard_is after is))
-    (subst (λ (x : Reader). StepsTo m (with_sent [] (row.Read read.Threshold ∷ []) (heard_row p message heard_is (record (at_phase (Pulls x) w.consumer) { missed = false }))) (heard_outputs w.up message heard_is) d rest) reader steps))))
-    put (to ∙ heard_unnumbered w d w.up message heard_is)
+    leads_at g now m (row.Read read.CheckArrival) (Pulls r) w u p (heard_outputs w.link_up message heard_is) earlier later d rest refl
+    (subst (λ (o : Option Message). StepsTo m (read_row (pull.check_arrival p o r) c) (heard_outputs w.link_up message heard_is) d rest) (sym arrives)
+    (subst (λ (k : Kind). StepsTo m (read_row (pull.hear message k (heard now message r)) c) (heard_outputs w.link_up message heard_is) d rest) (sym kind)
+    (subst (λ (passed : Passed). StepsTo m (with_sent [] (row.Read read.Threshold ∷ []) passed) (heard_outputs w.link_up message heard_is) d rest) (sym (from_stream p message heard_is after is))
+    (subst (λ (x : Reader). StepsTo m (with_sent [] (row.Read read.Threshold ∷ []) (heard_row p message heard_is (record (at_phase (Pulls x) w.consumer) { missed = false }))) (heard_outputs w.link_up message heard_is) d rest) reader steps))))
+    put (to ∙ heard_unnumbered w d w.link_up message heard_is)
 
 -- what is told of another arrival needs no message
 tells_alone : (message : Message) (k : Kind) (r : Reader) (reply : Option Message) (s : Reader) (step : Read) → k ≢ pulls.Delivered → ReadsTo reply (Some message) (pull.hear message k r) s step → ReadsTo reply None (pull.hear message k r) s step
@@ -144,7 +144,7 @@ tells_alone message k r reply s step other reads = record { reader = reads.reade
   where
     no_hands : (k : Kind) → k ≢ pulls.Delivered → telling.Hands message ≡ (pull.hear message k r).told → ⊥
     no_hands pulls.Delivered other is = other refl
-    no_hands pulls.Quiet other is = cc
+    no_hands pulls.IdleHeartbeat other is = cc
     no_hands pulls.Deleted other is = cc
     no_hands pulls.PushBased other is = cc
     no_hands pulls.Limit other is = cc

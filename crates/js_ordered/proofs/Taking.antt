@@ -74,13 +74,13 @@ refused_on g now m tasks after one w u earlier later to put same =
     ∙ ap (λ (o : List Output). and_then o (pass_each (ran g now m) (left_rows m after) u)) (sym put)
 
 -- a row that was passed, and one that was refused
-pub ok_passes : {E : Type 0} (turn : EventContext) (rows : List Row) (w u : ReplayState) (before after : List Output) (result : Result NextTasks E) (rest : NextTasks) → result ≡ Ok rest → PassesTo turn rows w u before after result
-    → LeadsOn turn rows w before (next_rows (matter_now turn) rest) u after
-ok_passes {E} turn rows w u before after result rest is passes = subst (λ (r : Result NextTasks E). PassesTo turn rows w u before after r) is passes
+pub ok_passes : {E : Type 0} (context : EventContext) (rows : List Row) (w u : ReplayState) (before after : List Output) (result : Result NextTasks E) (rest : NextTasks) → result ≡ Ok rest → PassesTo context rows w u before after result
+    → LeadsOn context rows w before (next_rows (matter_now context) rest) u after
+ok_passes {E} context rows w u before after result rest is passes = subst (λ (r : Result NextTasks E). PassesTo context rows w u before after r) is passes
 
-pub err_passes : {E : Type 0} (turn : EventContext) (rows : List Row) (w u : ReplayState) (before after : List Output) (result : Result NextTasks E) (e : E) → result ≡ Err e → PassesTo turn rows w u before after result
+pub err_passes : {E : Type 0} (context : EventContext) (rows : List Row) (w u : ReplayState) (before after : List Output) (result : Result NextTasks E) (e : E) → result ≡ Err e → PassesTo context rows w u before after result
     → (u ≡ w) × (after ≡ before)
-err_passes {E} turn rows w u before after result e is passes = subst (λ (r : Result NextTasks E). PassesTo turn rows w u before after r) is passes
+err_passes {E} context rows w u before after result e is passes = subst (λ (r : Result NextTasks E). PassesTo context rows w u before after r) is passes
 
 pub tasks_same : (m : Matter) (tasks other : List Task) → tasks ≡ other → left_rows m tasks ≡ left_rows m other
 tasks_same m tasks other is = ap (left_rows m) is

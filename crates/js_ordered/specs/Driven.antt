@@ -29,12 +29,12 @@ Leads g now m rows w earlier rest u later = and_then earlier (pass_each (ran g n
 
 -- the same in a turn
 abbrev pub LeadsOn : EventContext → List Row → ReplayState → List Output → List Row → ReplayState → List Output → Type 0
-LeadsOn turn rows w earlier rest u later = Leads (given_of turn) turn.moment (matter_now turn) rows w earlier rest u later
+LeadsOn context rows w earlier rest u later = Leads (given_of context) context.moment (matter_now context) rows w earlier rest u later
 
 -- rows were passed up to those that follow, or there was no memory and all is as it was
 abbrev pub PassesTo : {E : Type 0} → EventContext → List Row → ReplayState → ReplayState → List Output → List Output → Result NextTasks E → Type 0
-PassesTo turn rows old new before after (Ok rest) = LeadsOn turn rows old before (next_rows (matter_now turn) rest) new after
-PassesTo turn rows old new before after (Err e) = (new ≡ old) × (after ≡ before)
+PassesTo context rows old new before after (Ok rest) = LeadsOn context rows old before (next_rows (matter_now context) rest) new after
+PassesTo context rows old new before after (Err e) = (new ≡ old) × (after ≡ before)
 
 -- the numbers after these were put out
 abbrev pub counted : List Output → ReplayState → ReplayState
@@ -85,4 +85,4 @@ pub record Finishes (m : Matter) (w u : ReplayState) (r : Reader) (step : Read) 
   pub consumer : Consumer
   pub steps : StepsTo m (with_sent [] (reader_rows m step.next) (told_by (told_shown step.told None) (at_phase (Pulls r) w.consumer))) (told_outputs told) consumer rest
   pub outputs : later ≡ earlier ++ told_outputs told
-  pub world : u ≡ record w { consumer = consumer }
+  pub state : u ≡ record w { consumer = consumer }

@@ -28,7 +28,7 @@ last_ran first (ran ∷ rans) = last_ran ran rans
 
 -- what the last event led to and put out, or the opening
 unfoldable pub last : ReplayInput → ℕ → List events.Event → Ran
-last g start es = last_ran (opening g start) (run_events g es (opening g start).world)
+last g start es = last_ran (opening g start) (run_events g es (opening g start).state)
 
 -- a course has come through these events
 pub record HasCome (g : ReplayInput) (start : ℕ) (es : List events.Event) (c : IncrementalReplay) : Type 0 where
@@ -36,8 +36,8 @@ pub record HasCome (g : ReplayInput) (start : ℕ) (es : List events.Event) (c :
   pub count : c.count ≡ length es
   pub moment : c.moment ≡ last_moment start es
   pub early : c.early ≡ first_early 0 start es
-  pub exhausted : c.exhausted ≡ first_exhausted 0 (run_events g es (opening g start).world)
-  pub world : c.world ≡ (last g start es).world
+  pub exhausted : c.exhausted ≡ first_exhausted 0 (run_events g es (opening g start).state)
+  pub state : c.state ≡ (last g start es).state
   pub outputs : c.outputs ≡ (last g start es).outputs
   pub rested : c.todo.tasks.items ≡ []
 
@@ -48,7 +48,7 @@ rest_of g e (task ∷ tasks) w outputs = and_then outputs (pass_each (ran g e.at
 
 -- the same of a course
 abbrev pub course_rest : events.Event → IncrementalReplay → Ran
-course_rest e c = rest_of (course_given c) e c.todo.tasks.items c.world c.outputs
+course_rest e c = rest_of (course_given c) e c.todo.tasks.items c.state c.outputs
 
 -- a course stands before this event or within it, after the others: passing the rest gives what passing the whole would have given
 pub record IsWithin (g : ReplayInput) (start : ℕ) (es : List events.Event) (e : events.Event) (c : IncrementalReplay) : Type 0 where
@@ -56,8 +56,8 @@ pub record IsWithin (g : ReplayInput) (start : ℕ) (es : List events.Event) (e 
   pub count : c.count ≡ length es
   pub moment : c.moment ≡ last_moment start es
   pub early : c.early ≡ first_early 0 start es
-  pub exhausted : c.exhausted ≡ first_exhausted 0 (run_events g es (opening g start).world)
-  pub rest : course_rest e c ≡ ran_by g e (last g start es).world
+  pub exhausted : c.exhausted ≡ first_exhausted 0 (run_events g es (opening g start).state)
+  pub rest : course_rest e c ≡ ran_by g e (last g start es).state
 
 -- what the end of a course answers: whether the run has ended, or the refusal that applies
 abbrev pub IsEnd : ReplayInput → ℕ → List events.Event → Result Bool ReplayError → Type 0

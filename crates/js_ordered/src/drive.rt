@@ -31,28 +31,28 @@ use std::mem;
 /// A row of an open recreation is passed.
 fn pass_recreating(
     alloc: Global,
-    turn: &EventContext<'_>,
-    world: &mut ReplayState,
+    context: &EventContext<'_>,
+    state: &mut ReplayState,
     recreation: Recreation,
     task: &Task,
     outputs: &mut Vec<Output>,
 ) -> Result<NextTasks, OutOfMemory>
     requires task { IsTry task.now }
     requires room { vec_len outputs.old + 1 ≤ vec_capacity outputs.old }
-    ensures { PassesTo turn.now (rows_of (matter_now turn.now) task.now) (at (Phase.Recreates recreation) world.old) world.new outputs.old.items outputs.new.items result }
+    ensures { PassesTo context.now (rows_of (matter_now context.now) task.now) (at (Phase.Recreates recreation) state.old) state.new outputs.old.items outputs.new.items result }
 {
     match task {
-        Task::Try => recreation::begin_try(alloc, turn, world, recreation, outputs),
-        Task::Create => recreation::create(alloc, turn, world, recreation, outputs),
-        Task::Ask => recreation::ask(alloc, turn, world, recreation, outputs),
-        Task::Await => recreation::look_on(turn, world, recreation, outputs),
+        Task::Try => recreation::begin_try(alloc, context, state, recreation, outputs),
+        Task::Create => recreation::create(alloc, context, state, recreation, outputs),
+        Task::Ask => recreation::ask(alloc, context, state, recreation, outputs),
+        Task::Await => recreation::look_on(context, state, recreation, outputs),
         Task::Answered { request } => {
-            recreation::answered(alloc, turn, world, recreation, *request, outputs)
+            recreation::answered(alloc, context, state, recreation, *request, outputs)
         }
         Task::Succeed(info) => {
-            success::succeed(alloc, turn, world, recreation, info.get(), outputs)
+            success::succeed(alloc, context, state, recreation, info.get(), outputs)
         }
-        Task::Fail => recreation::fail(turn, world, recreation, outputs),
+        Task::Fail => recreation::fail(context, state, recreation, outputs),
         Task::Event => Ok(NextTasks::Nothing),
         Task::Start => Ok(NextTasks::Nothing),
         Task::Hold => Ok(NextTasks::Nothing),
@@ -69,43 +69,43 @@ fn pass_recreating(
 #[tactic(auto, using(std::proofs::lemmas::Grind::common_steps, crate::proofs::Nowhere::tries_nowhere))]
 fn pass_try(
     alloc: Global,
-    turn: &EventContext<'_>,
-    world: &mut ReplayState,
+    context: &EventContext<'_>,
+    state: &mut ReplayState,
     task: &Task,
     outputs: &mut Vec<Output>,
 ) -> Result<NextTasks, OutOfMemory>
     requires task { IsTry task.now }
     requires room { vec_len outputs.old + 1 ≤ vec_capacity outputs.old }
-    ensures { PassesTo turn.now (rows_of (matter_now turn.now) task.now) world.old world.new outputs.old.items outputs.new.items result }
+    ensures { PassesTo context.now (rows_of (matter_now context.now) task.now) state.old state.new outputs.old.items outputs.new.items result }
 {
-    match mem::replace(&mut world.consumer.phase, Phase::Idle) {
+    match mem::replace(&mut state.consumer.phase, Phase::Idle) {
         Phase::Recreates(recreation) => {
-            pass_recreating(alloc, turn, world, recreation, task, outputs)
+            pass_recreating(alloc, context, state, recreation, task, outputs)
         }
         Phase::Pulls(reader) => {
-            world.consumer.phase = Phase::Pulls(reader);
+            state.consumer.phase = Phase::Pulls(reader);
             Ok(NextTasks::Nothing)
         }
         Phase::Pushes {
             inbox,
             heartbeat_timer,
         } => {
-            world.consumer.phase = Phase::Pushes {
+            state.consumer.phase = Phase::Pushes {
                 inbox,
                 heartbeat_timer,
             };
             Ok(NextTasks::Nothing)
         }
         Phase::Idle => {
-            world.consumer.phase = Phase::Idle;
+            state.consumer.phase = Phase::Idle;
             Ok(NextTasks::Nothing)
         }
         Phase::Ended => {
-            world.consumer.phase = Phase::Ended;
+            state.consumer.phase = Phase::Ended;
             Ok(NextTasks::Nothing)
         }
         Phase::Exhausted => {
-            world.consumer.phase = Phase::Exhausted;
+            state.consumer.phase = Phase::Exhausted;
             Ok(NextTasks::Nothing)
         }
     }
@@ -115,61 +115,65 @@ fn pass_try(
 
 /// What an event does first. An ended consumer passes nothing.
 #[inline]
-fn event(turn: &EventContext<'_>, world: &mut ReplayState, outputs: &mut Vec<Output>) -> NextTasks
+fn event(
+    context: &EventContext<'_>,
+    state: &mut ReplayState,
+    outputs: &mut Vec<Output>,
+) -> NextTasks
     requires room { vec_len outputs.old + 1 ≤ vec_capacity outputs.old }
-    ensures { LeadsOn turn.now (row.Event ∷ []) world.old outputs.old.items (next_rows (matter_now turn.now) result) world.new outputs.new.items }
+    ensures { LeadsOn context.now (row.Event ∷ []) state.old outputs.old.items (next_rows (matter_now context.now) result) state.new outputs.new.items }
 {
-    if is_over(&world.consumer.phase) {
+    if is_over(&state.consumer.phase) {
         return NextTasks::Nothing;
     }
-    let Step { told, next } = pass_event(turn, &mut world.consumer, change_of(turn.what));
+    let Step { told, next } = pass_event(context, &mut state.consumer, change_of(context.what));
     tell(told, outputs);
     next
 }
 
 /// What was held is heard, the first of it.
 fn hear_held(
-    turn: &EventContext<'_>,
-    world: &mut ReplayState,
+    context: &EventContext<'_>,
+    state: &mut ReplayState,
     held: &Held,
     outputs: &mut Vec<Output>,
 ) -> Result<NextTasks, OutOfMemory>
     requires room { vec_len outputs.old + 1 ≤ vec_capacity outputs.old }
-    ensures { PassesTo turn.now (first_held held.now) world.old world.new outputs.old.items outputs.new.items result }
+    ensures { PassesTo context.now (first_held held.now) state.old state.new outputs.old.items outputs.new.items result }
 {
     let messages = held.messages.as_slice();
     let place = held.place;
     if place >= messages.len() {
         return Ok(NextTasks::Nothing);
     }
-    listening::hear(turn, world, held.inbox, &messages[place], outputs)
+    listening::hear(context, state, held.inbox, &messages[place], outputs)
 }
 
 /// What the event brings on an inbox is heard.
 fn hear_brought(
-    turn: &EventContext<'_>,
-    world: &mut ReplayState,
+    context: &EventContext<'_>,
+    state: &mut ReplayState,
     inbox: u64,
     outputs: &mut Vec<Output>,
 ) -> Result<NextTasks, OutOfMemory>
     requires room { vec_len outputs.old + 1 ≤ vec_capacity outputs.old }
-    ensures { PassesTo turn.now (heard_rows inbox (message_on inbox (matter_now turn.now).arrival)) world.old world.new outputs.old.items outputs.new.items result }
+    ensures { PassesTo context.now (heard_rows inbox (message_on inbox (matter_now context.now).arrival)) state.old state.new outputs.old.items outputs.new.items result }
 {
-    match turn.what.message_on(inbox) {
+    match context.what.message_on(inbox) {
         None => Ok(NextTasks::Nothing),
-        Some(message) => listening::hear(turn, world, inbox, message, outputs),
+        Some(message) => listening::hear(context, state, inbox, message, outputs),
     }
 }
 
 /// What arrives for a recreation that holds arrivals is held.
 fn hold(
-    turn: &EventContext<'_>,
-    world: &mut ReplayState,
+    context: &EventContext<'_>,
+    state: &mut ReplayState,
     outputs: &mut Vec<Output>,
 ) -> Result<NextTasks, OutOfMemory>
-    ensures { PassesTo turn.now (row.Hold ∷ []) world.old world.new outputs.old.items outputs.new.items result }
+    ensures { PassesTo context.now (row.Hold ∷ []) state.old state.new outputs.old.items outputs.new.items result }
 {
-    recreation::hold_at(turn.what, &mut world.consumer.phase)?;
+    recreation::hold_at(context.what, &mut state.consumer.phase)?;
     Ok(NextTasks::Nothing)
 }
 
@@ -177,34 +181,34 @@ fn hold(
 #[inline]
 fn pass(
     alloc: Global,
-    turn: &EventContext<'_>,
-    world: &mut ReplayState,
+    context: &EventContext<'_>,
+    state: &mut ReplayState,
     task: &Task,
     outputs: &mut Vec<Output>,
 ) -> Result<NextTasks, OutOfMemory>
     requires room { vec_len outputs.old + 1 ≤ vec_capacity outputs.old }
-    ensures { PassesTo turn.now (first_rows (matter_now turn.now) task.now) world.old world.new outputs.old.items outputs.new.items result }
+    ensures { PassesTo context.now (first_rows (matter_now context.now) task.now) state.old state.new outputs.old.items outputs.new.items result }
 {
     match task {
-        Task::Event => Ok(event(turn, world, outputs)),
-        Task::Start => recreation::start(alloc, turn, world, outputs),
-        Task::Try => pass_try(alloc, turn, world, task, outputs),
-        Task::Create => pass_try(alloc, turn, world, task, outputs),
-        Task::Ask => pass_try(alloc, turn, world, task, outputs),
-        Task::Await => pass_try(alloc, turn, world, task, outputs),
-        Task::Answered { .. } => pass_try(alloc, turn, world, task, outputs),
-        Task::Succeed(_) => pass_try(alloc, turn, world, task, outputs),
-        Task::Fail => pass_try(alloc, turn, world, task, outputs),
-        Task::Hold => hold(turn, world, outputs),
-        Task::CheckArrival => Ok(listening::look(turn, world)),
-        Task::Hear { inbox } => hear_brought(turn, world, *inbox, outputs),
-        Task::HearHeld(held) => hear_held(turn, world, held, outputs),
-        Task::CheckSilence => Ok(listening::look_at_silence(turn, world, outputs)),
+        Task::Event => Ok(event(context, state, outputs)),
+        Task::Start => recreation::start(alloc, context, state, outputs),
+        Task::Try => pass_try(alloc, context, state, task, outputs),
+        Task::Create => pass_try(alloc, context, state, task, outputs),
+        Task::Ask => pass_try(alloc, context, state, task, outputs),
+        Task::Await => pass_try(alloc, context, state, task, outputs),
+        Task::Answered { .. } => pass_try(alloc, context, state, task, outputs),
+        Task::Succeed(_) => pass_try(alloc, context, state, task, outputs),
+        Task::Fail => pass_try(alloc, context, state, task, outputs),
+        Task::Hold => hold(context, state, outputs),
+        Task::CheckArrival => Ok(listening::look(context, state)),
+        Task::Hear { inbox } => hear_brought(context, state, *inbox, outputs),
+        Task::HearHeld(held) => hear_held(context, state, held, outputs),
+        Task::CheckSilence => Ok(listening::look_at_silence(context, state, outputs)),
         Task::Arm => {
-            listening::arm(turn, world);
+            listening::arm(context, state);
             Ok(NextTasks::Nothing)
         }
-        Task::Read(due) => reading::pass_read(alloc, turn, world, *due, outputs),
+        Task::Read(due) => reading::pass_read(alloc, context, state, *due, outputs),
     }
 }
 
@@ -258,19 +262,19 @@ fn left_of(task: Task) -> NextTasks
 #[inline]
 fn pass_taken(
     alloc: Global,
-    turn: &EventContext<'_>,
-    world: &mut ReplayState,
+    context: &EventContext<'_>,
+    state: &mut ReplayState,
     todo: &mut Todo,
     task: Task,
     outputs: &mut Vec<Output>,
 ) -> Result<(), OutOfMemory>
     requires room { vec_len outputs.old + 1 ≤ vec_capacity outputs.old }
     requires places { vec_len todo.old.tasks + 4 ≤ vec_capacity todo.old.tasks }
-    ensures leads { LeadsOn turn.now (left_rows (matter_now turn.now) (todo.old.tasks.items ++ task ∷ [])) world.old outputs.old.items
-        (left_rows (matter_now turn.now) todo.new.tasks.items) world.new outputs.new.items }
+    ensures leads { LeadsOn context.now (left_rows (matter_now context.now) (todo.old.tasks.items ++ task ∷ [])) state.old outputs.old.items
+        (left_rows (matter_now context.now) todo.new.tasks.items) state.new outputs.new.items }
     ensures refused { OnErr result (IsLeft todo.new.tasks.items) }
 {
-    match pass(alloc, turn, world, &task, outputs) {
+    match pass(alloc, context, state, &task, outputs) {
         Err(refused) => {
             todo.put_one(task);
             Err(refused)
@@ -287,21 +291,21 @@ fn pass_taken(
 #[inline]
 fn pass_next(
     alloc: Global,
-    turn: &EventContext<'_>,
-    world: &mut ReplayState,
+    context: &EventContext<'_>,
+    state: &mut ReplayState,
     todo: &mut Todo,
     outputs: &mut Vec<Output>,
 ) -> Result<(), OutOfMemory>
     requires left { IsLeft todo.old.tasks.items }
-    ensures leads { LeadsOn turn.now (left_rows (matter_now turn.now) todo.old.tasks.items) world.old outputs.old.items
-        (left_rows (matter_now turn.now) todo.new.tasks.items) world.new outputs.new.items }
+    ensures leads { LeadsOn context.now (left_rows (matter_now context.now) todo.old.tasks.items) state.old outputs.old.items
+        (left_rows (matter_now context.now) todo.new.tasks.items) state.new outputs.new.items }
     ensures refused { OnErr result (IsLeft todo.new.tasks.items) }
 {
     todo.make_room()?;
     outputs.reserve(1)?;
     match todo.take() {
         None => Ok(()),
-        Some(task) => pass_taken(alloc, turn, world, todo, task, outputs),
+        Some(task) => pass_taken(alloc, context, state, todo, task, outputs),
     }
 }
 
@@ -310,13 +314,13 @@ fn pass_next(
 /// An event has fewer rows than a `u64` counts: memory ends long before.
 pub(crate) fn pass_left(
     alloc: Global,
-    turn: &EventContext<'_>,
-    world: &mut ReplayState,
+    context: &EventContext<'_>,
+    state: &mut ReplayState,
     todo: &mut Todo,
     outputs: &mut Vec<Output>,
 ) -> Result<(), OutOfMemory>
-    ensures leads { LeadsOn turn.now (left_rows (matter_now turn.now) todo.old.tasks.items) world.old outputs.old.items
-        (left_rows (matter_now turn.now) todo.new.tasks.items) world.new outputs.new.items }
+    ensures leads { LeadsOn context.now (left_rows (matter_now context.now) todo.old.tasks.items) state.old outputs.old.items
+        (left_rows (matter_now context.now) todo.new.tasks.items) state.new outputs.new.items }
     ensures rested { OnOk result (todo.new.tasks.items ≡ []) }
     ensures refused { OnErr result (IsLeft todo.new.tasks.items) }
 {
@@ -324,7 +328,7 @@ pub(crate) fn pass_left(
         if todo.is_empty() {
             return Ok(());
         }
-        pass_next(alloc, turn, world, todo, outputs)?;
+        pass_next(alloc, context, state, todo, outputs)?;
     }
     if todo.is_empty() {
         return Ok(());

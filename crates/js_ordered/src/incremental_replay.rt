@@ -34,7 +34,7 @@ pub struct IncrementalReplay<'a> {
     count: u64,
     early: Option<u64>,
     exhausted: Option<u64>,
-    world: ReplayState,
+    state: ReplayState,
     outputs: Items<Output>,
     todo: Todo,
 }
@@ -70,7 +70,7 @@ impl<'a> IncrementalReplay<'a> {
         ensures { IfOk result (λ course. HasCome (record { settings = settings.now; setup = setup.now; first = first.now }) start [] course) }
     {
         let tick = EventKind::Tick;
-        let turn = EventContext {
+        let context = EventContext {
             settings,
             setup,
             first,
@@ -79,7 +79,7 @@ impl<'a> IncrementalReplay<'a> {
         };
         let mut outputs = Vec::new(alloc);
         let mut todo = Todo::new(alloc);
-        let world = open(alloc, &turn, &mut todo, &mut outputs)?;
+        let state = open(alloc, &context, &mut todo, &mut outputs)?;
         Ok(IncrementalReplay {
             settings,
             setup,
@@ -88,7 +88,7 @@ impl<'a> IncrementalReplay<'a> {
             count: 0,
             early: None,
             exhausted: None,
-            world,
+            state,
             outputs: Items::from(outputs),
             todo,
         })
@@ -97,20 +97,20 @@ impl<'a> IncrementalReplay<'a> {
     // An event begins.
     fn begin(&mut self, alloc: Global, event: &Event) -> Result<(), OutOfMemory>
         requires rested { self.old.todo.tasks.items ≡ [] }
-        ensures kept { record self.new { world = self.old.world; outputs = self.old.outputs; todo = self.old.todo } ≡ self.old }
+        ensures kept { record self.new { state = self.old.state; outputs = self.old.outputs; todo = self.old.todo } ≡ self.old }
         ensures rest { course_rest event.now self.new ≡ course_rest event.now self.old }
         ensures left { OnOk result (IsLeft self.new.todo.tasks.items) }
     {
         self.todo.make_room()?;
         self.todo.put_one(Task::Event);
         empty(alloc, &mut self.outputs);
-        self.world.up = link_after(&event.what, self.world.up);
+        self.state.link_up = link_after(&event.what, self.state.link_up);
         Ok(())
     }
 
     // An event begins where nothing of it was passed.
     fn make_ready(&mut self, alloc: Global, event: &Event) -> Result<(), OutOfMemory>
-        ensures kept { record self.new { world = self.old.world; outputs = self.old.outputs; todo = self.old.todo } ≡ self.old }
+        ensures kept { record self.new { state = self.old.state; outputs = self.old.outputs; todo = self.old.todo } ≡ self.old }
         ensures rest { course_rest event.now self.new ≡ course_rest event.now self.old }
         ensures left { OnOk result (IsLeft self.new.todo.tasks.items) }
     {
@@ -123,12 +123,12 @@ impl<'a> IncrementalReplay<'a> {
     // What is left of an event is passed.
     fn go_on(&mut self, alloc: Global, event: &Event) -> Result<(), OutOfMemory>
         requires left { IsLeft self.old.todo.tasks.items }
-        ensures kept { record self.new { world = self.old.world; outputs = self.old.outputs; todo = self.old.todo } ≡ self.old }
-        ensures passed { OnOk result (course_rest event.now self.old ≡ record { world = self.new.world; outputs = self.new.outputs }) }
+        ensures kept { record self.new { state = self.old.state; outputs = self.old.outputs; todo = self.old.todo } ≡ self.old }
+        ensures passed { OnOk result (course_rest event.now self.old ≡ record { state = self.new.state; outputs = self.new.outputs }) }
         ensures rested { OnOk result (self.new.todo.tasks.items ≡ []) }
         ensures refused { OnErr result (course_rest event.now self.new ≡ course_rest event.now self.old) }
     {
-        let turn = EventContext {
+        let context = EventContext {
             settings: self.settings,
             setup: self.setup,
             first: self.first,
@@ -136,15 +136,21 @@ impl<'a> IncrementalReplay<'a> {
             what: &event.what,
         };
         let mut outputs = mem::replace(&mut self.outputs, Items::new(alloc)).into_vec();
-        let passed = pass_left(alloc, &turn, &mut self.world, &mut self.todo, &mut outputs);
+        let passed = pass_left(
+            alloc,
+            &context,
+            &mut self.state,
+            &mut self.todo,
+            &mut outputs,
+        );
         self.outputs = Items::from(outputs);
         passed
     }
 
     // An event is passed, from where it was refused before.
     fn pass(&mut self, alloc: Global, event: &Event) -> Result<(), OutOfMemory>
-        ensures kept { record self.new { world = self.old.world; outputs = self.old.outputs; todo = self.old.todo } ≡ self.old }
-        ensures passed { OnOk result (course_rest event.now self.old ≡ record { world = self.new.world; outputs = self.new.outputs }) }
+        ensures kept { record self.new { state = self.old.state; outputs = self.old.outputs; todo = self.old.todo } ≡ self.old }
+        ensures passed { OnOk result (course_rest event.now self.old ≡ record { state = self.new.state; outputs = self.new.outputs }) }
         ensures rested { OnOk result (self.new.todo.tasks.items ≡ []) }
         ensures refused { OnErr result (course_rest event.now self.new ≡ course_rest event.now self.old) }
     {
@@ -174,7 +180,7 @@ impl<'a> IncrementalReplay<'a> {
         let is_early = event.at < self.moment;
         self.pass(alloc, event)?;
         self.early = first_place(self.early, is_early, place);
-        let is_last = is_exhausted(&self.world.consumer.phase);
+        let is_last = is_exhausted(&self.state.consumer.phase);
         self.exhausted = first_place(self.exhausted, is_last, place);
         self.moment = event.at;
         self.count = count;
@@ -208,14 +214,14 @@ impl<'a> IncrementalReplay<'a> {
             return Err(ReplayError::OutOfMemory);
         }
         let tick = EventKind::Tick;
-        let turn = EventContext {
+        let context = EventContext {
             settings: self.settings,
             setup: self.setup,
             first: self.first,
             moment: self.moment,
             what: &tick,
         };
-        if let Some(refusal) = refuse_input(&turn, &[]) {
+        if let Some(refusal) = refuse_input(&context, &[]) {
             return Err(refusal);
         }
         if let Some(place) = self.early {
@@ -224,6 +230,6 @@ impl<'a> IncrementalReplay<'a> {
         if let Some(place) = self.exhausted {
             return Err(ReplayError::SequenceEnd { place });
         }
-        Ok(is_over(&self.world.consumer.phase))
+        Ok(is_over(&self.state.consumer.phase))
     }
 }

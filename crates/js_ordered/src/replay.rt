@@ -24,29 +24,29 @@ use std::alloc::Global;
 // ---- the opening
 
 /// The reader of the first inbox.
-fn first_reader(alloc: Global, turn: &EventContext<'_>) -> Result<Reader, OutOfMemory>
-    ensures { IfOk result (λ reader. reader ≡ first_reader_of (given_of turn.now)) }
+fn first_reader(alloc: Global, context: &EventContext<'_>) -> Result<Reader, OutOfMemory>
+    ensures { IfOk result (λ reader. reader ≡ first_reader_of (given_of context.now)) }
 {
-    let subject = texts::inbox_subject(alloc, turn, 0)?;
-    Ok(Reader::new(texts::source_of(turn, 0, 0, subject, turn.first)?))
+    let subject = texts::inbox_subject(alloc, context, 0)?;
+    Ok(Reader::new(texts::source_of(context, 0, 0, subject, context.first)?))
 }
 
 /// Nothing was asked or yielded yet, and no inbox is read.
-fn first_world(turn: &EventContext<'_>) -> Result<ReplayState, OutOfMemory>
-    ensures { IfOk result (λ world. world ≡ at Phase.Idle (fold.first_world (given_of turn.now) turn.now.moment)) }
+fn first_state(context: &EventContext<'_>) -> Result<ReplayState, OutOfMemory>
+    ensures { IfOk result (λ state. state ≡ at Phase.Idle (fold.first_state (given_of context.now) context.now.moment)) }
 {
     Ok(ReplayState {
         consumer: Consumer {
             phase: Phase::Idle,
             consumer_sequence: 0,
-            last: 0,
+            stream_sequence: 0,
             recreation_count: 0,
-            name: turn.first.name.try_clone()?,
+            name: context.first.name.try_clone()?,
             missed: false,
             limited: false,
             connection: State::Connected,
         },
-        up: true,
+        link_up: true,
         requests_sent: 0,
         inboxes_opened: 1,
     })
@@ -55,52 +55,52 @@ fn first_world(turn: &EventContext<'_>) -> Result<ReplayState, OutOfMemory>
 /// The opening of pull, which asks at once and arms its heartbeat.
 fn open_pull(
     alloc: Global,
-    turn: &EventContext<'_>,
-    world: &mut ReplayState,
+    context: &EventContext<'_>,
+    state: &mut ReplayState,
     todo: &mut Todo,
     outputs: &mut Vec<Output>,
 ) -> Result<(), OutOfMemory>
-    requires pull { IsPull turn.now.setup.now }
+    requires pull { IsPull context.now.setup.now }
     requires rested { todo.old.tasks.items ≡ [] }
     requires empty { outputs.old.items ≡ [] }
-    requires first { world.old ≡ at Phase.Idle (fold.first_world (given_of turn.now) turn.now.moment) }
-    requires tick { turn.now.what.now ≡ Tick }
-    ensures world { OnOk result (world.new ≡ (fold.opening (given_of turn.now) turn.now.moment).world) }
-    ensures outputs { OnOk result (outputs.new.items ≡ (fold.opening (given_of turn.now) turn.now.moment).outputs) }
+    requires first { state.old ≡ at Phase.Idle (fold.first_state (given_of context.now) context.now.moment) }
+    requires tick { context.now.what.now ≡ Tick }
+    ensures state { OnOk result (state.new ≡ (fold.opening (given_of context.now) context.now.moment).state) }
+    ensures outputs { OnOk result (outputs.new.items ≡ (fold.opening (given_of context.now) context.now.moment).outputs) }
     ensures rested { OnOk result (todo.new.tasks.items ≡ []) }
 {
-    let reader = first_reader(alloc, turn)?;
-    world.consumer.phase = Phase::Pulls(reader);
+    let reader = first_reader(alloc, context)?;
+    state.consumer.phase = Phase::Pulls(reader);
     todo.make_room()?;
     todo.put(NextTasks::Two(Task::Read(Due::Threshold), Task::Read(Due::Arm)));
-    pass_left(alloc, turn, world, todo, outputs)?;
+    pass_left(alloc, context, state, todo, outputs)?;
     Ok(())
 }
 
-/// The opening, from the first world on: pull asks at once, and either arms its heartbeat.
+/// The opening, from the first state on: pull asks at once, and either arms its heartbeat.
 #[tactic(auto, using(std::proofs::lemmas::Grind::common_steps, crate::proofs::Replaying::opening_listens))]
 pub(crate) fn open(
     alloc: Global,
-    turn: &EventContext<'_>,
+    context: &EventContext<'_>,
     todo: &mut Todo,
     outputs: &mut Vec<Output>,
 ) -> Result<ReplayState, OutOfMemory>
-    requires tick { turn.now.what.now ≡ Tick }
+    requires tick { context.now.what.now ≡ Tick }
     requires rested { todo.old.tasks.items ≡ [] }
     requires empty { outputs.old.items ≡ [] }
-    ensures world { IfOk result (λ world. world ≡ (fold.opening (given_of turn.now) turn.now.moment).world) }
-    ensures outputs { OnOk result (outputs.new.items ≡ (fold.opening (given_of turn.now) turn.now.moment).outputs) }
+    ensures state { IfOk result (λ state. state ≡ (fold.opening (given_of context.now) context.now.moment).state) }
+    ensures outputs { OnOk result (outputs.new.items ≡ (fold.opening (given_of context.now) context.now.moment).outputs) }
     ensures rested { OnOk result (todo.new.tasks.items ≡ []) }
 {
-    let mut world = first_world(turn)?;
-    match turn.setup {
+    let mut state = first_state(context)?;
+    match context.setup {
         OrderedSetup::Pull(_) => {
-            open_pull(alloc, turn, &mut world, todo, outputs)?;
-            Ok(world)
+            open_pull(alloc, context, &mut state, todo, outputs)?;
+            Ok(state)
         }
         OrderedSetup::Push(_) => {
-            listen(turn, &mut world.consumer, 0);
-            Ok(world)
+            listen(context, &mut state.consumer, 0);
+            Ok(state)
         }
     }
 }
@@ -120,29 +120,29 @@ pub(crate) fn link_after(what: &EventKind, was: bool) -> bool
 /// One event is passed at its moment, with the link as it then stands.
 fn pass(
     alloc: Global,
-    turn: &EventContext<'_>,
+    context: &EventContext<'_>,
     event: &Event,
-    world: &mut ReplayState,
+    state: &mut ReplayState,
     todo: &mut Todo,
     outputs: &mut Vec<Output>,
 ) -> Result<(), OutOfMemory>
     requires rested { todo.old.tasks.items ≡ [] }
     requires empty { outputs.old.items ≡ [] }
-    ensures world { OnOk result (world.new ≡ (fold.event (given_of turn.now) event.now world.old).world) }
-    ensures outputs { OnOk result (outputs.new.items ≡ (fold.event (given_of turn.now) event.now world.old).outputs) }
+    ensures state { OnOk result (state.new ≡ (fold.event (given_of context.now) event.now state.old).state) }
+    ensures outputs { OnOk result (outputs.new.items ≡ (fold.event (given_of context.now) event.now state.old).outputs) }
     ensures rested { OnOk result (todo.new.tasks.items ≡ []) }
 {
-    world.up = link_after(&event.what, world.up);
-    let turn = EventContext {
-        settings: turn.settings,
-        setup: turn.setup,
-        first: turn.first,
+    state.link_up = link_after(&event.what, state.link_up);
+    let context = EventContext {
+        settings: context.settings,
+        setup: context.setup,
+        first: context.first,
         moment: event.at,
         what: &event.what,
     };
     todo.make_room()?;
     todo.put_one(Task::Event);
-    pass_left(alloc, &turn, world, todo, outputs)?;
+    pass_left(alloc, &context, state, todo, outputs)?;
     Ok(())
 }
 
@@ -161,20 +161,20 @@ fn take_step(outputs: &mut Vec<Output>) -> Result<Step, OutOfMemory>
 /// The step of one event.
 fn step(
     alloc: Global,
-    turn: &EventContext<'_>,
+    context: &EventContext<'_>,
     event: &Event,
-    world: &mut ReplayState,
+    state: &mut ReplayState,
     todo: &mut Todo,
     outputs: &mut Vec<Output>,
 ) -> Result<Step, OutOfMemory>
     requires rested { todo.old.tasks.items ≡ [] }
     requires empty { outputs.old.items ≡ [] }
-    ensures step { IfOk result (λ step. step ≡ fold.step_of (fold.event (given_of turn.now) event.now world.old)) }
-    ensures world { OnOk result (world.new ≡ (fold.event (given_of turn.now) event.now world.old).world) }
+    ensures step { IfOk result (λ step. step ≡ fold.step_of (fold.event (given_of context.now) event.now state.old)) }
+    ensures state { OnOk result (state.new ≡ (fold.event (given_of context.now) event.now state.old).state) }
     ensures emptied { OnOk result (outputs.new.items ≡ []) }
     ensures rested { OnOk result (todo.new.tasks.items ≡ []) }
 {
-    pass(alloc, turn, event, world, todo, outputs)?;
+    pass(alloc, context, event, state, todo, outputs)?;
     take_step(outputs)
 }
 
@@ -195,26 +195,26 @@ fn steps_for(alloc: Global, events: &[Event]) -> Result<Items<Step>, OutOfMemory
 }
 
 /// The steps of a list of events, one for each.
-#[tactic(auto, using(crate::proofs::Replaying::goes_first, crate::proofs::Replaying::goes_no_further, crate::proofs::Replaying::steps_all, crate::proofs::Replaying::world_last, crate::proofs::Replaying::none_refused))]
+#[tactic(auto, using(crate::proofs::Replaying::goes_first, crate::proofs::Replaying::goes_no_further, crate::proofs::Replaying::steps_all, crate::proofs::Replaying::state_last, crate::proofs::Replaying::none_refused))]
 fn steps_of(
     alloc: Global,
-    turn: &EventContext<'_>,
-    world: &mut ReplayState,
+    context: &EventContext<'_>,
+    state: &mut ReplayState,
     todo: &mut Todo,
     outputs: &mut Vec<Output>,
     events: &[Event],
 ) -> Result<Items<Step>, ReplayError>
     requires rested { todo.old.tasks.items ≡ [] }
     requires empty { outputs.old.items ≡ [] }
-    ensures steps { IfOk result (λ steps. steps ≡ map fold.step_of (fold.run_events (given_of turn.now) events.now world.old)) }
-    ensures world { OnOk result (world.new ≡ fold.last_world world.old (fold.run_events (given_of turn.now) events.now world.old)) }
-    ensures accepted { OnOk result (refuse_end (fold.run_events (given_of turn.now) events.now world.old) ≡ None) }
-    ensures refused { IfErr result (λ e. e ≢ ReplayError.OutOfMemory → refuse_end (fold.run_events (given_of turn.now) events.now world.old) ≡ Some e) }
+    ensures steps { IfOk result (λ steps. steps ≡ map fold.step_of (fold.run_events (given_of context.now) events.now state.old)) }
+    ensures state { OnOk result (state.new ≡ fold.last_state state.old (fold.run_events (given_of context.now) events.now state.old)) }
+    ensures accepted { OnOk result (refuse_end (fold.run_events (given_of context.now) events.now state.old) ≡ None) }
+    ensures refused { IfErr result (λ e. e ≢ ReplayError.OutOfMemory → refuse_end (fold.run_events (given_of context.now) events.now state.old) ≡ Some e) }
 {
     let mut steps = steps_for(alloc, events)?;
     for (place, event) in events.iter().enumerate() {
-        let step = step(alloc, turn, event, world, todo, outputs)?;
-        if is_exhausted(&world.consumer.phase) {
+        let step = step(alloc, context, event, state, todo, outputs)?;
+        if is_exhausted(&state.consumer.phase) {
             return Err(ReplayError::SequenceEnd {
                 place: place as u64,
             });
@@ -228,33 +228,33 @@ fn steps_of(
 
 /// The run of the events of input that is not refused.
 #[tactic(auto, using(crate::proofs::Replaying::run_folded, crate::proofs::Replaying::end_folded))]
-fn run(alloc: Global, turn: &EventContext<'_>, events: &[Event]) -> Result<Run, ReplayError>
-    requires tick { turn.now.what.now ≡ Tick }
-    requires accepted { refuse_input (given_of turn.now) turn.now.moment events.now ≡ None }
-    ensures { IsFolded (given_of turn.now) turn.now.moment events.now result }
+fn run(alloc: Global, context: &EventContext<'_>, events: &[Event]) -> Result<Run, ReplayError>
+    requires tick { context.now.what.now ≡ Tick }
+    requires accepted { refuse_input (given_of context.now) context.now.moment events.now ≡ None }
+    ensures { IsFolded (given_of context.now) context.now.moment events.now result }
 {
     let mut todo = Todo::new(alloc);
     let mut outputs = Vec::new(alloc);
-    let mut world = open(alloc, turn, &mut todo, &mut outputs)?;
+    let mut state = open(alloc, context, &mut todo, &mut outputs)?;
     let opening = take_step(&mut outputs)?;
-    let steps = steps_of(alloc, turn, &mut world, &mut todo, &mut outputs, events)?;
+    let steps = steps_of(alloc, context, &mut state, &mut todo, &mut outputs, events)?;
     Ok(Run {
         opening,
         steps,
-        ended: is_over(&world.consumer.phase),
+        ended: is_over(&state.consumer.phase),
     })
 }
 
 /// The run, or the refusal that applies.
 #[tactic(auto, using(crate::proofs::Replaying::input_folded))]
-fn replay(alloc: Global, turn: &EventContext<'_>, events: &[Event]) -> Result<Run, ReplayError>
-    requires { turn.now.what.now ≡ Tick }
-    ensures { IsFolded (given_of turn.now) turn.now.moment events.now result }
+fn replay(alloc: Global, context: &EventContext<'_>, events: &[Event]) -> Result<Run, ReplayError>
+    requires { context.now.what.now ≡ Tick }
+    ensures { IsFolded (given_of context.now) context.now.moment events.now result }
 {
-    if let Some(refusal) = refuse_input(turn, events) {
+    if let Some(refusal) = refuse_input(context, events) {
         return Err(refusal);
     }
-    run(alloc, turn, events)
+    run(alloc, context, events)
 }
 
 /// What an ordered consumer does at its opening and at each event, and whether it has ended after the last one.
@@ -298,12 +298,12 @@ pub fn replay_ordered(
         → IfErr result (λ refusal. refusal ≡ ReplayError.OutOfMemory) }
 {
     let tick = EventKind::Tick;
-    let turn = EventContext {
+    let context = EventContext {
         settings,
         setup,
         first,
         moment: start,
         what: &tick,
     };
-    replay(alloc, &turn, events)
+    replay(alloc, &context, events)
 }

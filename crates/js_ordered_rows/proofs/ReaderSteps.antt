@@ -15,7 +15,7 @@ use Rattle.js_pull.specs.Steps.{row_list, told_shown}
 use Rattle.js_pull.specs.declared.reader.InfoRequest.{InfoRequest}
 use Rattle.js_pull.specs.declared.reader.InfoRequest.TheVariants.{NoInfoRequest, Asked, Resting}
 use Rattle.js_pull.specs.declared.kind.Kind.{Kind}
-use Rattle.js_pull.specs.declared.kind.Kind.TheVariants.{Delivered, Quiet, Deleted, PushBased, Limit, Gone, Bad, Ledger}
+use Rattle.js_pull.specs.declared.kind.Kind.TheVariants.{Delivered, IdleHeartbeat, Deleted, PushBased, Limit, Gone, Bad, Ledger}
 use Rattle.js_pull.specs.declared.reader.Reader.{Reader}
 use Rattle.js_pull.specs.declared.reader.Reason.{Reason}
 use Rattle.js_pull.specs.declared.reader.Reason.TheVariants.{Low, Informed}
@@ -156,7 +156,7 @@ answered_sends failures (Some info) r = refl
 
 pub hear_sends : (message : Message) (k : Kind) (r : Reader) → (pull.hear message k r).sent ≡ []
 hear_sends message Delivered r = refl
-hear_sends message Quiet r = refl
+hear_sends message IdleHeartbeat r = refl
 hear_sends message Deleted r = refl
 hear_sends message PushBased r = refl
 hear_sends message Limit r = refl

@@ -194,14 +194,14 @@ from_stream p message hears.Gap c (place, there, other) =
     ap (λ (place : Option ack.Place). message_row place message c) there
     ∙ ap (λ (b : Bool). if b then accepted (place_shown place) message c else restart c) here
 from_stream p message (hears.Beat last) c heard = absurd heard
-from_stream p message hears.Quiet c heard = absurd heard
+from_stream p message hears.OtherStatus c heard = absurd heard
 
 -- an arrival is what its kind says
 pub hears_as : (p : Passing) (message : Message) (k : PushKind) (heard : Heard) (c : Consumer) → IsHeardAs c.consumer_sequence message k heard → hear_kind p message k c ≡ heard_row p message heard c
 hears_as p message kind.Delivered heard c is = from_stream p message heard c is
 hears_as p message (kind.Beat last) heard c is = ap (λ (h : Heard). heard_row p message h c) (sym is)
 hears_as p message kind.Bad heard c is = ap (λ (h : Heard). heard_row p message h c) (sym is)
-hears_as p message kind.Quiet heard c is = ap (λ (h : Heard). heard_row p message h c) (sym is)
+hears_as p message kind.OtherStatus heard c is = ap (λ (h : Heard). heard_row p message h c) (sym is)
 
 -- where the consumer listens
 pub hears_here : (g : ReplayInput) (p : Passing) (m : Matter) (inbox : ℕ) (message : Message) (phase : Phase) (c : Consumer) → listens_to inbox phase ≡ true
@@ -236,4 +236,4 @@ of_stream consumer_sequence message (hears.Yields place) is = tt
 of_stream consumer_sequence message hears.Unreadable is = tt
 of_stream consumer_sequence message hears.Gap is = tt
 of_stream consumer_sequence message (hears.Beat last) is = is
-of_stream consumer_sequence message hears.Quiet is = is
+of_stream consumer_sequence message hears.OtherStatus is = is

@@ -167,7 +167,7 @@ abbrev pub IsHeardAs : ℕ → Message → PushKind → Heard → Type 0
 IsHeardAs consumer_sequence message kind.Delivered heard = IsHeardFrom consumer_sequence message heard
 IsHeardAs consumer_sequence message (kind.Beat last) heard = heard ≡ hears.Beat last
 IsHeardAs consumer_sequence message kind.Bad heard = heard ≡ hears.Unreadable
-IsHeardAs consumer_sequence message kind.Quiet heard = heard ≡ hears.Quiet
+IsHeardAs consumer_sequence message kind.OtherStatus heard = heard ≡ hears.OtherStatus
 
 -- what an arrival is to a consumer that has accepted the message with this number
 abbrev pub IsHeard : ℕ → Message → Heard → Type 0
@@ -179,7 +179,7 @@ heard_outputs up message (hears.Yields place) = out.Yield place.sequence place.n
 heard_outputs up message hears.Unreadable = out.Item item.Other ∷ []
 heard_outputs up message (hears.Beat last) = beat_answer up message.reply
 heard_outputs up message hears.Gap = []
-heard_outputs up message hears.Quiet = []
+heard_outputs up message hears.OtherStatus = []
 
 -- and what comes of it
 abbrev pub heard_row : Passing → Message → Heard → Consumer → Passed
@@ -187,4 +187,4 @@ heard_row p message (hears.Yields place) c = accepted (place_shown place) messag
 heard_row p message hears.Unreadable c = put_item item.Other c
 heard_row p message (hears.Beat last) c = record { consumer = c; outputs = beat_answer p.up message.reply; next = beat_rows last c.consumer_sequence }
 heard_row p message hears.Gap c = restart c
-heard_row p message hears.Quiet c = passes_quietly c []
+heard_row p message hears.OtherStatus c = passes_quietly c []

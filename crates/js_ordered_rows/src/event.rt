@@ -77,12 +77,12 @@ fn recreation_next(recreation: &Recreation) -> NextTasks
 
 /// What an event goes on with after the connection, which may have changed for a reader.
 #[inline]
-fn go_on(turn: &EventContext<'_>, consumer: &mut Consumer, change: Option<State>) -> NextTasks
+fn go_on(context: &EventContext<'_>, consumer: &mut Consumer, change: Option<State>) -> NextTasks
     ensures { (p : Passing) → (m : Matter)
-        → StepsTo m (goes_on (given_of turn.now) (at_moment turn.now.moment p) m change consumer.old.phase consumer.old) [] consumer.new result }
+        → StepsTo m (goes_on (given_of context.now) (at_moment context.now.moment p) m change consumer.old.phase consumer.old) [] consumer.new result }
 {
     match &mut consumer.phase {
-        Phase::Pulls(reader) => begin(reader, turn.moment, change),
+        Phase::Pulls(reader) => begin(reader, context.moment, change),
         Phase::Pushes { .. } => NextTasks::One(Task::CheckArrival),
         Phase::Recreates(recreation) => recreation_next(recreation),
         Phase::Idle => NextTasks::One(Task::Start),
@@ -106,35 +106,35 @@ fn is_lost(phase: &Phase, before: State, state: State) -> bool
 }
 
 /// The connection is in another state from now on.
-fn change_state(turn: &EventContext<'_>, consumer: &mut Consumer, state: State) -> NextTasks
+fn change_state(context: &EventContext<'_>, consumer: &mut Consumer, state: State) -> NextTasks
     ensures { (p : Passing) → (m : Matter)
-        → StepsTo m (turns.changed (given_of turn.now) (at_moment turn.now.moment p) m consumer.old.connection state consumer.old.phase consumer.old) [] consumer.new result }
+        → StepsTo m (turns.changed (given_of context.now) (at_moment context.now.moment p) m consumer.old.connection state consumer.old.phase consumer.old) [] consumer.new result }
 {
     let restarts = is_lost(&consumer.phase, consumer.connection, state);
     consumer.connection = state;
     if restarts {
         return NextTasks::One(Task::Start);
     }
-    go_on(turn, consumer, Some(state))
+    go_on(context, consumer, Some(state))
 }
 
 /// What an event does first, with what it says of the connection. An ended consumer passes nothing, and is not asked for here.
 #[inline]
-pub fn pass_event(turn: &EventContext<'_>, consumer: &mut Consumer, change: Change) -> Step
+pub fn pass_event(context: &EventContext<'_>, consumer: &mut Consumer, change: Change) -> Step
     requires over { has_ended consumer.old.phase ≡ false }
     ensures { (p : Passing) → (m : Matter) → m.change ≡ change_shown change
-        → StepsTo m (turns.event_row (given_of turn.now) (at_moment turn.now.moment p) m consumer.old.phase consumer.old) (told_outputs result.told) consumer.new result.next }
+        → StepsTo m (turns.event_row (given_of context.now) (at_moment context.now.moment p) m consumer.old.phase consumer.old) (told_outputs result.told) consumer.new result.next }
 {
     match change {
-        Change::Unchanged => quietly(go_on(turn, consumer, None)),
+        Change::Unchanged => quietly(go_on(context, consumer, None)),
         Change::Becomes(state) => {
             if same_state(consumer.connection, state) {
-                return quietly(go_on(turn, consumer, None));
+                return quietly(go_on(context, consumer, None));
             }
-            quietly(change_state(turn, consumer, state))
+            quietly(change_state(context, consumer, state))
         }
-        Change::WatcherEnds => match turn.setup {
-            OrderedSetup::Pull(_) => quietly(go_on(turn, consumer, None)),
+        Change::WatcherEnds => match context.setup {
+            OrderedSetup::Pull(_) => quietly(go_on(context, consumer, None)),
             OrderedSetup::Push(_) => {
                 consumer.phase = Phase::Ended;
                 Step {

@@ -29,12 +29,12 @@ fn armed(now: Moment) -> Timer
 
 /// The consumer listens to this inbox, whose heartbeat is armed.
 #[inline]
-pub fn listen(turn: &EventContext<'_>, consumer: &mut Consumer, inbox: u64)
-    ensures { consumer.new ≡ at_phase (Phase.Pushes inbox (reading.armed turn.now.moment)) consumer.old }
+pub fn listen(context: &EventContext<'_>, consumer: &mut Consumer, inbox: u64)
+    ensures { consumer.new ≡ at_phase (Phase.Pushes inbox (reading.armed context.now.moment)) consumer.old }
 {
     consumer.phase = Phase::Pushes {
         inbox,
-        heartbeat_timer: armed(turn.moment),
+        heartbeat_timer: armed(context.moment),
     };
 }
 
@@ -53,11 +53,11 @@ pub fn arrival_next(inbox: u64, is_there: bool) -> NextTasks
 
 /// A heartbeat that is missing is an item, and a recreation starts.
 #[inline]
-pub fn pass_silence(turn: &EventContext<'_>, heartbeat_timer: Timer) -> Step
+pub fn pass_silence(context: &EventContext<'_>, heartbeat_timer: Timer) -> Step
     ensures { (m : Matter) → (p : Passing) → (c : SpecConsumer)
-        → StepsTo m (reading.silence_row (at_moment turn.now.moment p) heartbeat_timer c) (told_outputs result.told) c result.next }
+        → StepsTo m (reading.silence_row (at_moment context.now.moment p) heartbeat_timer c) (told_outputs result.told) c result.next }
 {
-    if !heartbeat_timer.is_due(turn.moment) {
+    if !heartbeat_timer.is_due(context.moment) {
         return quietly(NextTasks::Nothing);
     }
     Step {
@@ -94,7 +94,7 @@ pub fn heard_as(number: u64, message: &Message) -> Heard
         PushKind::Delivered => heard_from(number, message),
         PushKind::Beat(last) => Heard::Beat(last),
         PushKind::Bad => Heard::Unreadable,
-        PushKind::Quiet => Heard::Quiet,
+        PushKind::OtherStatus => Heard::OtherStatus,
     }
 }
 
@@ -117,25 +117,25 @@ fn beat_next(last: Option<u64>, number: u64) -> NextTasks
 /// An arrival on the current inbox is heard, which arms its heartbeat.
 #[inline]
 pub fn pass_hear(
-    turn: &EventContext<'_>,
+    context: &EventContext<'_>,
     consumer: &mut Consumer,
     inbox: u64,
     heard: Heard,
 ) -> NextTasks
     ensures { (m : Matter) → (p : Passing) → (message : SpecMessage)
-        → StepsTo m (heard_row p message heard (at_phase (Phase.Pushes inbox (reading.armed turn.now.moment)) consumer.old)) (heard_outputs p.up message heard) consumer.new result }
+        → StepsTo m (heard_row p message heard (at_phase (Phase.Pushes inbox (reading.armed context.now.moment)) consumer.old)) (heard_outputs p.up message heard) consumer.new result }
 {
-    listen(turn, consumer, inbox);
+    listen(context, consumer, inbox);
     match heard {
         Heard::Yields(place) => {
             consumer.consumer_sequence = place.number;
-            consumer.last = place.sequence;
+            consumer.stream_sequence = place.sequence;
             consumer.limited = false;
             NextTasks::Nothing
         }
         Heard::Beat(last) => beat_next(last, consumer.consumer_sequence),
         Heard::Gap => NextTasks::One(Task::Start),
         Heard::Unreadable => NextTasks::Nothing,
-        Heard::Quiet => NextTasks::Nothing,
+        Heard::OtherStatus => NextTasks::Nothing,
     }
 }

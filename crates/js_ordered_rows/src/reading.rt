@@ -277,7 +277,7 @@ pub fn hear(reader: &mut Reader, message: &Message) -> Read
             reader.lower(1, message.length);
             heard(Notice::Hands)
         }
-        Kind::Quiet => heard(Notice::Nothing),
+        Kind::IdleHeartbeat => heard(Notice::Nothing),
         Kind::Deleted => end_with(reader, MessagesErrorKind::ConsumerDeleted),
         Kind::PushBased => end_with(reader, MessagesErrorKind::PushBasedConsumer),
         Kind::Limit => end_with(reader, MessagesErrorKind::RequestLimitExceeded),
@@ -382,13 +382,13 @@ pub fn take_message(consumer: &mut Consumer, heard: Heard, due: Option<Due>) -> 
     match heard {
         Heard::Yields(place) => {
             consumer.consumer_sequence = place.number;
-            consumer.last = place.sequence;
+            consumer.stream_sequence = place.sequence;
             consumer.limited = false;
             after(due)
         }
         Heard::Gap => NextTasks::One(Task::Start),
         Heard::Unreadable => after(due),
         Heard::Beat(_) => NextTasks::Nothing,
-        Heard::Quiet => NextTasks::Nothing,
+        Heard::OtherStatus => NextTasks::Nothing,
     }
 }

@@ -38,21 +38,21 @@ fn start_after(setup: &OrderedSetup, last: u64) -> Start
 
 /// A recreation starts: what is current was dropped, and the first try follows. The name is the next consumer's.
 pub fn pass_start(
-    turn: &EventContext<'_>,
+    context: &EventContext<'_>,
     consumer: &mut Consumer,
     name: Text,
     new_name: Text,
 ) -> Step
-    requires name { name ≡ texts_of.consumer_name (given_of turn.now) (min (consumer.old.recreation_count + 1) u64_max) }
-    requires again { new_name ≡ texts_of.consumer_name (given_of turn.now) (min (consumer.old.recreation_count + 1) u64_max) }
-    ensures { (m : Matter) → StepsTo m (rows.start_row (given_of turn.now) consumer.old) (told_outputs result.told) consumer.new result.next }
+    requires name { name ≡ texts_of.consumer_name (given_of context.now) (min (consumer.old.recreation_count + 1) u64_max) }
+    requires again { new_name ≡ texts_of.consumer_name (given_of context.now) (min (consumer.old.recreation_count + 1) u64_max) }
+    ensures { (m : Matter) → StepsTo m (rows.start_row (given_of context.now) consumer.old) (told_outputs result.told) consumer.new result.next }
 {
-    let last = consumer.last;
+    let last = consumer.stream_sequence;
     if last == u64::MAX {
         consumer.phase = Phase::Exhausted;
         return quietly(NextTasks::Nothing);
     }
-    let start = start_after(turn.setup, last);
+    let start = start_after(context.setup, last);
     let recreation_count = consumer.recreation_count.saturating_add(1);
     let old_name = mem::replace(&mut consumer.name, name);
     consumer.consumer_sequence = 0;
@@ -77,25 +77,25 @@ pub fn pass_start(
 // ---- a try
 
 /// The bound on an answer that is waited for from now on.
-fn timeout(turn: &EventContext<'_>) -> Timer
-    ensures { result ≡ timeout_at (given_of turn.now) turn.now.moment }
+fn timeout(context: &EventContext<'_>) -> Timer
+    ensures { result ≡ timeout_at (given_of context.now) context.now.moment }
 {
     Timer {
-        set: turn.moment,
-        wait: texts::recreation_timeout(turn.settings),
+        set: context.moment,
+        wait: texts::recreation_timeout(context.settings),
     }
 }
 
 /// A try begins: the deletion of the old consumer was asked for with this number, or is passed over.
 pub fn pass_try(
-    turn: &EventContext<'_>,
+    context: &EventContext<'_>,
     consumer: &mut Consumer,
     mut recreation: Recreation,
     request: Option<u64>,
 ) -> NextTasks
     ensures { (m : Matter) → (p : Passing)
-        → StepsTo m (rows.try_row (given_of turn.now) (requesting turn.now.moment request p) recreation (at_phase (Phase.Recreates recreation) consumer.old))
-        (requested (texts_of.delete_subject (given_of turn.now) recreation) (codes "{}") request) consumer.new result }
+        → StepsTo m (rows.try_row (given_of context.now) (requesting context.now.moment request p) recreation (at_phase (Phase.Recreates recreation) consumer.old))
+        (requested (texts_of.delete_subject (given_of context.now) recreation) (codes "{}") request) consumer.new result }
 {
     match request {
         None => {
@@ -105,7 +105,7 @@ pub fn pass_try(
         Some(request) => {
             recreation.stage = Stage::Deleting {
                 request,
-                timeout: timeout(turn),
+                timeout: timeout(context),
             };
             consumer.phase = Phase::Recreates(recreation);
             NextTasks::Nothing
@@ -116,16 +116,16 @@ pub fn pass_try(
 /// The new consumer is to be asked for. Push has opened its inbox before that, or could not.
 pub fn pass_create(
     alloc: Global,
-    turn: &EventContext<'_>,
+    context: &EventContext<'_>,
     consumer: &mut Consumer,
     mut recreation: Recreation,
     inbox: Option<Inbox>,
 ) -> NextTasks
     ensures { (m : Matter) → (p : Passing)
-        → StepsTo m (rows.create_row turn.now.setup.now (opening_to turn.now.moment inbox p) recreation (at_phase (Phase.Recreates recreation) consumer.old))
-        (create_outputs turn.now.setup.now inbox) consumer.new result }
+        → StepsTo m (rows.create_row context.now.setup.now (opening_to context.now.moment inbox p) recreation (at_phase (Phase.Recreates recreation) consumer.old))
+        (create_outputs context.now.setup.now inbox) consumer.new result }
 {
-    match turn.setup {
+    match context.setup {
         OrderedSetup::Pull(_) => {
             consumer.phase = Phase::Recreates(recreation);
             NextTasks::One(Task::Ask)
@@ -150,14 +150,14 @@ pub fn pass_create(
 
 /// The new consumer was asked for with this number, or could not be.
 pub fn pass_ask(
-    turn: &EventContext<'_>,
+    context: &EventContext<'_>,
     consumer: &mut Consumer,
     mut recreation: Recreation,
     request: Option<u64>,
 ) -> NextTasks
     ensures { (m : Matter) → (p : Passing)
-        → StepsTo m (rows.ask_row (given_of turn.now) (requesting turn.now.moment request p) recreation (at_phase (Phase.Recreates recreation) consumer.old))
-        (requested (texts_of.create_subject (given_of turn.now) recreation) (texts_of.create_body (given_of turn.now) recreation) request) consumer.new result }
+        → StepsTo m (rows.ask_row (given_of context.now) (requesting context.now.moment request p) recreation (at_phase (Phase.Recreates recreation) consumer.old))
+        (requested (texts_of.create_subject (given_of context.now) recreation) (texts_of.create_body (given_of context.now) recreation) request) consumer.new result }
 {
     match request {
         None => {
@@ -167,7 +167,7 @@ pub fn pass_ask(
         Some(request) => {
             recreation.stage = Stage::Creating {
                 request,
-                timeout: timeout(turn),
+                timeout: timeout(context),
             };
             consumer.phase = Phase::Recreates(recreation);
             NextTasks::Nothing
@@ -193,22 +193,22 @@ fn rest(recreation: &mut Recreation, now: Moment)
 
 /// A try has failed: after more failures than retries an item closes the recreation, otherwise the next try waits.
 pub fn pass_fail(
-    turn: &EventContext<'_>,
+    context: &EventContext<'_>,
     consumer: &mut Consumer,
     mut recreation: Recreation,
 ) -> Step
     ensures { (m : Matter) → (p : Passing)
-        → StepsTo m (rows.fail_row (given_of turn.now) (at_moment turn.now.moment p) recreation (at_phase (Phase.Recreates recreation) consumer.old))
+        → StepsTo m (rows.fail_row (given_of context.now) (at_moment context.now.moment p) recreation (at_phase (Phase.Recreates recreation) consumer.old))
         (told_outputs result.told) consumer.new result.next }
 {
-    if recreation.failures >= u64::from(turn.settings.retries) {
+    if recreation.failures >= u64::from(context.settings.retries) {
         consumer.phase = Phase::Idle;
         return Step {
             told: RowOutput::Tells(ItemKind::Recreate),
             next: NextTasks::Nothing,
         };
     }
-    rest(&mut recreation, turn.moment);
+    rest(&mut recreation, context.moment);
     consumer.phase = Phase::Recreates(recreation);
     quietly(NextTasks::Nothing)
 }
@@ -216,14 +216,14 @@ pub fn pass_fail(
 // ---- an open recreation
 
 /// The deletion looks at its answer before its clock. Either brings the create.
-fn delete_next(turn: &EventContext<'_>, timeout: Timer, is_answered: bool) -> NextTasks
+fn delete_next(context: &EventContext<'_>, timeout: Timer, is_answered: bool) -> NextTasks
     ensures { (m : Matter) → (p : Passing) → (request : ℕ) → is_answered ≡ is_some (reply_to request m.answer)
-        → next_rows m result ≡ rows.stage_rows (given_of turn.now) (at_moment turn.now.moment p) m (Stage.Deleting request timeout) }
+        → next_rows m result ≡ rows.stage_rows (given_of context.now) (at_moment context.now.moment p) m (Stage.Deleting request timeout) }
 {
     if is_answered {
         return NextTasks::One(Task::Create);
     }
-    if timeout.is_due(turn.moment) {
+    if timeout.is_due(context.moment) {
         return NextTasks::One(Task::Create);
     }
     NextTasks::Nothing
@@ -232,58 +232,58 @@ fn delete_next(turn: &EventContext<'_>, timeout: Timer, is_answered: bool) -> Ne
 /// The create looks at its answer before its clock.
 #[tactic(auto, using(std::proofs::lemmas::Grind::common_steps, crate::proofs::Stepping::create_answered))]
 fn create_next(
-    turn: &EventContext<'_>,
+    context: &EventContext<'_>,
     request: u64,
     timeout: Timer,
     is_answered: bool,
 ) -> NextTasks
     ensures { (m : Matter) → (p : Passing) → is_answered ≡ is_some (reply_to request m.answer)
-        → next_rows m result ≡ rows.stage_rows (given_of turn.now) (at_moment turn.now.moment p) m (Stage.Creating request timeout) }
+        → next_rows m result ≡ rows.stage_rows (given_of context.now) (at_moment context.now.moment p) m (Stage.Creating request timeout) }
 {
     if is_answered {
         return NextTasks::One(Task::Answered { request });
     }
-    if timeout.is_due(turn.moment) {
+    if timeout.is_due(context.moment) {
         return NextTasks::One(Task::Fail);
     }
     NextTasks::Nothing
 }
 
 /// The next try waits.
-fn wait_next(turn: &EventContext<'_>, wait: Timer) -> NextTasks
-    ensures { (m : Matter) → (p : Passing) → next_rows m result ≡ rows.stage_rows (given_of turn.now) (at_moment turn.now.moment p) m (Stage.Waiting wait) }
+fn wait_next(context: &EventContext<'_>, wait: Timer) -> NextTasks
+    ensures { (m : Matter) → (p : Passing) → next_rows m result ≡ rows.stage_rows (given_of context.now) (at_moment context.now.moment p) m (Stage.Waiting wait) }
 {
-    if wait.is_due(turn.moment) {
+    if wait.is_due(context.moment) {
         return NextTasks::One(Task::Try);
     }
     NextTasks::Nothing
 }
 
 /// What follows where a stage has its answer or not.
-fn stage_next(turn: &EventContext<'_>, stage: Stage, is_answered: bool) -> NextTasks
+fn stage_next(context: &EventContext<'_>, stage: Stage, is_answered: bool) -> NextTasks
     ensures { (m : Matter) → (p : Passing) → IsAnswered m stage is_answered
-        → next_rows m result ≡ rows.stage_rows (given_of turn.now) (at_moment turn.now.moment p) m stage }
+        → next_rows m result ≡ rows.stage_rows (given_of context.now) (at_moment context.now.moment p) m stage }
 {
     match stage {
         Stage::Between => NextTasks::Nothing,
-        Stage::Deleting { timeout, .. } => delete_next(turn, timeout, is_answered),
-        Stage::Creating { request, timeout } => create_next(turn, request, timeout, is_answered),
-        Stage::Waiting { wait } => wait_next(turn, wait),
+        Stage::Deleting { timeout, .. } => delete_next(context, timeout, is_answered),
+        Stage::Creating { request, timeout } => create_next(context, request, timeout, is_answered),
+        Stage::Waiting { wait } => wait_next(context, wait),
     }
 }
 
 /// An open recreation goes on where what it waits for has come: an answer, or its time.
 pub fn pass_await(
-    turn: &EventContext<'_>,
+    context: &EventContext<'_>,
     consumer: &mut Consumer,
     recreation: Recreation,
     is_answered: bool,
 ) -> NextTasks
     ensures { (m : Matter) → (p : Passing) → IsAnswered m recreation.stage is_answered
-        → StepsTo m (passes_quietly (at_phase (Phase.Recreates recreation) consumer.old) (rows.stage_rows (given_of turn.now) (at_moment turn.now.moment p) m recreation.stage))
+        → StepsTo m (passes_quietly (at_phase (Phase.Recreates recreation) consumer.old) (rows.stage_rows (given_of context.now) (at_moment context.now.moment p) m recreation.stage))
         [] consumer.new result }
 {
-    let next = stage_next(turn, recreation.stage, is_answered);
+    let next = stage_next(context, recreation.stage, is_answered);
     consumer.phase = Phase::Recreates(recreation);
     next
 }
@@ -318,29 +318,29 @@ fn answered(setup: &OrderedSetup, info: Option<Boxed<Info>>) -> Task
 
 /// The reply to a create was read.
 pub fn pass_answered(
-    turn: &EventContext<'_>,
+    context: &EventContext<'_>,
     consumer: &mut Consumer,
     recreation: Recreation,
     info: Option<Boxed<Info>>,
 ) -> NextTasks
     ensures { (m : Matter)
-        → StepsTo m (passes_quietly (at_phase (Phase.Recreates recreation) consumer.old) (rows.answered turn.now.setup.now info ∷ [])) [] consumer.new result }
+        → StepsTo m (passes_quietly (at_phase (Phase.Recreates recreation) consumer.old) (rows.answered context.now.setup.now info ∷ [])) [] consumer.new result }
 {
-    let task = answered(turn.setup, info);
+    let task = answered(context.setup, info);
     consumer.phase = Phase::Recreates(recreation);
     NextTasks::One(task)
 }
 
 /// A create was answered well: pull reads the inbox that was opened, or could not be. The source knows no inbox yet.
 pub fn pass_succeed_pull(
-    turn: &EventContext<'_>,
+    context: &EventContext<'_>,
     consumer: &mut Consumer,
     recreation: Recreation,
     mut source: Source,
     inbox: Option<Inbox>,
 ) -> NextTasks
-    ensures { (m : Matter) → (p : Passing) → (info : SpecInfo) → source ≡ texts_of.source_of (given_of turn.now) consumer.old.recreation_count 0 [] info
-        → StepsTo m (rows.succeed_pull (given_of turn.now) (opening_to turn.now.moment inbox p) info (at_phase (Phase.Recreates recreation) consumer.old))
+    ensures { (m : Matter) → (p : Passing) → (info : SpecInfo) → source ≡ texts_of.source_of (given_of context.now) consumer.old.recreation_count 0 [] info
+        → StepsTo m (rows.succeed_pull (given_of context.now) (opening_to context.now.moment inbox p) info (at_phase (Phase.Recreates recreation) consumer.old))
         (subscribed inbox) consumer.new result }
 {
     match inbox {
@@ -359,12 +359,12 @@ pub fn pass_succeed_pull(
 
 /// Push's inbox becomes the current one: what was held is heard, and then the heartbeat is armed.
 pub fn pass_succeed_push(
-    turn: &EventContext<'_>,
+    context: &EventContext<'_>,
     consumer: &mut Consumer,
     mut recreation: Recreation,
 ) -> NextTasks
     ensures { (m : Matter) → (p : Passing)
-        → StepsTo m (rows.succeed_push (at_moment turn.now.moment p) recreation.opened (at_phase (Phase.Recreates recreation) consumer.old)) [] consumer.new result }
+        → StepsTo m (rows.succeed_push (at_moment context.now.moment p) recreation.opened (at_phase (Phase.Recreates recreation) consumer.old)) [] consumer.new result }
 {
     match recreation.opened.take() {
         None => {
@@ -381,7 +381,7 @@ pub fn pass_succeed_push(
             consumer.phase = Phase::Pushes {
                 inbox,
                 heartbeat_timer: Timer {
-                    set: turn.moment,
+                    set: context.moment,
                     wait: 10_000_000_000,
                 },
             };

@@ -78,5 +78,5 @@ pub enum Heard {
     Gap,
     /// The server is there, and says which message was the last.
     Beat(Option<u64>),
-    Quiet,
+    OtherStatus,
 }

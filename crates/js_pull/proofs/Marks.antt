@@ -9,7 +9,7 @@ use Rattle.js_base.specs.declared.message.State.TheVariants.{Pending, Connected,
 use Rattle.js_json.specs.declared.consumer.info.Info.{Info}
 use Rattle.js_link.specs.Passing.{Passing}
 use Rattle.js_pull.specs.declared.kind.Kind.{Kind}
-use Rattle.js_pull.specs.declared.kind.Kind.TheVariants.{Delivered, Quiet, Deleted, PushBased, Limit, Gone, Bad, Ledger}
+use Rattle.js_pull.specs.declared.kind.Kind.TheVariants.{Delivered, IdleHeartbeat, Deleted, PushBased, Limit, Gone, Bad, Ledger}
 use Rattle.js_pull.specs.Kind.{pull_kind}
 use Rattle.js_pull.specs.declared.reader.Reader.{Reader}
 use Rattle.js_pull.specs.Reader as rows
@@ -32,7 +32,7 @@ left r passed same off on = absurd (never (sym off ∙ sym same ∙ on))
 
 hear_left : (message : Message) (kind : Kind) (r : Reader) → (rows.hear message kind r).reader.waiting ≡ r.waiting
 hear_left message Delivered r = refl
-hear_left message Quiet r = refl
+hear_left message IdleHeartbeat r = refl
 hear_left message Deleted r = refl
 hear_left message PushBased r = refl
 hear_left message Limit r = refl

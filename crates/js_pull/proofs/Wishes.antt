@@ -12,7 +12,7 @@ use Rattle.js_link.specs.Passing.{Passing}
 use Rattle.js_link.specs.Met.{Wish, Awaits, passing_of, message_of}
 use Rattle.js_link.specs.Given.{Givings, given, took, got, sends_of}
 use Rattle.js_pull.specs.declared.kind.Kind.{Kind}
-use Rattle.js_pull.specs.declared.kind.Kind.TheVariants.{Delivered, Quiet, Deleted, PushBased, Limit, Gone, Bad, Ledger}
+use Rattle.js_pull.specs.declared.kind.Kind.TheVariants.{Delivered, IdleHeartbeat, Deleted, PushBased, Limit, Gone, Bad, Ledger}
 use Rattle.js_pull.specs.Kind.{pull_kind}
 use Rattle.js_pull.specs.declared.reader.Reader.{Reader}
 use Rattle.js_pull.specs.Reader as rows
@@ -33,7 +33,7 @@ Silent passed = passed.sent ≡ []
 
 hear_silent : (message : Message) (kind : Kind) (r : Reader) → Silent (rows.hear message kind r)
 hear_silent message Delivered r = refl
-hear_silent message Quiet r = refl
+hear_silent message IdleHeartbeat r = refl
 hear_silent message Deleted r = refl
 hear_silent message PushBased r = refl
 hear_silent message Limit r = refl

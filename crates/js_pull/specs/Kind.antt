@@ -8,7 +8,7 @@ use Rattle.js_base.specs.declared.message.StatusCode.{StatusCode}
 use Rattle.js_base.specs.Headers.{first_value, all_headers}
 use Rattle.js_message.specs.Number.{u64_of}
 use Rattle.js_pull.specs.declared.kind.Kind.{Kind}
-use Rattle.js_pull.specs.declared.kind.Kind.TheVariants.{Delivered, Quiet, Deleted, PushBased, Limit, Gone, Ledger, Bad}
+use Rattle.js_pull.specs.declared.kind.Kind.TheVariants.{Delivered, IdleHeartbeat, Deleted, PushBased, Limit, Gone, Ledger, Bad}
 use Rattle.js_pull.specs.declared.kind.HeaderNumber.{HeaderNumber}
 use Rattle.js_pull.specs.declared.kind.HeaderNumber.TheVariants.{Absent, Unreadable, Number}
 
@@ -58,7 +58,7 @@ abbrev pub kind_of : Message → Option StatusCode → Kind
 kind_of message None = Delivered
 kind_of message (Some status) =
     if status.0 == 200 then Delivered else (
-    if status.0 == 100 then Quiet else (
+    if status.0 == 100 then IdleHeartbeat else (
     if status.0 == 408 || status.0 == 409 || status.0 == 423
     then ended_request (unwrap_or message.description []) (all_headers message.headers) else (
     if status.0 == 503 then Gone else Bad)))

@@ -4,3 +4,4 @@ pub mod Reader
 pub mod Passes
 pub mod Asking
 pub mod Steps
+pub mod Texts

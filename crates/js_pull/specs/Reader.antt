@@ -20,7 +20,7 @@ use Rattle.js_link.specs.Met as link
 use Rattle.js_link.specs.declared.sent.Sent.{Sent}
 use Rattle.js_link.specs.declared.sent.Sent.TheVariants.{Request, Publish}
 use Rattle.js_pull.specs.declared.kind.Kind.{Kind}
-use Rattle.js_pull.specs.declared.kind.Kind.TheVariants.{Delivered, Quiet, Deleted, PushBased, Limit, Gone, Bad, Ledger}
+use Rattle.js_pull.specs.declared.kind.Kind.TheVariants.{Delivered, IdleHeartbeat, Deleted, PushBased, Limit, Gone, Bad, Ledger}
 use Rattle.js_pull.specs.Kind.{pull_kind}
 use Rattle.js_pull.specs.Limits.{pull_body}
 use Rattle.js_pull.specs.declared.reader.Source.{Source}
@@ -260,7 +260,7 @@ end_with kind r = tell kind (record r { ended = true }) []
 -- what an arrival of a kind does
 abbrev pub hear : Message → Kind → Reader → Passed
 hear message Delivered r = record { reader = lowered 1 message.length r; sent = []; told = Hands message; next = Threshold ∷ [] }
-hear message Quiet r = quietly r (Threshold ∷ [])
+hear message IdleHeartbeat r = quietly r (Threshold ∷ [])
 hear message Deleted r = end_with error.ConsumerDeleted r
 hear message PushBased r = end_with error.PushBasedConsumer r
 hear message Limit r = end_with error.RequestLimitExceeded r

@@ -13,7 +13,7 @@ pub enum Kind {
     /// One of the stream's messages.
     Delivered,
     /// A heartbeat.
-    Quiet,
+    IdleHeartbeat,
     /// The consumer is deleted.
     Deleted,
     /// The consumer is a push consumer.
@@ -142,7 +142,7 @@ pub fn pull_kind(message: &Message) -> Kind
         None => Kind::Delivered,
         Some(StatusCode(status)) => match status {
             200 => Kind::Delivered,
-            100 => Kind::Quiet,
+            100 => Kind::IdleHeartbeat,
             408 | 409 | 423 => ended_request(description_of(message), &message.headers),
             503 => Kind::Gone,
             _ => Kind::Bad,

@@ -2,6 +2,7 @@
 #![tactic(auto)]
 
 mod asking;
+mod error_text;
 mod kind;
 mod limits;
 mod needs;

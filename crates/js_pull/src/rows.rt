@@ -280,7 +280,7 @@ impl Reader {
                 self.lower(1, message.length);
                 heard(Notice::Hands)
             }
-            Kind::Quiet => heard(Notice::Nothing),
+            Kind::IdleHeartbeat => heard(Notice::Nothing),
             Kind::Deleted => self.end_with(MessagesErrorKind::ConsumerDeleted),
             Kind::PushBased => self.end_with(MessagesErrorKind::PushBasedConsumer),
             Kind::Limit => self.end_with(MessagesErrorKind::RequestLimitExceeded),

@@ -1,7 +1,5 @@
 -- How the kinds of errors are printed.
 use Rattle.std.specs.Prelude.{ℕ, List, codes}
-use Rattle.js_pull.specs.declared.reader.MessagesErrorKind.{MessagesErrorKind}
-use Rattle.js_pull.specs.declared.reader.MessagesErrorKind.TheVariants as messages
 use Rattle.js_pull_calls.specs.declared.error.StreamErrorKind.{StreamErrorKind}
 use Rattle.js_pull_calls.specs.declared.error.StreamErrorKind.TheVariants as stream
 use Rattle.js_pull_calls.specs.declared.error.BatchErrorKind.{BatchErrorKind}
@@ -30,13 +28,3 @@ request_text request.Publish = codes "publish failed"
 request_text request.Flush = codes "flush failed"
 request_text request.Serialize = codes "serialize failed"
 request_text request.OutOfMemory = codes "out of memory"
-
--- what a stream or a sequence tells in place of a message
-abbrev pub messages_text : MessagesErrorKind → List ℕ
-messages_text messages.MissingHeartbeat = codes "missed idle heartbeat"
-messages_text messages.ConsumerDeleted = codes "consumer deleted"
-messages_text messages.Pull = codes "pull request failed"
-messages_text messages.Other = codes "error"
-messages_text messages.NoResponders = codes "no responders"
-messages_text messages.RequestLimitExceeded = codes "pull request exceeded consumer limits"
-messages_text messages.PushBasedConsumer = codes "cannot use with push consumer"

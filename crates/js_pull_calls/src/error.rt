@@ -1,9 +1,8 @@
 //! Why a pull consumer is not read.
-ghost use Rattle.std.specs.Prelude.{◌≡◌, Some};
-ghost use Rattle.js_pull_calls.specs.Texts.{batch_text, messages_text, request_text, stream_text};
+ghost use Rattle.std.specs.Prelude.{Some};
+ghost use Rattle.js_pull_calls.specs.Texts.{batch_text, request_text, stream_text};
 
 use js_base::Error;
-use js_pull::MessagesErrorKind;
 use std::fmt;
 
 /// Why no stream of messages was opened.
@@ -95,20 +94,5 @@ impl fmt::Display for BatchRequestErrorKind {
             BatchRequestErrorKind::Serialize => write!(f, "serialize failed"),
             BatchRequestErrorKind::OutOfMemory => write!(f, "out of memory"),
         }
-    }
-}
-
-/// What an error of a stream or of a sequence says.
-pub fn messages_error_text(kind: MessagesErrorKind) -> &'static str
-    ensures { result.now ≡ messages_text kind }
-{
-    match kind {
-        MessagesErrorKind::MissingHeartbeat => "missed idle heartbeat",
-        MessagesErrorKind::ConsumerDeleted => "consumer deleted",
-        MessagesErrorKind::Pull => "pull request failed",
-        MessagesErrorKind::Other => "error",
-        MessagesErrorKind::NoResponders => "no responders",
-        MessagesErrorKind::RequestLimitExceeded => "pull request exceeded consumer limits",
-        MessagesErrorKind::PushBasedConsumer => "cannot use with push consumer",
     }
 }

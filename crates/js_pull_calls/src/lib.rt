@@ -23,7 +23,7 @@ pub use batch_item::BatchItemError;
 pub use calls::PullCalls;
 pub use error::{
     BatchError, BatchErrorKind, BatchRequestError, BatchRequestErrorKind, StreamError,
-    StreamErrorKind, messages_error_text,
+    StreamErrorKind,
 };
 pub use fetch_builder::FetchBuilder;
 pub use js_message::Message;

@@ -12,7 +12,7 @@ use Rattle.js_link.specs.Passing.{Passing}
 use Rattle.js_link.specs.Met.{Met, passing_of, message_of, Nothing, Watches, Stands, Watch_over, Publishes, Requests, Reads, Awaits, Unasked, Gone_out, Refused, Requested, Took, Empty, Shut, Got, Gone, Waiting}
 use Rattle.js_link.specs.Meets.{Meets}
 use Rattle.js_pull.specs.declared.kind.Kind.{Kind}
-use Rattle.js_pull.specs.declared.kind.Kind.TheVariants.{Delivered, Quiet, Deleted, PushBased, Limit, Bad, Ledger}
+use Rattle.js_pull.specs.declared.kind.Kind.TheVariants.{Delivered, IdleHeartbeat, Deleted, PushBased, Limit, Bad, Ledger}
 use Rattle.js_pull.specs.declared.kind.Kind.TheVariants as kinds
 use Rattle.js_pull.specs.Kind.{pull_kind}
 use Rattle.js_pull.specs.declared.reader.Source.{Source}
@@ -116,7 +116,7 @@ NearsList n xs = rank_of xs < n
 
 hear_nears : (message : Message) (kind : Kind) (r s : Reader) → s.source ≡ r.source → Nears 3 r (rows.hear message kind s)
 hear_nears message Delivered r s e = record { source = e; lower = omega arith }
-hear_nears message Quiet r s e = record { source = e; lower = omega arith }
+hear_nears message IdleHeartbeat r s e = record { source = e; lower = omega arith }
 hear_nears message Deleted r s e = record { source = e; lower = omega arith }
 hear_nears message PushBased r s e = record { source = e; lower = omega arith }
 hear_nears message Limit r s e = record { source = e; lower = omega arith }

@@ -11,7 +11,7 @@ use Rattle.js_base.specs.declared.message.State.TheVariants.{Pending, Connected,
 use Rattle.js_json.specs.declared.consumer.info.Info.{Info}
 use Rattle.js_link.specs.Passing.{Passing}
 use Rattle.js_pull.specs.declared.kind.Kind.{Kind}
-use Rattle.js_pull.specs.declared.kind.Kind.TheVariants.{Delivered, Quiet, Deleted, PushBased, Limit, Gone, Bad, Ledger}
+use Rattle.js_pull.specs.declared.kind.Kind.TheVariants.{Delivered, IdleHeartbeat, Deleted, PushBased, Limit, Gone, Bad, Ledger}
 use Rattle.js_pull.specs.Kind.{pull_kind}
 use Rattle.js_pull.specs.declared.reader.Source.{Source}
 use Rattle.js_pull.specs.declared.reader.Reader.{Reader}
@@ -99,7 +99,7 @@ no_more r s k source unreset_requests less = record {
 
 hear_keeps : (message : Message) (kind : Kind) (r : Reader) → IsBounded r → Keeps (rows.hear message kind r)
 hear_keeps message Delivered r k = record { reader = no_more r (rows.lowered 1 message.length r) k refl refl (omega arith); next = ((λ low. absurd low), tt) }
-hear_keeps message Quiet r k = record { reader = k; next = ((λ low. absurd low), tt) }
+hear_keeps message IdleHeartbeat r k = record { reader = k; next = ((λ low. absurd low), tt) }
 hear_keeps message Deleted r k = record { reader = record { bytes = k.bytes; pending = k.pending }; next = tt }
 hear_keeps message PushBased r k = record { reader = record { bytes = k.bytes; pending = k.pending }; next = tt }
 hear_keeps message Limit r k = record { reader = record { bytes = k.bytes; pending = k.pending }; next = tt }

@@ -53,6 +53,7 @@ pub(crate) enum Turned {
 }
 
 /// Whom a stream asks.
+#[derive(Clone, Copy)]
 pub struct Consumer<'a> {
     /// What the subjects of requests begin with.
     pub api: &'a str,

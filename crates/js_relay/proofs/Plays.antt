@@ -31,7 +31,7 @@ use Rattle.js_relay.proofs.Steps.{Course, IsOn, Leads, leads_then, leads_weaker}
 -- what they lead to
 abbrev pub plays : ReplayInput → List events.Event → ReplayState → Ran
 plays g [] w = stays w
-plays g (e ∷ es) w = let ran = event g e w in and_then ran.outputs (plays g es ran.world)
+plays g (e ∷ es) w = let ran = event g e w in and_then ran.outputs (plays g es ran.state)
 
 abbrev pub outputs_of : List Ran → List Output
 outputs_of rans = joined (map step_of rans)
@@ -41,7 +41,7 @@ unfolding run_events
 plays_outputs g [] w = refl
 plays_outputs g (e ∷ es) w =
     let ran : Ran = event g e w in
-    ap (λ (outputs : List Output). ran.outputs ++ outputs) (plays_outputs g es ran.world)
+    ap (λ (outputs : List Output). ran.outputs ++ outputs) (plays_outputs g es ran.state)
 
 -- each sequence has 64 bits
 abbrev Fit : List base.Entry → Type 0
@@ -88,7 +88,7 @@ module _ (settings : Settings) (config : OrderedConfig) (first : Info) (stream n
 
   all : (es : List base.Entry) (number : ℕ) (w : ReplayState) → Fit es → number + length es < 2 ^ 64 → IsReading number w
       → Leads (map handed es) (IsReading (number + length es)) [] (plays given (relayed stream name (number + 1) es) w)
-  all [] number w fit n r = record { world = subst (λ (k : ℕ). IsReading k w) (omega arith) r; outputs = refl }
+  all [] number w fit n r = record { state = subst (λ (k : ℕ). IsReading k w) (omega arith) r; outputs = refl }
   all (e ∷ es) number w fit n r =
       leads_then (map handed (e ∷ es)) (map handed es) [] (IsReading (number + 1)) (IsReading (number + length (e ∷ es)))
       (event given (arrival stream name (number + 1) e) w) (λ (w : ReplayState). plays given (relayed stream name (number + 1 + 1) es) w)
@@ -101,19 +101,19 @@ module _ (settings : Settings) (config : OrderedConfig) (first : Info) (stream n
   never_exhausted [] number place w fit n r = refl
   never_exhausted (e ∷ es) number place w fit n r =
       let ran : Ran = event given (arrival stream name (number + 1) e) w in
-      let next : IsReading (number + 1) ran.world = (one e number [] w fit.0 (omega (arith, n)) r).world in
-      ap (λ (b : Bool). if b then Some place else first_exhausted (place + 1) (run_events given (relayed stream name (number + 1 + 1) es) ran.world)) (goes_on ran.world (number + 1) next)
-      ∙ never_exhausted es (number + 1) (place + 1) ran.world fit.1 (omega (arith, n)) next
+      let next : IsReading (number + 1) ran.state = (one e number [] w fit.0 (omega (arith, n)) r).state in
+      ap (λ (b : Bool). if b then Some place else first_exhausted (place + 1) (run_events given (relayed stream name (number + 1 + 1) es) ran.state)) (goes_on ran.state (number + 1) next)
+      ∙ never_exhausted es (number + 1) (place + 1) ran.state fit.1 (omega (arith, n)) next
 
   -- ---- from the opening on
 
-  begins : IsReading 0 (opening given 0).world
-  begins = record { source = _; c = _; requests_sent = 0; inboxes_opened = 1; on = (at.opened settings config first 0 []).world; inbox_is = refl; num_is = refl }
+  begins : IsReading 0 (opening given 0).state
+  begins = record { source = _; c = _; requests_sent = 0; inboxes_opened = 1; on = (at.opened settings config first 0 []).state; inbox_is = refl; num_is = refl }
 
   pub gives : (es : List base.Entry) → AllFit es → Gives (map handed es) (all_outputs (fold given 0 (relayed stream name 1 es))) []
   unfolding fold
   gives es fit =
-      let w : ReplayState = (opening given 0).world in
+      let w : ReplayState = (opening given 0).state in
       gives_append (map handed es) (opening given 0).outputs (outputs_of (run_events given (relayed stream name 1 es) w)) (map handed es) []
       (at.opened settings config first 0 (map handed es)).outputs
       (subst (λ (outputs : List Output). Gives (map handed es) outputs []) (plays_outputs given (relayed stream name 1 es) w) (all es 0 w fit.sequences (let n = fit.number in omega (arith, n)) begins).outputs)
@@ -127,7 +127,7 @@ module _ (settings : Settings) (config : OrderedConfig) (first : Info) (stream n
   pub accepted : (es : List base.Entry) → AllFit es → bad_field given ≡ None → refuse given 0 (relayed stream name 1 es) ≡ None
   unfolding refuse refuse_input
   accepted es fit good =
-      let w : ReplayState = (opening given 0).world in
+      let w : ReplayState = (opening given 0).state in
       let all : List events.Event = relayed stream name 1 es in
       let early : first_early 0 0 all ≡ None = not_early es 1 0 0 (omega arith) in
       let late : first_exhausted 0 (run_events given all w) ≡ None = never_exhausted es 0 0 w fit.sequences (let n = fit.number in omega (arith, n)) begins in

@@ -31,7 +31,7 @@ use Rattle.js_table.specs.Gapless.{Entry}
 use Rattle.js_table.specs.Fold.{Ran, after, stays, and_then, pass_each, pass_to, rank, tick, opening, matter_of, event}
 use Rattle.js_relay.proofs.Gives.{Gives, gives_append}
 
--- ---- worlds
+-- ---- states
 
 -- what a reader keeps of its requests and of the time
 pub record Ledger : Type 0 where
@@ -60,37 +60,37 @@ reader source l = record {
 -- what a consumer keeps of what it heard
 pub record Course : Type 0 where
   pub consumer_sequence : ℕ
-  pub last : ℕ
+  pub stream_sequence : ℕ
   pub recreation_count : ℕ
   pub name : List ℕ
   pub missed : Bool
   pub limited : Bool
   pub connection : State
 
-abbrev pub world_at : Phase → Course → ℕ → ℕ → ReplayState
-world_at phase c requests_sent inboxes_opened = record {
+abbrev pub state_at : Phase → Course → ℕ → ℕ → ReplayState
+state_at phase c requests_sent inboxes_opened = record {
   consumer = record {
     phase = phase;
     consumer_sequence = c.consumer_sequence;
-    last = c.last;
+    stream_sequence = c.stream_sequence;
     recreation_count = c.recreation_count;
     name = c.name;
     missed = c.missed;
     limited = c.limited;
     connection = c.connection;
   };
-  up = true;
+  link_up = true;
   requests_sent = requests_sent;
   inboxes_opened = inboxes_opened;
 }
 
 same_counts : (phase : Phase) (c : Course) (requests_sent inboxes_opened asked_now made_now : ℕ) → requests_sent ≡ asked_now → inboxes_opened ≡ made_now
-    → world_at phase c requests_sent inboxes_opened ≡ world_at phase c asked_now made_now
-same_counts phase c requests_sent inboxes_opened asked_now made_now a m = ap₂ (λ (requests_sent inboxes_opened : ℕ). world_at phase c requests_sent inboxes_opened) a m
+    → state_at phase c requests_sent inboxes_opened ≡ state_at phase c asked_now made_now
+same_counts phase c requests_sent inboxes_opened asked_now made_now a m = ap₂ (λ (requests_sent inboxes_opened : ℕ). state_at phase c requests_sent inboxes_opened) a m
 
 -- the reader reads
 abbrev pub IsOn : Source → Course → ℕ → ℕ → ReplayState → Type 0
-IsOn source c requests_sent inboxes_opened w = (l : Ledger) × (w ≡ world_at (Pulls (reader source l)) c requests_sent inboxes_opened)
+IsOn source c requests_sent inboxes_opened w = (l : Ledger) × (w ≡ state_at (Pulls (reader source l)) c requests_sent inboxes_opened)
 
 recounted : (source : Source) (c : Course) (requests_sent inboxes_opened asked_now made_now : ℕ) → requests_sent ≡ asked_now → inboxes_opened ≡ made_now
     → (w : ReplayState) → IsOn source c requests_sent inboxes_opened w → IsOn source c asked_now made_now w
@@ -107,30 +107,30 @@ if_both P false x y px py = py
 
 -- ---- what is put out
 
--- outputs that hand out entries, and a world of some kind
+-- outputs that hand out entries, and a state of some kind
 pub record Leads (left : List Entry) (next : ReplayState → Type 0) (left_now : List Entry) (ran : Ran) : Type 0 where
-  pub world : next ran.world
+  pub state : next ran.state
   pub outputs : Gives left ran.outputs left_now
 
 pub leads_weaker : (left left_now : List Entry) (next other : ReplayState → Type 0) (ran : Ran)
     → ((w : ReplayState) → next w → other w) → Leads left next left_now ran → Leads left other left_now ran
-leads_weaker left left_now next other ran f h = record { world = f ran.world h.world; outputs = h.outputs }
+leads_weaker left left_now next other ran f h = record { state = f ran.state h.state; outputs = h.outputs }
 
 pub leads_alone : (left left_now : List Entry) (next : ReplayState → Type 0) (ran : Ran)
-    → Leads left next left_now ran → Leads left next left_now (and_then ran.outputs (stays ran.world))
+    → Leads left next left_now ran → Leads left next left_now (and_then ran.outputs (stays ran.state))
 leads_alone left left_now next ran h = record {
-  world = h.world;
+  state = h.state;
   outputs = subst (λ outputs. Gives left outputs left_now) (sym (append-nil ran.outputs)) h.outputs;
 }
 
 pub leads_then : (left left_then left_now : List Entry) (next other : ReplayState → Type 0) (ran : Ran) (rest : ReplayState → Ran)
     → Leads left next left_then ran → ((w : ReplayState) → next w → Leads left_then other left_now (rest w))
-    → Leads left other left_now (and_then ran.outputs (rest ran.world))
+    → Leads left other left_now (and_then ran.outputs (rest ran.state))
 leads_then left left_then left_now next other ran rest h more =
-    let after_it : Leads left_then other left_now (rest ran.world) = more ran.world h.world in
+    let after_it : Leads left_then other left_now (rest ran.state) = more ran.state h.state in
     record {
-      world = after_it.world;
-      outputs = gives_append left ran.outputs (rest ran.world).outputs left_then left_now h.outputs after_it.outputs;
+      state = after_it.state;
+      outputs = gives_append left ran.outputs (rest ran.state).outputs left_then left_now h.outputs after_it.outputs;
     }
 
 -- ---- the rows of a reader
@@ -147,9 +147,9 @@ module _ (settings : Settings) (config : OrderedConfig) (first : Info) where
 
   module _ (now : ℕ) (m : Matter) (left : List Entry) (source : Source) (c : Course) (requests_sent inboxes_opened : ℕ) where
     asks : (depth : ℕ) (l : Ledger) (reason : Reason)
-        → Leads left (IsOn source c requests_sent inboxes_opened) left (pass_to given now m (suc depth) (Read (read.Ask reason)) (world_at (Pulls (reader source l)) c requests_sent inboxes_opened))
+        → Leads left (IsOn source c requests_sent inboxes_opened) left (pass_to given now m (suc depth) (Read (read.Ask reason)) (state_at (Pulls (reader source l)) c requests_sent inboxes_opened))
     asks depth l reason = record {
-      world = (
+      state = (
         record {
           pending = pull.raised (pull.resets reason) source.config.batch l.pending;
           pending_bytes = pull.raised (pull.resets reason) source.config.max_bytes l.pending_bytes;
@@ -164,21 +164,21 @@ module _ (settings : Settings) (config : OrderedConfig) (first : Info) where
       outputs = refl;
     }
 
-    stays_on : (l : Ledger) → Leads left (IsOn source c requests_sent inboxes_opened) left (stays (world_at (Pulls (reader source l)) c requests_sent inboxes_opened))
-    stays_on l = record { world = (l, refl); outputs = refl }
+    stays_on : (l : Ledger) → Leads left (IsOn source c requests_sent inboxes_opened) left (stays (state_at (Pulls (reader source l)) c requests_sent inboxes_opened))
+    stays_on l = record { state = (l, refl); outputs = refl }
 
     arms : (depth : ℕ) (l : Ledger)
-        → Leads left (IsOn source c requests_sent inboxes_opened) left (pass_to given now m (suc depth) (Read read.Arm) (world_at (Pulls (reader source l)) c requests_sent inboxes_opened))
+        → Leads left (IsOn source c requests_sent inboxes_opened) left (pass_to given now m (suc depth) (Read read.Arm) (state_at (Pulls (reader source l)) c requests_sent inboxes_opened))
     arms depth l = record {
-      world = (record l { heartbeat_timer = pull.armed_silence now source.config.idle_heartbeat }, same_counts _ _ _ _ _ _ (omega arith) (omega arith));
+      state = (record l { heartbeat_timer = pull.armed_silence now source.config.idle_heartbeat }, same_counts _ _ _ _ _ _ (omega arith) (omega arith));
       outputs = refl;
     }
 
     asks_if : (depth : ℕ) (l : Ledger) (reason : Reason) (b : Bool)
-        → Leads left (IsOn source c requests_sent inboxes_opened) left (pass_each (pass_to given now m (suc depth)) (map Read (if b then read.Ask reason ∷ [] else [])) (world_at (Pulls (reader source l)) c requests_sent inboxes_opened))
+        → Leads left (IsOn source c requests_sent inboxes_opened) left (pass_each (pass_to given now m (suc depth)) (map Read (if b then read.Ask reason ∷ [] else [])) (state_at (Pulls (reader source l)) c requests_sent inboxes_opened))
     asks_if depth l reason true =
         leads_alone left left (IsOn source c requests_sent inboxes_opened)
-        (pass_to given now m (suc depth) (Read (read.Ask reason)) (world_at (Pulls (reader source l)) c requests_sent inboxes_opened)) (asks depth l reason)
+        (pass_to given now m (suc depth) (Read (read.Ask reason)) (state_at (Pulls (reader source l)) c requests_sent inboxes_opened)) (asks depth l reason)
     asks_if depth l reason false = stays_on l
 
   module _ (now : ℕ) (m : Matter) (left : List Entry) (source : Source) (c : Course) (requests_sent inboxes_opened : ℕ) where
@@ -187,13 +187,13 @@ module _ (settings : Settings) (config : OrderedConfig) (first : Info) where
         (recounted source c (requests_sent + 0) (inboxes_opened + 0) requests_sent inboxes_opened (omega arith) (omega arith))
 
     expires : (depth : ℕ) (l : Ledger)
-        → Leads left (IsOn source c requests_sent inboxes_opened) left (pass_to given now m (suc (suc depth)) (Read read.CheckExpiry) (world_at (Pulls (reader source l)) c requests_sent inboxes_opened))
+        → Leads left (IsOn source c requests_sent inboxes_opened) left (pass_to given now m (suc (suc depth)) (Read read.CheckExpiry) (state_at (Pulls (reader source l)) c requests_sent inboxes_opened))
     expires depth l = again _ (asks_if now m left source c (requests_sent + 0) (inboxes_opened + 0) depth l Expired (is_any_due l.expiry now))
 
     refills : (depth : ℕ) (l : Ledger)
-        → Leads left (IsOn source c requests_sent inboxes_opened) left (pass_to given now m (suc (suc depth)) (Read read.Threshold) (world_at (Pulls (reader source l)) c requests_sent inboxes_opened))
+        → Leads left (IsOn source c requests_sent inboxes_opened) left (pass_to given now m (suc (suc depth)) (Read read.Threshold) (state_at (Pulls (reader source l)) c requests_sent inboxes_opened))
     refills depth l =
-        if_both (λ (passed : pull.Passed). Leads left (IsOn source c requests_sent inboxes_opened) left (done now m (suc depth) (world_at (Pulls (reader source l)) c requests_sent inboxes_opened) passed))
+        if_both (λ (passed : pull.Passed). Leads left (IsOn source c requests_sent inboxes_opened) left (done now m (suc depth) (state_at (Pulls (reader source l)) c requests_sent inboxes_opened) passed))
         (pull.is_low (reader source l) && not l.waiting)
         (pull.quietly (record (reader source l) { waiting = true }) (read.Ask Low ∷ []))
         (pull.quietly (reader source l) [])
@@ -207,14 +207,14 @@ module _ (settings : Settings) (config : OrderedConfig) (first : Info) where
 
   -- the course after a yield
   abbrev pub accepted : Place → Course → Course
-  accepted place c = record c { consumer_sequence = place.number; last = place.sequence; missed = false; limited = false }
+  accepted place c = record c { consumer_sequence = place.number; stream_sequence = place.sequence; missed = false; limited = false }
 
   module _ (now : ℕ) (left : List Entry) (source : Source) (c : Course) (requests_sent inboxes_opened inbox : ℕ) (subject reply payload : List ℕ) (place : Place) where
     abbrev arrives : Matter
     arrives = matter_of (what.Arrival inbox (message subject reply payload))
 
-    abbrev heard_world : ℕ → ℕ → Ledger → ReplayState
-    heard_world a m l = world_at (Pulls (reader source l)) (accepted place c) a m
+    abbrev heard_state : ℕ → ℕ → Ledger → ReplayState
+    heard_state a m l = state_at (Pulls (reader source l)) (accepted place c) a m
 
     -- after the message the reader has this
     abbrev kept : Ledger → Ledger
@@ -229,19 +229,19 @@ module _ (settings : Settings) (config : OrderedConfig) (first : Info) where
     }
 
     goes_on : (depth : ℕ) (l : Ledger) → Leads left (IsOn source (accepted place c) requests_sent inboxes_opened) left
-        (pass_each (pass_to given now arrives (suc (suc depth))) (Read read.Threshold ∷ []) (heard_world (requests_sent + 0) (inboxes_opened + 0) (kept l)))
+        (pass_each (pass_to given now arrives (suc (suc depth))) (Read read.Threshold ∷ []) (heard_state (requests_sent + 0) (inboxes_opened + 0) (kept l)))
     goes_on depth l =
         again now arrives left source (accepted place c) requests_sent inboxes_opened _
         (leads_alone left left (IsOn source (accepted place c) (requests_sent + 0) (inboxes_opened + 0))
-        (pass_to given now arrives (suc (suc depth)) (Read read.Threshold) (heard_world (requests_sent + 0) (inboxes_opened + 0) (kept l)))
+        (pass_to given now arrives (suc (suc depth)) (Read read.Threshold) (heard_state (requests_sent + 0) (inboxes_opened + 0) (kept l)))
         (refills now arrives left source (accepted place c) (requests_sent + 0) (inboxes_opened + 0) depth (kept l)))
 
     -- the next message is yielded
     pub yields : (depth : ℕ) (l : Ledger) → (source.inbox == inbox) ≡ true → readable_as (Some reply) ≡ Some place → (place.number == c.consumer_sequence + 1) ≡ true
         → Leads (record { subject = subject; sequence = place.sequence; payload = payload } ∷ left) (IsOn source (accepted place c) requests_sent inboxes_opened) left
-        (pass_to given now arrives (suc (suc (suc depth))) (Read read.CheckArrival) (world_at (Pulls (reader source l)) c requests_sent inboxes_opened))
+        (pass_to given now arrives (suc (suc (suc depth))) (Read read.CheckArrival) (state_at (Pulls (reader source l)) c requests_sent inboxes_opened))
     yields depth l here reads next =
-        rw (here, reads, next) (record { world = (goes_on depth l).world; outputs = (left, refl, (goes_on depth l).outputs) })
+        rw (here, reads, next) (record { state = (goes_on depth l).state; outputs = (left, refl, (goes_on depth l).outputs) })
 
   -- ---- the whole event of an arrival
 
@@ -249,31 +249,31 @@ module _ (settings : Settings) (config : OrderedConfig) (first : Info) where
     abbrev comes : Matter
     comes = matter_of (what.Arrival inbox (message subject reply payload))
 
-    heard_then : ((l : Ledger) → Leads left next left_now (pass_to given now comes 9 (Read read.CheckArrival) (world_at (Pulls (reader source l)) c (requests_sent + 0) (inboxes_opened + 0))))
+    heard_then : ((l : Ledger) → Leads left next left_now (pass_to given now comes 9 (Read read.CheckArrival) (state_at (Pulls (reader source l)) c (requests_sent + 0) (inboxes_opened + 0))))
         → (w : ReplayState) → IsOn source c (requests_sent + 0) (inboxes_opened + 0) w → Leads left next left_now (pass_each (pass_to given now comes 9) (Read read.CheckArrival ∷ []) w)
     heard_then row w on = subst (λ (w : ReplayState). Leads left next left_now (pass_each (pass_to given now comes 9) (Read read.CheckArrival ∷ []) w)) (sym on.1)
-        (leads_alone left left_now next (pass_to given now comes 9 (Read read.CheckArrival) (world_at (Pulls (reader source on.0)) c (requests_sent + 0) (inboxes_opened + 0))) (row on.0))
+        (leads_alone left left_now next (pass_to given now comes 9 (Read read.CheckArrival) (state_at (Pulls (reader source on.0)) c (requests_sent + 0) (inboxes_opened + 0))) (row on.0))
 
-    pub heard : ((l : Ledger) → Leads left next left_now (pass_to given now comes 9 (Read read.CheckArrival) (world_at (Pulls (reader source l)) c (requests_sent + 0) (inboxes_opened + 0))))
+    pub heard : ((l : Ledger) → Leads left next left_now (pass_to given now comes 9 (Read read.CheckArrival) (state_at (Pulls (reader source l)) c (requests_sent + 0) (inboxes_opened + 0))))
         → (w : ReplayState) → IsOn source c requests_sent inboxes_opened w → Leads left next left_now (event given (record { at = now; what = what.Arrival inbox (message subject reply payload) }) w)
     unfolding event
     heard row w on = subst (λ (w : ReplayState). Leads left next left_now (event given (record { at = now; what = what.Arrival inbox (message subject reply payload) }) w)) (sym on.1)
-        (leads_alone left left_now next (pass_to given now comes 10 Event (world_at (Pulls (reader source on.0)) c requests_sent inboxes_opened))
+        (leads_alone left left_now next (pass_to given now comes 10 Event (state_at (Pulls (reader source on.0)) c requests_sent inboxes_opened))
         (leads_then left left left_now (IsOn source c (requests_sent + 0) (inboxes_opened + 0)) next
-        (pass_to given now comes 9 (Read read.CheckExpiry) (world_at (Pulls (reader source on.0)) c (requests_sent + 0) (inboxes_opened + 0)))
+        (pass_to given now comes 9 (Read read.CheckExpiry) (state_at (Pulls (reader source on.0)) c (requests_sent + 0) (inboxes_opened + 0)))
         (λ (w : ReplayState). pass_each (pass_to given now comes 9) (Read read.CheckArrival ∷ []) w)
         (expires now comes left source c (requests_sent + 0) (inboxes_opened + 0) 7 on.0) (heard_then row)))
 
   -- ---- the opening
 
-  pub opened : (start : ℕ) (left : List Entry) → Leads left (IsOn (source_of given 0 0 (inbox_subject given 0) first) (record { consumer_sequence = 0; last = 0; recreation_count = 0; name = first.name; missed = false; limited = false; connection = Connected }) 0 1) left (opening given start)
+  pub opened : (start : ℕ) (left : List Entry) → Leads left (IsOn (source_of given 0 0 (inbox_subject given 0) first) (record { consumer_sequence = 0; stream_sequence = 0; recreation_count = 0; name = first.name; missed = false; limited = false; connection = Connected }) 0 1) left (opening given start)
   unfolding opening
   opened start left =
       let source : Source = source_of given 0 0 (inbox_subject given 0) first in
-      let c : Course = record { consumer_sequence = 0; last = 0; recreation_count = 0; name = first.name; missed = false; limited = false; connection = Connected } in
+      let c : Course = record { consumer_sequence = 0; stream_sequence = 0; recreation_count = 0; name = first.name; missed = false; limited = false; connection = Connected } in
       leads_then left left left (IsOn source c 0 1) (IsOn source c 0 1)
-      (pass_to given start tick 2 (Read read.Threshold) (world_at (Pulls (reader source new)) c 0 1))
+      (pass_to given start tick 2 (Read read.Threshold) (state_at (Pulls (reader source new)) c 0 1))
       (λ (w : ReplayState). pass_each (λ row. pass_to given start tick (suc (rank row)) row) (Read read.Arm ∷ []) w)
       (refills start tick left source c 0 1 0 new)
       (λ w on. subst (λ (w : ReplayState). Leads left (IsOn source c 0 1) left (pass_each (λ row. pass_to given start tick (suc (rank row)) row) (Read read.Arm ∷ []) w)) (sym on.1)
-      (leads_alone left left (IsOn source c 0 1) (pass_to given start tick 1 (Read read.Arm) (world_at (Pulls (reader source on.0)) c 0 1)) (arms start tick left source c 0 1 0 on.0)))
+      (leads_alone left left (IsOn source c 0 1) (pass_to given start tick 1 (Read read.Arm) (state_at (Pulls (reader source on.0)) c 0 1)) (arms start tick left source c 0 1 0 on.0)))

@@ -28,7 +28,7 @@ use Rattle.js_table.specs.declared.consumer.Phase.TheVariants.{Pulls, Pushes, Re
 use Rattle.js_table.specs.Recreation.{start_row, create_row, succeed_row, succeed_push, message_on}
 use Rattle.js_table.specs.Reading.{message_row, told, push_kind, hear_kind, hear_row, armed}
 use Rattle.js_table.specs.declared.kind.PushKind.{PushKind}
-use Rattle.js_table.specs.declared.kind.PushKind.TheVariants.{Delivered, Quiet, Bad, Beat}
+use Rattle.js_table.specs.declared.kind.PushKind.TheVariants.{Delivered, OtherStatus, Bad, Beat}
 use Rattle.js_table.specs.Turn.{go_on, is_connected, changed, watcher_ended, event_change, event_row, same_state, reader_row, row_at}
 use Rattle.js_table.specs.declared.setup.OrderedSetup.{OrderedSetup}
 use Rattle.js_table.specs.declared.setup.OrderedSetup.TheVariants.{Pull, Push}
@@ -121,14 +121,14 @@ told_none (tells.Tells error.Other) c never = never
 
 hear_kind_none : (p : Passing) (message : Message) (k : PushKind) (c : Consumer) → NotAsking c.phase → LeavesNone (hear_kind p message k c)
 hear_kind_none p message Delivered c never = message_none (readable_as message.reply) message c never
-hear_kind_none p message Quiet c never = never
+hear_kind_none p message OtherStatus c never = never
 hear_kind_none p message Bad c never = never
 hear_kind_none p message (Beat n) c never = never
 
 -- ---- the rows of a recreation
 
 start_asks : (g : ReplayInput) (c : Consumer) (from : ℕ) → Asks from (start_row g c)
-start_asks g c from = if_each (Asks from) (c.last == pull.u64_max) _ _ (λ _. tt) (λ _. refl)
+start_asks g c from = if_each (Asks from) (c.stream_sequence == pull.u64_max) _ _ (λ _. tt) (λ _. refl)
 
 create_asks : (setup : OrderedSetup) (p : Passing) (r : Recreation) (c : Consumer) (from : ℕ) → from ≡ start_sequence r.start → Asks from (create_row setup p r (at_phase (Recreates r) c))
 create_asks (Pull setup) p r c from a = a

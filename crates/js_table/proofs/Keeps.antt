@@ -41,7 +41,7 @@ use Rattle.js_table.specs.declared.consumer.Phase.TheVariants.{Pulls, Pushes, Re
 use Rattle.js_table.specs.Recreation.{start_row, try_row, create_row, ask_row, succeed_row, succeed_pull, succeed_push, fail_row, message_on, hold, held_in, hold_row, stage_rows, recreation_rows, created, answered, has_subject}
 use Rattle.js_table.specs.Reading.{message_row, told, with_sent, push_kind, beat_answer, beat_rows, hear_kind, hear_row, silence_row, armed}
 use Rattle.js_table.specs.declared.kind.PushKind.{PushKind}
-use Rattle.js_table.specs.declared.kind.PushKind.TheVariants.{Delivered, Quiet, Bad, Beat}
+use Rattle.js_table.specs.declared.kind.PushKind.TheVariants.{Delivered, OtherStatus, Bad, Beat}
 use Rattle.js_table.specs.Turn.{push_rows, go_on, is_connected, changed, watcher_ended, event_change, event_row, same_state, reader_row, row_at, pass}
 use Rattle.js_table.specs.declared.setup.OrderedSetup.{OrderedSetup}
 use Rattle.js_table.specs.declared.setup.OrderedSetup.TheVariants.{Pull, Push}
@@ -56,30 +56,30 @@ use Rattle.js_table.proofs.Central.{joins_next, kept_next}
 pub record Keeps (setup : OrderedSetup) (s : Server) (last : ℕ) (passed : Passed) : Type 0 where
   pub kept : IsKept setup s passed.consumer
   pub rows : AllByRecursion (IsHonestRow setup s) passed.next
-  pub extends : Extends setup s last passed.outputs passed.consumer.last
+  pub extends : Extends setup s last passed.outputs passed.consumer.stream_sequence
 
 -- ---- recreations
 
-start_keeps : (g : ReplayInput) (s : Server) (c : Consumer) → Keeps g.setup s c.last (start_row g c)
-start_keeps g s c = if_each (Keeps g.setup s c.last) (c.last == pull.u64_max) _ _
+start_keeps : (g : ReplayInput) (s : Server) (c : Consumer) → Keeps g.setup s c.stream_sequence (start_row g c)
+start_keeps g s c = if_each (Keeps g.setup s c.stream_sequence) (c.stream_sequence == pull.u64_max) _ _
     (λ _. record { kept = tt; rows = tt; extends = refl })
     (λ _. record { kept = record { start = refl; fresh = refl; later = risen c.recreation_count; opened = tt }; rows = (tt, tt); extends = refl })
   where
     risen : (n : ℕ) → 0 < min (n + 1) (2 ^ 64 - 1)
     risen n = omega arith
 
-try_keeps : (g : ReplayInput) (s : Server) (p : Passing) (r : Recreation) (c : Consumer) → IsKeptIn g.setup s c.consumer_sequence c.last c.recreation_count r
-    → Keeps g.setup s c.last (try_row g p r (at_phase (Recreates r) c))
-try_keeps g s p r c k = if_each (Keeps g.setup s c.last) p.up _ _
+try_keeps : (g : ReplayInput) (s : Server) (p : Passing) (r : Recreation) (c : Consumer) → IsKeptIn g.setup s c.consumer_sequence c.stream_sequence c.recreation_count r
+    → Keeps g.setup s c.stream_sequence (try_row g p r (at_phase (Recreates r) c))
+try_keeps g s p r c k = if_each (Keeps g.setup s c.stream_sequence) p.up _ _
     (λ _. record { kept = record { start = k.start; fresh = k.fresh; later = k.later; opened = k.opened }; rows = tt; extends = refl })
     (λ _. record { kept = k; rows = (tt, tt); extends = refl })
 
-create_keeps : (g : ReplayInput) (setup : OrderedSetup) (s : Server) (p : Passing) (r : Recreation) (c : Consumer) → IsKeptIn g.setup s c.consumer_sequence c.last c.recreation_count r
+create_keeps : (g : ReplayInput) (setup : OrderedSetup) (s : Server) (p : Passing) (r : Recreation) (c : Consumer) → IsKeptIn g.setup s c.consumer_sequence c.stream_sequence c.recreation_count r
     → FollowsStarts s.starts (start_sequence r.start) (create_row setup p r (at_phase (Recreates r) c)).outputs
-    → Keeps g.setup s c.last (create_row setup p r (at_phase (Recreates r) c))
+    → Keeps g.setup s c.stream_sequence (create_row setup p r (at_phase (Recreates r) c))
 create_keeps g (Pull setup) s p r c k opens = record { kept = k; rows = (tt, tt); extends = refl }
 create_keeps g (Push setup) s p r c k opens =
-    if_both (λ (passed : Passed). FollowsStarts s.starts (start_sequence r.start) passed.outputs → Keeps g.setup s c.last passed) p.up _ _
+    if_both (λ (passed : Passed). FollowsStarts s.starts (start_sequence r.start) passed.outputs → Keeps g.setup s c.stream_sequence passed) p.up _ _
     (λ starts. record {
       kept = record { start = k.start; fresh = k.fresh; later = k.later; opened = record { starts = starts.0; held = tt } };
       rows = (tt, tt);
@@ -88,21 +88,21 @@ create_keeps g (Push setup) s p r c k opens =
     (λ starts. record { kept = k; rows = (tt, tt); extends = refl })
     opens
 
-ask_keeps : (g : ReplayInput) (s : Server) (p : Passing) (r : Recreation) (c : Consumer) → IsKeptIn g.setup s c.consumer_sequence c.last c.recreation_count r
-    → Keeps g.setup s c.last (ask_row g p r (at_phase (Recreates r) c))
-ask_keeps g s p r c k = if_each (Keeps g.setup s c.last) p.up _ _
+ask_keeps : (g : ReplayInput) (s : Server) (p : Passing) (r : Recreation) (c : Consumer) → IsKeptIn g.setup s c.consumer_sequence c.stream_sequence c.recreation_count r
+    → Keeps g.setup s c.stream_sequence (ask_row g p r (at_phase (Recreates r) c))
+ask_keeps g s p r c k = if_each (Keeps g.setup s c.stream_sequence) p.up _ _
     (λ _. record { kept = record { start = k.start; fresh = k.fresh; later = k.later; opened = k.opened }; rows = tt; extends = refl })
     (λ _. record { kept = k; rows = (tt, tt); extends = refl })
 
-fail_keeps : (g : ReplayInput) (s : Server) (p : Passing) (r : Recreation) (c : Consumer) → IsKeptIn g.setup s c.consumer_sequence c.last c.recreation_count r
-    → Keeps g.setup s c.last (fail_row g p r (at_phase (Recreates r) c))
-fail_keeps g s p r c k = if_each (Keeps g.setup s c.last) (nat_lt g.settings.retries (r.failures + 1)) _ _
+fail_keeps : (g : ReplayInput) (s : Server) (p : Passing) (r : Recreation) (c : Consumer) → IsKeptIn g.setup s c.consumer_sequence c.stream_sequence c.recreation_count r
+    → Keeps g.setup s c.stream_sequence (fail_row g p r (at_phase (Recreates r) c))
+fail_keeps g s p r c k = if_each (Keeps g.setup s c.stream_sequence) (nat_lt g.settings.retries (r.failures + 1)) _ _
     (λ _. record { kept = tt; rows = tt; extends = refl })
     (λ _. record { kept = record { start = k.start; fresh = k.fresh; later = k.later; opened = tt }; rows = tt; extends = refl })
 
 -- a new inbox that starts past the last yield
-fresh_inbox : (setup : OrderedSetup) (s : Server) (c : Consumer) (r : Recreation) (inbox : ℕ) → IsKeptIn setup s c.consumer_sequence c.last c.recreation_count r
-    → s.starts inbox ≡ start_sequence r.start → IsKeptOn setup s c.consumer_sequence c.last c.recreation_count inbox
+fresh_inbox : (setup : OrderedSetup) (s : Server) (c : Consumer) (r : Recreation) (inbox : ℕ) → IsKeptIn setup s c.consumer_sequence c.stream_sequence c.recreation_count r
+    → s.starts inbox ≡ start_sequence r.start → IsKeptOn setup s c.consumer_sequence c.stream_sequence c.recreation_count inbox
 fresh_inbox setup s c r inbox k starts =
     let fresh : c.consumer_sequence ≡ 0 = k.fresh in
     let later : 0 < c.recreation_count = k.later in
@@ -112,11 +112,11 @@ fresh_inbox setup s c r inbox k starts =
       later = λ _ _. starts ∙ ap start_sequence k.start;
     }
 
-succeed_pull_keeps : (g : ReplayInput) (s : Server) (p : Passing) (info : Info) (r : Recreation) (c : Consumer) → IsPull g.setup → IsKeptIn g.setup s c.consumer_sequence c.last c.recreation_count r
+succeed_pull_keeps : (g : ReplayInput) (s : Server) (p : Passing) (info : Info) (r : Recreation) (c : Consumer) → IsPull g.setup → IsKeptIn g.setup s c.consumer_sequence c.stream_sequence c.recreation_count r
     → FollowsStarts s.starts (start_sequence r.start) (succeed_pull g p info (at_phase (Recreates r) c)).outputs
-    → Keeps g.setup s c.last (succeed_pull g p info (at_phase (Recreates r) c))
+    → Keeps g.setup s c.stream_sequence (succeed_pull g p info (at_phase (Recreates r) c))
 succeed_pull_keeps g s p info r c mode k =
-    if_both (λ (passed : Passed). FollowsStarts s.starts (start_sequence r.start) passed.outputs → Keeps g.setup s c.last passed) p.up _ _
+    if_both (λ (passed : Passed). FollowsStarts s.starts (start_sequence r.start) passed.outputs → Keeps g.setup s c.stream_sequence passed) p.up _ _
     (λ starts. record { kept = (mode, fresh_inbox g.setup s c r p.inbox k starts.0); rows = (tt, (tt, tt)); extends = refl })
     (λ starts. record { kept = k; rows = (tt, tt); extends = refl })
 
@@ -126,9 +126,9 @@ held_rows : (setup : OrderedSetup) (s : Server) (inbox : ℕ) (held : List Messa
 held_rows setup s inbox [] honest = (tt, tt)
 held_rows setup s inbox (message ∷ held) honest = (honest.0, held_rows setup s inbox held honest.1)
 
-succeed_push_keeps : (g : ReplayInput) (s : Server) (p : Passing) (opened : Option Opened) (r : Recreation) (c : Consumer) → IsPush g.setup → IsKeptIn g.setup s c.consumer_sequence c.last c.recreation_count r
+succeed_push_keeps : (g : ReplayInput) (s : Server) (p : Passing) (opened : Option Opened) (r : Recreation) (c : Consumer) → IsPush g.setup → IsKeptIn g.setup s c.consumer_sequence c.stream_sequence c.recreation_count r
     → IfSome opened (IsKeptOpened g.setup s r.start)
-    → Keeps g.setup s c.last (succeed_push p opened (at_phase (Recreates r) c))
+    → Keeps g.setup s c.stream_sequence (succeed_push p opened (at_phase (Recreates r) c))
 succeed_push_keeps g s p None r c mode k ko = record { kept = k; rows = tt; extends = refl }
 succeed_push_keeps g s p (Some opened) r c mode k ko = record {
   kept = (mode, fresh_inbox g.setup s c r opened.inbox k ko.starts);
@@ -136,9 +136,9 @@ succeed_push_keeps g s p (Some opened) r c mode k ko = record {
   extends = refl;
 }
 
-succeed_keeps : (g : ReplayInput) (setup : OrderedSetup) → g.setup ≡ setup → (s : Server) (p : Passing) (info : Info) (r : Recreation) (c : Consumer) → IsKeptIn g.setup s c.consumer_sequence c.last c.recreation_count r
+succeed_keeps : (g : ReplayInput) (setup : OrderedSetup) → g.setup ≡ setup → (s : Server) (p : Passing) (info : Info) (r : Recreation) (c : Consumer) → IsKeptIn g.setup s c.consumer_sequence c.stream_sequence c.recreation_count r
     → FollowsStarts s.starts (start_sequence r.start) (succeed_row setup g p info r (at_phase (Recreates r) c)).outputs
-    → Keeps g.setup s c.last (succeed_row setup g p info r (at_phase (Recreates r) c))
+    → Keeps g.setup s c.stream_sequence (succeed_row setup g p info r (at_phase (Recreates r) c))
 succeed_keeps g (Pull setup) same s p info r c k opens = succeed_pull_keeps g s p info r c (subst IsPull (sym same) tt) k opens
 succeed_keeps g (Push setup) same s p info r c k opens = succeed_push_keeps g s p r.opened r c (subst IsPush (sym same) tt) k k.opened
 
@@ -184,8 +184,8 @@ rows_of_stage g s p m (Deleting request timeout) =
 rows_of_stage g s p m (Creating request timeout) = created_rows g s p timeout (pull.reply_to request m.answer)
 rows_of_stage g s p m (Waiting wait) = if_each (AllByRecursion (IsHonestRow g.setup s)) (is_due wait p.now) _ _ (λ _. (tt, tt)) (λ _. tt)
 
-hold_row_keeps : (g : ReplayInput) (s : Server) (m : Matter) (r : Recreation) (c : Consumer) → IsKeptIn g.setup s c.consumer_sequence c.last c.recreation_count r
-    → IsHonestMatter g.setup s m → Keeps g.setup s c.last (hold_row m r (at_phase (Recreates r) c))
+hold_row_keeps : (g : ReplayInput) (s : Server) (m : Matter) (r : Recreation) (c : Consumer) → IsKeptIn g.setup s c.consumer_sequence c.stream_sequence c.recreation_count r
+    → IsHonestMatter g.setup s m → Keeps g.setup s c.stream_sequence (hold_row m r (at_phase (Recreates r) c))
 hold_row_keeps g s m r c k honest = record {
   kept = record { start = k.start; fresh = k.fresh; later = k.later; opened = held_keeps g.setup s r.start m.arrival r.opened k.opened honest };
   rows = tt;
@@ -203,19 +203,19 @@ DeliveredAs setup s inbox o message = (place : Place) → o ≡ Some place → I
 
 -- at a phase whose current inbox is this one
 message_keeps : (setup : OrderedSetup) (s : Server) (inbox : ℕ) (phase : Phase)
-    → ((c : Consumer) → IsKeptOn setup s c.consumer_sequence c.last c.recreation_count inbox → IsKeptAt setup s c phase)
+    → ((c : Consumer) → IsKeptOn setup s c.consumer_sequence c.stream_sequence c.recreation_count inbox → IsKeptAt setup s c phase)
     → IsWhole setup s.log s.removed (s.starts inbox) (s.lists inbox)
-    → (c : Consumer) → IsKeptOn setup s c.consumer_sequence c.last c.recreation_count inbox
+    → (c : Consumer) → IsKeptOn setup s c.consumer_sequence c.stream_sequence c.recreation_count inbox
     → (o : Option Place) (message : Message) → DeliveredAs setup s inbox o message
-    → Keeps setup s c.last (message_row o message (at_phase phase c))
+    → Keeps setup s c.stream_sequence (message_row o message (at_phase phase c))
 message_keeps setup s inbox phase at whole c k None message delivered = record { kept = at (at_phase phase c) k; rows = tt; extends = refl }
 message_keeps setup s inbox phase at whole c k (Some place) message delivered =
-    if_with (Keeps setup s c.last) (place.number == c.consumer_sequence + 1) _ _
+    if_with (Keeps setup s c.stream_sequence) (place.number == c.consumer_sequence + 1) _ _
     (λ same. record {
-      kept = at (record (at_phase phase c) { consumer_sequence = place.number; last = place.sequence; limited = false })
-          (kept_next setup s c.consumer_sequence c.last c.recreation_count inbox place.number (entry_of place message) (delivered place refl) (eqb-true place.number (c.consumer_sequence + 1) same));
+      kept = at (record (at_phase phase c) { consumer_sequence = place.number; stream_sequence = place.sequence; limited = false })
+          (kept_next setup s c.consumer_sequence c.stream_sequence c.recreation_count inbox place.number (entry_of place message) (delivered place refl) (eqb-true place.number (c.consumer_sequence + 1) same));
       rows = tt;
-      extends = (joins_next setup s c.consumer_sequence c.last c.recreation_count inbox place.number (entry_of place message) whole k (delivered place refl) (eqb-true place.number (c.consumer_sequence + 1) same), refl);
+      extends = (joins_next setup s c.consumer_sequence c.stream_sequence c.recreation_count inbox place.number (entry_of place message) whole k (delivered place refl) (eqb-true place.number (c.consumer_sequence + 1) same), refl);
     })
     (record { kept = at (at_phase phase c) k; rows = (tt, tt); extends = refl })
 
@@ -233,7 +233,7 @@ pub record IsRead (reader : PullReader) (arrival : Option Message) (passed : pul
 hear_read : (reader : PullReader) (message : Message) (k : Kind) (r : PullReader) → r.source ≡ reader.source → pull_kind message ≡ k
     → IsRead reader (Some message) (pull.hear message k r)
 hear_read reader message kind.Delivered r same is = record { source = same; hands = (refl, is) }
-hear_read reader message kind.Quiet r same is = record { source = same; hands = tt }
+hear_read reader message kind.IdleHeartbeat r same is = record { source = same; hands = tt }
 hear_read reader message kind.Deleted r same is = record { source = same; hands = tt }
 hear_read reader message kind.PushBased r same is = record { source = same; hands = tt }
 hear_read reader message kind.Limit r same is = record { source = same; hands = tt }
@@ -304,15 +304,15 @@ with_sent_keeps : (setup : OrderedSetup) (s : Server) (last : ℕ) (sent : List 
 with_sent_keeps setup s last sent rows passed keeps = record {
   kept = keeps.kept;
   rows = all_in_place (IsHonestRow setup s) passed.next (map Read rows) keeps.rows (reader_rows setup s rows);
-  extends = sent_extends setup s last passed.consumer.last sent passed.outputs keeps.extends;
+  extends = sent_extends setup s last passed.consumer.stream_sequence sent passed.outputs keeps.extends;
 }
 
 told_keeps : (g : ReplayInput) (s : Server) (setup : OrderedSetup) (reader : PullReader) (c : Consumer) (arrival : Option Message) (t : PullTold)
     → IsWhole setup s.log s.removed (s.starts reader.source.inbox) (s.lists reader.source.inbox)
-    → IsPull setup → IsKeptOn setup s c.consumer_sequence c.last c.recreation_count reader.source.inbox
+    → IsPull setup → IsKeptOn setup s c.consumer_sequence c.stream_sequence c.recreation_count reader.source.inbox
     → HandsOnly arrival t
     → ((message : Message) → arrival ≡ Some message → pull_kind message ≡ kind.Delivered → DeliveredAs setup s reader.source.inbox (readable_as message.reply) message)
-    → Keeps setup s c.last (told t (at_phase (Pulls reader) c))
+    → Keeps setup s c.stream_sequence (told t (at_phase (Pulls reader) c))
 told_keeps g s setup reader c arrival tells.Nothing whole mode k hands delivered = record { kept = (mode, k); rows = tt; extends = refl }
 told_keeps g s setup reader c arrival (tells.Hands message) whole mode k hands delivered =
     message_keeps setup s reader.source.inbox (Pulls reader) (λ c' kept. (mode, kept)) whole (record c { missed = false }) k
@@ -321,18 +321,18 @@ told_keeps g s setup reader c arrival (tells.Tells error.ConsumerDeleted) whole 
 told_keeps g s setup reader c arrival (tells.Tells error.NoResponders) whole mode k hands delivered = record { kept = (mode, k); rows = (tt, tt); extends = refl }
 told_keeps g s setup reader c arrival (tells.Tells error.PushBasedConsumer) whole mode k hands delivered = record { kept = tt; rows = tt; extends = refl }
 told_keeps g s setup reader c arrival (tells.Tells error.RequestLimitExceeded) whole mode k hands delivered =
-    if_each (Keeps setup s c.last) c.limited _ _ (λ _. record { kept = tt; rows = tt; extends = refl }) (λ _. record { kept = (mode, k); rows = (tt, tt); extends = refl })
+    if_each (Keeps setup s c.stream_sequence) c.limited _ _ (λ _. record { kept = tt; rows = tt; extends = refl }) (λ _. record { kept = (mode, k); rows = (tt, tt); extends = refl })
 told_keeps g s setup reader c arrival (tells.Tells error.MissingHeartbeat) whole mode k hands delivered =
-    if_each (Keeps setup s c.last) c.missed _ _ (λ _. record { kept = (mode, k); rows = (tt, tt); extends = refl }) (λ _. record { kept = (mode, k); rows = tt; extends = refl })
+    if_each (Keeps setup s c.stream_sequence) c.missed _ _ (λ _. record { kept = (mode, k); rows = (tt, tt); extends = refl }) (λ _. record { kept = (mode, k); rows = tt; extends = refl })
 told_keeps g s setup reader c arrival (tells.Tells error.Pull) whole mode k hands delivered = record { kept = (mode, k); rows = tt; extends = refl }
 told_keeps g s setup reader c arrival (tells.Tells error.Other) whole mode k hands delivered = record { kept = (mode, k); rows = tt; extends = refl }
 
 -- ---- push
 
-silence_keeps : (setup : OrderedSetup) (s : Server) (p : Passing) (heartbeat_timer : Timer) (inbox : ℕ) (c : Consumer) → IsPush setup → IsKeptOn setup s c.consumer_sequence c.last c.recreation_count inbox
-    → Keeps setup s c.last (silence_row p heartbeat_timer (at_phase (Pushes inbox heartbeat_timer) c))
+silence_keeps : (setup : OrderedSetup) (s : Server) (p : Passing) (heartbeat_timer : Timer) (inbox : ℕ) (c : Consumer) → IsPush setup → IsKeptOn setup s c.consumer_sequence c.stream_sequence c.recreation_count inbox
+    → Keeps setup s c.stream_sequence (silence_row p heartbeat_timer (at_phase (Pushes inbox heartbeat_timer) c))
 silence_keeps setup s p heartbeat_timer inbox c mode k =
-    if_each (Keeps setup s c.last) (is_due heartbeat_timer p.now) _ _ (λ _. record { kept = (mode, k); rows = (tt, tt); extends = refl }) (λ _. record { kept = (mode, k); rows = tt; extends = refl })
+    if_each (Keeps setup s c.stream_sequence) (is_due heartbeat_timer p.now) _ _ (λ _. record { kept = (mode, k); rows = (tt, tt); extends = refl }) (λ _. record { kept = (mode, k); rows = tt; extends = refl })
 
 beat_extends : (setup : OrderedSetup) (s : Server) (last : ℕ) (up : Bool) (reply : Option (List ℕ)) → Extends setup s last (beat_answer up reply) last
 beat_extends setup s last up None = refl
@@ -345,15 +345,15 @@ beat_rows_honest setup s (Some n) consumer_sequence = if_each (AllByRecursion (I
 
 hear_kind_keeps : (setup : OrderedSetup) (s : Server) (p : Passing) (inbox : ℕ) (heartbeat_timer : Timer) (c : Consumer) (message : Message) (k : PushKind)
     → IsWhole setup s.log s.removed (s.starts inbox) (s.lists inbox)
-    → IsPush setup → IsKeptOn setup s c.consumer_sequence c.last c.recreation_count inbox
+    → IsPush setup → IsKeptOn setup s c.consumer_sequence c.stream_sequence c.recreation_count inbox
     → (k ≡ Delivered → DeliveredAs setup s inbox (readable_as message.reply) message)
-    → Keeps setup s c.last (hear_kind p message k (at_phase (Pushes inbox heartbeat_timer) c))
+    → Keeps setup s c.stream_sequence (hear_kind p message k (at_phase (Pushes inbox heartbeat_timer) c))
 hear_kind_keeps setup s p inbox heartbeat_timer c message Delivered whole mode k delivered =
     message_keeps setup s inbox (Pushes inbox heartbeat_timer) (λ c' kept. (mode, kept)) whole c k (readable_as message.reply) message (delivered refl)
-hear_kind_keeps setup s p inbox heartbeat_timer c message Quiet whole mode k delivered = record { kept = (mode, k); rows = tt; extends = refl }
+hear_kind_keeps setup s p inbox heartbeat_timer c message OtherStatus whole mode k delivered = record { kept = (mode, k); rows = tt; extends = refl }
 hear_kind_keeps setup s p inbox heartbeat_timer c message Bad whole mode k delivered = record { kept = (mode, k); rows = tt; extends = refl }
 hear_kind_keeps setup s p inbox heartbeat_timer c message (Beat n) whole mode k delivered =
-    record { kept = (mode, k); rows = beat_rows_honest setup s n c.consumer_sequence; extends = beat_extends setup s c.last p.up message.reply }
+    record { kept = (mode, k); rows = beat_rows_honest setup s n c.consumer_sequence; extends = beat_extends setup s c.stream_sequence p.up message.reply }
 
 -- ---- a mode's messages
 
@@ -369,16 +369,16 @@ push_message (Push setup) message mode is = is
 
 reader_keeps : (g : ReplayInput) (s : Server) (p : Passing) (m : Matter) (row : PullRow) (reader : PullReader) (c : Consumer)
     → ((inbox : ℕ) → IsWhole g.setup s.log s.removed (s.starts inbox) (s.lists inbox))
-    → IsPull g.setup → IsKeptOn g.setup s c.consumer_sequence c.last c.recreation_count reader.source.inbox → IsHonestMatter g.setup s m
-    → Keeps g.setup s c.last (reader_row p m row reader c)
+    → IsPull g.setup → IsKeptOn g.setup s c.consumer_sequence c.stream_sequence c.recreation_count reader.source.inbox → IsHonestMatter g.setup s m
+    → Keeps g.setup s c.stream_sequence (reader_row p m row reader c)
 reader_keeps g s p m row reader c whole mode k honest =
     let arrival : Option Message = message_on reader.source.inbox m.arrival in
     let passed : pull.Passed = pull.row p m.answer arrival row reader in
     let read : IsRead reader arrival passed = row_read p m.answer arrival row reader in
     let same : reader.source.inbox ≡ passed.reader.source.inbox = sym (ap (λ (source : Source). source.inbox) read.source) in
-    with_sent_keeps g.setup s c.last passed.sent passed.next (told passed.told (at_phase (Pulls passed.reader) c))
+    with_sent_keeps g.setup s c.stream_sequence passed.sent passed.next (told passed.told (at_phase (Pulls passed.reader) c))
     (told_keeps g s g.setup passed.reader c arrival passed.told (whole passed.reader.source.inbox) mode
-    (subst (λ (i : ℕ). IsKeptOn g.setup s c.consumer_sequence c.last c.recreation_count i) same k) read.hands
+    (subst (λ (i : ℕ). IsKeptOn g.setup s c.consumer_sequence c.stream_sequence c.recreation_count i) same k) read.hands
     (λ message is kind_is place place_is.
     subst (λ (i : ℕ). IsDelivery s i place.number (entry_of place message)) same
     (delivery arrival (on_inbox g.setup s reader.source.inbox m.arrival honest) message is kind_is place place_is)))
@@ -393,10 +393,10 @@ reader_keeps g s p m row reader c whole mode k honest =
 
 hear_keeps : (g : ReplayInput) (s : Server) (p : Passing) (arrival : Arrival) (inbox : ℕ) (heartbeat_timer : Timer) (c : Consumer)
     → ((inbox : ℕ) → IsWhole g.setup s.log s.removed (s.starts inbox) (s.lists inbox))
-    → IsPush g.setup → IsKeptOn g.setup s c.consumer_sequence c.last c.recreation_count inbox → IsHonestArrival g.setup s arrival
-    → Keeps g.setup s c.last (hear_row p arrival inbox (at_phase (Pushes inbox heartbeat_timer) c))
+    → IsPush g.setup → IsKeptOn g.setup s c.consumer_sequence c.stream_sequence c.recreation_count inbox → IsHonestArrival g.setup s arrival
+    → Keeps g.setup s c.stream_sequence (hear_row p arrival inbox (at_phase (Pushes inbox heartbeat_timer) c))
 hear_keeps g s p arrival inbox heartbeat_timer c whole mode k honest =
-    if_with (Keeps g.setup s c.last) (arrival.inbox == inbox) _ _
+    if_with (Keeps g.setup s c.stream_sequence) (arrival.inbox == inbox) _ _
     (λ same. hear_kind_keeps g.setup s p inbox (armed p.now) c arrival.message (push_kind arrival.message) (whole inbox) mode k
     (λ kind_is place place_is.
     subst (λ (i : ℕ). IsDelivery s i place.number (entry_of place arrival.message)) (eqb-true arrival.inbox inbox same)
@@ -411,7 +411,7 @@ push_rows_honest setup s inbox None honest = (tt, tt)
 push_rows_honest setup s inbox (Some message) honest = (honest, tt)
 
 go_on_keeps : (g : ReplayInput) (s : Server) (whole : (inbox : ℕ) → IsWhole g.setup s.log s.removed (s.starts inbox) (s.lists inbox)) (p : Passing) (m : Matter) (phase : Phase) (c : Consumer) → IsKeptAt g.setup s c phase → IsHonestMatter g.setup s m
-    → Keeps g.setup s c.last (go_on g p m phase (at_phase phase c))
+    → Keeps g.setup s c.stream_sequence (go_on g p m phase (at_phase phase c))
 go_on_keeps g s whole p m Idle c k honest = record { kept = tt; rows = (tt, tt); extends = refl }
 go_on_keeps g s whole p m (Recreates r) c k honest = record { kept = k; rows = recreation_honest g.setup s r.opened; extends = refl }
 go_on_keeps g s whole p m (Pulls reader) c k honest = reader_keeps g s p m (read.Begin None) reader c whole k.0 k.1 honest
@@ -420,10 +420,10 @@ go_on_keeps g s whole p m Ended c k honest = record { kept = tt; rows = tt; exte
 go_on_keeps g s whole p m Exhausted c k honest = record { kept = tt; rows = tt; extends = refl }
 
 changed_keeps : (g : ReplayInput) (s : Server) (whole : (inbox : ℕ) → IsWhole g.setup s.log s.removed (s.starts inbox) (s.lists inbox)) (p : Passing) (m : Matter) (old new : State) (phase : Phase) (c : Consumer) → IsKeptAt g.setup s c phase → IsHonestMatter g.setup s m
-    → Keeps g.setup s c.last (changed g p m old new phase (at_phase phase c))
+    → Keeps g.setup s c.stream_sequence (changed g p m old new phase (at_phase phase c))
 changed_keeps g s whole p m old new (Pulls reader) c k honest = reader_keeps g s p m (read.Begin (Some new)) reader (record c { connection = new }) whole k.0 k.1 honest
 changed_keeps g s whole p m old new (Pushes inbox heartbeat_timer) c k honest =
-    if_both (Keeps g.setup s c.last) (is_connected old || is_connected new) _ _
+    if_both (Keeps g.setup s c.stream_sequence) (is_connected old || is_connected new) _ _
     (record { kept = k; rows = (tt, tt); extends = refl }) (go_on_keeps g s whole p m (Pushes inbox heartbeat_timer) (record c { connection = new }) k honest)
 changed_keeps g s whole p m old new (Recreates r) c k honest =
     go_on_keeps g s whole p m (Recreates r) (record c { connection = new }) k honest
@@ -435,19 +435,19 @@ changed_keeps g s whole p m old new Exhausted c k honest =
     go_on_keeps g s whole p m Exhausted (record c { connection = new }) k honest
 
 watcher_keeps : (g : ReplayInput) (s : Server) (whole : (inbox : ℕ) → IsWhole g.setup s.log s.removed (s.starts inbox) (s.lists inbox)) (p : Passing) (m : Matter) (setup : OrderedSetup) (phase : Phase) (c : Consumer) → IsKeptAt g.setup s c phase → IsHonestMatter g.setup s m
-    → Keeps g.setup s c.last (watcher_ended g p m setup (at_phase phase c))
+    → Keeps g.setup s c.stream_sequence (watcher_ended g p m setup (at_phase phase c))
 watcher_keeps g s whole p m (Pull setup) phase c k honest = go_on_keeps g s whole p m phase c k honest
 watcher_keeps g s whole p m (Push setup) phase c k honest = record { kept = tt; rows = tt; extends = refl }
 
 change_keeps : (g : ReplayInput) (s : Server) (whole : (inbox : ℕ) → IsWhole g.setup s.log s.removed (s.starts inbox) (s.lists inbox)) (p : Passing) (m : Matter) (change : Change) (phase : Phase) (c : Consumer) → IsKeptAt g.setup s c phase → IsHonestMatter g.setup s m
-    → Keeps g.setup s c.last (event_change g p m change (at_phase phase c))
+    → Keeps g.setup s c.stream_sequence (event_change g p m change (at_phase phase c))
 change_keeps g s whole p m Unchanged phase c k honest = go_on_keeps g s whole p m phase c k honest
 change_keeps g s whole p m (Becomes state) phase c k honest =
-    if_both (Keeps g.setup s c.last) (same_state c.connection state) _ _ (go_on_keeps g s whole p m phase c k honest) (changed_keeps g s whole p m c.connection state phase c k honest)
+    if_both (Keeps g.setup s c.stream_sequence) (same_state c.connection state) _ _ (go_on_keeps g s whole p m phase c k honest) (changed_keeps g s whole p m c.connection state phase c k honest)
 change_keeps g s whole p m WatcherEnds phase c k honest = watcher_keeps g s whole p m g.setup phase c k honest
 
 event_keeps : (g : ReplayInput) (s : Server) (whole : (inbox : ℕ) → IsWhole g.setup s.log s.removed (s.starts inbox) (s.lists inbox)) (p : Passing) (m : Matter) (phase : Phase) (c : Consumer) → IsKeptAt g.setup s c phase → IsHonestMatter g.setup s m
-    → Keeps g.setup s c.last (event_row g p m phase (at_phase phase c))
+    → Keeps g.setup s c.stream_sequence (event_row g p m phase (at_phase phase c))
 event_keeps g s whole p m Ended c k honest = record { kept = tt; rows = tt; extends = refl }
 event_keeps g s whole p m Exhausted c k honest = record { kept = tt; rows = tt; extends = refl }
 event_keeps g s whole p m (Pulls reader) c k honest = change_keeps g s whole p m m.change (Pulls reader) c k honest
@@ -461,7 +461,7 @@ pub row_keeps : (g : ReplayInput) (s : Server) → ((inbox : ℕ) → IsWhole g.
     → (p : Passing) (m : Matter) (row : Row) (phase : Phase) (c : Consumer)
     → IsKeptAt g.setup s c phase → IsHonestMatter g.setup s m → IsHonestRow g.setup s row
     → OpensAsAsked s phase (row_at g p m row phase (at_phase phase c)).outputs
-    → Keeps g.setup s c.last (row_at g p m row phase (at_phase phase c))
+    → Keeps g.setup s c.stream_sequence (row_at g p m row phase (at_phase phase c))
 row_keeps g s whole p m Event phase c k matter honest opens = event_keeps g s whole p m phase c k matter
 row_keeps g s whole p m Start phase c k matter honest opens = start_keeps g s (at_phase phase c)
 row_keeps g s whole p m Try (Recreates r) c k matter honest opens = try_keeps g s p r c k
@@ -484,5 +484,5 @@ pub pass_keeps : (g : ReplayInput) (s : Server) → ((inbox : ℕ) → IsWhole g
     → (p : Passing) (m : Matter) (row : Row) (c : Consumer)
     → IsKept g.setup s c → IsHonestMatter g.setup s m → IsHonestRow g.setup s row
     → OpensAsAsked s c.phase (pass g p m row c).outputs
-    → Keeps g.setup s c.last (pass g p m row c)
+    → Keeps g.setup s c.stream_sequence (pass g p m row c)
 pass_keeps g s whole p m row c k matter honest opens = row_keeps g s whole p m row c.phase c k matter honest opens

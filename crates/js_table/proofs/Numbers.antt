@@ -31,14 +31,14 @@ use Rattle.js_table.specs.declared.replay_state.ReplayState.{ReplayState}
 use Rattle.js_table.specs.Recreation.{start_row, create_row, succeed_row, succeed_push, message_on}
 use Rattle.js_table.specs.Reading.{message_row, told, push_kind, hear_kind, armed, beat_answer}
 use Rattle.js_table.specs.declared.kind.PushKind.{PushKind}
-use Rattle.js_table.specs.declared.kind.PushKind.TheVariants.{Delivered, Quiet, Bad, Beat}
+use Rattle.js_table.specs.declared.kind.PushKind.TheVariants.{Delivered, OtherStatus, Bad, Beat}
 use Rattle.js_table.specs.Turn.{go_on, is_connected, changed, watcher_ended, event_change, event_row, same_state, reader_row, row_at, pass}
 use Rattle.js_table.specs.declared.setup.OrderedSetup.{OrderedSetup}
 use Rattle.js_table.specs.declared.setup.OrderedSetup.TheVariants.{Pull, Push}
 use Rattle.js_table.specs.declared.event.Event as events
 use Rattle.js_table.specs.declared.run.Output.{Output}
 use Rattle.js_table.specs.declared.run.Output.TheVariants as out
-use Rattle.js_table.specs.Fold.{Ran, passing, after, pass_all, pass_each, pass_to, rank, tick, matter_of, link_after, event, run_events, opening_rows, first_world, opening, fold, step_of}
+use Rattle.js_table.specs.Fold.{Ran, passing, after, pass_all, pass_each, pass_to, rank, tick, matter_of, link_after, event, run_events, opening_rows, first_state, opening, fold, step_of}
 use Rattle.js_table.specs.Gapless.{joined, all_outputs}
 use Rattle.js_table.specs.Valid.{CountsUp}
 use Rattle.js_table.proofs.Rewritten.{if_both, if_each, if_with}
@@ -109,7 +109,7 @@ beat_up false (Some reply) n = refl
 
 hear_up : (p : Passing) (message : Message) (k : PushKind) (c : Consumer) → GoesUp c.consumer_sequence (hear_kind p message k c)
 hear_up p message Delivered c = message_up (readable_as message.reply) message c
-hear_up p message Quiet c = refl
+hear_up p message OtherStatus c = refl
 hear_up p message Bad c = refl
 hear_up p message (Beat last) c = beat_up p.up message.reply c.consumer_sequence
 
@@ -162,7 +162,7 @@ event_up g p m Idle c = change_up g p m m.change c
 
 row_up : (g : ReplayInput) (p : Passing) (m : Matter) (row : Row) (phase : Phase) (c : Consumer) → GoesUp c.consumer_sequence (row_at g p m row phase c)
 row_up g p m Event phase c = event_up g p m phase c
-row_up g p m Start phase c = if_each (GoesUp c.consumer_sequence) (c.last == pull.u64_max) _ _ (λ _. refl) (λ _. refl)
+row_up g p m Start phase c = if_each (GoesUp c.consumer_sequence) (c.stream_sequence == pull.u64_max) _ _ (λ _. refl) (λ _. refl)
 row_up g p m Try (Recreates r) c = if_each (GoesUp c.consumer_sequence) p.up _ _ (λ _. refl) (λ _. refl)
 row_up g p m Create (Recreates r) c = create_up g.setup p r c
 row_up g p m Ask (Recreates r) c = if_each (GoesUp c.consumer_sequence) p.up _ _ (λ _. refl) (λ _. refl)
@@ -182,21 +182,21 @@ row_up g p m _ phase c = refl
 -- ---- the runs
 
 abbrev RanUp : ℕ → Ran → Type 0
-RanUp before ran = Counts before ran.outputs ran.world.consumer.consumer_sequence
+RanUp before ran = Counts before ran.outputs ran.state.consumer.consumer_sequence
 
 each_up : (one : Row → ReplayState → Ran) → ((row : Row) (w : ReplayState) → RanUp w.consumer.consumer_sequence (one row w)) → (rows : List Row) (w : ReplayState) → RanUp w.consumer.consumer_sequence (pass_each one rows w)
 each_up one up [] w = refl
 each_up one up (row ∷ rows) w =
     let ran : Ran = one row w in
-    let rest : Ran = pass_each one rows ran.world in
-    counts_append w.consumer.consumer_sequence ran.world.consumer.consumer_sequence rest.world.consumer.consumer_sequence ran.outputs rest.outputs (up row w) (each_up one up rows ran.world)
+    let rest : Ran = pass_each one rows ran.state in
+    counts_append w.consumer.consumer_sequence ran.state.consumer.consumer_sequence rest.state.consumer.consumer_sequence ran.outputs rest.outputs (up row w) (each_up one up rows ran.state)
 
 to_up : (g : ReplayInput) (now : ℕ) (m : Matter) (depth : ℕ) (row : Row) (w : ReplayState) → RanUp w.consumer.consumer_sequence (pass_to g now m depth row w)
 to_up g now m zero row w = refl
 to_up g now m (suc depth) row w =
     let passed : Passed = pass g (passing g now w) m row w.consumer in
     let rest : Ran = pass_each (pass_to g now m depth) passed.next (after w passed) in
-    counts_append w.consumer.consumer_sequence passed.consumer.consumer_sequence rest.world.consumer.consumer_sequence passed.outputs rest.outputs
+    counts_append w.consumer.consumer_sequence passed.consumer.consumer_sequence rest.state.consumer.consumer_sequence passed.outputs rest.outputs
     (row_up g (passing g now w) m row w.consumer.phase w.consumer) (each_up (pass_to g now m depth) (to_up g now m depth) passed.next (after w passed))
 
 all_up : (g : ReplayInput) (now : ℕ) (m : Matter) (rows : List Row) (w : ReplayState) → RanUp w.consumer.consumer_sequence (pass_all g now m rows w)
@@ -207,18 +207,18 @@ unfolding event run_events
 events_up g [] w = (w.consumer.consumer_sequence, refl)
 events_up g (e ∷ es) w =
     let ran : Ran = event g e w in
-    let rest : List Output = joined (map step_of (run_events g es ran.world)) in
-    let more : (after : ℕ) × Counts ran.world.consumer.consumer_sequence rest after = events_up g es ran.world in (
+    let rest : List Output = joined (map step_of (run_events g es ran.state)) in
+    let more : (after : ℕ) × Counts ran.state.consumer.consumer_sequence rest after = events_up g es ran.state in (
       more.0,
-      counts_append w.consumer.consumer_sequence ran.world.consumer.consumer_sequence more.0 ran.outputs rest
-          (all_up g e.at (matter_of e.what) (Event ∷ []) (record w { up = link_after e.what w.up })) more.1,
+      counts_append w.consumer.consumer_sequence ran.state.consumer.consumer_sequence more.0 ran.outputs rest
+          (all_up g e.at (matter_of e.what) (Event ∷ []) (record w { link_up = link_after e.what w.link_up })) more.1,
     )
 
 pub fold_counts_up : (g : ReplayInput) (start : ℕ) (es : List events.Event) → CountsUp 0 (all_outputs (fold g start es))
 unfolding opening fold
 fold_counts_up g start es =
     let first : Ran = opening g start in
-    let rest : List Output = joined (map step_of (run_events g es first.world)) in
-    let more : (after : ℕ) × Counts first.world.consumer.consumer_sequence rest after = events_up g es first.world in
+    let rest : List Output = joined (map step_of (run_events g es first.state)) in
+    let more : (after : ℕ) × Counts first.state.consumer.consumer_sequence rest after = events_up g es first.state in
     counts_up 0 more.0 (first.outputs ++ rest)
-    (counts_append 0 first.world.consumer.consumer_sequence more.0 first.outputs rest (all_up g start tick (opening_rows g.setup) (first_world g start)) more.1)
+    (counts_append 0 first.state.consumer.consumer_sequence more.0 first.outputs rest (all_up g start tick (opening_rows g.setup) (first_state g start)) more.1)

@@ -33,9 +33,9 @@ use Rattle.js_table.specs.declared.consumer.Phase.TheVariants.{Pulls, Pushes, Re
 use Rattle.js_table.specs.Recreation.{start_row, try_row, create_row, ask_row, succeed_row, succeed_push, fail_row, message_on, stage_rows, recreation_rows, created, answered, has_subject}
 use Rattle.js_table.specs.Reading.{in_place_of, message_row, told, push_kind, beat_answer, beat_rows, hear_kind, armed}
 use Rattle.js_table.specs.declared.kind.PushKind.{PushKind}
-use Rattle.js_table.specs.declared.kind.PushKind.TheVariants.{Delivered, Quiet, Bad, Beat}
+use Rattle.js_table.specs.declared.kind.PushKind.TheVariants.{Delivered, OtherStatus, Bad, Beat}
 use Rattle.js_table.specs.Turn.{push_rows, go_on, is_connected, changed, watcher_ended, event_change, event_row, same_state, reader_row, row_at, pass}
-use Rattle.js_table.specs.Fold.{Ran, passing, after, stays, and_then, rank, pass_each, pass_to, pass_all, tick, matter_of, link_after, event, run_events, opening_rows, first_world, opening, fold, step_of}
+use Rattle.js_table.specs.Fold.{Ran, passing, after, stays, and_then, rank, pass_each, pass_to, pass_all, tick, matter_of, link_after, event, run_events, opening_rows, first_state, opening, fold, step_of}
 use Rattle.js_table.specs.Valid.{recreations, HasOneRecreation}
 use Rattle.js_table.specs.declared.setup.OrderedSetup.{OrderedSetup}
 use Rattle.js_table.specs.declared.setup.OrderedSetup.TheVariants.{Pull, Push}
@@ -241,7 +241,7 @@ beat_next (Some n) consumer_sequence = if_each (Heads IsNext) (n == consumer_seq
 
 hear_kind_leads : (p : Passing) (message : Message) (kind : PushKind) (c : Consumer) → Leads IsNext (hear_kind p message kind c)
 hear_kind_leads p message Delivered c = message_leads (readable_as message.reply) message c
-hear_kind_leads p message Quiet c = record { none = refl; next = tt }
+hear_kind_leads p message OtherStatus c = record { none = refl; next = tt }
 hear_kind_leads p message Bad c = record { none = refl; next = tt }
 hear_kind_leads p message (Beat n) c = record { none = beat_none p.up message.reply; next = beat_next n c.consumer_sequence }
 
@@ -284,7 +284,7 @@ record Begins (passed : Passed) : Type 0 where
   still : IsStill passed.consumer.phase
 
 start_begins : (g : ReplayInput) (c : Consumer) → Begins (start_row g c)
-start_begins g c = if_each Begins (c.last == pull.u64_max) _ _ (λ _. record { once = inl refl; next = tt; still = tt }) (λ _. record { once = inr refl; next = (tt, tt); still = tt })
+start_begins g c = if_each Begins (c.stream_sequence == pull.u64_max) _ _ (λ _. record { once = inl refl; next = tt; still = tt }) (λ _. record { once = inr refl; next = (tt, tt); still = tt })
 
 held_later : (inbox : ℕ) (held : List Message) → AreLater (map (λ (message : Message). Hear (record { inbox = inbox; message = message })) held ++ Arm ∷ [])
 held_later inbox [] = (tt, tt)
@@ -386,11 +386,11 @@ event_leads g p m Idle c = change_leads g p m m.change c
 
 record Stays (ran : Ran) : Type 0 where
   none : recreations ran.outputs ≡ 0
-  still : IsStill ran.world.consumer.phase
+  still : IsStill ran.state.consumer.phase
 
 -- nothing begins, or one recreation, which leaves no reader
 abbrev Once : Ran → Type 0
-Once ran = (recreations ran.outputs ≡ 0) ⊎ ((recreations ran.outputs ≡ 1) × IsStill ran.world.consumer.phase)
+Once ran = (recreations ran.outputs ≡ 0) ⊎ ((recreations ran.outputs ≡ 1) × IsStill ran.state.consumer.phase)
 
 added : (outputs : List Output) (ran : Ran) (n k : ℕ) → recreations outputs ≡ n → recreations ran.outputs ≡ k → recreations (and_then outputs ran).outputs ≡ n + k
 added outputs ran n k first rest = let h = recreations_append outputs ran.outputs in omega (arith, h, first, rest)
@@ -414,7 +414,7 @@ each_stays one stays_one [] w l s = record { none = refl; still = s }
 each_stays one stays_one (row ∷ rows) w l s =
     let ran : Ran = one row w in
     let first : Stays ran = stays_one row w l.0 s in
-    stay ran.outputs (pass_each one rows ran.world) first.none (each_stays one stays_one rows ran.world l.1 first.still)
+    stay ran.outputs (pass_each one rows ran.state) first.none (each_stays one stays_one rows ran.state l.1 first.still)
 
 row_stays : (g : ReplayInput) (now : ℕ) (m : Matter) (depth : ℕ) → OneStays (pass_to g now m depth)
 row_stays g now m zero row w l s = record { none = refl; still = s }
@@ -425,7 +425,7 @@ row_stays g now m (suc depth) row w l s =
     (each_stays (pass_to g now m depth) (row_stays g now m depth) passed.next (after w passed) one.next one.still)
 
 -- a first run, and then rows that begin nothing more where one has begun
-then_once : (first rest : Ran) → Once first → (IsStill first.world.consumer.phase → Stays rest) → Once rest → Once (and_then first.outputs rest)
+then_once : (first rest : Ran) → Once first → (IsStill first.state.consumer.phase → Stays rest) → Once rest → Once (and_then first.outputs rest)
 then_once first rest (inl none) stays_rest once_rest = quiet_once first.outputs rest none once_rest
 then_once first rest (inr one) stays_rest once_rest = begin_once first.outputs rest (inr one.0) (stays_rest one.1)
 
@@ -436,13 +436,13 @@ each_once : (one : Row → ReplayState → Ran) → OneStays one → OneOnce IsL
 each_once one stays_one once_one [] w l = inl refl
 each_once one stays_one once_one (row ∷ rows) w l =
     let ran : Ran = one row w in
-    then_once ran (pass_each one rows ran.world) (once_one row w l.0) (each_stays one stays_one rows ran.world l.1) (each_once one stays_one once_one rows ran.world l.1)
+    then_once ran (pass_each one rows ran.state) (once_one row w l.0) (each_stays one stays_one rows ran.state l.1) (each_once one stays_one once_one rows ran.state l.1)
 
 heads_once : (P : Row → Type 0) (one : Row → ReplayState → Ran) → OneStays one → OneOnce IsLater one → OneOnce P one → (rows : List Row) (w : ReplayState) → Heads P rows → Once (pass_each one rows w)
 heads_once P one stays_one once_one once_head [] w h = inl refl
 heads_once P one stays_one once_one once_head (row ∷ rows) w h =
     let ran : Ran = one row w in
-    then_once ran (pass_each one rows ran.world) (once_head row w h.0) (each_stays one stays_one rows ran.world h.1) (each_once one stays_one once_one rows ran.world h.1)
+    then_once ran (pass_each one rows ran.state) (once_head row w h.0) (each_stays one stays_one rows ran.state h.1) (each_once one stays_one once_one rows ran.state h.1)
 
 start_once : (g : ReplayInput) (now : ℕ) (m : Matter) (depth : ℕ) (w : ReplayState) → Once (pass_to g now m depth Start w)
 start_once g now m zero w = inl refl
@@ -569,15 +569,15 @@ at_most_one ran (inr one) = omega (arith, one.0)
 event_single : (g : ReplayInput) (e : events.Event) (w : ReplayState) → HasOneRecreation (step_of (event g e w))
 unfolding event
 event_single g e w =
-    let w' : ReplayState = record w { up = link_after e.what w.up } in
+    let w' : ReplayState = record w { link_up = link_after e.what w.link_up } in
     let ran : Ran = pass_to g e.at (matter_of e.what) 10 Event w' in
     let one : Once ran = event_once g e.at (matter_of e.what) 9 w' in
-    at_most_one (and_then ran.outputs (stays ran.world)) (then_once ran (stays ran.world) one (λ still. record { none = refl; still = still }) (inl refl))
+    at_most_one (and_then ran.outputs (stays ran.state)) (then_once ran (stays ran.state) one (λ still. record { none = refl; still = still }) (inl refl))
 
 events_single : (g : ReplayInput) (es : List events.Event) (w : ReplayState) → AllByRecursion HasOneRecreation (map step_of (run_events g es w))
 unfolding run_events
 events_single g [] w = tt
-events_single g (e ∷ es) w = (event_single g e w, events_single g es (event g e w).world)
+events_single g (e ∷ es) w = (event_single g e w, events_single g es (event g e w).state)
 
 opening_later : (setup : OrderedSetup) → AreLater (opening_rows setup)
 opening_later (Pull setup) = (tt, (tt, tt))
@@ -585,11 +585,11 @@ opening_later (Push setup) = tt
 
 opening_single : (g : ReplayInput) (start : ℕ) → HasOneRecreation (step_of (opening g start))
 unfolding opening
-opening_single g start = at_most_one (pass_all g start tick (opening_rows g.setup) (first_world g start))
+opening_single g start = at_most_one (pass_all g start tick (opening_rows g.setup) (first_state g start))
     (each_once (λ row. pass_to g start tick (suc (rank row)) row) (λ row. row_stays g start tick (suc (rank row)) row)
-    (λ row w l. next_once g start tick (suc (rank row)) row w (later_next row l)) (opening_rows g.setup) (first_world g start) (opening_later g.setup))
+    (λ row w l. next_once g start tick (suc (rank row)) row w (later_next row l)) (opening_rows g.setup) (first_state g start) (opening_later g.setup))
 
 -- in each step of a run at most one recreation begins
 pub fold_single : (g : ReplayInput) (start : ℕ) (es : List events.Event) → AllByRecursion HasOneRecreation ((fold g start es).opening ∷ (fold g start es).steps)
 unfolding fold
-fold_single g start es = (opening_single g start, events_single g es (opening g start).world)
+fold_single g start es = (opening_single g start, events_single g es (opening g start).state)

@@ -32,7 +32,7 @@ use Rattle.js_table.specs.declared.consumer.Phase.TheVariants.{Pulls, Pushes, Re
 use Rattle.js_table.specs.Recreation.{start_row, try_row, create_row, ask_row, succeed_row, succeed_push, fail_row, message_on, hold, held_in, stage_rows, recreation_rows, created, answered, has_subject}
 use Rattle.js_table.specs.Reading.{message_row, told, push_kind, beat_rows, hear_kind, hear_row, armed}
 use Rattle.js_table.specs.declared.kind.PushKind.{PushKind}
-use Rattle.js_table.specs.declared.kind.PushKind.TheVariants.{Delivered, Quiet, Bad, Beat}
+use Rattle.js_table.specs.declared.kind.PushKind.TheVariants.{Delivered, OtherStatus, Bad, Beat}
 use Rattle.js_table.specs.Turn.{push_rows, go_on, is_connected, changed, watcher_ended, event_change, event_row, same_state, reader_row, row_at, pass}
 use Rattle.js_table.specs.Valid.{IsBelowEnd}
 use Rattle.js_table.specs.declared.setup.OrderedSetup.{OrderedSetup}
@@ -50,7 +50,7 @@ IsOpenPhase (Recreates r) = IfSome r.opened HoldsBelow
 IsOpenPhase _ = ⊤
 
 pub record IsOpen (c : Consumer) : Type 0 where
-  pub last : c.last ≡ pull.u64_max → ⊥
+  pub last : c.stream_sequence ≡ pull.u64_max → ⊥
   pub phase : IsOpenPhase c.phase
 
 abbrev pub IsOpenRow : Row → Type 0
@@ -68,13 +68,13 @@ pub record Opens (passed : Passed) : Type 0 where
   pub rows : AreOpen passed.next
 
 abbrev Last : Consumer → Type 0
-Last c = c.last ≡ pull.u64_max → ⊥
+Last c = c.stream_sequence ≡ pull.u64_max → ⊥
 
 -- ---- recreations
 
 start_opens : (g : ReplayInput) (c : Consumer) → Last c → Opens (start_row g c)
-start_opens g c k = if_with Opens (c.last == pull.u64_max) _ _
-    (λ end. absurd (k (eqb-true c.last pull.u64_max end)))
+start_opens g c k = if_with Opens (c.stream_sequence == pull.u64_max) _ _
+    (λ end. absurd (k (eqb-true c.stream_sequence pull.u64_max end)))
     (record { consumer = record { last = k; phase = tt }; rows = (tt, tt) })
 
 try_opens : (g : ReplayInput) (p : Passing) (r : Recreation) (c : Consumer) → Last c → IsOpenPhase (Recreates r) → Opens (try_row g p r (at_phase (Recreates r) c))
@@ -173,7 +173,7 @@ beat_open (Some n) consumer_sequence = if_each AreOpen (n == consumer_sequence) 
 
 hear_kind_opens : (p : Passing) (inbox : ℕ) (heartbeat_timer : Timer) (c : Consumer) → Last c → (message : Message) → IsBelowEnd message → (kind : PushKind) → Opens (hear_kind p message kind (at_phase (Pushes inbox heartbeat_timer) c))
 hear_kind_opens p inbox heartbeat_timer c k message h Delivered = message_opens (Pushes inbox heartbeat_timer) tt c k (readable_as message.reply) message h
-hear_kind_opens p inbox heartbeat_timer c k message h Quiet = record { consumer = record { last = k; phase = tt }; rows = tt }
+hear_kind_opens p inbox heartbeat_timer c k message h OtherStatus = record { consumer = record { last = k; phase = tt }; rows = tt }
 hear_kind_opens p inbox heartbeat_timer c k message h Bad = record { consumer = record { last = k; phase = tt }; rows = tt }
 hear_kind_opens p inbox heartbeat_timer c k message h (Beat n) = record { consumer = record { last = k; phase = tt }; rows = beat_open n c.consumer_sequence }
 

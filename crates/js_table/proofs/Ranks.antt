@@ -34,7 +34,7 @@ use Rattle.js_table.specs.declared.consumer.Phase.TheVariants.{Pulls, Pushes, Re
 use Rattle.js_table.specs.Recreation.{create_row, succeed_row, succeed_push, stage_rows, recreation_rows, created, answered, has_subject, message_on}
 use Rattle.js_table.specs.Reading.{in_place_of, message_row, read_row, push_kind, beat_rows, hear_kind, armed}
 use Rattle.js_table.specs.declared.kind.PushKind.{PushKind}
-use Rattle.js_table.specs.declared.kind.PushKind.TheVariants.{Delivered, Quiet, Bad, Beat}
+use Rattle.js_table.specs.declared.kind.PushKind.TheVariants.{Delivered, OtherStatus, Bad, Beat}
 use Rattle.js_table.specs.Turn.{push_rows, go_on, is_connected, changed, watcher_ended, event_change, event_row, same_state, row_at, pass}
 use Rattle.js_table.specs.Fold.{Ran, rank, and_then, passing, after, pass_each, pass_to}
 use Rattle.js_table.specs.declared.setup.OrderedSetup.{OrderedSetup}
@@ -97,7 +97,7 @@ beat_falls (Some last) consumer_sequence = if_each (AreBelow 5) (last == consume
 
 hear_kind_falls : (p : Passing) (message : Message) (k : PushKind) (c : Consumer) → Leads 5 (hear_kind p message k c)
 hear_kind_falls p message Delivered c = message_falls 5 (omega arith) (readable_as message.reply) message c
-hear_kind_falls p message Quiet c = tt
+hear_kind_falls p message OtherStatus c = tt
 hear_kind_falls p message Bad c = tt
 hear_kind_falls p message (Beat last) c = beat_falls last c.consumer_sequence
 
@@ -110,7 +110,7 @@ hear_falls : (message : Message) (k : Kind) (r : PullReader) (c : Consumer) → 
 hear_falls message kind.Delivered r c =
     all_in_place (λ (row : Row). rank row < 6) (message_row (readable_as message.reply) message (record (at_phase (Pulls (pull.lowered 1 message.length r)) c) { missed = false })).next (Read read.Threshold ∷ [])
     (message_falls 6 (omega arith) (readable_as message.reply) message (record (at_phase (Pulls (pull.lowered 1 message.length r)) c) { missed = false })) (omega arith, tt)
-hear_falls message kind.Quiet r c = (omega arith, tt)
+hear_falls message kind.IdleHeartbeat r c = (omega arith, tt)
 hear_falls message kind.Deleted r c = (omega arith, tt)
 hear_falls message kind.PushBased r c = tt
 hear_falls message kind.Limit r c =
@@ -212,7 +212,7 @@ event_falls g p m Idle c = change_falls g p m m.change c
 
 pub row_falls : (g : ReplayInput) (p : Passing) (m : Matter) (row : Row) (phase : Phase) (c : Consumer) → Leads (rank row) (row_at g p m row phase c)
 row_falls g p m Event phase c = event_falls g p m phase c
-row_falls g p m Start phase c = if_each (Leads 4) (c.last == pull.u64_max) _ _ (λ _. tt) (λ _. (omega arith, tt))
+row_falls g p m Start phase c = if_each (Leads 4) (c.stream_sequence == pull.u64_max) _ _ (λ _. tt) (λ _. (omega arith, tt))
 row_falls g p m Try (Recreates r) c = if_each (Leads 3) p.up _ _ (λ _. tt) (λ _. (omega arith, tt))
 row_falls g p m Create (Recreates r) c = create_falls g.setup p r c
 row_falls g p m Ask (Recreates r) c = if_each (Leads 1) p.up _ _ (λ _. tt) (λ _. (omega arith, tt))
@@ -235,8 +235,8 @@ pub each_same : (one other : Row → ReplayState → Ran) (n : ℕ) → ((row : 
     → (rows : List Row) (w : ReplayState) → AreBelow n rows → pass_each one rows w ≡ pass_each other rows w
 each_same one other n same [] w below = refl
 each_same one other n same (row ∷ rows) w below =
-    ap (λ (ran : Ran). and_then ran.outputs (pass_each one rows ran.world)) (same row w below.0)
-    ∙ ap (λ (rest : Ran). and_then (other row w).outputs rest) (each_same one other n same rows (other row w).world below.1)
+    ap (λ (ran : Ran). and_then ran.outputs (pass_each one rows ran.state)) (same row w below.0)
+    ∙ ap (λ (rest : Ran). and_then (other row w).outputs rest) (each_same one other n same rows (other row w).state below.1)
 
 -- one more depth makes no difference to a row whose rank is below it
 pub settled : (g : ReplayInput) (now : ℕ) (m : Matter) (depth : ℕ) (row : Row) (w : ReplayState) → rank row < depth → pass_to g now m depth row w ≡ pass_to g now m (suc depth) row w

@@ -27,7 +27,7 @@ use Rattle.js_table.specs.declared.run.Output.TheVariants as out
 
 -- what passing some rows leads to, and what it puts out
 pub record Ran : Type 0 where
-  pub world : ReplayState
+  pub state : ReplayState
   pub outputs : List Output
 
 -- a request goes out
@@ -44,17 +44,17 @@ is_subscribe _ = false
 abbrev pub passing : ReplayInput → ℕ → ReplayState → Passing
 passing g now w = record {
   now = now;
-  up = w.up;
+  up = w.link_up;
   request = w.requests_sent + 1;
   inbox = w.inboxes_opened;
   subject = inbox_subject g w.inboxes_opened;
 }
 
--- the world after a row
+-- the state after a row
 abbrev pub after : ReplayState → Passed → ReplayState
 after w passed = record {
   consumer = passed.consumer;
-  up = w.up;
+  link_up = w.link_up;
   requests_sent = w.requests_sent + count_by is_request passed.outputs;
   inboxes_opened = w.inboxes_opened + count_by is_subscribe passed.outputs;
 }
@@ -95,16 +95,16 @@ rank Event = 9
 
 -- nothing is passed
 abbrev pub stays : ReplayState → Ran
-stays w = record { world = w; outputs = [] }
+stays w = record { state = w; outputs = [] }
 
 -- outputs before what a run puts out
 abbrev pub and_then : List Output → Ran → Ran
-and_then outputs ran = record { world = ran.world; outputs = outputs ++ ran.outputs }
+and_then outputs ran = record { state = ran.state; outputs = outputs ++ ran.outputs }
 
 -- rows in order
 abbrev pub pass_each : (Row → ReplayState → Ran) → List Row → ReplayState → Ran
 pass_each one [] w = stays w
-pass_each one (row ∷ rows) w = let ran = one row w in and_then ran.outputs (pass_each one rows ran.world)
+pass_each one (row ∷ rows) w = let ran = one row w in and_then ran.outputs (pass_each one rows ran.state)
 
 -- a row and what follows it, to a depth
 abbrev pub pass_to : ReplayInput → ℕ → Matter → ℕ → Row → ReplayState → Ran
@@ -139,12 +139,12 @@ link_after _ was = was
 
 -- one event
 unfoldable pub event : ReplayInput → events.Event → ReplayState → Ran
-event g e w = pass_all g e.at (matter_of e.what) (Event ∷ []) (record w { up = link_after e.what w.up })
+event g e w = pass_all g e.at (matter_of e.what) (Event ∷ []) (record w { link_up = link_after e.what w.link_up })
 
 -- what the list of events leads to, event after event
 unfoldable pub run_events : ReplayInput → List events.Event → ReplayState → List Ran
 run_events g [] w = []
-run_events g (e ∷ es) w = let ran = event g e w in ran ∷ run_events g es ran.world
+run_events g (e ∷ es) w = let ran = event g e w in ran ∷ run_events g es ran.state
 
 -- ---- the opening
 
@@ -159,26 +159,26 @@ opening_rows (Pull setup) = map Read pull.opening
 opening_rows (Push setup) = []
 
 -- nothing was asked or yielded yet
-abbrev pub first_world : ReplayInput → ℕ → ReplayState
-first_world g start = record {
+abbrev pub first_state : ReplayInput → ℕ → ReplayState
+first_state g start = record {
   consumer = record {
     phase = first_phase g start g.setup;
     consumer_sequence = 0;
-    last = 0;
+    stream_sequence = 0;
     recreation_count = 0;
     name = g.first.name;
     missed = false;
     limited = false;
     connection = Connected;
   };
-  up = true;
+  link_up = true;
   requests_sent = 0;
   inboxes_opened = 1;
 }
 
 -- the opening, at the start
 unfoldable pub opening : ReplayInput → ℕ → Ran
-opening g start = pass_all g start tick (opening_rows g.setup) (first_world g start)
+opening g start = pass_all g start tick (opening_rows g.setup) (first_state g start)
 
 -- ---- the fold
 
@@ -188,10 +188,10 @@ is_over Ended = true
 is_over Exhausted = true
 is_over _ = false
 
--- the world after all events
-abbrev pub last_world : ReplayState → List Ran → ReplayState
-last_world w [] = w
-last_world w (ran ∷ rans) = last_world ran.world rans
+-- the state after all events
+abbrev pub last_state : ReplayState → List Ran → ReplayState
+last_state w [] = w
+last_state w (ran ∷ rans) = last_state ran.state rans
 
 -- what a run puts out is a step
 abbrev pub step_of : Ran → Step
@@ -201,5 +201,5 @@ step_of ran = record { outputs = ran.outputs }
 unfoldable pub fold : ReplayInput → ℕ → List events.Event → Run
 fold g start es =
     let first = opening g start in
-    let rans = run_events g es first.world in
-    record { opening = step_of first; steps = map step_of rans; ended = is_over (last_world first.world rans).consumer.phase }
+    let rans = run_events g es first.state in
+    record { opening = step_of first; steps = map step_of rans; ended = is_over (last_state first.state rans).consumer.phase }

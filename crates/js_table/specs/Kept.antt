@@ -86,9 +86,9 @@ IsPush (Push setup) = ⊤
 
 -- the kept fact at a phase
 abbrev pub IsKeptAt : OrderedSetup → Server → Consumer → Phase → Type 0
-IsKeptAt setup s c (Pulls reader) = IsPull setup × IsKeptOn setup s c.consumer_sequence c.last c.recreation_count reader.source.inbox
-IsKeptAt setup s c (Pushes inbox heartbeat_timer) = IsPush setup × IsKeptOn setup s c.consumer_sequence c.last c.recreation_count inbox
-IsKeptAt setup s c (Recreates r) = IsKeptIn setup s c.consumer_sequence c.last c.recreation_count r
+IsKeptAt setup s c (Pulls reader) = IsPull setup × IsKeptOn setup s c.consumer_sequence c.stream_sequence c.recreation_count reader.source.inbox
+IsKeptAt setup s c (Pushes inbox heartbeat_timer) = IsPush setup × IsKeptOn setup s c.consumer_sequence c.stream_sequence c.recreation_count inbox
+IsKeptAt setup s c (Recreates r) = IsKeptIn setup s c.consumer_sequence c.stream_sequence c.recreation_count r
 IsKeptAt setup s c Idle = ⊤
 IsKeptAt setup s c Ended = ⊤
 IsKeptAt setup s c Exhausted = ⊤

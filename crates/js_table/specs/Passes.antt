@@ -44,7 +44,7 @@ ran g now m row w = pass_to g now m (suc (rank row)) row w
 unfoldable pub from : ReplayInput → ℕ → Matter → Passed → ReplayState → Ran
 from g now m passed w = and_then passed.outputs (pass_each (ran g now m) passed.next (after w passed))
 
--- the world with its consumer at another phase
+-- the state with its consumer at another phase
 abbrev pub at : Phase → ReplayState → ReplayState
 at phase w = record w { consumer = at_phase phase w.consumer }
 
@@ -54,7 +54,7 @@ timeout_at g now = record { set = now; wait = recreation_timeout g.settings }
 
 -- one row after what another came to
 abbrev pub then_row : ReplayInput → ℕ → Matter → Row → Ran → Ran
-then_row g now m row first = and_then first.outputs (ran g now m row first.world)
+then_row g now m row first = and_then first.outputs (ran g now m row first.state)
 
 -- why messages are asked for after an answer that holds an info: with a reset where no request waits
 abbrev pub informed_by : Option Message → Option Reason
@@ -82,9 +82,9 @@ reply_shown (reply.Got message) = Some (Some message.now)
 abbrev pub place_shown : Place → ack.Place
 place_shown place = record { sequence = place.sequence; number = place.number }
 
--- the world whose consumer has yielded the message at this place
+-- the state whose consumer has yielded the message at this place
 abbrev pub accepting : ack.Place → ReplayState → ReplayState
-accepting place w = record w { consumer = record w.consumer { consumer_sequence = place.number; last = place.sequence; limited = false } }
+accepting place w = record w { consumer = record w.consumer { consumer_sequence = place.number; stream_sequence = place.sequence; limited = false } }
 
 -- the reader that has heard a message
 abbrev pub heard : ℕ → Message → Reader → Reader

@@ -15,7 +15,7 @@ use Rattle.js_pull.specs.declared.reader.ReaderOutput.TheVariants as tells
 use Rattle.js_pull.specs.declared.reader.ReaderOutput.{ReaderOutput as PullTold}
 use Rattle.js_pull.specs.declared.reader.MessagesErrorKind.TheVariants as error
 use Rattle.js_table.specs.declared.kind.PushKind.{PushKind}
-use Rattle.js_table.specs.declared.kind.PushKind.TheVariants.{Delivered, Quiet, Bad, Beat}
+use Rattle.js_table.specs.declared.kind.PushKind.TheVariants.{Delivered, OtherStatus, Bad, Beat}
 use Rattle.js_table.specs.declared.consumer.Consumer.{Consumer}
 use Rattle.js_table.specs.State.{Passed, quietly, at_phase, output_of}
 use Rattle.js_table.specs.declared.row.Arrival.{Arrival}
@@ -32,7 +32,7 @@ use Rattle.js_table.specs.declared.run.Output.TheVariants as out
 -- a yield, after which its numbers are the last ones
 abbrev pub accepted : Place → Message → Consumer → Passed
 accepted place message c = record {
-  consumer = record c { consumer_sequence = place.number; last = place.sequence; limited = false };
+  consumer = record c { consumer_sequence = place.number; stream_sequence = place.sequence; limited = false };
   outputs = out.Yield place.sequence place.number message.subject message.payload ∷ [];
   next = [];
 }
@@ -96,7 +96,7 @@ beat (number.Number n) = Beat (Some n)
 abbrev pub push_kind_of : Message → Option StatusCode → PushKind
 push_kind_of message None = Delivered
 push_kind_of message (Some status) =
-    if status.0 == 100 then beat (number_told (last_value (codes "Nats-Last-Consumer") (all_headers message.headers))) else Quiet
+    if status.0 == 100 then beat (number_told (last_value (codes "Nats-Last-Consumer") (all_headers message.headers))) else OtherStatus
 
 -- the kind of an arrival
 abbrev pub push_kind : Message → PushKind
@@ -117,7 +117,7 @@ abbrev pub hear_kind : Passing → Message → PushKind → Consumer → Passed
 hear_kind p message Delivered c = message_row (readable_as message.reply) message c
 hear_kind p message (Beat last) c = record { consumer = c; outputs = beat_answer p.up message.reply; next = beat_rows last c.consumer_sequence }
 hear_kind p message Bad c = put_item item.Other c
-hear_kind p message Quiet c = quietly c []
+hear_kind p message OtherStatus c = quietly c []
 
 -- push's heartbeat
 abbrev pub armed : ℕ → Timer

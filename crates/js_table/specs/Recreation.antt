@@ -43,7 +43,7 @@ abbrev pub recreation : ReplayInput → Consumer → Recreation
 recreation g c = record {
   old_name = c.name;
   new_name = consumer_name g (min (c.recreation_count + 1) u64_max);
-  start = start_after (configured_start g.setup) c.last;
+  start = start_after (configured_start g.setup) c.stream_sequence;
   failures = 0;
   opened = None;
   stage = Between;
@@ -52,11 +52,11 @@ recreation g c = record {
 -- the current inbox is dropped, and the first try follows
 abbrev pub start_row : ReplayInput → Consumer → Passed
 start_row g c =
-    if c.last == u64_max then quietly (at_phase Exhausted c) [] else
+    if c.stream_sequence == u64_max then quietly (at_phase Exhausted c) [] else
     (let recreation_count = min (c.recreation_count + 1) u64_max in
     record {
       consumer = record c { phase = Recreates (recreation g c); consumer_sequence = 0; recreation_count = recreation_count; name = consumer_name g recreation_count };
-      outputs = out.Recreate recreation_count (start_after (configured_start g.setup) c.last) ∷ [];
+      outputs = out.Recreate recreation_count (start_after (configured_start g.setup) c.stream_sequence) ∷ [];
       next = Try ∷ [];
     })
 

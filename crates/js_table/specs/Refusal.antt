@@ -72,7 +72,7 @@ is_exhausted _ = false
 abbrev pub first_exhausted : ℕ → List Ran → Option ℕ
 first_exhausted place [] = None
 first_exhausted place (ran ∷ rans) =
-    if is_exhausted ran.world.consumer.phase then Some place else first_exhausted (place + 1) rans
+    if is_exhausted ran.state.consumer.phase then Some place else first_exhausted (place + 1) rans
 
 -- ---- the first refusal that applies
 
@@ -89,4 +89,4 @@ refuse_end rans = option_map error.SequenceEnd (first_exhausted 0 rans)
 
 -- bad input, or else the end of the sequences
 unfoldable pub refuse : ReplayInput → ℕ → List events.Event → Option ReplayError
-refuse g start es = first_of (refuse_input g start es) (refuse_end (run_events g es (opening g start).world))
+refuse g start es = first_of (refuse_input g start es) (refuse_end (run_events g es (opening g start).state))

@@ -69,7 +69,7 @@ pub struct Consumer {
     /// The last accepted consumer sequence; 0 where nothing was accepted on the current inbox.
     pub consumer_sequence: u64,
     /// The last yielded stream sequence; 0 where nothing was yielded.
-    pub last: u64,
+    pub stream_sequence: u64,
     /// The number of recreations.
     pub recreation_count: u64,
     /// The name of the last consumer that was asked for.

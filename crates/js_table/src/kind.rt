@@ -17,7 +17,7 @@ pub enum PushKind {
     /// A beat whose number can't be read.
     Bad,
     /// Any other status.
-    Quiet,
+    OtherStatus,
 }
 
 fn last_consumer(headers: &Option<HeaderMap>) -> HeaderNumber
@@ -46,6 +46,6 @@ pub fn push_kind(message: &Message) -> PushKind
     match message.status {
         None => PushKind::Delivered,
         Some(StatusCode(100)) => beat(last_consumer(&message.headers)),
-        Some(_) => PushKind::Quiet,
+        Some(_) => PushKind::OtherStatus,
     }
 }

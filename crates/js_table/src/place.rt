@@ -58,7 +58,7 @@ impl ReplayState {
         ensures { self.new ≡ accepting (place_shown place) self.old }
     {
         self.consumer.consumer_sequence = place.number;
-        self.consumer.last = place.sequence;
+        self.consumer.stream_sequence = place.sequence;
         self.consumer.limited = false;
     }
 }

@@ -48,25 +48,25 @@ fn delivers_validly(setup: &OrderedSetup, subject: &Option<Text>) -> bool
 }
 
 /// The first field that fails its test.
-fn bad_field(turn: &EventContext<'_>) -> Option<Field>
-    ensures { result ≡ refusals.bad_field (given_of turn.now) }
+fn bad_field(context: &EventContext<'_>) -> Option<Field>
+    ensures { result ≡ refusals.bad_field (given_of context.now) }
 {
-    if !is_valid_name(turn.first.stream_name.as_str()) {
+    if !is_valid_name(context.first.stream_name.as_str()) {
         return Some(Field::StreamName);
     }
-    if !is_valid_name(turn.first.name.as_str()) {
+    if !is_valid_name(context.first.name.as_str()) {
         return Some(Field::Name);
     }
-    if !is_valid_subject(turn.settings.api_prefix.as_str()) {
+    if !is_valid_subject(context.settings.api_prefix.as_str()) {
         return Some(Field::ApiPrefix);
     }
-    if !is_valid_subject(turn.settings.inbox_prefix.as_str()) {
+    if !is_valid_subject(context.settings.inbox_prefix.as_str()) {
         return Some(Field::InboxPrefix);
     }
-    if !is_absent_or_valid(turn.setup.filter_subject()) {
+    if !is_absent_or_valid(context.setup.filter_subject()) {
         return Some(Field::FilterSubject);
     }
-    if !delivers_validly(turn.setup, &turn.first.config.deliver_subject) {
+    if !delivers_validly(context.setup, &context.first.config.deliver_subject) {
         return Some(Field::DeliverSubject);
     }
     None
@@ -88,16 +88,16 @@ fn first_early(start: Moment, events: &[Event]) -> Option<u64>
 
 /// The first refusal that needs no replay: no subject, a bad field, or an early event.
 #[tactic(auto, unfolding(crate::specs::Refusal::refuse_input))]
-pub fn refuse_input(turn: &EventContext<'_>, events: &[Event]) -> Option<ReplayError>
-    ensures { result ≡ refusals.refuse_input (given_of turn.now) turn.now.moment events.now }
+pub fn refuse_input(context: &EventContext<'_>, events: &[Event]) -> Option<ReplayError>
+    ensures { result ≡ refusals.refuse_input (given_of context.now) context.now.moment events.now }
 {
-    if lacks_subject(turn.setup, &turn.first.config.deliver_subject) {
+    if lacks_subject(context.setup, &context.first.config.deliver_subject) {
         return Some(ReplayError::NoDeliverSubject);
     }
-    if let Some(field) = bad_field(turn) {
+    if let Some(field) = bad_field(context) {
         return Some(ReplayError::BadSettings { field });
     }
-    match first_early(turn.moment, events) {
+    match first_early(context.moment, events) {
         None => None,
         Some(place) => Some(ReplayError::BadEvent { place }),
     }

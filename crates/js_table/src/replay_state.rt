@@ -9,7 +9,7 @@ use js_base::OutOfMemory;
 pub struct ReplayState {
     pub consumer: Consumer,
     /// Sends go through.
-    pub up: bool,
+    pub link_up: bool,
     /// The requests so far.
     pub requests_sent: u64,
     /// The inboxes so far.

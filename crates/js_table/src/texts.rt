@@ -105,80 +105,85 @@ fn numbered(alloc: Global, base: &str, mark: &str, number: u64) -> Result<String
 /// The name of the consumer that the recreation with this serial makes.
 pub fn consumer_name(
     alloc: Global,
-    turn: &EventContext<'_>,
+    context: &EventContext<'_>,
     recreation_count: u64,
 ) -> Result<Text, OutOfMemory>
-    ensures { IfOk result (λ name. name ≡ texts.consumer_name (given_of turn.now) recreation_count) }
+    ensures { IfOk result (λ name. name ≡ texts.consumer_name (given_of context.now) recreation_count) }
 {
-    Ok(Text::from(numbered(alloc, turn.first.name.as_str(), "_", recreation_count)?))
+    Ok(Text::from(numbered(alloc, context.first.name.as_str(), "_", recreation_count)?))
 }
 
 /// The subject of the inbox with this number.
 pub fn inbox_subject(
     alloc: Global,
-    turn: &EventContext<'_>,
+    context: &EventContext<'_>,
     inbox: u64,
 ) -> Result<Subject, OutOfMemory>
-    ensures { IfOk result (λ subject. subject ≡ texts.inbox_subject (given_of turn.now) inbox) }
+    ensures { IfOk result (λ subject. subject ≡ texts.inbox_subject (given_of context.now) inbox) }
 {
-    Ok(Subject::from(numbered(alloc, turn.settings.inbox_prefix.as_str(), ".", inbox)?))
+    Ok(Subject::from(numbered(alloc, context.settings.inbox_prefix.as_str(), ".", inbox)?))
 }
 
 /// The subject of a request on a consumer, by the words of the call.
 fn consumer_subject(
     alloc: Global,
-    turn: &EventContext<'_>,
+    context: &EventContext<'_>,
     words: &str,
     name: &str,
 ) -> Result<Subject, OutOfMemory>
-    ensures { IfOk result (λ subject. subject ≡ under turn.now.settings.now.api_prefix (of_consumer words.now turn.now.first.now.stream_name name.now)) }
+    ensures { IfOk result (λ subject. subject ≡ under context.now.settings.now.api_prefix (of_consumer words.now context.now.first.now.stream_name name.now)) }
 {
-    let subject = of_consumer(alloc, words, turn.first.stream_name.as_str(), name)?;
-    let prefix = turn.settings.api_prefix.as_str();
+    let subject = of_consumer(alloc, words, context.first.stream_name.as_str(), name)?;
+    let prefix = context.settings.api_prefix.as_str();
     Ok(Subject::from(with_word(alloc, prefix, subject.as_str())?))
 }
 
 /// The subject of a request that names a consumer, and what it reads.
 fn filtered_subject(
     alloc: Global,
-    turn: &EventContext<'_>,
+    context: &EventContext<'_>,
     words: &str,
     name: &str,
     filter: &str,
 ) -> Result<Subject, OutOfMemory>
-    ensures { IfOk result (λ subject. subject ≡ under turn.now.settings.now.api_prefix (named_subject (under words.now turn.now.first.now.stream_name) name.now filter.now)) }
+    ensures { IfOk result (λ subject. subject ≡ under context.now.settings.now.api_prefix (named_subject (under words.now context.now.first.now.stream_name) name.now filter.now)) }
 {
-    let on_stream = with_word(alloc, words, turn.first.stream_name.as_str())?;
+    let on_stream = with_word(alloc, words, context.first.stream_name.as_str())?;
     let subject = named_subject(alloc, on_stream.as_str(), name, filter)?;
-    let prefix = turn.settings.api_prefix.as_str();
+    let prefix = context.settings.api_prefix.as_str();
     Ok(Subject::from(with_word(alloc, prefix, subject.as_str())?))
 }
 
 /// The subject of the request that deletes the old consumer.
 pub fn delete_subject(
     alloc: Global,
-    turn: &EventContext<'_>,
+    context: &EventContext<'_>,
     recreation: &Recreation,
 ) -> Result<Subject, OutOfMemory>
-    ensures { IfOk result (λ subject. subject ≡ texts.delete_subject (given_of turn.now) recreation.now) }
+    ensures { IfOk result (λ subject. subject ≡ texts.delete_subject (given_of context.now) recreation.now) }
 {
-    consumer_subject(alloc, turn, "CONSUMER.DELETE", recreation.old_name.as_str())
+    consumer_subject(
+        alloc,
+        context,
+        "CONSUMER.DELETE",
+        recreation.old_name.as_str(),
+    )
 }
 
 /// The subject of the request that makes the new one.
 pub fn create_subject(
     alloc: Global,
-    turn: &EventContext<'_>,
+    context: &EventContext<'_>,
     recreation: &Recreation,
 ) -> Result<Subject, OutOfMemory>
-    ensures { IfOk result (λ subject. subject ≡ texts.create_subject (given_of turn.now) recreation.now) }
+    ensures { IfOk result (λ subject. subject ≡ texts.create_subject (given_of context.now) recreation.now) }
 {
     filtered_subject(
         alloc,
-        turn,
+        context,
         "CONSUMER.CREATE",
         recreation.new_name.as_str(),
-        turn.setup.filter_subject(),
+        context.setup.filter_subject(),
     )
 }
 
@@ -204,12 +209,12 @@ fn opened_subject(alloc: Global, opened: &Option<Opened>) -> Result<Option<Text>
 
 fn asked_config(
     alloc: Global,
-    turn: &EventContext<'_>,
+    context: &EventContext<'_>,
     recreation: &Recreation,
 ) -> Result<Config, OutOfMemory>
-    ensures { IfOk result (λ config. config ≡ texts.asked_config (given_of turn.now) recreation.now) }
+    ensures { IfOk result (λ config. config ≡ texts.asked_config (given_of context.now) recreation.now) }
 {
-    let mut config = turn.setup.to_config(alloc)?;
+    let mut config = context.setup.to_config(alloc)?;
     config.name = Some(recreation.new_name.try_clone()?);
     config.deliver_policy = policy_of(recreation.start);
     config.deliver_subject = opened_subject(alloc, &recreation.opened)?;
@@ -219,15 +224,15 @@ fn asked_config(
 /// The body of the request that makes the new consumer.
 pub fn create_body(
     alloc: Global,
-    turn: &EventContext<'_>,
+    context: &EventContext<'_>,
     recreation: &Recreation,
 ) -> Result<Bytes, OutOfMemory>
-    ensures { IfOk result (λ body. body ≡ texts.create_body (given_of turn.now) recreation.now) }
+    ensures { IfOk result (λ body. body ≡ texts.create_body (given_of context.now) recreation.now) }
 {
     let request = CreateRequest {
         action: Action::CreateOrUpdate,
-        config: asked_config(alloc, turn, recreation)?,
-        stream_name: turn.first.stream_name.try_clone()?,
+        config: asked_config(alloc, context, recreation)?,
+        stream_name: context.first.stream_name.try_clone()?,
     };
     match request.to_text(alloc) {
         Ok(text) => Ok(Bytes::from_string(text)?),
@@ -239,21 +244,21 @@ pub fn create_body(
 
 /// Whom the reader of a consumer with this info asks.
 pub fn source_of(
-    turn: &EventContext<'_>,
+    context: &EventContext<'_>,
     recreation_count: u64,
     inbox: u64,
     subject: Subject,
     info: &Info,
 ) -> Result<Source, OutOfMemory>
-    ensures { IfOk result (λ source. source ≡ texts.source_of (given_of turn.now) recreation_count inbox subject info.now) }
+    ensures { IfOk result (λ source. source ≡ texts.source_of (given_of context.now) recreation_count inbox subject info.now) }
 {
     Ok(Source {
-        api: turn.settings.api_prefix.try_clone()?,
+        api: context.settings.api_prefix.try_clone()?,
         stream: info.stream_name.try_clone()?,
         name: info.name.try_clone()?,
         inbox,
         subject,
-        info_timeout: info_timeout(recreation_count, turn.settings),
+        info_timeout: info_timeout(recreation_count, context.settings),
         config: ordered_batch_config(info),
         pinned: false,
     })

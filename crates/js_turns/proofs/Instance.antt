@@ -17,7 +17,7 @@ use Rattle.js_turns.proofs.Told.{pass_told}
 -- the strides of rows, each with what follows it
 abbrev strides_each : (Row → ReplayState → Ran) → (Row → ReplayState → List Stride) → List Row → ReplayState → List Stride
 strides_each one strides [] w = []
-strides_each one strides (row ∷ rows) w = strides row w ++ strides_each one strides rows (one row w).world
+strides_each one strides (row ∷ rows) w = strides row w ++ strides_each one strides rows (one row w).state
 
 -- a row meets what the event brings
 abbrev met_stride : ReplayInput → ℕ → Matter → Row → ReplayState → Stride
@@ -44,19 +44,19 @@ then_then first second moved = ap (λ (outputs : List Output). record { position
 -- the strides of a row lead past it and all that follows it
 abbrev LeadsPast : ReplayInput → (Row → ReplayState → Ran) → (Row → ReplayState → List Stride) → ℕ → Type 0
 LeadsPast g one strides n = (row : Row) (w : ReplayState) (rows : List Row) (more : List Stride) → rank row < n
-    → walk g (strides row w ++ more) (at w (row ∷ rows)) ≡ moved_then (one row w).outputs (walk g more (at (one row w).world rows))
+    → walk g (strides row w ++ more) (at w (row ∷ rows)) ≡ moved_then (one row w).outputs (walk g more (at (one row w).state rows))
 
 walk_each : (g : ReplayInput) (one : Row → ReplayState → Ran) (strides : Row → ReplayState → List Stride) (n : ℕ) → LeadsPast g one strides n
     → (first : List Row) (w : ReplayState) (rows : List Row) (more : List Stride) → AreBelow n first
-    → walk g (strides_each one strides first w ++ more) (at w (first ++ rows)) ≡ moved_then (pass_each one first w).outputs (walk g more (at (pass_each one first w).world rows))
+    → walk g (strides_each one strides first w ++ more) (at w (first ++ rows)) ≡ moved_then (pass_each one first w).outputs (walk g more (at (pass_each one first w).state rows))
 walk_each g one strides n leads [] w rows more below = refl
 walk_each g one strides n leads (row ∷ first) w rows more below =
     let ran : Ran = one row w in
-    let rest : Ran = pass_each one first ran.world in
-    ap (λ (all : List Stride). walk g all (at w (row ∷ first ++ rows))) (append_assoc (strides row w) (strides_each one strides first ran.world) more)
-    ∙ leads row w (first ++ rows) (strides_each one strides first ran.world ++ more) below.0
-    ∙ ap (λ (moved : Moved). moved_then ran.outputs moved) (walk_each g one strides n leads first ran.world rows more below.1)
-    ∙ then_then ran.outputs rest.outputs (walk g more (at rest.world rows))
+    let rest : Ran = pass_each one first ran.state in
+    ap (λ (all : List Stride). walk g all (at w (row ∷ first ++ rows))) (append_assoc (strides row w) (strides_each one strides first ran.state) more)
+    ∙ leads row w (first ++ rows) (strides_each one strides first ran.state ++ more) below.0
+    ∙ ap (λ (moved : Moved). moved_then ran.outputs moved) (walk_each g one strides n leads first ran.state rows more below.1)
+    ∙ then_then ran.outputs rest.outputs (walk g more (at rest.state rows))
 
 below_more : (n m : ℕ) (rows : List Row) → n < suc m → AreBelow n rows → AreBelow m rows
 below_more n m [] less below = tt
@@ -72,22 +72,22 @@ walk_to g now m (suc depth) row w rows more below =
     ∙ ap (λ (moved : Moved). moved_then passed.outputs moved)
     (walk_each g (pass_to g now m depth) (strides_to g now m depth) depth (walk_to g now m depth) passed.next (after w passed) rows more
     (below_more (rank row) depth passed.next below (row_falls g (passing g now w) m row w.consumer.phase w.consumer)))
-    ∙ then_then passed.outputs rest.outputs (walk g more (at rest.world rows))
+    ∙ then_then passed.outputs rest.outputs (walk g more (at rest.state rows))
 
 -- ---- and each of its rows meets what the event brings
 
 abbrev ToldPast : ReplayInput → ℕ → Matter → (Row → ReplayState → Ran) → (Row → ReplayState → List Stride) → ℕ → Type 0
 ToldPast g now m one strides n = (row : Row) (w : ReplayState) (rows : List Row) (more : List Stride) → rank row < n
-    → IsTold g now m more (one row w).world rows → IsTold g now m (strides row w ++ more) w (row ∷ rows)
+    → IsTold g now m more (one row w).state rows → IsTold g now m (strides row w ++ more) w (row ∷ rows)
 
 told_each : (g : ReplayInput) (now : ℕ) (m : Matter) (one : Row → ReplayState → Ran) (strides : Row → ReplayState → List Stride) (n : ℕ) → ToldPast g now m one strides n
     → (first : List Row) (w : ReplayState) (rows : List Row) (more : List Stride) → AreBelow n first
-    → IsTold g now m more (pass_each one first w).world rows → IsTold g now m (strides_each one strides first w ++ more) w (first ++ rows)
+    → IsTold g now m more (pass_each one first w).state rows → IsTold g now m (strides_each one strides first w ++ more) w (first ++ rows)
 told_each g now m one strides n past [] w rows more below h = h
 told_each g now m one strides n past (row ∷ first) w rows more below h =
     let ran : Ran = one row w in
-    subst (λ (all : List Stride). IsTold g now m all w (row ∷ first ++ rows)) (sym (append_assoc (strides row w) (strides_each one strides first ran.world) more))
-    (past row w (first ++ rows) (strides_each one strides first ran.world ++ more) below.0 (told_each g now m one strides n past first ran.world rows more below.1 h))
+    subst (λ (all : List Stride). IsTold g now m all w (row ∷ first ++ rows)) (sym (append_assoc (strides row w) (strides_each one strides first ran.state) more))
+    (past row w (first ++ rows) (strides_each one strides first ran.state ++ more) below.0 (told_each g now m one strides n past first ran.state rows more below.1 h))
 
 told_to : (g : ReplayInput) (now : ℕ) (m : Matter) (depth : ℕ) → ToldPast g now m (pass_to g now m depth) (strides_to g now m depth) depth
 told_to g now m zero row w rows more below h = absurd (omega arith)
@@ -102,7 +102,7 @@ told_to g now m (suc depth) row w rows more below h =
 
 -- an event of a replay is a walk from its first row until nothing is left to do, with the same outputs; each row meets what the event brings
 pub event_walks : (g : ReplayInput) (now : ℕ) (m : Matter) (w : ReplayState) → (strides : List Stride)
-    × (walk g strides (at w (Event ∷ [])) ≡ record { position = at (pass_to g now m 10 Event w).world []; outputs = (pass_to g now m 10 Event w).outputs ++ [] })
+    × (walk g strides (at w (Event ∷ [])) ≡ record { position = at (pass_to g now m 10 Event w).state []; outputs = (pass_to g now m 10 Event w).outputs ++ [] })
     × IsTold g now m strides w (Event ∷ [])
 event_walks g now m w =
     (strides_to g now m 10 Event w ++ [], walk_to g now m 10 Event w [] [] (omega arith), told_to g now m 10 Event w [] [] (omega arith) tt)

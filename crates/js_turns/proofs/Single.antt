@@ -30,7 +30,7 @@ use Rattle.js_table.specs.declared.row.Row.TheVariants.{Event, Start, Try, Creat
 use Rattle.js_table.specs.Recreation.{create_row, succeed_row, succeed_push, message_on}
 use Rattle.js_table.specs.Reading.{message_row, read_row, push_kind, beat_answer, hear_kind, armed}
 use Rattle.js_table.specs.declared.kind.PushKind.{PushKind}
-use Rattle.js_table.specs.declared.kind.PushKind.TheVariants.{Delivered, Quiet, Bad, Beat}
+use Rattle.js_table.specs.declared.kind.PushKind.TheVariants.{Delivered, OtherStatus, Bad, Beat}
 use Rattle.js_table.specs.Turn.{go_on, is_connected, changed, watcher_ended, event_change, event_row, same_state, row_at}
 use Rattle.js_turns.specs.Turns.{handed, sent}
 use Rattle.js_table.specs.declared.setup.OrderedSetup.{OrderedSetup}
@@ -69,7 +69,7 @@ Reads c passed = Single (read_row passed c)
 
 arrived_single : (message : Message) (k : Kind) (r : PullReader) (c : Consumer) → Reads c (pull.hear message k r)
 arrived_single message kind.Delivered r c = message_single (readable_as message.reply) message (record (at_phase (Pulls (pull.lowered 1 message.length r)) c) { missed = false })
-arrived_single message kind.Quiet r c = nothing
+arrived_single message kind.IdleHeartbeat r c = nothing
 arrived_single message kind.Deleted r c = nothing
 arrived_single message kind.PushBased r c = record { handed = omega arith; sent = omega arith }
 arrived_single message kind.Limit r c = if_each Single c.limited _ _ (λ _. record { handed = omega arith; sent = omega arith }) (λ _. nothing)
@@ -158,13 +158,13 @@ beat_single false (Some reply) = nothing
 
 hear_single : (p : Passing) (message : Message) (k : PushKind) (c : Consumer) → Single (hear_kind p message k c)
 hear_single p message Delivered c = message_single (readable_as message.reply) message c
-hear_single p message Quiet c = nothing
+hear_single p message OtherStatus c = nothing
 hear_single p message Bad c = record { handed = omega arith; sent = omega arith }
 hear_single p message (Beat last) c = beat_single p.up message.reply
 
 pub row_single : (g : ReplayInput) (p : Passing) (m : Matter) (row : Row) (phase : Phase) (c : Consumer) → Single (row_at g p m row phase c)
 row_single g p m Event phase c = first_single g p m phase c
-row_single g p m Start phase c = if_each Single (c.last == pull.u64_max) _ _ (λ _. nothing) (λ _. record { handed = omega arith; sent = omega arith })
+row_single g p m Start phase c = if_each Single (c.stream_sequence == pull.u64_max) _ _ (λ _. nothing) (λ _. record { handed = omega arith; sent = omega arith })
 row_single g p m Try (Recreates r) c = if_each Single p.up _ _ (λ _. record { handed = omega arith; sent = omega arith }) (λ _. nothing)
 row_single g p m Create (Recreates r) c = create_single g.setup p r c
 row_single g p m Ask (Recreates r) c = if_each Single p.up _ _ (λ _. record { handed = omega arith; sent = omega arith }) (λ _. nothing)

@@ -33,7 +33,7 @@ use Rattle.js_table.specs.declared.consumer.Phase.TheVariants.{Pulls, Pushes, Re
 use Rattle.js_table.specs.Recreation.{try_row, create_row, ask_row, succeed_row, succeed_push, fail_row, hold, held_in, message_on, stage_rows, created}
 use Rattle.js_table.specs.Reading.{read_row, push_kind, beat_answer, hear_kind, armed}
 use Rattle.js_table.specs.declared.kind.PushKind.{PushKind}
-use Rattle.js_table.specs.declared.kind.PushKind.TheVariants.{Delivered, Quiet, Bad, Beat}
+use Rattle.js_table.specs.declared.kind.PushKind.TheVariants.{Delivered, OtherStatus, Bad, Beat}
 use Rattle.js_table.specs.Turn.{push_rows, go_on, changed, watcher_ended, event_change, same_state, row_at, pass}
 use Rattle.js_turns.specs.Wishes.{awaited, opened_read, opened_dropped, create_wish, succeed_wish, beat_wish, wish_at, wish, change_of, arrival_of, matter_of, watched, givings, met_in}
 use Rattle.js_table.specs.declared.setup.OrderedSetup.{OrderedSetup}
@@ -174,7 +174,7 @@ beat_told now false request inbox subject m state p is last (Some reply) = rw is
 
 beat_now : (p : Passing) (x : Givings) (kind : PushKind) (reply : Option (List ℕ)) → p.now ≡ (passing_of p.now (given x (beat_wish kind reply))).now
 beat_now p x Delivered reply = refl
-beat_now p x Quiet reply = refl
+beat_now p x OtherStatus reply = refl
 beat_now p x Bad reply = refl
 beat_now p x (Beat last) None = refl
 beat_now p x (Beat last) (Some reply) = by_up x.passing.up
@@ -185,14 +185,14 @@ beat_now p x (Beat last) (Some reply) = by_up x.passing.up
 
 kind_told : (p q : Passing) (message : Message) (kind : PushKind) (c : Consumer) → beat_answer p.up message.reply ≡ beat_answer q.up message.reply → hear_kind p message kind c ≡ hear_kind q message kind c
 kind_told p q message Delivered c is = refl
-kind_told p q message Quiet c is = refl
+kind_told p q message OtherStatus c is = refl
 kind_told p q message Bad c is = refl
 kind_told p q message (Beat last) c is = rw is refl
 
 kind_by : (m : Matter) (state : State) (p : Passing) (message : Message) (kind : PushKind) (c : Consumer)
     → hear_kind p message kind c ≡ hear_kind (passing_of p.now (given (givings p m state) (beat_wish kind message.reply))) message kind c
 kind_by m state p message Delivered c = refl
-kind_by m state p message Quiet c = refl
+kind_by m state p message OtherStatus c = refl
 kind_by m state p message Bad c = refl
 kind_by m state p message (Beat last) c =
     kind_told p (passing_of p.now (given (givings p m state) (beat_wish (Beat last) message.reply))) message (Beat last) c

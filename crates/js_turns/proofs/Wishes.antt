@@ -33,7 +33,7 @@ use Rattle.js_table.specs.declared.consumer.Phase.TheVariants.{Pulls, Pushes, Re
 use Rattle.js_table.specs.Recreation.{start_row, create_row, succeed_row, succeed_push, fail_row, message_on}
 use Rattle.js_table.specs.Reading.{message_row, told, push_kind, beat_answer, hear_kind, armed}
 use Rattle.js_table.specs.declared.kind.PushKind.{PushKind}
-use Rattle.js_table.specs.declared.kind.PushKind.TheVariants.{Delivered, Quiet, Bad, Beat}
+use Rattle.js_table.specs.declared.kind.PushKind.TheVariants.{Delivered, OtherStatus, Bad, Beat}
 use Rattle.js_table.specs.Turn.{go_on, is_connected, changed, watcher_ended, event_change, event_row, same_state, reader_row, row_at}
 use Rattle.js_turns.specs.Turns.{sent}
 use Rattle.js_turns.specs.Wishes.{awaited, opened_read, opened_dropped, dropped, create_wish, succeed_wish, beat_wish, wish_at, wish}
@@ -178,14 +178,14 @@ beat_sends p last (Some reply) = both sent (λ (xs : List Sent). map output_of x
 
 kind_sends : (p : Passing) (message : Message) (kind : PushKind) (c : Consumer) → Sends (beat_wish kind message.reply) p (hear_kind p message kind c)
 kind_sends p message Delivered c = message_silent (readable_as message.reply) message c
-kind_sends p message Quiet c = refl
+kind_sends p message OtherStatus c = refl
 kind_sends p message Bad c = refl
 kind_sends p message (Beat last) c = beat_sends p last message.reply
 
 -- what a row sends is what it asks to send
 pub row_sends : (g : ReplayInput) (p : Passing) (m : Matter) (row : Row) (phase : Phase) (c : Consumer) → Sends (wish_at g row phase) p (row_at g p m row phase c)
 row_sends g p m Event phase c = event_sends g p m phase c
-row_sends g p m Start phase c = quiet (start_row g c).outputs (sends_of (dropped phase) p) (if_each Silent (c.last == pull.u64_max) _ _ (λ _. refl) (λ _. refl)) (dropped_silent phase p)
+row_sends g p m Start phase c = quiet (start_row g c).outputs (sends_of (dropped phase) p) (if_each Silent (c.stream_sequence == pull.u64_max) _ _ (λ _. refl) (λ _. refl)) (dropped_silent phase p)
 row_sends g p m Try (Recreates r) c = both (λ (passed : Passed). sent passed.outputs) (λ (xs : List Sent). map output_of xs) p.up _ _ _ _ refl refl
 row_sends g p m Create (Recreates r) c = create_sends g.setup p r c
 row_sends g p m Ask (Recreates r) c = both (λ (passed : Passed). sent passed.outputs) (λ (xs : List Sent). map output_of xs) p.up _ _ _ _ refl refl

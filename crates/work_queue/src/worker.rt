@@ -8,9 +8,7 @@ use js_json::consumer::PriorityPolicy;
 use js_json::pull::BatchConfig;
 use js_link::{InboxId, MemoryLink, RequestId, Sent};
 use js_message::{AckKind, Message};
-use js_pull_calls::{
-    Batch, BatchItemError, MessagesError, PullCalls, Sequence, Stream, messages_error_text,
-};
+use js_pull_calls::{Batch, BatchItemError, MessagesError, PullCalls, Sequence, Stream};
 use std::alloc::Global;
 use std::{fmt, mem};
 
@@ -66,11 +64,7 @@ fn job_text(alloc: Global, message: &Message) -> Result<String, OutOfMemory> {
 
 /// An error of a stream, with what the server says.
 fn messages_error(alloc: Global, error: MessagesError) -> Result<String, OutOfMemory> {
-    let text = messages_error_text(*error.kind());
-    match error.source() {
-        None => Ok(format!(in alloc; "error: {text}")?),
-        Some(source) => Ok(format!(in alloc; "error: {text}: {source}")?),
-    }
+    Ok(format!(in alloc; "error: {error}")?)
 }
 
 fn stream_item(

@@ -36,12 +36,12 @@ struct Brought {
 
 /// What is put out of a message of the stream.
 #[inline]
-fn make_ready(world: &ReplayState, message: &Message) -> Result<Brought, OutOfMemory>
-    ensures heard { IfOk result (λ ready. IsHeardFrom world.now.consumer.consumer_sequence message.now ready.heard) }
-    ensures output { IfOk result (λ ready. option_to_list ready.output ≡ heard_outputs world.now.up message.now ready.heard) }
+fn make_ready(state: &ReplayState, message: &Message) -> Result<Brought, OutOfMemory>
+    ensures heard { IfOk result (λ ready. IsHeardFrom state.now.consumer.consumer_sequence message.now ready.heard) }
+    ensures output { IfOk result (λ ready. option_to_list ready.output ≡ heard_outputs state.now.link_up message.now ready.heard) }
 {
-    let heard = heard_from(world.consumer.consumer_sequence, message);
-    let output = output_of(world.up, message, heard)?;
+    let heard = heard_from(state.consumer.consumer_sequence, message);
+    let output = output_of(state.link_up, message, heard)?;
     Ok(Brought { heard, output })
 }
 
@@ -49,15 +49,15 @@ fn make_ready(world: &ReplayState, message: &Message) -> Result<Brought, OutOfMe
 #[inline]
 fn note(
     alloc: Global,
-    turn: &EventContext<'_>,
+    context: &EventContext<'_>,
     reader: &mut Reader,
     message: &Message,
 ) -> Result<(), OutOfMemory>
-    ensures heard { OnOk result (reader.new ≡ heard turn.now.moment message.now reader.old) }
+    ensures heard { OnOk result (reader.new ≡ heard context.now.moment message.now reader.old) }
     ensures kept { OnErr result (reader.new ≡ reader.old) }
 {
     reader.note_pin(alloc, message)?;
-    reader.arm_silence(turn.moment);
+    reader.arm_silence(context.moment);
     Ok(())
 }
 
@@ -65,30 +65,30 @@ fn note(
 #[inline]
 fn hear_message(
     alloc: Global,
-    turn: &EventContext<'_>,
-    world: &mut ReplayState,
+    context: &EventContext<'_>,
+    state: &mut ReplayState,
     mut reader: Reader,
     message: &Message,
     ready: Brought,
     outputs: &mut Vec<Output>,
 ) -> Result<NextTasks, OutOfMemory>
-    requires arrives { message_on reader.source.inbox (matter_now turn.now).arrival ≡ Some message.now }
+    requires arrives { message_on reader.source.inbox (matter_now context.now).arrival ≡ Some message.now }
     requires kind { kind_of message.now ≡ Kind.Delivered }
-    requires heard { IsHeardFrom world.old.consumer.consumer_sequence message.now ready.heard }
-    requires output { option_to_list ready.output ≡ heard_outputs world.old.up message.now ready.heard }
+    requires heard { IsHeardFrom state.old.consumer.consumer_sequence message.now ready.heard }
+    requires output { option_to_list ready.output ≡ heard_outputs state.old.link_up message.now ready.heard }
     requires room { vec_len outputs.old + 1 ≤ vec_capacity outputs.old }
-    ensures { PassesTo turn.now (row.Read read.CheckArrival ∷ []) (at (Phase.Pulls reader) world.old) world.new outputs.old.items outputs.new.items result }
+    ensures { PassesTo context.now (row.Read read.CheckArrival ∷ []) (at (Phase.Pulls reader) state.old) state.new outputs.old.items outputs.new.items result }
 {
-    match note(alloc, turn, &mut reader, message) {
+    match note(alloc, context, &mut reader, message) {
         Err(refused) => {
-            world.consumer.phase = Phase::Pulls(reader);
+            state.consumer.phase = Phase::Pulls(reader);
             Err(refused)
         }
         Ok(()) => {
             reader.lower(1, message.length);
-            world.consumer.phase = Phase::Pulls(reader);
+            state.consumer.phase = Phase::Pulls(reader);
             let next = reading::take_message(
-                &mut world.consumer,
+                &mut state.consumer,
                 ready.heard,
                 Some(Due::Threshold),
             );
@@ -101,25 +101,25 @@ fn hear_message(
 /// An arrival with a status is heard.
 fn hear_status(
     alloc: Global,
-    turn: &EventContext<'_>,
-    world: &mut ReplayState,
+    context: &EventContext<'_>,
+    state: &mut ReplayState,
     mut reader: Reader,
     message: &Message,
     outputs: &mut Vec<Output>,
 ) -> Result<NextTasks, OutOfMemory>
-    requires arrives { message_on reader.source.inbox (matter_now turn.now).arrival ≡ Some message.now }
+    requires arrives { message_on reader.source.inbox (matter_now context.now).arrival ≡ Some message.now }
     requires kind { kind_of message.now ≢ Kind.Delivered }
     requires room { vec_len outputs.old + 1 ≤ vec_capacity outputs.old }
-    ensures { PassesTo turn.now (row.Read read.CheckArrival ∷ []) (at (Phase.Pulls reader) world.old) world.new outputs.old.items outputs.new.items result }
+    ensures { PassesTo context.now (row.Read read.CheckArrival ∷ []) (at (Phase.Pulls reader) state.old) state.new outputs.old.items outputs.new.items result }
 {
-    match note(alloc, turn, &mut reader, message) {
+    match note(alloc, context, &mut reader, message) {
         Err(refused) => {
-            world.consumer.phase = Phase::Pulls(reader);
+            state.consumer.phase = Phase::Pulls(reader);
             Err(refused)
         }
         Ok(()) => {
             let step = reading::hear(&mut reader, message);
-            Ok(finish(world, reader, step, outputs))
+            Ok(finish(state, reader, step, outputs))
         }
     }
 }
@@ -128,25 +128,25 @@ fn hear_status(
 #[inline]
 fn hear_arrival(
     alloc: Global,
-    turn: &EventContext<'_>,
-    world: &mut ReplayState,
+    context: &EventContext<'_>,
+    state: &mut ReplayState,
     reader: Reader,
     message: &Message,
     outputs: &mut Vec<Output>,
 ) -> Result<NextTasks, OutOfMemory>
-    requires arrives { message_on reader.source.inbox (matter_now turn.now).arrival ≡ Some message.now }
+    requires arrives { message_on reader.source.inbox (matter_now context.now).arrival ≡ Some message.now }
     requires room { vec_len outputs.old + 1 ≤ vec_capacity outputs.old }
-    ensures { PassesTo turn.now (row.Read read.CheckArrival ∷ []) (at (Phase.Pulls reader) world.old) world.new outputs.old.items outputs.new.items result }
+    ensures { PassesTo context.now (row.Read read.CheckArrival ∷ []) (at (Phase.Pulls reader) state.old) state.new outputs.old.items outputs.new.items result }
 {
     if !is_delivered(message) {
-        return hear_status(alloc, turn, world, reader, message, outputs);
+        return hear_status(alloc, context, state, reader, message, outputs);
     }
-    match make_ready(world, message) {
+    match make_ready(state, message) {
         Err(refused) => {
-            world.consumer.phase = Phase::Pulls(reader);
+            state.consumer.phase = Phase::Pulls(reader);
             Err(refused)
         }
-        Ok(ready) => hear_message(alloc, turn, world, reader, message, ready, outputs),
+        Ok(ready) => hear_message(alloc, context, state, reader, message, ready, outputs),
     }
 }
 
@@ -156,7 +156,7 @@ fn is_delivered(message: &Message) -> bool
 {
     match pull_kind(message) {
         Kind::Delivered => true,
-        Kind::Quiet => false,
+        Kind::IdleHeartbeat => false,
         Kind::Deleted => false,
         Kind::PushBased => false,
         Kind::Limit => false,
@@ -170,18 +170,18 @@ fn is_delivered(message: &Message) -> bool
 #[inline]
 pub(crate) fn check_arrival(
     alloc: Global,
-    turn: &EventContext<'_>,
-    world: &mut ReplayState,
+    context: &EventContext<'_>,
+    state: &mut ReplayState,
     reader: Reader,
     outputs: &mut Vec<Output>,
 ) -> Result<NextTasks, OutOfMemory>
     requires room { vec_len outputs.old + 1 ≤ vec_capacity outputs.old }
-    ensures { PassesTo turn.now (row.Read read.CheckArrival ∷ []) (at (Phase.Pulls reader) world.old) world.new outputs.old.items outputs.new.items result }
+    ensures { PassesTo context.now (row.Read read.CheckArrival ∷ []) (at (Phase.Pulls reader) state.old) state.new outputs.old.items outputs.new.items result }
 {
-    match turn.what.message_on(reader.source.inbox) {
-        Some(message) => hear_arrival(alloc, turn, world, reader, message, outputs),
+    match context.what.message_on(reader.source.inbox) {
+        Some(message) => hear_arrival(alloc, context, state, reader, message, outputs),
         None => {
-            world.consumer.phase = Phase::Pulls(reader);
+            state.consumer.phase = Phase::Pulls(reader);
             Ok(NextTasks::One(Task::Read(Due::CheckSilence)))
         }
     }

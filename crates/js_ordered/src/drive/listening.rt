@@ -29,11 +29,11 @@ fn arrives(what: &EventKind, inbox: u64) -> bool
 
 /// Push looks for an arrival.
 #[inline]
-pub(crate) fn look(turn: &EventContext<'_>, world: &ReplayState) -> NextTasks
-    ensures { (outputs : List SpecOutput) → LeadsOn turn.now (row.CheckArrival ∷ []) world.now outputs (next_rows (matter_now turn.now) result) world.now outputs }
+pub(crate) fn look(context: &EventContext<'_>, state: &ReplayState) -> NextTasks
+    ensures { (outputs : List SpecOutput) → LeadsOn context.now (row.CheckArrival ∷ []) state.now outputs (next_rows (matter_now context.now) result) state.now outputs }
 {
-    match world.consumer.phase {
-        Phase::Pushes { inbox, .. } => arrival_next(inbox, arrives(turn.what, inbox)),
+    match state.consumer.phase {
+        Phase::Pushes { inbox, .. } => arrival_next(inbox, arrives(context.what, inbox)),
         Phase::Pulls(_) => NextTasks::Nothing,
         Phase::Recreates(_) => NextTasks::Nothing,
         Phase::Idle => NextTasks::Nothing,
@@ -45,19 +45,19 @@ pub(crate) fn look(turn: &EventContext<'_>, world: &ReplayState) -> NextTasks
 /// Push looks at its heartbeat.
 #[inline]
 pub(crate) fn look_at_silence(
-    turn: &EventContext<'_>,
-    world: &ReplayState,
+    context: &EventContext<'_>,
+    state: &ReplayState,
     outputs: &mut Vec<Output>,
 ) -> NextTasks
     requires room { vec_len outputs.old + 1 ≤ vec_capacity outputs.old }
-    ensures { LeadsOn turn.now (row.CheckSilence ∷ []) world.now outputs.old.items (next_rows (matter_now turn.now) result) world.now outputs.new.items }
+    ensures { LeadsOn context.now (row.CheckSilence ∷ []) state.now outputs.old.items (next_rows (matter_now context.now) result) state.now outputs.new.items }
 {
-    match world.consumer.phase {
+    match state.consumer.phase {
         Phase::Pushes {
             heartbeat_timer,
             ..
         } => {
-            let Step { told, next } = pass_silence(turn, heartbeat_timer);
+            let Step { told, next } = pass_silence(context, heartbeat_timer);
             tell(told, outputs);
             next
         }
@@ -70,11 +70,11 @@ pub(crate) fn look_at_silence(
 }
 
 /// Push arms its heartbeat.
-pub(crate) fn arm(turn: &EventContext<'_>, world: &mut ReplayState)
-    ensures { (outputs : List SpecOutput) → LeadsOn turn.now (row.Arm ∷ []) world.old outputs [] world.new outputs }
+pub(crate) fn arm(context: &EventContext<'_>, state: &mut ReplayState)
+    ensures { (outputs : List SpecOutput) → LeadsOn context.now (row.Arm ∷ []) state.old outputs [] state.new outputs }
 {
-    match world.consumer.phase {
-        Phase::Pushes { inbox, .. } => listen(turn, &mut world.consumer, inbox),
+    match state.consumer.phase {
+        Phase::Pushes { inbox, .. } => listen(context, &mut state.consumer, inbox),
         Phase::Pulls(_) => {}
         Phase::Recreates(_) => {}
         Phase::Idle => {}
@@ -87,10 +87,10 @@ pub(crate) fn arm(turn: &EventContext<'_>, world: &mut ReplayState)
 
 /// The consumer listens to this inbox.
 #[inline]
-fn listens(world: &ReplayState, inbox: u64) -> bool
-    ensures { result ≡ listens_to inbox world.now.consumer.phase }
+fn listens(state: &ReplayState, inbox: u64) -> bool
+    ensures { result ≡ listens_to inbox state.now.consumer.phase }
 {
-    match world.consumer.phase {
+    match state.consumer.phase {
         Phase::Pushes { inbox: current, .. } => inbox == current,
         _ => false,
     }
@@ -131,28 +131,28 @@ pub(crate) fn output_of(
         })),
         Heard::Beat(_) => answer_of(up, message),
         Heard::Gap => Ok(None),
-        Heard::Quiet => Ok(None),
+        Heard::OtherStatus => Ok(None),
     }
 }
 
 /// A message is heard on an inbox. Where it is not the current one, nothing comes of it.
 #[inline]
 pub(crate) fn hear(
-    turn: &EventContext<'_>,
-    world: &mut ReplayState,
+    context: &EventContext<'_>,
+    state: &mut ReplayState,
     inbox: u64,
     message: &Message,
     outputs: &mut Vec<Output>,
 ) -> Result<NextTasks, OutOfMemory>
     requires room { vec_len outputs.old + 1 ≤ vec_capacity outputs.old }
-    ensures { PassesTo turn.now (row.Hear (record { inbox = inbox; message = message.now }) ∷ []) world.old world.new outputs.old.items outputs.new.items result }
+    ensures { PassesTo context.now (row.Hear (record { inbox = inbox; message = message.now }) ∷ []) state.old state.new outputs.old.items outputs.new.items result }
 {
-    if !listens(world, inbox) {
+    if !listens(state, inbox) {
         return Ok(NextTasks::Nothing);
     }
-    let heard = heard_as(world.consumer.consumer_sequence, message);
-    let output = output_of(world.up, message, heard)?;
-    let next = pass_hear(turn, &mut world.consumer, inbox, heard);
+    let heard = heard_as(state.consumer.consumer_sequence, message);
+    let output = output_of(state.link_up, message, heard)?;
+    let next = pass_hear(context, &mut state.consumer, inbox, heard);
     put(output, outputs);
     Ok(next)
 }

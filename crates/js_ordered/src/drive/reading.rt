@@ -31,16 +31,16 @@ use std::mem;
 /// The reader goes on, and what it tells without a message is put out.
 #[inline]
 pub(crate) fn finish(
-    world: &mut ReplayState,
+    state: &mut ReplayState,
     reader: Reader,
     step: Read,
     outputs: &mut Vec<Output>,
 ) -> NextTasks
     requires room { vec_len outputs.old + 1 ≤ vec_capacity outputs.old }
-    ensures { (m : Matter) → Finishes m world.old world.new reader step outputs.old.items outputs.new.items result }
+    ensures { (m : Matter) → Finishes m state.old state.new reader step outputs.old.items outputs.new.items result }
 {
-    world.consumer.phase = Phase::Pulls(reader);
-    let Step { told, next } = reading::take_notice(&mut world.consumer, step.told, step.next);
+    state.consumer.phase = Phase::Pulls(reader);
+    let Step { told, next } = reading::take_notice(&mut state.consumer, step.told, step.next);
     tell(told, outputs);
     next
 }
@@ -64,28 +64,28 @@ fn pull_request(alloc: Global, up: bool, reader: &Reader) -> Result<Option<Outpu
 /// A pull request goes out, or is refused, of which the user is told.
 fn ask(
     alloc: Global,
-    turn: &EventContext<'_>,
-    world: &mut ReplayState,
+    context: &EventContext<'_>,
+    state: &mut ReplayState,
     mut reader: Reader,
     reason: Reason,
     outputs: &mut Vec<Output>,
 ) -> Result<NextTasks, OutOfMemory>
     requires room { vec_len outputs.old + 1 ≤ vec_capacity outputs.old }
-    ensures { PassesTo turn.now (row.Read (read.Ask reason) ∷ []) (at (Phase.Pulls reader) world.old) world.new outputs.old.items outputs.new.items result }
+    ensures { PassesTo context.now (row.Read (read.Ask reason) ∷ []) (at (Phase.Pulls reader) state.old) state.new outputs.old.items outputs.new.items result }
 {
-    match pull_request(alloc, world.up, &reader) {
+    match pull_request(alloc, state.link_up, &reader) {
         Err(refused) => {
-            world.consumer.phase = Phase::Pulls(reader);
+            state.consumer.phase = Phase::Pulls(reader);
             Err(refused)
         }
         Ok(request) => match request {
             None => {
-                let step = reading::ask(&mut reader, turn.moment, reason, false);
-                Ok(finish(world, reader, step, outputs))
+                let step = reading::ask(&mut reader, context.moment, reason, false);
+                Ok(finish(state, reader, step, outputs))
             }
             Some(output) => {
-                reading::ask(&mut reader, turn.moment, reason, true);
-                world.consumer.phase = Phase::Pulls(reader);
+                reading::ask(&mut reader, context.moment, reason, true);
+                state.consumer.phase = Phase::Pulls(reader);
                 outputs.push_reserved(output);
                 Ok(NextTasks::Nothing)
             }
@@ -96,40 +96,40 @@ fn ask(
 /// The info request of a reader, where the link is up.
 fn info_request(
     alloc: Global,
-    world: &ReplayState,
+    state: &ReplayState,
     reader: &Reader,
 ) -> Result<Option<Sending>, OutOfMemory>
-    ensures { IfOk result (λ request. IsSending world.now.up world.now.requests_sent (info_subject reader.now.source) (codes "{}") request) }
+    ensures { IfOk result (λ request. IsSending state.now.link_up state.now.requests_sent (info_subject reader.now.source) (codes "{}") request) }
 {
-    if !world.up {
+    if !state.link_up {
         return Ok(None);
     }
     let subject = reader.source.info_subject(alloc)?;
-    let request = request_for(world.requests_sent, subject, Bytes::from_static(b"{}"))?;
+    let request = request_for(state.requests_sent, subject, Bytes::from_static(b"{}"))?;
     Ok(Some(request))
 }
 
 /// The info is asked for.
 fn inquire(
     alloc: Global,
-    turn: &EventContext<'_>,
-    world: &mut ReplayState,
+    context: &EventContext<'_>,
+    state: &mut ReplayState,
     mut reader: Reader,
     failures: u64,
     outputs: &mut Vec<Output>,
 ) -> Result<NextTasks, OutOfMemory>
     requires room { vec_len outputs.old + 1 ≤ vec_capacity outputs.old }
-    ensures { PassesTo turn.now (row.Read (read.Inquire failures) ∷ []) (at (Phase.Pulls reader) world.old) world.new outputs.old.items outputs.new.items result }
+    ensures { PassesTo context.now (row.Read (read.Inquire failures) ∷ []) (at (Phase.Pulls reader) state.old) state.new outputs.old.items outputs.new.items result }
 {
-    match info_request(alloc, world, &reader) {
+    match info_request(alloc, state, &reader) {
         Err(refused) => {
-            world.consumer.phase = Phase::Pulls(reader);
+            state.consumer.phase = Phase::Pulls(reader);
             Err(refused)
         }
         Ok(request) => {
-            let number = send(&mut world.requests_sent, request, outputs);
-            let step = reading::inquire(&mut reader, turn.moment, failures, number);
-            world.consumer.phase = Phase::Pulls(reader);
+            let number = send(&mut state.requests_sent, request, outputs);
+            let step = reading::inquire(&mut reader, context.moment, failures, number);
+            state.consumer.phase = Phase::Pulls(reader);
             Ok(reading::after(step.next))
         }
     }
@@ -169,23 +169,23 @@ fn informed(alloc: Global, what: &EventKind) -> Result<Option<Reason>, OutOfMemo
 /// The reply is read.
 fn answered(
     alloc: Global,
-    turn: &EventContext<'_>,
-    world: &mut ReplayState,
+    context: &EventContext<'_>,
+    state: &mut ReplayState,
     mut reader: Reader,
     failures: u64,
     outputs: &mut Vec<Output>,
 ) -> Result<NextTasks, OutOfMemory>
     requires room { vec_len outputs.old + 1 ≤ vec_capacity outputs.old }
-    ensures { PassesTo turn.now (row.Read (read.Answered (brought (matter_now turn.now).answer) failures) ∷ []) (at (Phase.Pulls reader) world.old) world.new outputs.old.items outputs.new.items result }
+    ensures { PassesTo context.now (row.Read (read.Answered (brought (matter_now context.now).answer) failures) ∷ []) (at (Phase.Pulls reader) state.old) state.new outputs.old.items outputs.new.items result }
 {
-    match informed(alloc, turn.what) {
+    match informed(alloc, context.what) {
         Err(refused) => {
-            world.consumer.phase = Phase::Pulls(reader);
+            state.consumer.phase = Phase::Pulls(reader);
             Err(refused)
         }
         Ok(informed) => {
             let step = reading::answered(&mut reader, failures, informed);
-            Ok(finish(world, reader, step, outputs))
+            Ok(finish(state, reader, step, outputs))
         }
     }
 }
@@ -203,17 +203,17 @@ fn is_answered(what: &EventKind, inquiry: InfoRequest) -> bool
 
 /// An open info is looked at.
 fn check_inquiry(
-    turn: &EventContext<'_>,
-    world: &mut ReplayState,
+    context: &EventContext<'_>,
+    state: &mut ReplayState,
     reader: Reader,
     outputs: &mut Vec<Output>,
 ) -> Result<NextTasks, OutOfMemory>
     requires room { vec_len outputs.old + 1 ≤ vec_capacity outputs.old }
-    ensures { PassesTo turn.now (row.Read read.CheckInfoRequest ∷ []) (at (Phase.Pulls reader) world.old) world.new outputs.old.items outputs.new.items result }
+    ensures { PassesTo context.now (row.Read read.CheckInfoRequest ∷ []) (at (Phase.Pulls reader) state.old) state.new outputs.old.items outputs.new.items result }
 {
-    let answered = is_answered(turn.what, reader.inquiry);
-    let step = reading::check_inquiry(reader.inquiry, turn.moment, answered);
-    Ok(finish(world, reader, step, outputs))
+    let answered = is_answered(context.what, reader.inquiry);
+    let step = reading::check_inquiry(reader.inquiry, context.moment, answered);
+    Ok(finish(state, reader, step, outputs))
 }
 
 // ---- any row
@@ -222,41 +222,41 @@ fn check_inquiry(
 #[inline]
 fn read(
     alloc: Global,
-    turn: &EventContext<'_>,
-    world: &mut ReplayState,
+    context: &EventContext<'_>,
+    state: &mut ReplayState,
     mut reader: Reader,
     due: Due,
     outputs: &mut Vec<Output>,
 ) -> Result<NextTasks, OutOfMemory>
     requires room { vec_len outputs.old + 1 ≤ vec_capacity outputs.old }
-    ensures { PassesTo turn.now (row.Read (row_of (brought (matter_now turn.now).answer) due) ∷ []) (at (Phase.Pulls reader) world.old) world.new outputs.old.items outputs.new.items result }
+    ensures { PassesTo context.now (row.Read (row_of (brought (matter_now context.now).answer) due) ∷ []) (at (Phase.Pulls reader) state.old) state.new outputs.old.items outputs.new.items result }
 {
     match due {
-        Due::Ask { reason } => ask(alloc, turn, world, reader, reason, outputs),
-        Due::Inquire { failures } => inquire(alloc, turn, world, reader, failures, outputs),
-        Due::Answered { failures } => answered(alloc, turn, world, reader, failures, outputs),
-        Due::CheckArrival => check_arrival(alloc, turn, world, reader, outputs),
-        Due::CheckInfoRequest => check_inquiry(turn, world, reader, outputs),
+        Due::Ask { reason } => ask(alloc, context, state, reader, reason, outputs),
+        Due::Inquire { failures } => inquire(alloc, context, state, reader, failures, outputs),
+        Due::Answered { failures } => answered(alloc, context, state, reader, failures, outputs),
+        Due::CheckArrival => check_arrival(alloc, context, state, reader, outputs),
+        Due::CheckInfoRequest => check_inquiry(context, state, reader, outputs),
         Due::Threshold => {
             let step = reading::threshold(&mut reader);
-            Ok(finish(world, reader, step, outputs))
+            Ok(finish(state, reader, step, outputs))
         }
         Due::Arm => {
-            reader.arm_silence(turn.moment);
-            world.consumer.phase = Phase::Pulls(reader);
+            reader.arm_silence(context.moment);
+            state.consumer.phase = Phase::Pulls(reader);
             Ok(NextTasks::Nothing)
         }
         Due::FailInfoRequest { failures } => {
-            let step = reading::fail_inquiry(&mut reader, turn.moment, failures);
-            Ok(finish(world, reader, step, outputs))
+            let step = reading::fail_inquiry(&mut reader, context.moment, failures);
+            Ok(finish(state, reader, step, outputs))
         }
         Due::CheckExpiry => {
-            let step = reading::check_expiry(&reader, turn.moment);
-            Ok(finish(world, reader, step, outputs))
+            let step = reading::check_expiry(&reader, context.moment);
+            Ok(finish(state, reader, step, outputs))
         }
         Due::CheckSilence => {
-            let step = reading::check_silence(&mut reader, turn.moment);
-            Ok(finish(world, reader, step, outputs))
+            let step = reading::check_silence(&mut reader, context.moment);
+            Ok(finish(state, reader, step, outputs))
         }
     }
 }
@@ -265,40 +265,40 @@ fn read(
 #[inline]
 pub(crate) fn pass_read(
     alloc: Global,
-    turn: &EventContext<'_>,
-    world: &mut ReplayState,
+    context: &EventContext<'_>,
+    state: &mut ReplayState,
     due: Due,
     outputs: &mut Vec<Output>,
 ) -> Result<NextTasks, OutOfMemory>
     requires room { vec_len outputs.old + 1 ≤ vec_capacity outputs.old }
-    ensures { PassesTo turn.now (row.Read (row_of (brought (matter_now turn.now).answer) due) ∷ []) world.old world.new outputs.old.items outputs.new.items result }
+    ensures { PassesTo context.now (row.Read (row_of (brought (matter_now context.now).answer) due) ∷ []) state.old state.new outputs.old.items outputs.new.items result }
 {
-    match mem::replace(&mut world.consumer.phase, Phase::Idle) {
-        Phase::Pulls(reader) => read(alloc, turn, world, reader, due, outputs),
+    match mem::replace(&mut state.consumer.phase, Phase::Idle) {
+        Phase::Pulls(reader) => read(alloc, context, state, reader, due, outputs),
         Phase::Recreates(recreation) => {
-            world.consumer.phase = Phase::Recreates(recreation);
+            state.consumer.phase = Phase::Recreates(recreation);
             Ok(NextTasks::Nothing)
         }
         Phase::Pushes {
             inbox,
             heartbeat_timer,
         } => {
-            world.consumer.phase = Phase::Pushes {
+            state.consumer.phase = Phase::Pushes {
                 inbox,
                 heartbeat_timer,
             };
             Ok(NextTasks::Nothing)
         }
         Phase::Idle => {
-            world.consumer.phase = Phase::Idle;
+            state.consumer.phase = Phase::Idle;
             Ok(NextTasks::Nothing)
         }
         Phase::Ended => {
-            world.consumer.phase = Phase::Ended;
+            state.consumer.phase = Phase::Ended;
             Ok(NextTasks::Nothing)
         }
         Phase::Exhausted => {
-            world.consumer.phase = Phase::Exhausted;
+            state.consumer.phase = Phase::Exhausted;
             Ok(NextTasks::Nothing)
         }
     }

@@ -32,20 +32,20 @@ use std::alloc::Global;
 /// A recreation starts.
 pub(crate) fn start(
     alloc: Global,
-    turn: &EventContext<'_>,
-    world: &mut ReplayState,
+    context: &EventContext<'_>,
+    state: &mut ReplayState,
     outputs: &mut Vec<Output>,
 ) -> Result<NextTasks, OutOfMemory>
     requires room { vec_len outputs.old + 1 ≤ vec_capacity outputs.old }
-    ensures { PassesTo turn.now (row.Start ∷ []) world.old world.new outputs.old.items outputs.new.items result }
+    ensures { PassesTo context.now (row.Start ∷ []) state.old state.new outputs.old.items outputs.new.items result }
 {
     let name = texts::consumer_name(
         alloc,
-        turn,
-        world.consumer.recreation_count.saturating_add(1),
+        context,
+        state.consumer.recreation_count.saturating_add(1),
     )?;
     let again = name.try_clone()?;
-    let Step { told, next } = pass_start(turn, &mut world.consumer, name, again);
+    let Step { told, next } = pass_start(context, &mut state.consumer, name, again);
     tell(told, outputs);
     Ok(next)
 }
@@ -55,39 +55,39 @@ pub(crate) fn start(
 /// The request that deletes the old consumer, where the link is up.
 fn try_request(
     alloc: Global,
-    turn: &EventContext<'_>,
-    world: &ReplayState,
+    context: &EventContext<'_>,
+    state: &ReplayState,
     recreation: &Recreation,
 ) -> Result<Option<Sending>, OutOfMemory>
-    ensures { IfOk result (λ request. IsSending world.now.up world.now.requests_sent (texts_of.delete_subject (given_of turn.now) recreation.now) (codes "{}") request) }
+    ensures { IfOk result (λ request. IsSending state.now.link_up state.now.requests_sent (texts_of.delete_subject (given_of context.now) recreation.now) (codes "{}") request) }
 {
-    if !world.up {
+    if !state.link_up {
         return Ok(None);
     }
-    let subject = texts::delete_subject(alloc, turn, recreation)?;
-    let request = request_for(world.requests_sent, subject, Bytes::from_static(b"{}"))?;
+    let subject = texts::delete_subject(alloc, context, recreation)?;
+    let request = request_for(state.requests_sent, subject, Bytes::from_static(b"{}"))?;
     Ok(Some(request))
 }
 
 /// A try begins.
 pub(crate) fn begin_try(
     alloc: Global,
-    turn: &EventContext<'_>,
-    world: &mut ReplayState,
+    context: &EventContext<'_>,
+    state: &mut ReplayState,
     recreation: Recreation,
     outputs: &mut Vec<Output>,
 ) -> Result<NextTasks, OutOfMemory>
     requires room { vec_len outputs.old + 1 ≤ vec_capacity outputs.old }
-    ensures { PassesTo turn.now (row.Try ∷ []) (at (Phase.Recreates recreation) world.old) world.new outputs.old.items outputs.new.items result }
+    ensures { PassesTo context.now (row.Try ∷ []) (at (Phase.Recreates recreation) state.old) state.new outputs.old.items outputs.new.items result }
 {
-    match try_request(alloc, turn, world, &recreation) {
+    match try_request(alloc, context, state, &recreation) {
         Err(refused) => {
-            world.consumer.phase = Phase::Recreates(recreation);
+            state.consumer.phase = Phase::Recreates(recreation);
             Err(refused)
         }
         Ok(request) => {
-            let number = send(&mut world.requests_sent, request, outputs);
-            Ok(pass_try(turn, &mut world.consumer, recreation, number))
+            let number = send(&mut state.requests_sent, request, outputs);
+            Ok(pass_try(context, &mut state.consumer, recreation, number))
         }
     }
 }
@@ -95,39 +95,39 @@ pub(crate) fn begin_try(
 /// The inbox of a push create, where the link is up.
 pub(crate) fn create_inbox(
     alloc: Global,
-    turn: &EventContext<'_>,
-    world: &ReplayState,
+    context: &EventContext<'_>,
+    state: &ReplayState,
 ) -> Result<Option<Opening>, OutOfMemory>
-    ensures { IfOk result (λ opening. IsOpening world.now.up world.now.inboxes_opened (texts_of.inbox_subject (given_of turn.now) world.now.inboxes_opened) opening) }
+    ensures { IfOk result (λ opening. IsOpening state.now.link_up state.now.inboxes_opened (texts_of.inbox_subject (given_of context.now) state.now.inboxes_opened) opening) }
 {
-    if !world.up {
+    if !state.link_up {
         return Ok(None);
     }
-    let subject = texts::inbox_subject(alloc, turn, world.inboxes_opened)?;
-    let opening = inbox_for(world.inboxes_opened, subject)?;
+    let subject = texts::inbox_subject(alloc, context, state.inboxes_opened)?;
+    let opening = inbox_for(state.inboxes_opened, subject)?;
     Ok(Some(opening))
 }
 
 /// Push subscribes its inbox.
 fn create_push(
     alloc: Global,
-    turn: &EventContext<'_>,
-    world: &mut ReplayState,
+    context: &EventContext<'_>,
+    state: &mut ReplayState,
     recreation: Recreation,
     outputs: &mut Vec<Output>,
 ) -> Result<NextTasks, OutOfMemory>
-    requires push { IsPush turn.now.setup.now }
+    requires push { IsPush context.now.setup.now }
     requires room { vec_len outputs.old + 1 ≤ vec_capacity outputs.old }
-    ensures { PassesTo turn.now (row.Create ∷ []) (at (Phase.Recreates recreation) world.old) world.new outputs.old.items outputs.new.items result }
+    ensures { PassesTo context.now (row.Create ∷ []) (at (Phase.Recreates recreation) state.old) state.new outputs.old.items outputs.new.items result }
 {
-    match create_inbox(alloc, turn, world) {
+    match create_inbox(alloc, context, state) {
         Err(refused) => {
-            world.consumer.phase = Phase::Recreates(recreation);
+            state.consumer.phase = Phase::Recreates(recreation);
             Err(refused)
         }
         Ok(opening) => {
-            let inbox = subscribe(&mut world.inboxes_opened, opening, outputs);
-            Ok(pass_create(alloc, turn, &mut world.consumer, recreation, inbox))
+            let inbox = subscribe(&mut state.inboxes_opened, opening, outputs);
+            Ok(pass_create(alloc, context, &mut state.consumer, recreation, inbox))
         }
     }
 }
@@ -135,86 +135,86 @@ fn create_push(
 /// Pull subscribes nothing before it asks for the new consumer.
 fn create_pull(
     alloc: Global,
-    turn: &EventContext<'_>,
-    world: &mut ReplayState,
+    context: &EventContext<'_>,
+    state: &mut ReplayState,
     recreation: Recreation,
     outputs: &mut Vec<Output>,
 ) -> Result<NextTasks, OutOfMemory>
-    requires pull { IsPull turn.now.setup.now }
-    ensures { PassesTo turn.now (row.Create ∷ []) (at (Phase.Recreates recreation) world.old) world.new outputs.old.items outputs.new.items result }
+    requires pull { IsPull context.now.setup.now }
+    ensures { PassesTo context.now (row.Create ∷ []) (at (Phase.Recreates recreation) state.old) state.new outputs.old.items outputs.new.items result }
 {
-    Ok(pass_create(alloc, turn, &mut world.consumer, recreation, None))
+    Ok(pass_create(alloc, context, &mut state.consumer, recreation, None))
 }
 
 /// The new consumer is to be asked for.
 pub(crate) fn create(
     alloc: Global,
-    turn: &EventContext<'_>,
-    world: &mut ReplayState,
+    context: &EventContext<'_>,
+    state: &mut ReplayState,
     recreation: Recreation,
     outputs: &mut Vec<Output>,
 ) -> Result<NextTasks, OutOfMemory>
     requires room { vec_len outputs.old + 1 ≤ vec_capacity outputs.old }
-    ensures { PassesTo turn.now (row.Create ∷ []) (at (Phase.Recreates recreation) world.old) world.new outputs.old.items outputs.new.items result }
+    ensures { PassesTo context.now (row.Create ∷ []) (at (Phase.Recreates recreation) state.old) state.new outputs.old.items outputs.new.items result }
 {
-    match turn.setup {
-        OrderedSetup::Pull(_) => create_pull(alloc, turn, world, recreation, outputs),
-        OrderedSetup::Push(_) => create_push(alloc, turn, world, recreation, outputs),
+    match context.setup {
+        OrderedSetup::Pull(_) => create_pull(alloc, context, state, recreation, outputs),
+        OrderedSetup::Push(_) => create_push(alloc, context, state, recreation, outputs),
     }
 }
 
 /// The create request, where the link is up.
 fn create_request(
     alloc: Global,
-    turn: &EventContext<'_>,
-    world: &ReplayState,
+    context: &EventContext<'_>,
+    state: &ReplayState,
     recreation: &Recreation,
 ) -> Result<Option<Sending>, OutOfMemory>
-    ensures { IfOk result (λ request. IsSending world.now.up world.now.requests_sent (texts_of.create_subject (given_of turn.now) recreation.now) (texts_of.create_body (given_of turn.now) recreation.now) request) }
+    ensures { IfOk result (λ request. IsSending state.now.link_up state.now.requests_sent (texts_of.create_subject (given_of context.now) recreation.now) (texts_of.create_body (given_of context.now) recreation.now) request) }
 {
-    if !world.up {
+    if !state.link_up {
         return Ok(None);
     }
-    let subject = texts::create_subject(alloc, turn, recreation)?;
-    let payload = texts::create_body(alloc, turn, recreation)?;
-    let request = request_for(world.requests_sent, subject, payload)?;
+    let subject = texts::create_subject(alloc, context, recreation)?;
+    let payload = texts::create_body(alloc, context, recreation)?;
+    let request = request_for(state.requests_sent, subject, payload)?;
     Ok(Some(request))
 }
 
 /// The new consumer is asked for.
 pub(crate) fn ask(
     alloc: Global,
-    turn: &EventContext<'_>,
-    world: &mut ReplayState,
+    context: &EventContext<'_>,
+    state: &mut ReplayState,
     recreation: Recreation,
     outputs: &mut Vec<Output>,
 ) -> Result<NextTasks, OutOfMemory>
     requires room { vec_len outputs.old + 1 ≤ vec_capacity outputs.old }
-    ensures { PassesTo turn.now (row.Ask ∷ []) (at (Phase.Recreates recreation) world.old) world.new outputs.old.items outputs.new.items result }
+    ensures { PassesTo context.now (row.Ask ∷ []) (at (Phase.Recreates recreation) state.old) state.new outputs.old.items outputs.new.items result }
 {
-    match create_request(alloc, turn, world, &recreation) {
+    match create_request(alloc, context, state, &recreation) {
         Err(refused) => {
-            world.consumer.phase = Phase::Recreates(recreation);
+            state.consumer.phase = Phase::Recreates(recreation);
             Err(refused)
         }
         Ok(request) => {
-            let number = send(&mut world.requests_sent, request, outputs);
-            Ok(pass_ask(turn, &mut world.consumer, recreation, number))
+            let number = send(&mut state.requests_sent, request, outputs);
+            Ok(pass_ask(context, &mut state.consumer, recreation, number))
         }
     }
 }
 
 /// A try has failed.
 pub(crate) fn fail(
-    turn: &EventContext<'_>,
-    world: &mut ReplayState,
+    context: &EventContext<'_>,
+    state: &mut ReplayState,
     recreation: Recreation,
     outputs: &mut Vec<Output>,
 ) -> Result<NextTasks, OutOfMemory>
     requires room { vec_len outputs.old + 1 ≤ vec_capacity outputs.old }
-    ensures { PassesTo turn.now (row.Fail ∷ []) (at (Phase.Recreates recreation) world.old) world.new outputs.old.items outputs.new.items result }
+    ensures { PassesTo context.now (row.Fail ∷ []) (at (Phase.Recreates recreation) state.old) state.new outputs.old.items outputs.new.items result }
 {
-    let Step { told, next } = pass_fail(turn, &mut world.consumer, recreation);
+    let Step { told, next } = pass_fail(context, &mut state.consumer, recreation);
     tell(told, outputs);
     Ok(next)
 }
@@ -246,15 +246,15 @@ fn is_answered(what: &EventKind, stage: Stage) -> bool
 
 /// What an open recreation waits for is looked at.
 pub(crate) fn look_on(
-    turn: &EventContext<'_>,
-    world: &mut ReplayState,
+    context: &EventContext<'_>,
+    state: &mut ReplayState,
     recreation: Recreation,
     outputs: &mut Vec<Output>,
 ) -> Result<NextTasks, OutOfMemory>
-    ensures { PassesTo turn.now (row.Await ∷ []) (at (Phase.Recreates recreation) world.old) world.new outputs.old.items outputs.new.items result }
+    ensures { PassesTo context.now (row.Await ∷ []) (at (Phase.Recreates recreation) state.old) state.new outputs.old.items outputs.new.items result }
 {
-    let answered = is_answered(turn.what, recreation.stage);
-    Ok(pass_await(turn, &mut world.consumer, recreation, answered))
+    let answered = is_answered(context.what, recreation.stage);
+    Ok(pass_await(context, &mut state.consumer, recreation, answered))
 }
 
 /// What a message tells, in a box.
@@ -285,25 +285,25 @@ fn reply_told(
 /// The reply to a create is read.
 pub(crate) fn answered(
     alloc: Global,
-    turn: &EventContext<'_>,
-    world: &mut ReplayState,
+    context: &EventContext<'_>,
+    state: &mut ReplayState,
     recreation: Recreation,
     request: u64,
     outputs: &mut Vec<Output>,
 ) -> Result<NextTasks, OutOfMemory>
-    ensures { PassesTo turn.now (answered_rows (reply_to request (matter_now turn.now).answer)) (at (Phase.Recreates recreation) world.old) world.new outputs.old.items outputs.new.items result }
+    ensures { PassesTo context.now (answered_rows (reply_to request (matter_now context.now).answer)) (at (Phase.Recreates recreation) state.old) state.new outputs.old.items outputs.new.items result }
 {
-    match reply_told(alloc, turn.what, request) {
+    match reply_told(alloc, context.what, request) {
         Err(refused) => {
-            world.consumer.phase = Phase::Recreates(recreation);
+            state.consumer.phase = Phase::Recreates(recreation);
             Err(refused)
         }
         Ok(told) => match told {
             None => {
-                world.consumer.phase = Phase::Recreates(recreation);
+                state.consumer.phase = Phase::Recreates(recreation);
                 Ok(NextTasks::Nothing)
             }
-            Some(info) => Ok(pass_answered(turn, &mut world.consumer, recreation, info)),
+            Some(info) => Ok(pass_answered(context, &mut state.consumer, recreation, info)),
         },
     }
 }

@@ -31,14 +31,14 @@ use std::alloc::Global;
 /// Whom the next reader asks, but for its inbox.
 fn source_for(
     alloc: Global,
-    turn: &EventContext<'_>,
+    context: &EventContext<'_>,
     recreation_count: u64,
     info: &Info,
 ) -> Result<Source, OutOfMemory>
-    ensures { IfOk result (λ source. source ≡ texts_of.source_of (given_of turn.now) recreation_count 0 [] info.now) }
+    ensures { IfOk result (λ source. source ≡ texts_of.source_of (given_of context.now) recreation_count 0 [] info.now) }
 {
     let unknown = Subject::from(String::new(alloc));
-    Ok(texts::source_of(turn, recreation_count, 0, unknown, info)?)
+    Ok(texts::source_of(context, recreation_count, 0, unknown, info)?)
 }
 
 /// What pull needs for its next reader.
@@ -50,71 +50,71 @@ struct Reading {
 
 fn reading_for(
     alloc: Global,
-    turn: &EventContext<'_>,
-    world: &ReplayState,
+    context: &EventContext<'_>,
+    state: &ReplayState,
     info: &Info,
 ) -> Result<Reading, OutOfMemory>
-    ensures source { IfOk result (λ reading. reading.source ≡ texts_of.source_of (given_of turn.now) world.now.consumer.recreation_count 0 [] info.now) }
-    ensures opening { IfOk result (λ reading. IsOpening world.now.up world.now.inboxes_opened (texts_of.inbox_subject (given_of turn.now) world.now.inboxes_opened) reading.opening) }
+    ensures source { IfOk result (λ reading. reading.source ≡ texts_of.source_of (given_of context.now) state.now.consumer.recreation_count 0 [] info.now) }
+    ensures opening { IfOk result (λ reading. IsOpening state.now.link_up state.now.inboxes_opened (texts_of.inbox_subject (given_of context.now) state.now.inboxes_opened) reading.opening) }
 {
-    let source = source_for(alloc, turn, world.consumer.recreation_count, info)?;
-    let opening = create_inbox(alloc, turn, world)?;
+    let source = source_for(alloc, context, state.consumer.recreation_count, info)?;
+    let opening = create_inbox(alloc, context, state)?;
     Ok(Reading { source, opening })
 }
 
 /// Pull subscribes the next inbox, and reads it.
 fn succeed_pull(
     alloc: Global,
-    turn: &EventContext<'_>,
-    world: &mut ReplayState,
+    context: &EventContext<'_>,
+    state: &mut ReplayState,
     recreation: Recreation,
     info: &Info,
     outputs: &mut Vec<Output>,
 ) -> Result<NextTasks, OutOfMemory>
-    requires pull { IsPull turn.now.setup.now }
+    requires pull { IsPull context.now.setup.now }
     requires room { vec_len outputs.old + 1 ≤ vec_capacity outputs.old }
-    ensures { PassesTo turn.now (row.Succeed info.now ∷ []) (at (Phase.Recreates recreation) world.old) world.new outputs.old.items outputs.new.items result }
+    ensures { PassesTo context.now (row.Succeed info.now ∷ []) (at (Phase.Recreates recreation) state.old) state.new outputs.old.items outputs.new.items result }
 {
-    match reading_for(alloc, turn, world, info) {
+    match reading_for(alloc, context, state, info) {
         Err(refused) => {
-            world.consumer.phase = Phase::Recreates(recreation);
+            state.consumer.phase = Phase::Recreates(recreation);
             Err(refused)
         }
         Ok(Reading { source, opening }) => {
-            let inbox = subscribe(&mut world.inboxes_opened, opening, outputs);
-            Ok(pass_succeed_pull(turn, &mut world.consumer, recreation, source, inbox))
+            let inbox = subscribe(&mut state.inboxes_opened, opening, outputs);
+            Ok(pass_succeed_pull(context, &mut state.consumer, recreation, source, inbox))
         }
     }
 }
 
 /// Push hears its inbox from now on.
 fn succeed_push(
-    turn: &EventContext<'_>,
-    world: &mut ReplayState,
+    context: &EventContext<'_>,
+    state: &mut ReplayState,
     recreation: Recreation,
     info: &Info,
     outputs: &mut Vec<Output>,
 ) -> Result<NextTasks, OutOfMemory>
-    requires push { IsPush turn.now.setup.now }
-    ensures { PassesTo turn.now (row.Succeed info.now ∷ []) (at (Phase.Recreates recreation) world.old) world.new outputs.old.items outputs.new.items result }
+    requires push { IsPush context.now.setup.now }
+    ensures { PassesTo context.now (row.Succeed info.now ∷ []) (at (Phase.Recreates recreation) state.old) state.new outputs.old.items outputs.new.items result }
 {
-    Ok(pass_succeed_push(turn, &mut world.consumer, recreation))
+    Ok(pass_succeed_push(context, &mut state.consumer, recreation))
 }
 
 /// A create was answered well.
 pub(crate) fn succeed(
     alloc: Global,
-    turn: &EventContext<'_>,
-    world: &mut ReplayState,
+    context: &EventContext<'_>,
+    state: &mut ReplayState,
     recreation: Recreation,
     info: &Info,
     outputs: &mut Vec<Output>,
 ) -> Result<NextTasks, OutOfMemory>
     requires room { vec_len outputs.old + 1 ≤ vec_capacity outputs.old }
-    ensures { PassesTo turn.now (row.Succeed info.now ∷ []) (at (Phase.Recreates recreation) world.old) world.new outputs.old.items outputs.new.items result }
+    ensures { PassesTo context.now (row.Succeed info.now ∷ []) (at (Phase.Recreates recreation) state.old) state.new outputs.old.items outputs.new.items result }
 {
-    match turn.setup {
-        OrderedSetup::Pull(_) => succeed_pull(alloc, turn, world, recreation, info, outputs),
-        OrderedSetup::Push(_) => succeed_push(turn, world, recreation, info, outputs),
+    match context.setup {
+        OrderedSetup::Pull(_) => succeed_pull(alloc, context, state, recreation, info, outputs),
+        OrderedSetup::Push(_) => succeed_push(context, state, recreation, info, outputs),
     }
 }

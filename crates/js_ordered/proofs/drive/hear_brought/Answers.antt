@@ -5,8 +5,8 @@ use Rattle.js_ordered.proofs.drive.hear_brought.Goals as goal
 
 pub returns-in-None : goal.returns-in-None
 returns-in-None c =
-    brought_nothing (given_of c.args.turn.now) c.args.turn.now.moment (matter_now c.args.turn.now) c.args.inbox (message_on c.args.inbox (matter_now c.args.turn.now).arrival) c.args.world.now c.args.outputs.now.items c.in-None.ensures
+    brought_nothing (given_of c.args.context.now) c.args.context.now.moment (matter_now c.args.context.now) c.args.inbox (message_on c.args.inbox (matter_now c.args.context.now).arrival) c.args.state.now c.args.outputs.now.items c.in-None.ensures
 
 pub returns-in-Some : goal.returns-in-Some
 returns-in-Some c =
-    brought_heard c.args.turn.now c.args.inbox (message_on c.args.inbox (matter_now c.args.turn.now).arrival) c.in-Some.message.now c.args.world.now c.hear.new.world c.args.outputs.now.items c.hear.new.outputs.items c.hear.result c.in-Some.ensures c.hear.ensures
+    brought_heard c.args.context.now c.args.inbox (message_on c.args.inbox (matter_now c.args.context.now).arrival) c.in-Some.message.now c.args.state.now c.hear.new.state c.args.outputs.now.items c.hear.new.outputs.items c.hear.result c.in-Some.ensures c.hear.ensures

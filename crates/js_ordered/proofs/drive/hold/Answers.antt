@@ -8,7 +8,7 @@ use Rattle.js_ordered.proofs.drive.hold.Goals as goal
 
 pub returns : goal.returns
 returns c =
-    let g = given_of c.args.turn.now in
-    let now = c.args.turn.now.moment in
-    let m = matter_now c.args.turn.now in
-    holds_on g now m c.args.world.now _ c.args.outputs.now.items (ap (λ (q : Phase). at q c.args.world.now) c.in_ok-hold_at.ensures.held)
+    let g = given_of c.args.context.now in
+    let now = c.args.context.now.moment in
+    let m = matter_now c.args.context.now in
+    holds_on g now m c.args.state.now _ c.args.outputs.now.items (ap (λ (q : Phase). at q c.args.state.now) c.in_ok-hold_at.ensures.held)

@@ -5,4 +5,4 @@ use Rattle.js_ordered.proofs.drive.pass_left.Given as goal
 
 abbrev pub invariant-loop : goal.invariant-loop
 invariant-loop l =
-    LeadsOn l.turn (left_rows (matter_now l.turn) l.initial.todo.tasks.items) l.initial.world l.initial.outputs.items (left_rows (matter_now l.turn) l.todo.tasks.items) l.world l.outputs.items
+    LeadsOn l.context (left_rows (matter_now l.context) l.initial.todo.tasks.items) l.initial.state l.initial.outputs.items (left_rows (matter_now l.context) l.todo.tasks.items) l.state l.outputs.items

@@ -9,29 +9,29 @@ use Rattle.js_ordered.proofs.drive.pass_try.Goals as goal
 
 pub returns-in-Pulls : goal.returns-in-Pulls
 returns-in-Pulls c =
-    tries_nowhere (given_of c.args.turn.now) c.args.turn.now.moment (matter_now c.args.turn.now) c.args.task.now c.args.world.now _ c.args.outputs.now.items (Pulls c.in-Pulls.reader) c.requires.task tt
+    tries_nowhere (given_of c.args.context.now) c.args.context.now.moment (matter_now c.args.context.now) c.args.task.now c.args.state.now _ c.args.outputs.now.items (Pulls c.in-Pulls.reader) c.requires.task tt
     (sym c.replace.ensures.value ∙ c.in-Pulls.is) refl
 
 pub returns-in-Pushes : goal.returns-in-Pushes
 returns-in-Pushes c =
-    tries_nowhere (given_of c.args.turn.now) c.args.turn.now.moment (matter_now c.args.turn.now) c.args.task.now c.args.world.now _ c.args.outputs.now.items (Pushes c.in-Pushes.inbox c.in-Pushes.heartbeat_timer) c.requires.task tt
+    tries_nowhere (given_of c.args.context.now) c.args.context.now.moment (matter_now c.args.context.now) c.args.task.now c.args.state.now _ c.args.outputs.now.items (Pushes c.in-Pushes.inbox c.in-Pushes.heartbeat_timer) c.requires.task tt
     (sym c.replace.ensures.value ∙ c.in-Pushes.is) refl
 
 pub returns-in-Idle : goal.returns-in-Idle
 returns-in-Idle c =
-    tries_nowhere (given_of c.args.turn.now) c.args.turn.now.moment (matter_now c.args.turn.now) c.args.task.now c.args.world.now _ c.args.outputs.now.items Idle c.requires.task tt
+    tries_nowhere (given_of c.args.context.now) c.args.context.now.moment (matter_now c.args.context.now) c.args.task.now c.args.state.now _ c.args.outputs.now.items Idle c.requires.task tt
     (sym c.replace.ensures.value ∙ c.in-Idle.is) refl
 
 pub returns-in-Ended : goal.returns-in-Ended
 returns-in-Ended c =
-    tries_nowhere (given_of c.args.turn.now) c.args.turn.now.moment (matter_now c.args.turn.now) c.args.task.now c.args.world.now _ c.args.outputs.now.items Ended c.requires.task tt
+    tries_nowhere (given_of c.args.context.now) c.args.context.now.moment (matter_now c.args.context.now) c.args.task.now c.args.state.now _ c.args.outputs.now.items Ended c.requires.task tt
     (sym c.replace.ensures.value ∙ c.in-Ended.is) refl
 
 pub returns-in-Exhausted : goal.returns-in-Exhausted
 returns-in-Exhausted c =
-    tries_nowhere (given_of c.args.turn.now) c.args.turn.now.moment (matter_now c.args.turn.now) c.args.task.now c.args.world.now _ c.args.outputs.now.items Exhausted c.requires.task tt
+    tries_nowhere (given_of c.args.context.now) c.args.context.now.moment (matter_now c.args.context.now) c.args.task.now c.args.state.now _ c.args.outputs.now.items Exhausted c.requires.task tt
     (sym c.replace.ensures.value ∙ c.in-Exhausted.is) refl
 
 pub returns-in-Recreates : goal.returns-in-Recreates
 returns-in-Recreates c =
-    tries_here c.args.turn.now c.args.task.now c.in-Recreates.recreation c.args.world.now _ c.args.outputs.now.items _ c.pass_recreating.result (sym c.replace.ensures.value ∙ c.in-Recreates.is) c.pass_recreating.ensures
+    tries_here c.args.context.now c.args.task.now c.in-Recreates.recreation c.args.state.now _ c.args.outputs.now.items _ c.pass_recreating.result (sym c.replace.ensures.value ∙ c.in-Recreates.is) c.pass_recreating.ensures

@@ -5,7 +5,7 @@ use Rattle.js_ordered.proofs.replay.steps_of.Given as goal
 
 abbrev pub invariant-loop-place : goal.invariant-loop-place
 invariant-loop-place l = record {
-  goes : Goes (given_of l.turn) l.events l.fn.world l.place l.world l.steps;
+  goes : Goes (given_of l.context) l.events l.fn.state l.place l.state l.steps;
   outputs : l.outputs.items ≡ [];
   rested : l.todo.tasks.items ≡ [];
 }

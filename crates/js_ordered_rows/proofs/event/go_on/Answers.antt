@@ -7,5 +7,5 @@ use Rattle.js_ordered_rows.proofs.event.go_on.Goals as goal
 
 pub returns-in-Pulls : goal.returns-in-Pulls
 returns-in-Pulls c = λ p m.
-    goes_at (given_of c.args.turn.now) (at_moment c.args.turn.now.moment p) m c.args.change _ c.args.consumer.now _ _ c.in-Pulls.is
-    (reader_begins (at_moment c.args.turn.now.moment p) m c.args.change _ _ c.args.consumer.now _ _ (c.begin.ensures.reader p) (c.begin.ensures.next m p) refl)
+    goes_at (given_of c.args.context.now) (at_moment c.args.context.now.moment p) m c.args.change _ c.args.consumer.now _ _ c.in-Pulls.is
+    (reader_begins (at_moment c.args.context.now.moment p) m c.args.change _ _ c.args.consumer.now _ _ (c.begin.ensures.reader p) (c.begin.ensures.next m p) refl)

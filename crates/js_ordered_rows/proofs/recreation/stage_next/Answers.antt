@@ -6,9 +6,9 @@ use Rattle.js_ordered_rows.proofs.recreation.stage_next.Goals as goal
 
 pub returns-in-Deleting : goal.returns-in-Deleting
 returns-in-Deleting c = λ m p.
-    staged (given_of c.args.turn.now) (at_moment c.args.turn.now.moment p) m c.args.stage (Deleting c.in-Deleting.request c.in-Deleting.timeout) c.args.is_answered (next_rows m c.delete_next.result) c.in-Deleting.is
+    staged (given_of c.args.context.now) (at_moment c.args.context.now.moment p) m c.args.stage (Deleting c.in-Deleting.request c.in-Deleting.timeout) c.args.is_answered (next_rows m c.delete_next.result) c.in-Deleting.is
     (c.delete_next.ensures m p c.in-Deleting.request)
 
 pub returns-in-Waiting : goal.returns-in-Waiting
 returns-in-Waiting c = λ m p.
-    staged (given_of c.args.turn.now) (at_moment c.args.turn.now.moment p) m c.args.stage (Waiting c.in-Waiting.wait) c.args.is_answered (next_rows m c.wait_next.result) c.in-Waiting.is (λ _. c.wait_next.ensures m p)
+    staged (given_of c.args.context.now) (at_moment c.args.context.now.moment p) m c.args.stage (Waiting c.in-Waiting.wait) c.args.is_answered (next_rows m c.wait_next.result) c.in-Waiting.is (λ _. c.wait_next.ensures m p)

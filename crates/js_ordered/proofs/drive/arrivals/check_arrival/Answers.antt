@@ -10,8 +10,8 @@ use Rattle.js_ordered.proofs.drive.arrivals.check_arrival.Goals as goal
 
 pub returns-in-None : goal.returns-in-None
 returns-in-None c =
-    let g = given_of c.args.turn.now in
-    let now = c.args.turn.now.moment in
-    let m = matter_now c.args.turn.now in
-    let w = c.args.world.now in
+    let g = given_of c.args.context.now in
+    let now = c.args.context.now.moment in
+    let m = matter_now c.args.context.now in
+    let w = c.args.state.now in
     leads_silent g now m c.args.reader w c.args.outputs.now.items c.in-None.ensures

@@ -13,13 +13,13 @@ use Rattle.js_ordered.proofs.drive.arrivals.hear_message.Goals as goal
 
 pub returns-in-Ok : goal.returns-in-Ok
 returns-in-Ok c =
-    let g = given_of c.args.turn.now in
-    let now = c.args.turn.now.moment in
-    let m = matter_now c.args.turn.now in
-    let w = c.args.world.now in
+    let g = given_of c.args.context.now in
+    let now = c.args.context.now.moment in
+    let m = matter_now c.args.context.now in
+    let w = c.args.state.now in
     leads_heard g now m c.args.message.now c.args.ready.heard c.args.reader c.lower.new.self w _ c.args.outputs.now.items c.put.new.outputs.items c.take_message-next.new.consumer c.take_message-next.result c.requires.arrives c.requires.kind c.requires.heard
     (c.lower.ensures ∙ ap (λ (r : Reader). pull.lowered 1 c.args.message.now.length r) (unit_holds c.note.result _ c.in-Ok.is c.note.ensures.heard))
     (c.take_message-next.ensures m (passing g now w) c.args.message.now) (c.put.ensures ∙ ap (λ (o : List Output). c.args.outputs.now.items ++ o) c.requires.output) refl
 
 pub take_message-next-requires : goal.take_message-next-requires
-take_message-next-requires c = of_stream c.args.world.now.consumer.consumer_sequence c.args.message.now c.args.ready.heard c.requires.heard
+take_message-next-requires c = of_stream c.args.state.now.consumer.consumer_sequence c.args.message.now c.args.ready.heard c.requires.heard

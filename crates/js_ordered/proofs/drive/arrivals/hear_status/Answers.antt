@@ -11,9 +11,9 @@ use Rattle.js_ordered.proofs.drive.arrivals.hear_status.Goals as goal
 
 pub returns-in-Ok : goal.returns-in-Ok
 returns-in-Ok c =
-    let g = given_of c.args.turn.now in
-    let now = c.args.turn.now.moment in
-    let m = matter_now c.args.turn.now in
-    let w = c.args.world.now in
+    let g = given_of c.args.context.now in
+    let now = c.args.context.now.moment in
+    let m = matter_now c.args.context.now in
+    let w = c.args.state.now in
     leads_status g now m c.args.message.now c.args.reader c.note.new.reader c.hear-step.new.reader w _ c.hear-step.result c.args.outputs.now.items _ _ c.requires.arrives c.requires.kind (unit_holds c.note.result _ c.in-Ok.is c.note.ensures.heard)
     (c.hear-step.ensures (brought m.answer)) (c.finish.ensures m)

@@ -8,17 +8,17 @@ use Rattle.js_ordered.proofs.drive.listening.hear.Goals as goal
 
 pub returns-then-not-listens : goal.returns-then-not-listens
 returns-then-not-listens c =
-    let g = given_of c.args.turn.now in
-    let now = c.args.turn.now.moment in
-    let m = matter_now c.args.turn.now in
-    heard_elsewhere g now m c.args.inbox c.args.message.now c.args.world.now c.args.outputs.now.items (sym c.listens.ensures ∙ c.if-not-listens.true)
+    let g = given_of c.args.context.now in
+    let now = c.args.context.now.moment in
+    let m = matter_now c.args.context.now in
+    heard_elsewhere g now m c.args.inbox c.args.message.now c.args.state.now c.args.outputs.now.items (sym c.listens.ensures ∙ c.if-not-listens.true)
 
 pub returns : goal.returns
 returns c =
-    let g = given_of c.args.turn.now in
-    let now = c.args.turn.now.moment in
-    let m = matter_now c.args.turn.now in
-    let w = c.args.world.now in
+    let g = given_of c.args.context.now in
+    let now = c.args.context.now.moment in
+    let m = matter_now c.args.context.now in
+    let w = c.args.state.now in
     hears_on g now m c.args.inbox c.args.message.now c.heard_as-heard.result w _ c.args.outputs.now.items c.put.new.outputs.items c.pass_hear-next.new.consumer c.pass_hear-next.result
     (sym c.listens.ensures ∙ c.if-not-listens.false) c.heard_as-heard.ensures (c.pass_hear-next.ensures m (passing g now w) c.args.message.now)
     (c.put.ensures ∙ ap (λ (o : List Output). c.args.outputs.now.items ++ o) c.in_ok-output.ensures) refl

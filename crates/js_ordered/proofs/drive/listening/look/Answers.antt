@@ -10,49 +10,49 @@ use Rattle.js_ordered.proofs.drive.listening.look.Goals as goal
 
 pub returns-in-Pushes : goal.returns-in-Pushes
 returns-in-Pushes c = λ outputs.
-    let g = given_of c.args.turn.now in
-    let now = c.args.turn.now.moment in
-    let m = matter_now c.args.turn.now in
-    let w = c.args.world.now in
+    let g = given_of c.args.context.now in
+    let now = c.args.context.now.moment in
+    let m = matter_now c.args.context.now in
+    let w = c.args.state.now in
     looks_on g now m row.CheckArrival (Pushes c.in-Pushes.inbox c.in-Pushes.heartbeat_timer) w tells.Nothing outputs outputs c.arrival_next.result c.in-Pushes.is
     (record { consumer = refl; outputs = refl; next = c.arrival_next.ensures m c.arrives.ensures }) (sym (append-nil outputs))
 
 pub returns-in-Pulls : goal.returns-in-Pulls
 returns-in-Pulls c = λ outputs.
-    let g = given_of c.args.turn.now in
-    let now = c.args.turn.now.moment in
-    let m = matter_now c.args.turn.now in
-    let w = c.args.world.now in
+    let g = given_of c.args.context.now in
+    let now = c.args.context.now.moment in
+    let m = matter_now c.args.context.now in
+    let w = c.args.state.now in
     look_nowhere g now m row.CheckArrival w outputs (Pulls c.in-Pulls.field-0) c.in-Pulls.is refl
 
 pub returns-in-Recreates : goal.returns-in-Recreates
 returns-in-Recreates c = λ outputs.
-    let g = given_of c.args.turn.now in
-    let now = c.args.turn.now.moment in
-    let m = matter_now c.args.turn.now in
-    let w = c.args.world.now in
+    let g = given_of c.args.context.now in
+    let now = c.args.context.now.moment in
+    let m = matter_now c.args.context.now in
+    let w = c.args.state.now in
     look_nowhere g now m row.CheckArrival w outputs (Recreates c.in-Recreates.field-0) c.in-Recreates.is refl
 
 pub returns-in-Idle : goal.returns-in-Idle
 returns-in-Idle c = λ outputs.
-    let g = given_of c.args.turn.now in
-    let now = c.args.turn.now.moment in
-    let m = matter_now c.args.turn.now in
-    let w = c.args.world.now in
+    let g = given_of c.args.context.now in
+    let now = c.args.context.now.moment in
+    let m = matter_now c.args.context.now in
+    let w = c.args.state.now in
     look_nowhere g now m row.CheckArrival w outputs Idle c.in-Idle.is refl
 
 pub returns-in-Ended : goal.returns-in-Ended
 returns-in-Ended c = λ outputs.
-    let g = given_of c.args.turn.now in
-    let now = c.args.turn.now.moment in
-    let m = matter_now c.args.turn.now in
-    let w = c.args.world.now in
+    let g = given_of c.args.context.now in
+    let now = c.args.context.now.moment in
+    let m = matter_now c.args.context.now in
+    let w = c.args.state.now in
     look_nowhere g now m row.CheckArrival w outputs Ended c.in-Ended.is refl
 
 pub returns-in-Exhausted : goal.returns-in-Exhausted
 returns-in-Exhausted c = λ outputs.
-    let g = given_of c.args.turn.now in
-    let now = c.args.turn.now.moment in
-    let m = matter_now c.args.turn.now in
-    let w = c.args.world.now in
+    let g = given_of c.args.context.now in
+    let now = c.args.context.now.moment in
+    let m = matter_now c.args.context.now in
+    let w = c.args.state.now in
     look_nowhere g now m row.CheckArrival w outputs Exhausted c.in-Exhausted.is refl

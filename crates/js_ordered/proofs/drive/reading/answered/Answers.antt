@@ -13,10 +13,10 @@ use Rattle.js_ordered.proofs.drive.reading.answered.Goals as goal
 
 pub returns-in-Ok : goal.returns-in-Ok
 returns-in-Ok c =
-    let g = given_of c.args.turn.now in
-    let now = c.args.turn.now.moment in
-    let m = matter_now c.args.turn.now in
-    let w = c.args.world.now in
+    let g = given_of c.args.context.now in
+    let now = c.args.context.now.moment in
+    let m = matter_now c.args.context.now in
+    let w = c.args.state.now in
     let reply = brought m.answer in
     leads_finish g now m (read.Answered reply c.args.failures) c.args.reader c.answered-step.new.reader w _ (passing g now w) c.answered-step.result (pull.answered c.args.failures (pull.info_of_reply reply) c.args.reader) c.args.outputs.now.items _ _ refl refl
     (c.answered-step.ensures reply None (ok_holds (λ reason. reason ≡ informed_by reply) c.informed.result _ c.in-Ok.is c.informed.ensures)) (answered_sends c.args.failures (pull.info_of_reply reply) c.args.reader) (c.finish.ensures m)

@@ -7,5 +7,5 @@ returns c = λ m. record {
   consumer = c.take_notice-told.new.consumer;
   steps = c.take_notice-told.ensures m;
   outputs = c.tell.ensures;
-  world = refl;
+  state = refl;
 }

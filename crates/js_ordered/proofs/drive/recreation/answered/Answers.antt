@@ -8,9 +8,9 @@ use Rattle.js_ordered.proofs.drive.recreation.answered.Goals as goal
 
 pub returns-in-Some : goal.returns-in-Some
 returns-in-Some c =
-    let g = given_of c.args.turn.now in
-    let now = c.args.turn.now.moment in
-    let m = matter_now c.args.turn.now in
+    let g = given_of c.args.context.now in
+    let now = c.args.context.now.moment in
+    let m = matter_now c.args.context.now in
     let reply = reply_to c.args.request m.answer in
-    reply_read g now m reply c.args.recreation c.args.world.now _ c.in-Some.info c.args.outputs.now.items c.pass_answered.new.consumer c.pass_answered.result
+    reply_read g now m reply c.args.recreation c.args.state.now _ c.in-Some.info c.args.outputs.now.items c.pass_answered.new.consumer c.pass_answered.result
     (sym (ok_holds (λ told. told ≡ option_map info_of_reply reply) c.reply_told.result (Some c.in-Some.info) (c.in-Ok.is ∙ ap Ok c.in-Some.is) c.reply_told.ensures)) (c.pass_answered.ensures m) refl

@@ -10,10 +10,10 @@ use Rattle.js_ordered.proofs.drive.recreation.ask.Goals as goal
 
 pub returns-in-Ok : goal.returns-in-Ok
 returns-in-Ok c =
-    let g = given_of c.args.turn.now in
-    let now = c.args.turn.now.moment in
-    let m = matter_now c.args.turn.now in
-    let w = c.args.world.now in
+    let g = given_of c.args.context.now in
+    let now = c.args.context.now.moment in
+    let m = matter_now c.args.context.now in
+    let w = c.args.state.now in
     leads_sent g now m row.Ask c.args.recreation w _ (create_subject g c.args.recreation) (create_body g c.args.recreation) c.send-number.result c.send-number.new.requests_sent c.args.outputs.now.items c.send-number.new.outputs.items c.pass_ask.new.consumer c.pass_ask.result
-    (c.send-number.ensures w.up (create_subject g c.args.recreation) (create_body g c.args.recreation) (ok_holds (λ request. IsSending w.up w.requests_sent (create_subject g c.args.recreation) (create_body g c.args.recreation) request) c.create_request.result c.in-Ok.request c.in-Ok.is c.create_request.ensures))
+    (c.send-number.ensures w.link_up (create_subject g c.args.recreation) (create_body g c.args.recreation) (ok_holds (λ request. IsSending w.link_up w.requests_sent (create_subject g c.args.recreation) (create_body g c.args.recreation) request) c.create_request.result c.in-Ok.request c.in-Ok.is c.create_request.ensures))
     (c.pass_ask.ensures m (passing g now w)) refl

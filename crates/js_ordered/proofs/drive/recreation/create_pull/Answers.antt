@@ -7,8 +7,8 @@ use Rattle.js_ordered.proofs.drive.recreation.create_pull.Goals as goal
 
 pub returns : goal.returns
 returns c =
-    let g = given_of c.args.turn.now in
-    let now = c.args.turn.now.moment in
-    let m = matter_now c.args.turn.now in
-    creates_pull g now m c.args.recreation c.args.world.now _ c.args.outputs.now.items c.pass_create.new.consumer c.pass_create.result c.requires.pull
-    (c.pass_create.ensures m (passing g now c.args.world.now)) refl
+    let g = given_of c.args.context.now in
+    let now = c.args.context.now.moment in
+    let m = matter_now c.args.context.now in
+    creates_pull g now m c.args.recreation c.args.state.now _ c.args.outputs.now.items c.pass_create.new.consumer c.pass_create.result c.requires.pull
+    (c.pass_create.ensures m (passing g now c.args.state.now)) refl

@@ -9,10 +9,10 @@ use Rattle.js_ordered.proofs.drive.recreation.create_push.Goals as goal
 
 pub returns-in-Ok : goal.returns-in-Ok
 returns-in-Ok c =
-    let g = given_of c.args.turn.now in
-    let now = c.args.turn.now.moment in
-    let m = matter_now c.args.turn.now in
-    let w = c.args.world.now in
+    let g = given_of c.args.context.now in
+    let now = c.args.context.now.moment in
+    let m = matter_now c.args.context.now in
+    let w = c.args.state.now in
     creates_push g now m c.args.recreation w _ c.subscribe-inbox.result c.subscribe-inbox.new.inboxes_opened c.args.outputs.now.items c.subscribe-inbox.new.outputs.items c.pass_create.new.consumer c.pass_create.result c.requires.push
-    (c.subscribe-inbox.ensures w.up (inbox_subject g w.inboxes_opened) (ok_holds (λ opening. IsOpening w.up w.inboxes_opened (inbox_subject g w.inboxes_opened) opening) c.create_inbox.result c.in-Ok.opening c.in-Ok.is c.create_inbox.ensures))
+    (c.subscribe-inbox.ensures w.link_up (inbox_subject g w.inboxes_opened) (ok_holds (λ opening. IsOpening w.link_up w.inboxes_opened (inbox_subject g w.inboxes_opened) opening) c.create_inbox.result c.in-Ok.opening c.in-Ok.is c.create_inbox.ensures))
     (c.pass_create.ensures m (passing g now w)) refl

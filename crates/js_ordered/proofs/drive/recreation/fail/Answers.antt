@@ -8,8 +8,8 @@ use Rattle.js_ordered.proofs.drive.recreation.fail.Goals as goal
 
 pub returns : goal.returns
 returns c =
-    let g = given_of c.args.turn.now in
-    let now = c.args.turn.now.moment in
-    let m = matter_now c.args.turn.now in
-    leads_told g now m row.Fail (Recreates c.args.recreation) c.args.world.now _ c.pass_fail-told.result.told c.args.outputs.now.items c.tell.new.outputs.items c.pass_fail-told.new.consumer c.pass_fail-told.result.next
-    (c.pass_fail-told.ensures m (passing g now c.args.world.now)) c.tell.ensures refl
+    let g = given_of c.args.context.now in
+    let now = c.args.context.now.moment in
+    let m = matter_now c.args.context.now in
+    leads_told g now m row.Fail (Recreates c.args.recreation) c.args.state.now _ c.pass_fail-told.result.told c.args.outputs.now.items c.tell.new.outputs.items c.pass_fail-told.new.consumer c.pass_fail-told.result.next
+    (c.pass_fail-told.ensures m (passing g now c.args.state.now)) c.tell.ensures refl

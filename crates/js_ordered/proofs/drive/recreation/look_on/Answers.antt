@@ -8,8 +8,8 @@ use Rattle.js_ordered.proofs.drive.recreation.look_on.Goals as goal
 
 pub returns : goal.returns
 returns c =
-    let g = given_of c.args.turn.now in
-    let now = c.args.turn.now.moment in
-    let m = matter_now c.args.turn.now in
-    leads_quietly g now m row.Await (Recreates c.args.recreation) c.args.world.now _ c.args.outputs.now.items c.pass_await.new.consumer c.pass_await.result
-    (c.pass_await.ensures m (passing g now c.args.world.now) c.is_answered-answered.ensures) refl
+    let g = given_of c.args.context.now in
+    let now = c.args.context.now.moment in
+    let m = matter_now c.args.context.now in
+    leads_quietly g now m row.Await (Recreates c.args.recreation) c.args.state.now _ c.args.outputs.now.items c.pass_await.new.consumer c.pass_await.result
+    (c.pass_await.ensures m (passing g now c.args.state.now) c.is_answered-answered.ensures) refl

@@ -6,7 +6,7 @@ use Rattle.js_ordered.proofs.drive.recreation.start.Goals as goal
 
 pub returns : goal.returns
 returns c =
-    let g = given_of c.args.turn.now in
-    let now = c.args.turn.now.moment in
-    let m = matter_now c.args.turn.now in
-    starts g now m c.args.world.now _ c.pass_start-told.result.told c.args.outputs.now.items c.tell.new.outputs.items c.pass_start-told.new.consumer c.pass_start-told.result.next (c.pass_start-told.ensures m) c.tell.ensures refl
+    let g = given_of c.args.context.now in
+    let now = c.args.context.now.moment in
+    let m = matter_now c.args.context.now in
+    starts g now m c.args.state.now _ c.pass_start-told.result.told c.args.outputs.now.items c.tell.new.outputs.items c.pass_start-told.new.consumer c.pass_start-told.result.next (c.pass_start-told.ensures m) c.tell.ensures refl

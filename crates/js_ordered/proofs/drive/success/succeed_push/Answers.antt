@@ -7,8 +7,8 @@ use Rattle.js_ordered.proofs.drive.success.succeed_push.Goals as goal
 
 pub returns : goal.returns
 returns c =
-    let g = given_of c.args.turn.now in
-    let now = c.args.turn.now.moment in
-    let m = matter_now c.args.turn.now in
-    succeeds_push g now m c.args.info.now c.args.recreation c.args.world.now _ c.args.outputs.now.items c.pass_succeed_push.new.consumer c.pass_succeed_push.result c.requires.push
-    (c.pass_succeed_push.ensures m (passing g now c.args.world.now)) refl
+    let g = given_of c.args.context.now in
+    let now = c.args.context.now.moment in
+    let m = matter_now c.args.context.now in
+    succeeds_push g now m c.args.info.now c.args.recreation c.args.state.now _ c.args.outputs.now.items c.pass_succeed_push.new.consumer c.pass_succeed_push.result c.requires.push
+    (c.pass_succeed_push.ensures m (passing g now c.args.state.now)) refl

@@ -15,7 +15,7 @@ returns-clause-resumed c = λ g start es within.
     (c.first_place-self.ensures ∙ ap (λ (s : IncrementalReplay). first_of s.early (if nat_lt c.args.event.now.at old.moment then Some old.count else None)) kept)
     (c.first_place-self-2.ensures
     ∙ ap (λ (b : Bool). first_of passed.exhausted (if b then Some old.count else None)) c.is_exhausted-is_last.ensures
-    ∙ ap (λ (s : IncrementalReplay). first_of s.exhausted (if is_exhausted passed.world.consumer.phase then Some old.count else None)) kept)
+    ∙ ap (λ (s : IncrementalReplay). first_of s.exhausted (if is_exhausted passed.state.consumer.phase then Some old.count else None)) kept)
     c.in_ok-pass.ensures.passed c.in_ok-pass.ensures.rested
 
 pub returns-clause-passed : goal.returns-clause-passed
@@ -27,5 +27,5 @@ returns-clause-passed c = λ g start es come.
     (c.first_place-self.ensures ∙ ap (λ (s : IncrementalReplay). first_of s.early (if nat_lt c.args.event.now.at old.moment then Some old.count else None)) kept)
     (c.first_place-self-2.ensures
     ∙ ap (λ (b : Bool). first_of passed.exhausted (if b then Some old.count else None)) c.is_exhausted-is_last.ensures
-    ∙ ap (λ (s : IncrementalReplay). first_of s.exhausted (if is_exhausted passed.world.consumer.phase then Some old.count else None)) kept)
+    ∙ ap (λ (s : IncrementalReplay). first_of s.exhausted (if is_exhausted passed.state.consumer.phase then Some old.count else None)) kept)
     c.in_ok-pass.ensures.passed c.in_ok-pass.ensures.rested

@@ -5,5 +5,5 @@ use Rattle.js_ordered.proofs.incremental_replay.IncrementalReplay.open.Goals as 
 pub returns : goal.returns
 returns c =
     comes_first (record { settings = c.args.settings.now; setup = c.args.setup.now; first = c.args.first.now }) c.args.start
-    (record { settings = c.args.settings; setup = c.args.setup; first = c.args.first; moment = c.args.start; count = 0; early = None; exhausted = None; world = c.in_ok-world.world; outputs = c.from.result; todo = c.open.new.todo })
-    refl refl refl refl refl c.in_ok-world.ensures.world (c.from.ensures ∙ c.in_ok-world.ensures.outputs) c.in_ok-world.ensures.rested
+    (record { settings = c.args.settings; setup = c.args.setup; first = c.args.first; moment = c.args.start; count = 0; early = None; exhausted = None; state = c.in_ok-state.state; outputs = c.from.result; todo = c.open.new.todo })
+    refl refl refl refl refl c.in_ok-state.ensures.state (c.from.ensures ∙ c.in_ok-state.ensures.outputs) c.in_ok-state.ensures.rested
