@@ -1,10 +1,9 @@
 //! The push consumer of the work queue.
 
 use crate::server::info;
-use js_base::{Nanos, OutOfMemory, Text, TryClone};
+use js_base::{Nanos, OutOfMemory, Text};
 use js_call::ApiScope;
 use js_consumer_calls::PushConsumer;
-use js_json::consumer::Info;
 use js_json::push::Config;
 use std::alloc::Global;
 

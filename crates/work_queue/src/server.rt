@@ -81,7 +81,7 @@ pub fn flow_control(alloc: Global, subject: &str) -> Result<Message, OutOfMemory
 /// A heartbeat of a consumer that waits for an answer to that subject.
 pub fn stalled(alloc: Global, subject: &str) -> Result<Message, OutOfMemory> {
     let mut headers = HeaderMap::new(alloc);
-    headers.insert("Nats-Consumer-Stalled", subject)?;
+    headers.insert(alloc, "Nats-Consumer-Stalled", subject)?;
     Ok(Message {
         headers: Some(headers),
         ..status(alloc, 100, "Idle Heartbeat")?
