@@ -9,8 +9,8 @@ use Rattle.js_base.specs.declared.turn.Next.TheVariants as next
 use Rattle.js_link.specs.LinkView.{LinkView}
 use Rattle.js_link.specs.Meets.{Meets}
 use Rattle.js_link.specs.Met.{Met, Nothing, Reads, Unasked, Gone_out, Refused, Took, Empty, Shut}
-use Rattle.js_push_calls.specs.Rows.{answer_subject, answer_wish, armed, arrival_row, hear, next_row, pass, quietly, silence_row, wish, Passed}
-use Rattle.js_push_calls.specs.Polls.{AnswersBy, IsLeftAlone, Lacks, IsPoll, Passes, PassesQuietly, PollAnswer, Sleeps, something_due, due_at}
+use Rattle.js_push_calls.specs.Rows.{answer_subject, answer_wish, armed, arrival_row, hear, next_row, pass, quietly, wish, Passed}
+use Rattle.js_push_calls.specs.Polls.{AnswersBy, IsLeftAlone, Lacks, IsPoll, Passes, PassesQuietly, PollAnswer, Sleeps, due_at}
 use Rattle.js_push_calls.specs.declared.error.MessagesErrorKind.{MessagesErrorKind}
 use Rattle.js_push_calls.specs.declared.error.MessagesErrorKind.TheVariants as error
 use Rattle.js_push_calls.specs.declared.messages.Messages.{Messages}

@@ -1,5 +1,5 @@
 -- What a poll of a push consumer's reader does, and when the reader may be left alone.
-use Rattle.std.specs.Prelude.{ℕ, ◌≡◌, ◌≢◌, Bool, true, false, List, [], ◌∷◌, Option, Some, None, Result, Ok, Err}
+use Rattle.std.specs.Prelude.{ℕ, ◌≡◌, ◌≢◌, Bool, true, false, List, [], ◌∷◌, Option, None, Result, Ok, Err}
 use Rattle.js_base.specs.Clock.{is_any_due}
 use Rattle.js_base.specs.Errors.{plain}
 use Rattle.js_base.specs.declared.clock.Timer.{Timer}
@@ -14,7 +14,7 @@ use Rattle.js_link.specs.Met.{Met, Took, Empty, Shut}
 use Rattle.js_link.specs.declared.link.Taken.{Taken}
 use Rattle.js_link.specs.declared.link.Taken.TheVariants as taken
 use Rattle.js_message.specs.declared.message.Message.{Message}
-use Rattle.js_push_calls.specs.Rows.{answer_subject, answer_wish, pass, wish, Passed}
+use Rattle.js_push_calls.specs.Rows.{answer_subject, answer_wish, pass, wish}
 use Rattle.js_push_calls.specs.declared.error.MessagesErrorKind.{MessagesErrorKind}
 use Rattle.js_push_calls.specs.declared.error.MessagesErrorKind.TheVariants as error
 use Rattle.js_push_calls.specs.declared.messages.Messages.{Messages}

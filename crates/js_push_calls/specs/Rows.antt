@@ -5,7 +5,7 @@ use Rattle.js_base.specs.Headers.{last_value, all_headers}
 use Rattle.js_base.specs.declared.headers.Header.{Header}
 use Rattle.js_base.specs.declared.message.Message.{Message}
 use Rattle.js_base.specs.declared.message.StatusCode.{StatusCode}
-use Rattle.js_link.specs.Met.{Wish, Met, Nothing, Publishes, Reads, Unasked, Took, Empty, Shut}
+use Rattle.js_link.specs.Met.{Wish, Met, Nothing, Publishes, Reads, Took, Empty, Shut}
 use Rattle.js_pull.specs.Reader.{armed_silence}
 use Rattle.js_push_calls.specs.declared.messages.Messages.{Messages}
 use Rattle.js_push_calls.specs.declared.row.Row.{Row}
