@@ -1,6 +1,6 @@
 -- What the lines that are left say, as one after another is read.
 use Rattle.std.proofs.Common.{◌≡◌, ℕ, ◌+◌, ◌<◌, ◌≤◌, List, [], ◌∷◌, ◌++◌, length, refl, sym, ap, ◌∙◌, subst, append_assoc, append-nil, arith}
-use Rattle.std.specs.Prelude.{Result, Ok, Err}
+use Rattle.std.specs.Prelude.{Option, Some, None, Result, Ok, Err}
 use Rattle.js_bookmark.specs.declared.session.Line.{Line}
 use Rattle.js_bookmark.specs.declared.session.Session.{Session}
 use Rattle.js_tool.specs.declared.transcript.Unread.{Unread}
@@ -11,7 +11,7 @@ use Rattle.js_sessions.specs.declared.line.Said.{Said}
 use Rattle.js_sessions.specs.declared.line.Said.TheVariants.{Begins, Says}
 use Rattle.js_sessions.specs.declared.reader.Reader.{Reader}
 use Rattle.js_sessions.specs.declared.session.SessionText.{SessionText}
-use Rattle.js_sessions.specs.Passing.{left_said, HasText, all_of, rest_of}
+use Rattle.js_sessions.specs.Passing.{left_said, HasText, ReadsNext, all_of, rest_of}
 use Rattle.js_sessions.specs.SessionLine.{session_line}
 use Rattle.js_sessions.specs.SessionLines.{said_from, session_of, lines_before, begun}
 
@@ -126,6 +126,11 @@ pub read_one : (from was is : Reader) (text : List ℕ) (said : Said) → HasRea
     → numbered (was.number + 1) (session_line text) ≡ Ok said → is.number ≡ was.number + 1 → HasRead from is
 read_one from was is text said before left reads counted =
     (before.0 ++ said ∷ [], before.1 ∙ said_first was is text said (λ more. Ok (before.0 ++ more)) left reads counted ∙ front_moves before.0 said (left_said is))
+
+-- what the next line says was read
+pub read_next : (from was is : Reader) (found : Option Said) (said : Said) → HasRead from was → found ≡ Some said → ReadsNext was is (Ok found) → HasRead from is
+read_next from was is None said before found reads = cc
+read_next from was is (Some other) said before found (text, left, reads, counted) = read_one from was is text other before left reads counted
 
 pub read_all : (from is : Reader) → HasRead from is → is.lines.left ≡ [] → (more : List Said) × (left_said from ≡ Ok more)
 read_all from is before none =

@@ -104,19 +104,24 @@ text_ended next done setup lines p end number at with_end text has ended counted
 
 -- ---- what has its text
 
-pub event_passes : (old new : SessionText) (e : Event) (number : ℕ) (outputs : List Output)
+pub event_passes : (old new : SessionText) (l : Line) (e : Event) (number : ℕ) (outputs : List Output) → l ≡ line.Event e
     → ((next : ℕ) (done : List Session) (s : Session) → HasComeTo next done s old.course → HasComeTo next done (with_line s (line.Event e)) new.course)
     → number ≡ new.course.course.count → outputs ≡ new.course.course.outputs → new.text.items ≡ old.text.items ++ flat_map (output_text number) outputs
-    → (next : ℕ) (done : List Session) (setup : Setup) (some : List Line) → HasText next done setup some old → HasText next done setup (some ++ line.Event e ∷ []) new
-event_passes old new e number outputs comes counted put says next done setup some has =
-    let come : HasComeTo next done (session_of setup (some ++ line.Event e ∷ [])) new.course = comes next done (session_of setup some) has.come in record {
+    → (next : ℕ) (done : List Session) (setup : Setup) (some : List Line) → HasText next done setup some old → HasText next done setup (some ++ l ∷ []) new
+event_passes old new l e number outputs is comes counted put says next done setup some has =
+    let come : HasComeTo next done (session_of setup (some ++ line.Event e ∷ [])) new.course = comes next done (session_of setup some) has.come in
+    subst (λ (l : Line). HasText next done setup (some ++ l ∷ []) new) (sym is)
+    (record {
       come = come;
       text = text_event next done setup some e new.course number outputs old.text.items new.text.items has.text come counted put says;
-    }
+    })
 
-pub save_passes : (old new : SessionText) → ((next : ℕ) (done : List Session) (s : Session) → HasComeTo next done s old.course → HasComeTo next done (with_line s line.Save) new.course)
-    → new.text.items ≡ old.text.items → (next : ℕ) (done : List Session) (setup : Setup) (some : List Line) → HasText next done setup some old → HasText next done setup (some ++ line.Save ∷ []) new
-save_passes old new comes says next done setup some has = record {
-  come = comes next done (session_of setup some) has.come;
-  text = text_save next done setup some new.text.items (says ∙ has.text);
-}
+pub save_passes : (old new : SessionText) (l : Line) → l ≡ line.Save
+    → ((next : ℕ) (done : List Session) (s : Session) → HasComeTo next done s old.course → HasComeTo next done (with_line s line.Save) new.course)
+    → new.text.items ≡ old.text.items → (next : ℕ) (done : List Session) (setup : Setup) (some : List Line) → HasText next done setup some old → HasText next done setup (some ++ l ∷ []) new
+save_passes old new l is comes says next done setup some has =
+    subst (λ (l : Line). HasText next done setup (some ++ l ∷ []) new) (sym is)
+    (record {
+      come = comes next done (session_of setup some) has.come;
+      text = text_save next done setup some new.text.items (says ∙ has.text);
+    })

@@ -19,6 +19,8 @@ pub(crate) struct Reader {
     pub(crate) payloads: Payloads,
 }
 
+fn let_go(_said: Said) {}
+
 impl Reader {
     /// What the next line says, if one is left. Once none was left, none is.
     pub(crate) fn next(&mut self, alloc: Global) -> Result<Option<Said>, Unread>
@@ -40,7 +42,9 @@ impl Reader {
     pub(crate) fn read_rest(&mut self, alloc: Global) -> Result<(), Unread>
         ensures { ReadsRest self.old result }
     {
-        while let Some(_) = self.next(alloc)? {}
+        while let Some(said) = self.next(alloc)? {
+            let_go(said);
+        }
         Ok(())
     }
 }

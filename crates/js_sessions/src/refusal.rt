@@ -2,7 +2,6 @@
 
 ghost use Rattle.std.specs.Prelude.{◌≡◌, ◌++◌, ◌∷◌, [], codes, IfOk, OnOk};
 ghost use Rattle.serde_json.specs.Data.{string};
-ghost use Rattle.js_table.specs.declared.run.ReplayError.TheVariants as errors;
 ghost use Rattle.js_tool.specs.Texts.{count, field_name, line_text};
 ghost use Rattle.js_sessions.specs.SessionTexts.{refusal_text, replay_refusal_text};
 
@@ -57,7 +56,7 @@ fn push_numbered(
 }
 
 fn push_bad_settings(out: &mut Vec<u8>, session: u64, field: Field) -> Result<(), AllocError>
-    ensures { OnOk result (out.new.items ≡ out.old.items ++ replay_refusal_text session (errors.BadSettings field)) }
+    ensures { OnOk result (out.new.items ≡ out.old.items ++ line_text (string (codes "refused") ∷ string (codes "BadSettings") ∷ count session ∷ string (field_name field) ∷ [])) }
 {
     push_line(
         out,

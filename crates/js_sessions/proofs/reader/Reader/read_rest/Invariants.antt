@@ -2,8 +2,8 @@ use Rattle.std.proofs.Common.{length}
 use Rattle.js_sessions.proofs.Reading.{HasRead}
 use Rattle.js_sessions.proofs.reader.Reader.read_rest.Given as goal
 
-abbrev pub invariant-loop-alloc : goal.invariant-loop-alloc
-invariant-loop-alloc l = HasRead l.initial.self l.self
+abbrev pub invariant-loop-said : goal.invariant-loop-said
+invariant-loop-said l = HasRead l.initial.self l.self
 
-abbrev pub decreases-loop-alloc : goal.decreases-loop-alloc
-decreases-loop-alloc l = length l.self.lines.left
+abbrev pub decreases-loop-said : goal.decreases-loop-said
+decreases-loop-said l = length l.self.lines.left
