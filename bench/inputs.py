@@ -1,10 +1,11 @@
 #!/usr/bin/env python3
-"""Writes a transcript to standard output: `inputs.py arrivals|recreations|held|ticks [COUNT]` or `inputs.py mix SEED`.
+"""Writes a transcript to standard output: `inputs.py arrivals|recreations|held|ticks|entries [COUNT]` or `inputs.py mix SEED`.
 
 arrivals     pull arrivals without a gap, up to the most bytes that a transcript may have
 recreations  a gap, both answers and one arrival, over and over, up to the most bytes
 held         one push create under which COUNT arrivals are held (100000), then its answer
 ticks        COUNT events that bring nothing (7000000)
+entries      COUNT arrivals (200000) with subjects out of 1000, from a configured start, every tenth sequence left out
 mix          a short transcript of all kinds of events, drawn by the seed; some do not read, some are refused
 """
 import json
@@ -104,6 +105,16 @@ def ticks(count):
     for _ in range(count // 10_000):
         yield block
     yield b'{"at":1}\n' * (count % 10_000)
+
+
+def entries(count):
+    """A log of subjects whose values change, one of ten of them being deleted, with a hole after every ninth message."""
+    yield line(setup(config={"deliver_policy": "by_start_sequence", "opt_start_seq": 1}))
+    for n in range(1, count + 1):
+        sequence = n + (n - 1) // 9
+        payload = "" if n % 10 == 0 else f"value {n}"
+        message = {"inbox": 0, "subject": f"keys.{n * 7919 % 1000}", "reply": reply(sequence, n), "payload": payload}
+        yield line({"at": n, "arrival": message})
 
 
 class Mix:
@@ -509,7 +520,7 @@ def mix(seed):
 
 
 def main(words):
-    if not words or words[0] not in ("arrivals", "recreations", "held", "ticks", "mix"):
+    if not words or words[0] not in ("arrivals", "recreations", "held", "ticks", "entries", "mix"):
         print(__doc__, file=sys.stderr)
         return 2
     count = int(words[1]) if len(words) > 1 else None
@@ -518,6 +529,7 @@ def main(words):
         "recreations": lambda: recreations(),
         "held": lambda: held(count or 100_000),
         "ticks": lambda: ticks(count or 7_000_000),
+        "entries": lambda: entries(count or 200_000),
         "mix": lambda: mix(count or 0),
     }[words[0]]()
     for piece in pieces:

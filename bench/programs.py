@@ -26,7 +26,7 @@ def proved(path):
     say("building the proved program")
     script = os.path.join(TOP, "replay")
     example = os.path.join(TOP, "examples", "two_messages.transcript")
-    subprocess.run([script, example], check=True, stdout=subprocess.DEVNULL)
+    subprocess.run([script, "--proved", example], check=True, stdout=subprocess.DEVNULL)
     return PROVED
 
 

@@ -1,5 +1,5 @@
-//! `replay` in plain Rust: reads a transcript from standard input and writes the text of its run. `info CALLS SUBJECT` reads an
-//! acknowledgement subject so many times, and prints whether it reads.
+//! `replay`, `project FILTER` and `mirror` in plain Rust: each reads a transcript from standard input and writes its text. `info CALLS SUBJECT` reads
+//! an acknowledgement subject so many times, and prints whether it reads.
 //!
 //! It is written from the repository's documents alone, with one `serde_json::Value` a line, and shares no line with the
 //! proved program. The bench measures the proved program against it, and compares what the two write.
@@ -8,6 +8,7 @@ mod ack;
 mod config;
 mod fields;
 mod instant;
+mod logs;
 mod names;
 mod pull;
 mod push;
@@ -17,9 +18,11 @@ mod requests;
 mod text;
 mod transcript;
 
+use logs::{Entry, NoLog};
 use std::hint::black_box;
 use std::io::{self, Read, Write};
 use std::process::ExitCode;
+use transcript::Transcript;
 
 /// The most bytes that a transcript may have.
 const LIMIT: usize = 67_108_864;
@@ -65,7 +68,9 @@ impl Status {
 fn main() -> ExitCode {
     let words: Vec<String> = std::env::args().skip(1).collect();
     let status = match &words[..] {
-        [command] if command == "replay" => run(&mut io::stdin().lock(), &mut io::stdout().lock()),
+        [command] if command == "replay" => replay(&mut io::stdin().lock(), &mut io::stdout().lock()),
+        [command, filter] if command == "project" => project(filter, &mut io::stdin().lock(), &mut io::stdout().lock()),
+        [command] if command == "mirror" => mirror(&mut io::stdin().lock(), &mut io::stdout().lock()),
         [command, calls, subject] if command == "info" => info(calls, subject),
         _ => Status::Usage,
     };
@@ -88,29 +93,71 @@ fn info(calls: &str, subject: &str) -> Status {
     Status::Done
 }
 
-/// Reads the input to its end, replays it, and writes the text of the run or the line of the refusal.
-fn run(input: &mut impl Read, output: &mut impl Write) -> Status {
+/// Reads the input to its end as a transcript.
+fn read(input: &mut impl Read) -> Result<Transcript, Status> {
     let mut bytes = Vec::new();
     if input.read_to_end(&mut bytes).is_err() {
-        return Status::ReadFault;
+        return Err(Status::ReadFault);
     }
     if bytes.len() > LIMIT {
-        return Status::TooLong;
+        return Err(Status::TooLong);
     }
-    let transcript = match transcript::read(&bytes) {
+    transcript::read(&bytes).map_err(Status::BadLine)
+}
+
+fn written(result: io::Result<()>) -> Status {
+    result.map_or(Status::WriteFault, |()| Status::Done)
+}
+
+/// Replays the input, and writes the text of the run or the line of the refusal.
+fn replay(input: &mut impl Read, output: &mut impl Write) -> Status {
+    let transcript = match read(input) {
         Ok(transcript) => transcript,
-        Err(line) => return Status::BadLine(line),
+        Err(status) => return status,
     };
-    drop(bytes);
     match replay::replay_ordered(&transcript.setup, &transcript.events) {
-        Ok(run) => match text::write_run(output, &run, transcript.events.len()) {
-            Ok(()) => Status::Done,
-            Err(_) => Status::WriteFault,
-        },
+        Ok(run) => written(text::write_run(output, &run, transcript.events.len())),
         Err(refusal) => {
             // The input was refused, whether or not its line could be written.
             let _ = text::write_refusal(output, &refusal);
             Status::Refused
         }
     }
+}
+
+/// Replays the input, and writes the table of its yields.
+fn project(filter: &str, input: &mut impl Read, output: &mut impl Write) -> Status {
+    on_log(input, output, |output, entries, _| logs::write_table(output, entries, filter))
+}
+
+/// Replays the input, and writes its yields with the holes between them.
+fn mirror(input: &mut impl Read, output: &mut impl Write) -> Status {
+    on_log(input, output, |output, entries, start| logs::write_mirror(output, entries, start))
+}
+
+fn on_log<W: Write>(input: &mut impl Read, output: &mut W, write: impl Fn(&mut W, &[Entry], u64) -> io::Result<()>) -> Status {
+    let transcript = match read(input) {
+        Ok(transcript) => transcript,
+        Err(status) => return status,
+    };
+    let start = match logs::start(&transcript.setup) {
+        Ok(start) => start,
+        Err(refusal) => return no_log(output, &refusal),
+    };
+    let run = match replay::replay_ordered(&transcript.setup, &transcript.events) {
+        Ok(run) => run,
+        Err(refusal) => {
+            let _ = text::write_refusal(output, &refusal);
+            return Status::Refused;
+        }
+    };
+    match logs::entries(&run, start) {
+        Ok(entries) => written(write(output, &entries, start)),
+        Err(refusal) => no_log(output, &refusal),
+    }
+}
+
+fn no_log(output: &mut impl Write, refusal: &NoLog) -> Status {
+    let _ = logs::write_no_log(output, refusal);
+    Status::Refused
 }

@@ -53,7 +53,7 @@ fn write_output(writer: &mut impl Write, step: usize, output: &Output) -> io::Re
     writer.write_all(b"]\n")
 }
 
-fn write_text(writer: &mut impl Write, text: &str) -> io::Result<()> {
+pub fn write_text(writer: &mut impl Write, text: &str) -> io::Result<()> {
     serde_json::to_writer(writer, text).map_err(io::Error::from)
 }
 

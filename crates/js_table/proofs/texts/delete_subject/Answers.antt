@@ -14,4 +14,4 @@ of_name requests_sent turn name lent is =
 
 -- src/texts.rt
 pub returns : goal.returns
-returns c = of_name c.consumer_subject.result c.args.turn.now c.args.recreation.now.old_name c.as_str.result.now c.as_str.ensures c.consumer_subject.ensures
+returns c = of_name c.consumer_subject.result c.args.context.now c.args.recreation.now.old_name c.as_str.result.now c.as_str.ensures c.consumer_subject.ensures
