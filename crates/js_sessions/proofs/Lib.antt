@@ -4,3 +4,4 @@ pub mod Reading
 pub mod Texting
 pub mod Reporting
 pub mod Running
+pub mod Worked
