@@ -11,7 +11,7 @@ use Rattle.js_sessions.specs.declared.line.Said.{Said}
 use Rattle.js_sessions.specs.declared.line.Said.TheVariants.{Begins, Says}
 use Rattle.js_sessions.specs.declared.reader.Reader.{Reader}
 use Rattle.js_sessions.specs.declared.session.SessionText.{SessionText}
-use Rattle.js_sessions.specs.Passing.{left_said, HasText, ReadsNext, all_of, rest_of}
+use Rattle.js_sessions.specs.Passing.{left_said, HasText, PassesLines, ReadsNext, all_of, rest_of}
 use Rattle.js_sessions.specs.SessionLine.{session_line}
 use Rattle.js_sessions.specs.SessionLines.{said_from, session_of, lines_before, begun}
 
@@ -100,6 +100,29 @@ pub going_line : (first old new : SessionText) (from was is : Reader) (text : Li
 going_line first old new from was is text l before left reads counted passes = λ next done setup lines has.
     let (some, had, so_far) = before next done setup lines has in
     (some ++ l ∷ [], passes next done setup some had, so_far ∙ rest_line done setup some l was is text left reads counted)
+
+-- what the next line says, by its kind
+pub next_says : (was is : Reader) (found : Option Said) (said wanted : Said) → found ≡ Some said → said ≡ wanted → ReadsNext was is (Ok found) → ReadsNext was is (Ok (Some wanted))
+next_says was is found said wanted some says reads = subst (λ (found : Option Said). ReadsNext was is (Ok found)) (some ∙ ap Some says) reads
+
+-- a line that was read goes on with the session
+pub going_next : (first old new : SessionText) (from was is : Reader) (l : Line) → Going first from old was → ReadsNext was is (Ok (Some (Says l)))
+    → ((next : ℕ) (done : List Session) (setup : Setup) (some : List Line) → HasText next done setup some old → HasText next done setup (some ++ l ∷ []) new)
+    → Going first from new is
+going_next first old new from was is l before (text, left, reads, counted) passes = going_line first old new from was is text l before left reads counted passes
+
+-- a setup that was read ends it
+pub going_setup : (first old : SessionText) (from was is : Reader) (following : Setup) → Going first from old was → ReadsNext was is (Ok (Some (Begins following)))
+    → PassesLines first from old is (Ok (Some following))
+going_setup first old from was is following before (text, left, reads, counted) = λ next done setup lines has.
+    let (some, had, so_far) = before next done setup lines has in
+    (some, had, so_far ∙ rest_setup done setup following some was is text left reads counted)
+
+-- and no more lines are left than before
+pub next_left : (was is : Reader) (said : Said) (bound : ℕ) → ReadsNext was is (Ok (Some said)) → length was.lines.left ≤ bound → length is.lines.left ≤ bound
+next_left was is said bound (text, left, reads, counted) within =
+    let shorter : length was.lines.left ≡ length (text ∷ is.lines.left) = ap length left in
+    omega arith
 
 -- ---- lines that are read and let go
 

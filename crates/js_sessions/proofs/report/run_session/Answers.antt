@@ -1,4 +1,4 @@
-use Rattle.js_sessions.proofs.Running.{begin_refused, end_refused, runs_last, runs_more, runs_stop}
+use Rattle.js_sessions.proofs.Running.{begin_refused, end_refused, refuses_less, runs_last, runs_more, runs_stop}
 use Rattle.js_sessions.proofs.report.run_session.Goals as goal
 
 pub returns-in-Err-clause-stage : goal.returns-in-Err-clause-stage
@@ -23,3 +23,6 @@ pub returns-in-Err-end-clause-stage : goal.returns-in-Err-end-clause-stage
 returns-in-Err-end-clause-stage c =
     end_refused c.args.ended c.args.setup.now c.in-Ok.session c.pass_lines.new.self c.args.reader.now c.pass_lines.new.reader c.in-Ok-pass_lines.following c.in-Err-end.refusal
     c.refused_stage-in-Err-end.result c.in-Ok.ensures c.in-Ok-pass_lines.ensures.lines c.in-Err-end.ensures c.refused_stage-in-Err-end.ensures
+
+pub returns-in-Err-end-clause-shorter : goal.returns-in-Err-end-clause-shorter
+returns-in-Err-end-clause-shorter c = refuses_less c.in-Err-end.refusal c.refused_stage-in-Err-end.result _ _ c.refused_stage-in-Err-end.ensures
