@@ -16,8 +16,8 @@ loop-said-preserved-in-Ok c =
     next_says c.loop-said.reader c.next.new.self c.in_ok-said.field-0 c.in-Some.said (Says c.in-Says.line) c.in-Some.is c.in-Says.is c.in_ok-said.ensures in
     record {
       going =
-        going_next c.args.self.now c.loop-said.self c.pass.new.self c.args.reader.now c.loop-said.reader c.next.new.self c.in-Says.line c.loop-said.invariant.going reads
-        c.in-Ok.ensures;
+          going_next c.args.self.now c.loop-said.self c.pass.new.self c.args.reader.now c.loop-said.reader c.next.new.self c.in-Says.line c.loop-said.invariant.going reads
+          c.in-Ok.ensures;
       left = next_left c.loop-said.reader c.next.new.self (Says c.in-Says.line) (length c.args.reader.now.lines.left) reads c.loop-said.invariant.left;
     }
 
@@ -27,7 +27,7 @@ loop-said-preserved-in-Ok-2 c =
     next_says c.loop-said.reader c.next.new.self c.in_ok-said.field-0 c.in-Some.said (Says c.in-Says.line) c.in-Some.is c.in-Says.is c.in_ok-said.ensures in
     record {
       going =
-        going_next c.args.self.now c.loop-said.self c.pass.new.self c.args.reader.now c.loop-said.reader c.next.new.self c.in-Says.line c.loop-said.invariant.going reads
-        c.in-Ok.ensures;
+          going_next c.args.self.now c.loop-said.self c.pass.new.self c.args.reader.now c.loop-said.reader c.next.new.self c.in-Says.line c.loop-said.invariant.going reads
+          c.in-Ok.ensures;
       left = next_left c.loop-said.reader c.next.new.self (Says c.in-Says.line) (length c.args.reader.now.lines.left) reads c.loop-said.invariant.left;
     }
