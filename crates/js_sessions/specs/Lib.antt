@@ -1,0 +1,5 @@
+pub mod SessionLine
+pub mod SessionLines
+pub mod SessionTexts
+pub mod Reports
+pub mod Passing
