@@ -1,20 +1,23 @@
 -- How a conversation goes on, and how it ends.
 use Rattle.std.proofs.Common.{◌≡◌, ◌⊎◌, inl, inr, ℕ, suc, ◌+◌, ◌-◌, ◌^◌, ◌≤◌, min, List, [], ◌∷◌, ◌++◌, length, take, Option, Some, None, IfSome, Result, Ok, Err, refl, sym, ap, subst, ◌∙◌, append_assoc, append-nil, arith}
 use Rattle.std.specs.Prelude.{option_map}
+use Rattle.std.proofs.KnownBytes.{Appends-nil}
 use Rattle.std.specs.Io.KnownBytes.{Appends}
 use Rattle.js_io.specs.Causes.{Rose, AppendsPrefix}
 use Rattle.js_lines.specs.Lines.{lines_of}
 use Rattle.js_tool.specs.declared.status.Status.{Status}
 use Rattle.js_tool.specs.declared.status.Status.TheVariants as status
+use Rattle.js_tool.specs.Setups.{setup_line}
+use Rattle.js_tool.specs.Transcripts.{numbered}
 use Rattle.js_follow.specs.declared.answer.Listener.{Listener}
 use Rattle.js_follow.specs.declared.incoming.Incoming.{Incoming}
 use Rattle.js_follow.specs.declared.incoming.Incoming.TheVariants as incoming
 use Rattle.js_follow.specs.Answered.{IsTold, IsEnding, AnswersLine, AnswersEnd}
-use Rattle.js_follow.specs.Followed.{GoesOn, StopsWithin, AnswersLines, HasEnded, HasGone, IsCut, all_lines, Stands, StandsOr, Replies}
+use Rattle.js_follow.specs.Followed.{GoesOn, StopsWithin, AnswersLines, HasEnded, HasGone, IsCut, all_lines, Stands, StandsOr, Replies, IsReadStop}
 use Rattle.js_follow.specs.Incoming.{IsNext}
-use Rattle.js_follow.specs.Standing.{Standing, Going, Over, standing, said, said_in_all, end_of, answered, text_for, status_for}
-use Rattle.js_follow.specs.Turns.{Dialogue, HasRead, HasWritten}
-use Rattle.js_follow.proofs.Standings.{over_with_rest, prefix_of_all}
+use Rattle.js_follow.specs.Standing.{Standing, Going, Over, opened, standing, said, said_in_all, end_of, answered, text_for, status_for}
+use Rattle.js_follow.specs.Turns.{Dialogue, HasRead, HasWritten, Writes}
+use Rattle.js_follow.proofs.Standings.{none_told, one_told, over_with_rest, prefix_of_all}
 
 -- ---- one text behind another
 
@@ -70,6 +73,10 @@ written_twice a b c first second = record {
   later = let x = first.later in let y = second.later in omega (arith, x, y);
 }
 
+pub wrote_twice : {E : Type 0} (a b c : Dialogue) (result : Result ℕ E) (piece : List ℕ) → HasWritten a b → Writes b c result piece → HasWritten a c
+wrote_twice a b c result piece first writes =
+    written_twice a b c first (record { left = writes.left; read_faults = writes.read_faults; place = writes.place; later = writes.cause.later })
+
 pub stands_read : (from mid now : Dialogue) (lines : List (List ℕ)) (left : Option (List (List ℕ))) (listener : Listener) → HasRead mid now → Stands from mid lines left listener → Stands from now lines left listener
 stands_read from mid now lines left listener read stands = record {
   gone = gone_read from mid now stands.gone read;
@@ -111,6 +118,9 @@ by_all (Some bytes) lines P cut p = subst P (sym (cut ∙ append-nil lines)) p
 going : (lines : List (List ℕ)) (listener : Listener) → IsTold lines listener → GoesOn (standing lines)
 going lines listener told = subst GoesOn (sym told.stands) tt
 
+pub appends_same : (a b : Option (List ℕ)) → b ≡ a → Appends a b []
+appends_same a b same = subst (λ (x : Option (List ℕ)). Appends a x []) (sym same) (Appends-nil a)
+
 -- exactly the answer to the lines so far was written
 pub stops : (from now : Dialogue) (lines : List (List ℕ)) (left : Option (List (List ℕ))) → IsCut (all_lines from) lines left → GoesOn (standing lines) → Appends from.taken now.taken (answered lines)
     → IfSome from.left (λ bytes. StopsWithin (lines_of bytes) from.taken now.taken)
@@ -120,6 +130,20 @@ stops from now lines left cut goes written =
 pub stands_stops : (from now : Dialogue) (lines : List (List ℕ)) (left : Option (List (List ℕ))) (listener : Listener) → Stands from now lines left listener
     → IfSome from.left (λ bytes. StopsWithin (lines_of bytes) from.taken now.taken)
 stands_stops from now lines left listener stands = stops from now lines left stands.cut (going lines listener stands.told) stands.written
+
+-- nothing was said yet
+pub says_nothing : (from now : Dialogue) → now.taken ≡ from.taken → IfSome from.left (λ bytes. StopsWithin (lines_of bytes) from.taken now.taken)
+says_nothing from now same = by_known from.left
+  where
+    by_known : (known : Option (List ℕ)) → IfSome known (λ bytes. StopsWithin (lines_of bytes) from.taken now.taken)
+    by_known None = tt
+    by_known (Some bytes) = record {
+      front = [];
+      rest = lines_of bytes;
+      cut = refl;
+      goes_on = subst GoesOn (sym none_told) tt;
+      written = subst (λ (t : List ℕ). Appends from.taken now.taken t) (sym (ap said none_told)) (appends_same from.taken now.taken same);
+    }
 
 pub out_of_memory : (from now : Dialogue) → HasGone from now → IfSome from.left (λ bytes. StopsWithin (lines_of bytes) from.taken now.taken) → HasEnded from now status.OutOfMemory
 out_of_memory from now gone within = record { told = within; read_fault = λ is. absurd (cc); write_fault = λ is. absurd (cc); place = gone.place }
@@ -157,7 +181,7 @@ is_over from now lines left text s gone cut over ending written =
 
 -- ---- an answer was written, or a front of it
 
-says_in : (before text : List ℕ) (lines : List (List ℕ)) (ending : Option Status) (listener : Listener) → AnswersLine before lines text ending listener → answered lines ≡ before ++ text
+pub says_in : (before text : List ℕ) (lines : List (List ℕ)) (ending : Option Status) (listener : Listener) → AnswersLine before lines text ending listener → answered lines ≡ before ++ text
 says_in before text lines None listener (says, told) = says
 says_in before text lines (Some s) listener (over, ending) = ap said over
 
@@ -206,3 +230,24 @@ pub has_ending : (old new : Dialogue) (lines : List (List ℕ)) (text : List ℕ
 has_ending old new lines text None never replies = never
 has_ending old new lines text (Some e) answers (inl (is, whole)) = cc
 has_ending old new lines text (Some e) answers (inr (is, front)) = cc
+
+-- no line was read
+pub read_stops : (from now : Dialogue) (s : Status) → IsReadStop s → (s ≡ status.ReadFault → Rose from.read_faults now.read_faults) → HasGone from now → IfSome from.left (λ bytes. StopsWithin (lines_of bytes) from.taken now.taken)
+    → HasEnded from now s
+read_stops from now s (inl is) rose gone within = subst (λ (x : Status). HasEnded from now x) (sym is) (read_fails from now gone (rose is) within)
+read_stops from now s (inr is) rose gone within = subst (λ (x : Status). HasEnded from now x) (sym is) (out_of_memory from now gone within)
+
+pub rose_later : (before between now : ℕ) → before ≤ between → Rose between now → Rose before now
+rose_later before between now later rose = rose_since before between now later rose
+
+-- an input of no lines
+pub no_lines : (from now : Dialogue) → HasGone from now → now.taken ≡ from.taken → IsCut (all_lines from) [] (Some []) → HasEnded from now (status.BadLine 1)
+no_lines from now gone same cut =
+    ends_with from now (status.BadLine 1) tt gone (by_all from.left [] (λ all. (status_for all ≡ status.BadLine 1) × Appends from.taken now.taken (text_for all)) cut
+    (ap end_of none_told, subst (λ (t : List ℕ). Appends from.taken now.taken t) (sym (ap said_in_all none_told)) (appends_same from.taken now.taken same)))
+
+-- a first line that is no setup
+pub no_setup : (from now : Dialogue) (line : List ℕ) (left : Option (List (List ℕ))) (n : ℕ) → HasGone from now → now.taken ≡ from.taken → IsCut (all_lines from) (line ∷ []) left → numbered 1 (setup_line line) ≡ Err n
+    → HasEnded from now (status.BadLine n)
+no_setup from now line left n gone same cut fails =
+    is_over from now (line ∷ []) left [] (status.BadLine n) gone cut (one_told line ∙ ap opened fails) tt (appends_same from.taken now.taken same)

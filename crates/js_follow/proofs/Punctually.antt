@@ -1,5 +1,7 @@
 -- Call after call: what was read, written and passed on.
-use Rattle.std.proofs.Common.{◌≡◌, ℕ, zero, suc, ◌+◌, ◌<◌, ◌==◌, Bool, true, false, List, [], ◌∷◌, ◌++◌, length, take, drop, get_or, if◌then◌else◌, Option, Some, None, Result, Ok, Err, refl, sym, ap, subst, ◌∙◌, arith, append-nil, append_assoc, add-one}
+use Rattle.std.proofs.Common.{◌≡◌, ℕ, zero, suc, ◌+◌, ◌-◌, ◌<◌, ◌==◌, Bool, true, false, List, [], ◌∷◌, ◌++◌, length, take, drop, get_or, if◌then◌else◌, Option, Some, None, Result, Ok, Err, refl, sym, ap, subst, ◌∙◌, arith, append-nil, append_assoc, add-one}
+use Rattle.std.proofs.lemmas.List.{take_rest}
+use Rattle.std.proofs.Math.Seq.{take-add}
 use Rattle.js_follow.specs.declared.incoming.Incoming.{Incoming}
 use Rattle.js_follow.specs.declared.incoming.Incoming.TheVariants as incoming
 use Rattle.js_follow.specs.declared.peer.Turn.{Turn}
@@ -7,7 +9,7 @@ use Rattle.js_follow.specs.declared.peer.Turn.TheVariants as turn
 use Rattle.js_follow.specs.Incoming.{HasNoFeed, IsFirstFeed}
 use Rattle.js_follow.specs.Punctual.{whole_lines, IsCaughtUp, IsPunctual, Holds, Has, HearsNext}
 use Rattle.js_follow.specs.Standing.{answered}
-use Rattle.js_follow.specs.Turns.{Takes, heard, flush_turn}
+use Rattle.js_follow.specs.Turns.{Dialogue, Reads, Writes, Takes, bytes_of, heard, flush_turn}
 
 -- ---- whole lines
 
@@ -105,11 +107,28 @@ cut_on lines held line left before passed i turns found cut rest has =
     }) has
 
 -- at the end nothing more is read
-heard_end : (lines : List (List ℕ)) (line held : List ℕ) (turns : Option (List Turn)) (some : Bool) → Holds turns IsPunctual → HearsNext lines (Ok (if some then incoming.Last else incoming.End)) line held turns
-heard_end lines line held turns true punctual = punctual
-heard_end lines line held turns false punctual = punctual
+heard_end : (E : Type 0) (lines : List (List ℕ)) (line held : List ℕ) (turns : Option (List Turn)) (some : Bool) → Holds turns IsPunctual → HearsNext {E = E} lines (Ok (if some then incoming.Last else incoming.End)) line held turns
+heard_end E lines line held turns true punctual = punctual
+heard_end E lines line held turns false punctual = punctual
 
-pub heard_last : (lines : List (List ℕ)) (line held : List ℕ) (turns : Option (List Turn)) (next : Incoming) (some : Bool) → next ≡ (if some then incoming.Last else incoming.End) → Holds turns IsPunctual
-    → HearsNext lines (Ok next) line held turns
-heard_last lines line held turns next some is punctual =
-    subst (λ (n : Incoming). HearsNext lines (Ok n) line held turns) (sym is) (heard_end lines line held turns some punctual)
+pub heard_last : (E : Type 0) (lines : List (List ℕ)) (line held : List ℕ) (turns : Option (List Turn)) (next : Incoming) (some : Bool) → next ≡ (if some then incoming.Last else incoming.End) → Holds turns IsPunctual
+    → HearsNext {E = E} lines (Ok next) line held turns
+heard_last E lines line held turns next some is punctual =
+    subst (λ (n : Incoming). HearsNext {E = E} lines (Ok n) line held turns) (sym is) (heard_end E lines line held turns some punctual)
+
+-- whatever a read comes to
+pub reads_punctually : {E : Type 0} (old new : Dialogue) (result : Result ℕ E) (buf : List ℕ) (lines : List (List ℕ)) (held : List ℕ) → Reads old new result buf → HasNoFeed held (length held)
+    → Holds old.turns (Has lines held (answered lines) (answered lines)) → Holds new.turns IsPunctual
+reads_punctually old new result buf lines held reads none has = read_punctually lines held (bytes_of result buf) old.turns new.turns reads.call none has
+
+pub writes_punctually : {E : Type 0} (old new : Dialogue) (result : Result ℕ E) (piece : List ℕ) → Writes old new result piece → Holds old.turns IsPunctual → Holds new.turns IsPunctual
+writes_punctually old new result piece writes was = wrote_punctually (bytes_of result piece) old.turns new.turns writes.call was
+
+-- a piece more of a text was taken
+pub wrote_more : (lines : List (List ℕ)) (held before passed text : List ℕ) (at n : ℕ) (old new : Option (List Turn)) → Takes old new (turn.Wrote (take n (take (length text - at) (drop at text))))
+    → Holds old (Has lines held (before ++ take at text) passed) → Holds new (Has lines held (before ++ take (at + n) text) passed)
+wrote_more lines held before passed text at n old new takes has =
+    let piece : take at text ++ take n (take (length text - at) (drop at text)) ≡ take (at + n) text =
+    ap (λ (rest : List ℕ). take at text ++ take n rest) (take_rest text at) ∙ sym (take-add at n text) in
+    subst (λ (t : List ℕ). Holds new (Has lines held t passed)) (append_assoc before (take at text) (take n (take (length text - at) (drop at text))) ∙ ap (λ (t : List ℕ). before ++ t) piece)
+    (wrote lines held (before ++ take at text) passed (take n (take (length text - at) (drop at text))) old new takes has)

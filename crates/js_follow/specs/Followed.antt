@@ -1,6 +1,6 @@
 -- What is answered to the lines of an input, and what is written.
-use Rattle.std.specs.Prelude.{◌≡◌, ◌⊎◌, ◌≤◌, ℕ, List, [], ◌∷◌, ◌++◌, Option, Some, None, IfSome, Result, Ok, Err, option_map, ⊤}
-use Rattle.std.specs.Io.KnownBytes.{Appends, IsAtEnd}
+use Rattle.std.specs.Prelude.{◌≡◌, ◌⊎◌, ◌≤◌, ℕ, Bool, true, false, List, [], ◌∷◌, ◌++◌, Option, Some, None, IfSome, Result, Ok, Err, option_map, ⊤}
+use Rattle.std.specs.Io.KnownBytes.{Appends}
 use Rattle.js_io.specs.Causes.{Rose, AppendsPrefix}
 use Rattle.js_lines.specs.Lines.{lines_of}
 use Rattle.js_table.specs.declared.event.Event.{Event}
@@ -15,8 +15,6 @@ use Rattle.js_tool.specs.Texts.{run_text}
 use Rattle.js_tool.specs.Transcripts.{transcript_of}
 use Rattle.js_follow.specs.declared.answer.Listener.{Listener}
 use Rattle.js_follow.specs.Answered.{IsTold}
-use Rattle.js_follow.specs.declared.incoming.Incoming.{Incoming}
-use Rattle.js_follow.specs.declared.incoming.Incoming.TheVariants as incoming
 use Rattle.js_follow.specs.Incoming.{lines_left}
 use Rattle.js_follow.specs.Punctual.{Holds, Has, IsPunctual}
 use Rattle.js_follow.specs.Standing.{Standing, Unopened, Going, Over, standing, answered, text_for, status_for}
@@ -95,14 +93,17 @@ abbrev pub TakesTurn : Dialogue → Dialogue → List (List ℕ) → List ℕ �
 TakesTurn from now lines held listener None = (line : List ℕ) × IsAt from now (lines ++ line ∷ []) held listener
 TakesTurn from now lines held listener (Some s) = IsOver from now s
 
--- the first line was read, which may be the last
-abbrev pub HasBegun : Dialogue → Dialogue → Incoming → List ℕ → List ℕ → Type 0
-HasBegun from now incoming.Line line held =
+-- the first line was read, behind which more may come or not, and nothing said
+abbrev pub HasBegun : Dialogue → Dialogue → Bool → List ℕ → List ℕ → Type 0
+HasBegun from now true line held =
     HasGone from now × (now.taken ≡ from.taken) × IsCut (all_lines from) (line ∷ []) (lines_left held now.left)
     × (from.turns ≡ Some [] → Holds now.turns (Has (line ∷ []) held [] []))
-HasBegun from now incoming.Last line held =
+HasBegun from now false line held =
     HasGone from now × (now.taken ≡ from.taken) × IsCut (all_lines from) (line ∷ []) (Some []) × (from.turns ≡ Some [] → Holds now.turns IsPunctual)
-HasBegun from now incoming.End line held = ⊤
+
+-- why no line was read
+abbrev pub IsReadStop : Status → Type 0
+IsReadStop s = (s ≡ status.ReadFault) ⊎ (s ≡ status.OutOfMemory)
 
 -- an answer was written, or a front of it where the sink failed
 abbrev pub Replies : Dialogue → Dialogue → List ℕ → Option Status → Option Status → Type 0

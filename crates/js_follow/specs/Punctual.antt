@@ -1,6 +1,5 @@
 -- That all is answered before more is read.
 use Rattle.std.specs.Prelude.{◌≡◌, ℕ, ◌==◌, List, [], ◌∷◌, ◌++◌, Option, Some, None, Result, Ok, Err, ⊤, if◌then◌else◌}
-use Rattle.js_io.specs.declared.whole.Stop.{Stop}
 use Rattle.js_follow.specs.declared.incoming.Incoming.{Incoming}
 use Rattle.js_follow.specs.declared.incoming.Incoming.TheVariants as incoming
 use Rattle.js_follow.specs.declared.peer.Turn.{Turn}
@@ -48,7 +47,7 @@ pub record Has (lines : List (List ℕ)) (held before passed : List ℕ) (turns 
   pub flushed : flushed turns ≡ passed
 
 -- a line more was read, or it stays punctual
-abbrev pub HearsNext : List (List ℕ) → Result Incoming Stop → List ℕ → List ℕ → Option (List Turn) → Type 0
+abbrev pub HearsNext : {E : Type 0} → List (List ℕ) → Result Incoming E → List ℕ → List ℕ → Option (List Turn) → Type 0
 HearsNext lines (Ok incoming.Line) line held turns = Holds turns (Has (lines ++ line ∷ []) held (answered lines) (answered lines))
 HearsNext lines (Ok incoming.Last) line held turns = Holds turns IsPunctual
 HearsNext lines (Ok incoming.End) line held turns = Holds turns IsPunctual

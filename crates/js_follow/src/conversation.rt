@@ -1,6 +1,6 @@
 //! A transcript is replayed in conversation with a peer.
 
-ghost use Rattle.std.specs.Prelude.{◌≡◌, ◌++◌, ◌∷◌, [], ℕ, List, Option, Some, None, IfSome, Ok};
+ghost use Rattle.std.specs.Prelude.{◌≡◌, ◌++◌, ◌∷◌, [], ℕ, List, Option, Some, None, IfSome, Ok, IfOk, IfErr, IsErrOf, true};
 ghost use Rattle.js_io.specs.Causes.{Rose};
 ghost use Rattle.js_ordered.specs.IncrementalReplay.{HasCome};
 ghost use Rattle.js_tool.specs.Program.{given, IsUnlessFailed};
@@ -9,11 +9,11 @@ ghost use Rattle.js_tool.specs.Transcripts.{numbered};
 ghost use Rattle.js_tool.specs.declared.transcript.setup.Setup as setups;
 ghost use Rattle.js_lines.specs.Lines.{lines_of};
 ghost use Rattle.js_follow.specs.Answered.{IsTold};
-ghost use Rattle.js_follow.specs.Followed.{AnswersLines, HasBegun, HasEnded, HasGone, IsAt, IsCut, IsOver, IsValidInput, Replies, Stands, StandsOr, TakesTurn, WritesRun, all_lines};
-ghost use Rattle.js_follow.specs.Incoming.{lines_left};
-ghost use Rattle.js_follow.specs.Punctual.{Has, Holds, IsPunctual};
+ghost use Rattle.js_follow.specs.Followed.{AnswersLines, HasBegun, HasEnded, HasGone, IsAt, IsCut, IsOver, IsReadStop, IsValidInput, Replies, Stands, StandsOr, TakesTurn, WritesRun, all_lines};
+ghost use Rattle.js_follow.specs.Incoming.{IsNext, lines_left};
+ghost use Rattle.js_follow.specs.Punctual.{Has, HearsNext, Holds, IsPunctual};
 ghost use Rattle.js_follow.specs.Standing.{answered};
-ghost use Rattle.js_follow.specs.Turns.{Dialogue, HasWritten};
+ghost use Rattle.js_follow.specs.Turns.{Dialogue, HasRead, HasWritten};
 
 use crate::answer::{Answer, Listener};
 use crate::incoming::{Incoming, IncomingLines};
@@ -94,6 +94,40 @@ fn finish<P: Peer>(alloc: Global, listener: &Listener<'_>, peer: &mut P) -> Stat
     }
 }
 
+// Reads the next line, if there is one.
+fn next<P: Peer>(alloc: Global, lines: &mut IncomingLines, peer: &mut P) -> Result<Incoming, Status>
+    ensures line { IfOk result (λ next. IsNext next (lines_left lines.old.left (P.view peer.old).left) lines.new.line (lines_left lines.new.left (P.view peer.new).left)) }
+    ensures heard { (told : List (List ℕ)) → Holds (P.view peer.old).turns (Has told lines.old.left (answered told) (answered told))
+        → HearsNext told result lines.new.line lines.new.left (P.view peer.new).turns }
+    ensures fault { IsErrOf result Status.ReadFault → Rose (P.view peer.old).read_faults (P.view peer.new).read_faults }
+    ensures stops { IfErr result IsReadStop }
+    ensures reads { HasRead (P.view peer.old) (P.view peer.new) }
+{
+    match lines.read(alloc, peer) {
+        Ok(next) => Ok(next),
+        Err(Stop::Fault) => Err(Status::ReadFault),
+        Err(_) => Err(Status::OutOfMemory),
+    }
+}
+
+// Tells the last line, and says what stands at the end.
+fn tell_last<P: Peer>(
+    alloc: Global,
+    listener: &mut Listener<'_>,
+    line: &[u8],
+    peer: &mut P,
+) -> Status
+    ensures ended { (from : Dialogue) → (told : List (List ℕ)) → (before : Option (List (List ℕ)))
+        → Stands from (P.view peer.old) told before listener.old → IsCut (all_lines from) (told ++ line.now ∷ []) (Some [])
+        → HasEnded from (P.view peer.new) result }
+    ensures punctual { Holds (P.view peer.old).turns IsPunctual → Holds (P.view peer.new).turns IsPunctual }
+{
+    match tell(alloc, listener, line, peer) {
+        Some(status) => status,
+        None => finish(alloc, listener, peer),
+    }
+}
+
 // Hears the next line and answers it. The status where that ends the conversation.
 fn take_turn<P: Peer>(
     alloc: Global,
@@ -104,15 +138,14 @@ fn take_turn<P: Peer>(
     ensures { (from : Dialogue) → (told : List (List ℕ)) → IsAt from (P.view peer.old) told lines.old.left listener.old
         → TakesTurn from (P.view peer.new) told lines.new.left listener.new result }
 {
-    match lines.read(alloc, peer) {
-        Ok(Incoming::Line) => tell(alloc, listener, lines.line(), peer),
-        Ok(Incoming::Last) => match tell(alloc, listener, lines.line(), peer) {
-            Some(status) => Some(status),
-            None => Some(finish(alloc, listener, peer)),
-        },
-        Ok(Incoming::End) => Some(finish(alloc, listener, peer)),
-        Err(Stop::Fault) => Some(Status::ReadFault),
-        Err(_) => Some(Status::OutOfMemory),
+    let next = match next(alloc, lines, peer) {
+        Ok(next) => next,
+        Err(status) => return Some(status),
+    };
+    match next {
+        Incoming::Line => tell(alloc, listener, lines.line(), peer),
+        Incoming::Last => Some(tell_last(alloc, listener, lines.line(), peer)),
+        Incoming::End => Some(finish(alloc, listener, peer)),
     }
 }
 
@@ -138,46 +171,53 @@ fn listen<P: Peer>(
 fn open<P: Peer>(
     alloc: Global,
     setup: &Setup,
-    first: Incoming,
+    more: bool,
     lines: &mut IncomingLines,
     peer: &mut P,
 ) -> Status
     ensures { (from : Dialogue) → (line : List ℕ) → numbered 1 (setup_line line) ≡ Ok setup.now
-        → HasBegun from (P.view peer.old) first line lines.old.left → (first ≡ Incoming.End → ⊥) → IsOver from (P.view peer.new) result }
+        → HasBegun from (P.view peer.old) more line lines.old.left → IsOver from (P.view peer.new) result }
 {
     let mut listener = match Listener::open(alloc, setup) {
         Ok(listener) => listener,
         Err(AllocError) => return Status::OutOfMemory,
     };
-    match (greet(alloc, &listener, peer), first) {
-        (Some(status), _) => status,
-        (None, Incoming::Line) => listen(alloc, &mut listener, lines, peer),
-        (None, _) => finish(alloc, &listener, peer),
+    match greet(alloc, &listener, peer) {
+        Some(status) => status,
+        None => {
+            if more {
+                listen(alloc, &mut listener, lines, peer)
+            } else {
+                finish(alloc, &listener, peer)
+            }
+        }
     }
 }
 
-// Hears the lines from the first on, which was read.
-fn begin<P: Peer>(alloc: Global, first: Incoming, lines: &mut IncomingLines, peer: &mut P) -> Status
-    ensures { (from : Dialogue) → HasBegun from (P.view peer.old) first lines.old.line lines.old.left → (first ≡ Incoming.End → ⊥)
-        → IsOver from (P.view peer.new) result }
+// Hears the first line, which was read, and those behind it.
+fn begin<P: Peer>(alloc: Global, more: bool, lines: &mut IncomingLines, peer: &mut P) -> Status
+    ensures { (from : Dialogue) → HasBegun from (P.view peer.old) more lines.old.line lines.old.left → IsOver from (P.view peer.new) result }
 {
-    let setup = match first_line(alloc, lines.line()) {
-        Ok(setup) => setup,
-        Err(Unread::BadLine(line)) => return Status::BadLine { line },
-        Err(Unread::OutOfMemory) => return Status::OutOfMemory,
-    };
-    open(alloc, &setup, first, lines, peer)
+    match first_line(alloc, lines.line()) {
+        Ok(setup) => open(alloc, &setup, more, lines, peer),
+        Err(Unread::BadLine(line)) => Status::BadLine { line },
+        Err(Unread::OutOfMemory) => Status::OutOfMemory,
+    }
 }
 
-fn hold_conversation<P: Peer>(alloc: Global, lines: &mut IncomingLines, peer: &mut P) -> Status
+// Hears all lines.
+fn hold<P: Peer>(alloc: Global, lines: &mut IncomingLines, peer: &mut P) -> Status
     requires { lines.old.left ≡ [] }
     ensures { IsOver (P.view peer.old) (P.view peer.new) result }
 {
-    match lines.read(alloc, peer) {
-        Ok(Incoming::End) => Status::BadLine { line: 1 },
-        Ok(first) => begin(alloc, first, lines, peer),
-        Err(Stop::Fault) => Status::ReadFault,
-        Err(_) => Status::OutOfMemory,
+    let first = match next(alloc, lines, peer) {
+        Ok(first) => first,
+        Err(status) => return status,
+    };
+    match first {
+        Incoming::Line => begin(alloc, true, lines, peer),
+        Incoming::Last => begin(alloc, false, lines, peer),
+        Incoming::End => Status::BadLine { line: 1 },
     }
 }
 
@@ -205,5 +245,5 @@ pub fn converse<P: Peer>(alloc: Global, peer: &mut P) -> Status
         Ok(lines) => lines,
         Err(AllocError) => return Status::OutOfMemory,
     };
-    hold_conversation(alloc, &mut lines, peer)
+    hold(alloc, &mut lines, peer)
 }

@@ -1,4 +1,5 @@
 use Rattle.std.proofs.Common.{length, nat_lt, arith, rules}
+use Rattle.js_io.specs.declared.whole.Stop.{Stop}
 use Rattle.js_follow.specs.Standing.{answered}
 use Rattle.js_follow.proofs.Coming.{keeps_more, next_cut, next_last, none_came, searched_all, held_more}
 use Rattle.js_follow.proofs.Going.{read_twice}
@@ -29,7 +30,7 @@ returns-then-branch-eq0-clause-line g c =
 
 pub returns-then-branch-eq0-clause-heard : goal.returns-then-branch-eq0-clause-heard
 returns-then-branch-eq0-clause-heard g c = λ lines has.
-    heard_last lines c.cut_last.new.self.line c.cut_last.new.self.left (g.P.Peer.view c.fill.new.peer).turns c.cut_last.result (nat_lt 0 (length c.fill.new.self.left)) c.cut_last.ensures.some
+    heard_last Stop lines c.cut_last.new.self.line c.cut_last.new.self.left (g.P.Peer.view c.fill.new.peer).turns c.cut_last.result (nat_lt 0 (length c.fill.new.self.left)) c.cut_last.ensures.some
     (c.in_ok-fill.ensures.punctual lines c.in_default.ensures (c.loop.invariant.heard lines has))
 
 pub loop-preserved : goal.loop-preserved
