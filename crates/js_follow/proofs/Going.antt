@@ -1,5 +1,5 @@
 -- How a conversation goes on, and how it ends.
-use Rattle.std.proofs.Common.{◌≡◌, ◌⊎◌, inl, inr, ℕ, suc, ◌+◌, ◌-◌, ◌^◌, ◌≤◌, min, List, [], ◌∷◌, ◌++◌, length, take, Option, Some, None, IfSome, Result, Ok, Err, refl, sym, ap, subst, ◌∙◌, append_assoc, append-nil, arith}
+use Rattle.std.proofs.Common.{◌≡◌, ◌⊎◌, inl, inr, ℕ, suc, ◌+◌, ◌-◌, ◌^◌, ◌≤◌, min, List, [], ◌∷◌, ◌++◌, length, take, Bool, true, false, OnErr, Option, Some, None, IfSome, Result, Ok, Err, refl, sym, ap, subst, ◌∙◌, append_assoc, append-nil, arith}
 use Rattle.std.specs.Prelude.{option_map}
 use Rattle.std.proofs.KnownBytes.{Appends-nil}
 use Rattle.std.specs.Io.KnownBytes.{Appends}
@@ -13,10 +13,11 @@ use Rattle.js_follow.specs.declared.answer.Listener.{Listener}
 use Rattle.js_follow.specs.declared.incoming.Incoming.{Incoming}
 use Rattle.js_follow.specs.declared.incoming.Incoming.TheVariants as incoming
 use Rattle.js_follow.specs.Answered.{IsTold, IsEnding, AnswersLine, AnswersEnd}
-use Rattle.js_follow.specs.Followed.{GoesOn, StopsWithin, AnswersLines, HasEnded, HasGone, IsCut, all_lines, Stands, StandsOr, Replies, IsReadStop}
-use Rattle.js_follow.specs.Incoming.{IsNext}
+use Rattle.js_follow.specs.Followed.{GoesOn, StopsWithin, AnswersLines, HasEnded, HasGone, IsCut, all_lines, Stands, StandsOr, Replies, IsReadStop, HasBegun, IsOver}
+use Rattle.js_follow.specs.Incoming.{IsNext, lines_left}
 use Rattle.js_follow.specs.Standing.{Standing, Going, Over, opened, standing, said, said_in_all, end_of, answered, text_for, status_for}
 use Rattle.js_follow.specs.Turns.{Dialogue, HasRead, HasWritten, Writes}
+use Rattle.js_follow.proofs.Punctually.{is_punctual}
 use Rattle.js_follow.proofs.Standings.{none_told, one_told, over_with_rest, prefix_of_all}
 
 -- ---- one text behind another
@@ -229,7 +230,7 @@ finished from mid now lines left text (Some e) s listener stands written cut (sa
 pub has_ending : (old new : Dialogue) (lines : List (List ℕ)) (text : List ℕ) (ending : Option Status) → AnswersEnd lines text ending → Replies old new text ending None → ⊥
 has_ending old new lines text None never replies = never
 has_ending old new lines text (Some e) answers (inl (is, whole)) = cc
-has_ending old new lines text (Some e) answers (inr (is, front)) = cc
+has_ending old new lines text (Some e) answers (inr (is, front, rose)) = cc
 
 -- no line was read
 pub read_stops : (from now : Dialogue) (s : Status) → IsReadStop s → (s ≡ status.ReadFault → Rose from.read_faults now.read_faults) → HasGone from now → IfSome from.left (λ bytes. StopsWithin (lines_of bytes) from.taken now.taken)
@@ -251,3 +252,29 @@ pub no_setup : (from now : Dialogue) (line : List ℕ) (left : Option (List (Lis
     → HasEnded from now (status.BadLine n)
 no_setup from now line left n gone same cut fails =
     is_over from now (line ∷ []) left [] (status.BadLine n) gone cut (one_told line ∙ ap opened fails) tt (appends_same from.taken now.taken same)
+
+take_all : (x : List ℕ) → take (length x) x ≡ x
+take_all [] = refl
+take_all (b ∷ x) = ap (λ (rest : List ℕ). b ∷ rest) (take_all x)
+
+-- the whole text was written, which is a front of it
+pub whole_before_error : {T E : Type 0} (result : Result T E) (a b c : Option (List ℕ)) (text : List ℕ) → Appends a b text → c ≡ b → OnErr result (AppendsPrefix a c text)
+whole_before_error (Ok done) a b c text appends same = tt
+whole_before_error (Err e) a b c text appends same =
+    (length text, subst (λ (x : Option (List ℕ)). Appends a x (take (length text) text)) (sym same) (subst (λ (t : List ℕ). Appends a b t) (sym (take_all text)) appends))
+
+-- memory ran out behind a first line
+pub begun_stops : (from now : Dialogue) (more : Bool) (line held : List ℕ) → HasBegun from now more line held → IsOver from now status.OutOfMemory
+begun_stops from now true line held (gone, same, cut, heard) = record {
+  ended = out_of_memory from now gone (says_nothing from now same);
+  punctual = λ none. is_punctual (line ∷ []) held [] [] now.turns (heard none);
+}
+begun_stops from now false line held (gone, same, cut, punctual) = record { ended = out_of_memory from now gone (says_nothing from now same); punctual = punctual }
+
+-- or it does not read
+pub begun_unread : (from now : Dialogue) (more : Bool) (line held : List ℕ) (n : ℕ) → HasBegun from now more line held → numbered 1 (setup_line line) ≡ Err n → IsOver from now (status.BadLine n)
+begun_unread from now true line held n (gone, same, cut, heard) fails = record {
+  ended = no_setup from now line (lines_left held now.left) n gone same cut fails;
+  punctual = λ none. is_punctual (line ∷ []) held [] [] now.turns (heard none);
+}
+begun_unread from now false line held n (gone, same, cut, punctual) fails = record { ended = no_setup from now line (Some []) n gone same cut fails; punctual = punctual }

@@ -85,8 +85,9 @@ text_grows lines front rest cut =
     (here ++ more, ap text_for cut ∙ ap said_in_all (with_rest front rest) ∙ then ∙ ap (λ (x : List ℕ). x ++ more) is ∙ append_assoc (answered front) here more)
 
 take_front : (x y : List ℕ) (k : ℕ) → take k x ≡ take (min k (length x)) (x ++ y)
-take_front [] y k =
-    let none : min k 0 ≡ 0 = omega arith in
+take_front [] y zero = refl
+take_front [] y (suc k) =
+    let none : min (suc k) 0 ≡ 0 = omega arith in
     sym (ap (λ (n : ℕ). take n y) none)
 take_front (b ∷ x) y zero =
     let none : min 0 (suc (length x)) ≡ 0 = omega arith in
@@ -127,18 +128,20 @@ read_all setup read es all [] accepted is =
       reads = refl;
       accepted = subst (λ (s : Setup). refuse (given s) s.start all ≡ None) same (subst (λ (xs : List Event). refuse (given setup) setup.start xs ≡ None) whole accepted);
     }
-read_all setup read es all (line ∷ lines) accepted is = by_reading (numbered (length es + 2) (event_line line)) refl is
+read_all setup read es all (line ∷ lines) accepted is =
+    by_reading (λ e passes goes. read_all setup read (es ++ e ∷ []) all lines passes goes) (numbered (length es + 2) (event_line line)) refl is
   where
-    by_reading : (reading : Result Event ℕ) → numbered (length es + 2) (event_line line) ≡ reading → after (went_on setup es reading) lines ≡ Going read all → Reading setup read es all (line ∷ lines)
-    by_reading (Err n) reads is = absurd (let over = over_stays (text_to setup es) (status.BadLine n) lines in let both : Over (text_to setup es) (status.BadLine n) ≡ Going read all = sym over ∙ is in cc)
-    by_reading (Ok e) reads is = by_refusal (refuse (given setup) setup.start (es ++ e ∷ [])) refl is
+    by_reading : ((e : Event) → refuse (given setup) setup.start (es ++ e ∷ []) ≡ None → after (Going setup (es ++ e ∷ [])) lines ≡ Going read all → Reading setup read (es ++ e ∷ []) all lines)
+        → (reading : Result Event ℕ) → numbered (length es + 2) (event_line line) ≡ reading → after (went_on setup es reading) lines ≡ Going read all → Reading setup read es all (line ∷ lines)
+    by_reading again (Err n) reads is = absurd (let over = over_stays (text_to setup es) (status.BadLine n) lines in let both : Over (text_to setup es) (status.BadLine n) ≡ Going read all = sym over ∙ is in cc)
+    by_reading again (Ok e) reads is = by_refusal (refuse (given setup) setup.start (es ++ e ∷ [])) refl is
       where
         by_refusal : (refusal : Option ReplayError) → refuse (given setup) setup.start (es ++ e ∷ []) ≡ refusal → after (passed setup (es ++ e ∷ []) (text_to setup es) refusal) lines ≡ Going read all
             → Reading setup read es all (line ∷ lines)
         by_refusal (Some refusal) refuses is =
             absurd (let over = over_stays (text_to setup es ++ refusal_text refusal) status.Refused lines in let both : Over (text_to setup es ++ refusal_text refusal) status.Refused ≡ Going read all = sym over ∙ is in cc)
         by_refusal None passes is =
-            let rest = read_all setup read (es ++ e ∷ []) all lines passes is in
+            let rest = again e passes is in
             record {
               same = rest.same;
               more = e ∷ rest.more;

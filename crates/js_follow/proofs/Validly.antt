@@ -26,11 +26,11 @@ use Rattle.js_follow.proofs.Standings.{one_longer, is_run}
 
 moments_front : (place before : ℕ) (es more : List Event) → first_early place before (es ++ more) ≡ None → first_early place before es ≡ None
 moments_front place before [] more none = refl
-moments_front place before (e ∷ es) more none = by_test (nat_lt e.at before) none
+moments_front place before (e ∷ es) more none = by_test (λ rest. moments_front (place + 1) e.at es more rest) (nat_lt e.at before) none
   where
-    by_test : (early : Bool) → (if early then Some place else first_early (place + 1) e.at (es ++ more)) ≡ None → (if early then Some place else first_early (place + 1) e.at es) ≡ None
-    by_test true none = absurd (cc)
-    by_test false none = moments_front (place + 1) e.at es more none
+    by_test : (first_early (place + 1) e.at (es ++ more) ≡ None → first_early (place + 1) e.at es ≡ None) → (early : Bool) → (if early then Some place else first_early (place + 1) e.at (es ++ more)) ≡ None → (if early then Some place else first_early (place + 1) e.at es) ≡ None
+    by_test again true none = absurd (cc)
+    by_test again false none = again none
 
 arrivals_front : (P : Event → Type 0) (es more : List Event) → AllByRecursion P (es ++ more) → AllByRecursion P es
 arrivals_front P [] more all = tt
@@ -49,12 +49,14 @@ valid_goes : (setup : Setup) (es more : List Event) (lines : List (List ℕ)) �
 valid_goes setup es more [] valid reads =
     let none : [] ≡ more = cc in
     ap (Going setup) (sym (append-nil es) ∙ ap (λ (rest : List Event). es ++ rest) none)
-valid_goes setup es more (line ∷ lines) valid reads = by_line (numbered (length es + 2) (event_line line)) refl reads
+valid_goes setup es more (line ∷ lines) valid reads =
+    by_line (λ e rest valid_on goes. valid_goes setup (es ++ e ∷ []) rest lines valid_on goes) (numbered (length es + 2) (event_line line)) refl reads
   where
-    by_line : (reading : Result Event ℕ) → numbered (length es + 2) (event_line line) ≡ reading
+    by_line : ((e : Event) (rest : List Event) → IsValid (given setup) setup.start ((es ++ e ∷ []) ++ rest) → events_from (length (es ++ e ∷ []) + 2) lines ≡ Ok rest → after (Going setup (es ++ e ∷ [])) lines ≡ Going setup ((es ++ e ∷ []) ++ rest))
+        → (reading : Result Event ℕ) → numbered (length es + 2) (event_line line) ≡ reading
         → (reading >>= λ event. events_from (length es + 2 + 1) lines >>= λ events. Ok (event ∷ events)) ≡ Ok more → after (went_on setup es reading) lines ≡ Going setup (es ++ more)
-    by_line (Err n) is reads = absurd (cc)
-    by_line (Ok e) is reads = by_rest (events_from (length es + 2 + 1) lines) refl reads
+    by_line again (Err n) is reads = absurd (cc)
+    by_line again (Ok e) is reads = by_rest (events_from (length es + 2 + 1) lines) refl reads
       where
         by_rest : (reading : Result (List Event) ℕ) → events_from (length es + 2 + 1) lines ≡ reading → (reading >>= λ events. Ok (e ∷ events)) ≡ Ok more
             → after (went_on setup es (Ok e)) lines ≡ Going setup (es ++ more)
@@ -65,7 +67,7 @@ valid_goes setup es more (line ∷ lines) valid reads = by_line (numbered (lengt
             let valid_on : IsValid (given setup) setup.start ((es ++ e ∷ []) ++ rest) = subst (λ (all : List Event). IsValid (given setup) setup.start all) joined valid in
             let accepted = valid_accepted (given setup) setup.start (es ++ e ∷ []) (valid_front setup (es ++ e ∷ []) rest valid_on) in
             ap (λ (r : Option ReplayError). after (passed setup (es ++ e ∷ []) (text_to setup es) r) lines) accepted
-            ∙ valid_goes setup (es ++ e ∷ []) rest lines valid_on (ap (λ (n : ℕ). events_from n lines) (one_longer es e) ∙ is)
+            ∙ again e rest valid_on (ap (λ (n : ℕ). events_from n lines) (one_longer es e) ∙ is)
             ∙ ap (Going setup) (sym joined)
 
 valid_done : (lines : List (List ℕ)) (t : Transcript) → transcript_of lines ≡ Ok t → IsValid (given t.setup) t.setup.start t.events → status_for lines ≡ status.Done
