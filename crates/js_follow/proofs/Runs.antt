@@ -8,7 +8,6 @@ use Rattle.js_table.specs.declared.event.Event.{Event}
 use Rattle.js_table.specs.declared.run.ReplayError.{ReplayError}
 use Rattle.js_table.specs.Fold.{fold}
 use Rattle.js_table.specs.Refusal.{refuse, first_early}
-use Rattle.js_table.specs.Valid.{IsValid, IsEventBelowEnd}
 use Rattle.js_table.proofs.Accepted.{valid_accepted}
 use Rattle.js_table.proofs.Promises.{fold_replays}
 use Rattle.js_tool.specs.declared.status.Status.{Status}

@@ -17,6 +17,6 @@ returns-in-Err-clause-greeted g c = λ from setup line left come reads gone same
 pub returns-in-Ok-clause-said : goal.returns-in-Ok-clause-said
 returns-in-Ok-clause-said g c = λ setup line held come reads has none.
     subst (λ (t : List ℕ). Holds (g.P.Peer.view c.reply.new.peer).turns (Has (line ∷ []) held t t))
-    (sym (says_in [] (line ∷ []) c.in-Ok.answer.text.items c.in-Ok.answer.ending c.args.listener.now
+    (sym (says_in [] c.in-Ok.answer.text.items (line ∷ []) c.in-Ok.answer.ending c.args.listener.now
     (answered_opening setup line c.in-Ok.answer.text.items c.in-Ok.answer.ending c.args.listener.now come reads (c.in-Ok.ensures setup [] come))))
     (c.reply.ensures.said (line ∷ []) held [] has none)

@@ -6,7 +6,7 @@ use Rattle.js_follow.proofs.conversation.tell.Goals as goal
 
 pub returns-in-Ok-clause-told : goal.returns-in-Ok-clause-told
 returns-in-Ok-clause-told g c = λ from lines before left stands cut.
-    replied from (g.P.Peer.view c.args.peer.now) (g.P.Peer.view c.reply.new.peer) (lines ++ c.args.line.now ∷ []) left (answered lines) c.in-Ok.answer.text.items c.in-Ok.answer.ending c.reply.result c.hear.new.listener
+    replied from (g.P.Peer.view c.args.peer.now) (g.P.Peer.view c.reply.new.peer) (lines ++ c.args.line.now ∷ []) left (answered lines) c.in-Ok.answer.text.items c.in-Ok.answer.ending c.reply.result c.hear.new.self
     stands.gone c.reply.ensures.writes cut stands.written (c.in-Ok.ensures lines stands.told) c.reply.ensures.replies
 
 pub returns-in-Err-clause-told : goal.returns-in-Err-clause-told
@@ -17,5 +17,5 @@ pub returns-in-Ok-clause-said : goal.returns-in-Ok-clause-said
 returns-in-Ok-clause-said g c = λ lines held told has none.
     let all = lines ++ c.args.line.now ∷ [] in
     subst (λ (t : List ℕ). Holds (g.P.Peer.view c.reply.new.peer).turns (Has all held t t))
-    (sym (says_in (answered lines) all c.in-Ok.answer.text.items c.in-Ok.answer.ending c.hear.new.listener (c.in-Ok.ensures lines told)))
+    (sym (says_in (answered lines) c.in-Ok.answer.text.items all c.in-Ok.answer.ending c.hear.new.self (c.in-Ok.ensures lines told)))
     (c.reply.ensures.said all held (answered lines) has none)
