@@ -1,0 +1,88 @@
+-- What a turn of a conversation leaves.
+use Rattle.std.proofs.Common.{◌≡◌, ℕ, List, [], ◌∷◌, ◌++◌, true, false, Option, Some, None, refl, sym, ap, subst, arith}
+use Rattle.std.specs.Prelude.{option_map}
+use Rattle.js_io.specs.Causes.{Rose}
+use Rattle.js_lines.specs.Lines.{lines_of}
+use Rattle.js_tool.specs.declared.status.Status.TheVariants as status
+use Rattle.js_follow.specs.declared.incoming.Incoming.TheVariants as incoming
+use Rattle.js_follow.specs.declared.peer.Turn.{Turn}
+use Rattle.js_tool.specs.declared.status.Status.{Status}
+use Rattle.js_follow.specs.declared.answer.Listener.{Listener}
+use Rattle.js_follow.specs.Followed.{Stands, StandsOr, IsAt, IsOver, HasBegun, HasEnded, HasGone, IsCut, IsReadStop, TakesTurn, all_lines}
+use Rattle.js_follow.specs.Incoming.{IsNext, lines_left}
+use Rattle.js_follow.specs.Punctual.{whole_lines, Holds, Has, IsPunctual}
+use Rattle.js_follow.specs.Standing.{said, answered}
+use Rattle.js_follow.specs.Turns.{Dialogue, HasRead, HasWritten}
+use Rattle.js_follow.proofs.Going.{cut_line, cut_last, cut_end, no_lines, read_stops, says_nothing}
+use Rattle.js_follow.proofs.Punctually.{is_punctual}
+use Rattle.js_follow.proofs.Standings.{none_told}
+
+-- a line was read, told and answered, behind which more may come
+pub turned_line : (from mid now : Dialogue) (told : List (List ℕ)) (line held : List ℕ) (listener : Listener) (result : Option Status) → StandsOr from now (told ++ line ∷ []) (lines_left held mid.left) listener result → HasWritten mid now
+    → (from.turns ≡ Some [] → Holds mid.turns (Has (told ++ line ∷ []) held (answered told) (answered told)))
+    → (Holds mid.turns (Has (told ++ line ∷ []) held (answered told) (answered told)) → result ≡ None → Holds now.turns (Has (told ++ line ∷ []) held (answered (told ++ line ∷ [])) (answered (told ++ line ∷ []))))
+    → (Holds mid.turns IsPunctual → Holds now.turns IsPunctual) → TakesTurn from now told held listener result
+turned_line from mid now told line held listener None stands written heard said punctual = (
+  line,
+  record {
+    stands = subst (λ (left : Option (List ℕ)). Stands from now (told ++ line ∷ []) (lines_left held left) listener) (sym written.left) stands;
+    heard = λ none. said (heard none) refl;
+  },
+)
+turned_line from mid now told line held listener (Some s) ended written heard said punctual = record {
+  ended = ended;
+  punctual = λ none. punctual (is_punctual (told ++ line ∷ []) held (answered told) (answered told) mid.turns (heard none));
+}
+
+-- ---- the first line
+
+all_left : (known : Option (List ℕ)) (held : List ℕ) → held ≡ [] → IsCut (option_map lines_of known) [] (lines_left held known)
+all_left None held none = tt
+all_left (Some bytes) held none = ap (λ (h : List ℕ). lines_of (h ++ bytes)) (sym none)
+
+none_said : (turns : Option (List Turn)) (held : List ℕ) → held ≡ [] → turns ≡ Some [] → Holds turns (Has [] held (answered []) (answered []))
+none_said turns held none is = subst (λ (t : Option (List Turn)). Holds t (Has [] held (answered []) (answered []))) (sym is) (record {
+  punctual = tt;
+  cut = λ more. ap (λ (h : List ℕ). whole_lines (h ++ more)) (sym none);
+  written = sym (ap said none_told);
+  flushed = sym (ap said none_told);
+})
+
+begun_gone : (from mid : Dialogue) → HasRead from mid → HasGone from mid
+begun_gone from mid read = record {
+  reads = read.later;
+  writes = let same = read.write_faults in omega (arith, same);
+  place = read.place;
+}
+
+pub begun_line : (from mid : Dialogue) (first line held : List ℕ) → first ≡ [] → HasRead from mid → IsNext incoming.Line (lines_left first from.left) line (lines_left held mid.left)
+    → (Holds from.turns (Has [] first (answered []) (answered [])) → Holds mid.turns (Has (line ∷ []) held (answered []) (answered []))) → HasBegun from mid true line held
+begun_line from mid first line held none read next hears = (
+  begun_gone from mid read,
+  read.taken,
+  cut_line (all_lines from) (lines_left first from.left) (lines_left held mid.left) [] line (all_left from.left first none) next,
+  λ told. subst (λ (t : List ℕ). Holds mid.turns (Has (line ∷ []) held t t)) (ap said none_told) (hears (none_said from.turns first none told)),
+)
+
+pub begun_last : (from mid : Dialogue) (first line held : List ℕ) → first ≡ [] → HasRead from mid → IsNext incoming.Last (lines_left first from.left) line (lines_left held mid.left)
+    → (Holds from.turns (Has [] first (answered []) (answered [])) → Holds mid.turns IsPunctual) → HasBegun from mid false line held
+begun_last from mid first line held none read next hears = (
+  begun_gone from mid read,
+  read.taken,
+  cut_last (all_lines from) (lines_left first from.left) (lines_left held mid.left) [] line (all_left from.left first none) next,
+  λ told. hears (none_said from.turns first none told),
+)
+
+pub begun_none : (from mid : Dialogue) (first line held : List ℕ) → first ≡ [] → HasRead from mid → IsNext incoming.End (lines_left first from.left) line (lines_left held mid.left)
+    → (Holds from.turns (Has [] first (answered []) (answered [])) → Holds mid.turns IsPunctual) → IsOver from mid (status.BadLine 1)
+begun_none from mid first line held none read next hears = record {
+  ended = no_lines from mid (begun_gone from mid read) read.taken (cut_end (all_lines from) (lines_left first from.left) (lines_left held mid.left) [] line (all_left from.left first none) next);
+  punctual = λ told. hears (none_said from.turns first none told);
+}
+
+pub begun_fails : (from mid : Dialogue) (first : List ℕ) (s : Status) → first ≡ [] → HasRead from mid → IsReadStop s → (s ≡ status.ReadFault → Rose from.read_faults mid.read_faults)
+    → (Holds from.turns (Has [] first (answered []) (answered [])) → Holds mid.turns IsPunctual) → IsOver from mid s
+begun_fails from mid first s none read stop rose hears = record {
+  ended = read_stops from mid s stop rose (begun_gone from mid read) (says_nothing from mid read.taken);
+  punctual = λ told. hears (none_said from.turns first none told);
+}
