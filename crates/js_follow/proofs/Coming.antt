@@ -1,5 +1,6 @@
 -- Lines of a source as its bytes come.
 use Rattle.std.proofs.Common.{◌≡◌, ℕ, zero, suc, ◌+◌, ◌-◌, ◌⊎◌, inl, inr, ◌<◌, ◌≤◌, ◌==◌, nat_lt, Bool, true, false, List, [], ◌∷◌, ◌++◌, length, take, drop, get_or, if◌then◌else◌, slice_index, Option, Some, None, refl, sym, ap, subst, ◌∙◌, arith, append-nil, append_assoc, add-one, add-zero, length-append}
+use Rattle.std.proofs.lemmas.Bool.{false_from_ne_true}
 use Rattle.std.proofs.lemmas.Bool.Decides.{nat_tests}
 use Rattle.std.specs.Io.KnownBytes.{Keeps, Consumes, IsAtEnd, prepend_known}
 use Rattle.js_lines.specs.Lines.{lines_of}
@@ -22,17 +23,13 @@ pub keeps_all : (first : List ℕ) (opened : Option (List ℕ)) → Keeps (prepe
 keeps_all first None = tt
 keeps_all first (Some all) = refl
 
-is_false : (b : Bool) → (b ≡ true → ⊥) → b ≡ false
-is_false true never = absurd (never refl)
-is_false false never = refl
-
 -- the first line feed cuts the first line off, whatever follows
 cut_before : (bytes more : List ℕ) (i : ℕ) → i < length bytes → (get_or bytes i 0 == 10) ≡ true → ((k : ℕ) → k < i → (get_or bytes k 0 == 10) ≡ true → ⊥)
     → lines_of (bytes ++ more) ≡ take i bytes ∷ lines_of (drop (i + 1) bytes ++ more)
 cut_before [] more i lt here below = absurd (omega arith)
 cut_before (b ∷ bytes) more zero lt here below = rw here refl
 cut_before (b ∷ bytes) more (suc i) lt here below =
-    let other = is_false (b == 10) (below 0 (omega arith)) in
+    let other = false_from_ne_true (b == 10) (below 0 (omega arith)) in
     rw (other, cut_before bytes more i (omega arith) here (λ k h. below (suc k) (omega arith)), add-one, add-one) refl
 
 -- so the next line is read

@@ -2,6 +2,7 @@
 use Rattle.std.proofs.Common.{◌≡◌, ◌⊎◌, inl, inr, ℕ, suc, ◌+◌, ◌-◌, ◌^◌, ◌≤◌, min, List, [], ◌∷◌, ◌++◌, length, take, Bool, true, false, OnErr, Option, Some, None, IfSome, Result, Ok, Err, refl, sym, ap, subst, ◌∙◌, append_assoc, append-nil, arith}
 use Rattle.std.specs.Prelude.{option_map}
 use Rattle.std.proofs.KnownBytes.{Appends-nil}
+use Rattle.std.proofs.Math.Seq.{take-append-add, take-length}
 use Rattle.std.specs.Io.KnownBytes.{Appends}
 use Rattle.js_io.specs.Causes.{Rose, AppendsPrefix}
 use Rattle.js_lines.specs.Lines.{lines_of}
@@ -28,16 +29,8 @@ appends_on (Some a) None c x y first second = absurd first
 appends_on (Some a) (Some b) None x y first second = absurd second
 appends_on (Some a) (Some b) (Some c) x y first second = second ∙ ap (λ (front : List ℕ). front ++ y) first ∙ append_assoc a x y
 
-take_behind : (x y : List ℕ) (k : ℕ) → take (length x + k) (x ++ y) ≡ x ++ take k y
-take_behind [] y k =
-    let none : 0 + k ≡ k = omega arith in
-    ap (λ (n : ℕ). take n y) none
-take_behind (b ∷ x) y k =
-    let one : suc (length x) + k ≡ suc (length x + k) = omega arith in
-    ap (λ (n : ℕ). take n (b ∷ (x ++ y))) one ∙ ap (λ (rest : List ℕ). b ∷ rest) (take_behind x y k)
-
 prefix_on : (a b c : Option (List ℕ)) (x y : List ℕ) → Appends a b x → AppendsPrefix b c y → AppendsPrefix a c (x ++ y)
-prefix_on a b c x y first (k, second) = (length x + k, subst (λ (text : List ℕ). Appends a c text) (sym (take_behind x y k)) (appends_on a b c x (take k y) first second))
+prefix_on a b c x y first (k, second) = (length x + k, subst (λ (text : List ℕ). Appends a c text) (sym (take-append-add x y k)) (appends_on a b c x (take k y) first second))
 
 rose_since : (before between now : ℕ) → before ≤ between → Rose between now → Rose before now
 rose_since before between now later rose = grind arith
@@ -253,15 +246,11 @@ pub no_setup : (from now : Dialogue) (line : List ℕ) (left : Option (List (Lis
 no_setup from now line left n gone same cut fails =
     is_over from now (line ∷ []) left [] (status.BadLine n) gone cut (one_told line ∙ ap opened fails) tt (appends_same from.taken now.taken same)
 
-take_all : (x : List ℕ) → take (length x) x ≡ x
-take_all [] = refl
-take_all (b ∷ x) = ap (λ (rest : List ℕ). b ∷ rest) (take_all x)
-
 -- the whole text was written, which is a front of it
 pub whole_before_error : {T E : Type 0} (result : Result T E) (a b c : Option (List ℕ)) (text : List ℕ) → Appends a b text → c ≡ b → OnErr result (AppendsPrefix a c text)
 whole_before_error (Ok done) a b c text appends same = tt
 whole_before_error (Err e) a b c text appends same =
-    (length text, subst (λ (x : Option (List ℕ)). Appends a x (take (length text) text)) (sym same) (subst (λ (t : List ℕ). Appends a b t) (sym (take_all text)) appends))
+    (length text, subst (λ (x : Option (List ℕ)). Appends a x (take (length text) text)) (sym same) (subst (λ (t : List ℕ). Appends a b t) (sym (take-length text)) appends))
 
 -- memory ran out behind a first line
 pub begun_stops : (from now : Dialogue) (more : Bool) (line held : List ℕ) → HasBegun from now more line held → IsOver from now status.OutOfMemory

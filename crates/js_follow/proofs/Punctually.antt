@@ -1,5 +1,6 @@
 -- Call after call: what was read, written and passed on.
 use Rattle.std.proofs.Common.{◌≡◌, ℕ, zero, suc, ◌+◌, ◌-◌, ◌<◌, ◌==◌, Bool, true, false, List, [], ◌∷◌, ◌++◌, length, take, drop, get_or, if◌then◌else◌, Option, Some, None, Result, Ok, Err, refl, sym, ap, subst, ◌∙◌, arith, append-nil, append_assoc, add-one}
+use Rattle.std.proofs.lemmas.Bool.{false_from_ne_true}
 use Rattle.std.proofs.lemmas.List.{take_rest}
 use Rattle.std.proofs.Math.Seq.{take-add}
 use Rattle.js_follow.specs.declared.incoming.Incoming.{Incoming}
@@ -13,14 +14,10 @@ use Rattle.js_follow.specs.Turns.{Dialogue, Reads, Writes, Takes, bytes_of, hear
 
 -- ---- whole lines
 
-is_false : (b : Bool) → (b ≡ true → ⊥) → b ≡ false
-is_false true never = absurd (never refl)
-is_false false never = refl
-
 none_whole : (bytes : List ℕ) → HasNoFeed bytes (length bytes) → whole_lines bytes ≡ []
 none_whole [] none = refl
 none_whole (b ∷ bytes) none =
-    let other = is_false (b == 10) (none 0 (omega arith)) in
+    let other = false_from_ne_true (b == 10) (none 0 (omega arith)) in
     rw (other, none_whole bytes (λ k lt. none (suc k) (omega arith))) refl
 
 whole_cut : (bytes more : List ℕ) (i : ℕ) → i < length bytes → (get_or bytes i 0 == 10) ≡ true → ((k : ℕ) → k < i → (get_or bytes k 0 == 10) ≡ true → ⊥)
@@ -28,7 +25,7 @@ whole_cut : (bytes more : List ℕ) (i : ℕ) → i < length bytes → (get_or b
 whole_cut [] more i lt here below = absurd (omega arith)
 whole_cut (b ∷ bytes) more zero lt here below = rw here refl
 whole_cut (b ∷ bytes) more (suc i) lt here below =
-    let other = is_false (b == 10) (below 0 (omega arith)) in
+    let other = false_from_ne_true (b == 10) (below 0 (omega arith)) in
     rw (other, whole_cut bytes more i (omega arith) here (λ k h. below (suc k) (omega arith)), add-one, add-one) refl
 
 -- ---- a call more

@@ -60,14 +60,17 @@ standing_not : (lines : List (List ℕ)) → NotDone (standing lines)
 unfolding standing NotDone
 standing_not lines = after_not Unopened lines tt
 
+not_done : (text : List ℕ) (s : Status) → NotDone (Over text s) → s ≡ status.Done → ⊥
+unfolding NotDone
+not_done text s fit ends = fit ends
+
 -- so what is done is the text of a run
 pub writes_run : (bytes : List ℕ) (taken after : Option (List ℕ)) → AnswersLines (lines_of bytes) taken after status.Done → WritesRun bytes taken after
-unfolding NotDone
 writes_run bytes taken after (ends, appends) = by_standing (standing (lines_of bytes)) refl ends appends (standing_not (lines_of bytes))
   where
     by_standing : (s : Standing) → standing (lines_of bytes) ≡ s → end_of s ≡ status.Done → Appends taken after (said_in_all s) → NotDone s → WritesRun bytes taken after
     by_standing Unopened is ends appends fit = absurd (cc)
-    by_standing (Over text s) is ends appends fit = absurd (fit ends)
+    by_standing (Over text s) is ends appends fit = absurd (not_done text s fit ends)
     by_standing (Going setup es) is ends appends fit =
         let run = is_run (lines_of bytes) setup es is in
         record {

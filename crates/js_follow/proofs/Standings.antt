@@ -1,5 +1,6 @@
 -- How a replay stands after some lines.
 use Rattle.std.proofs.Common.{◌≡◌, ℕ, zero, suc, ◌+◌, min, List, [], ◌∷◌, ◌++◌, length, take, Option, Some, None, Result, Ok, Err, refl, sym, ap, subst, ◌∙◌, arith, append-nil, append_assoc, length-append}
+use Rattle.std.proofs.lemmas.List.{take-append-le, take_min}
 use Rattle.js_io.specs.Causes.{AppendsPrefix}
 use Rattle.std.specs.Io.KnownBytes.{Appends}
 use Rattle.js_table.specs.declared.event.Event.{Event}
@@ -85,16 +86,7 @@ text_grows lines front rest cut =
     (here ++ more, ap text_for cut ∙ ap said_in_all (with_rest front rest) ∙ then ∙ ap (λ (x : List ℕ). x ++ more) is ∙ append_assoc (answered front) here more)
 
 take_front : (x y : List ℕ) (k : ℕ) → take k x ≡ take (min k (length x)) (x ++ y)
-take_front [] y zero = refl
-take_front [] y (suc k) =
-    let none : min (suc k) 0 ≡ 0 = omega arith in
-    sym (ap (λ (n : ℕ). take n y) none)
-take_front (b ∷ x) y zero =
-    let none : min 0 (suc (length x)) ≡ 0 = omega arith in
-    sym (ap (λ (n : ℕ). take n (b ∷ (x ++ y))) none)
-take_front (b ∷ x) y (suc k) =
-    let one : min (suc k) (suc (length x)) ≡ suc (min k (length x)) = omega arith in
-    ap (λ (rest : List ℕ). b ∷ rest) (take_front x y k) ∙ sym (ap (λ (n : ℕ). take n (b ∷ (x ++ y))) one)
+take_front x y k = sym (take-append-le (min k (length x)) x y (omega arith) ∙ take_min k x)
 
 -- so a front of it is a front of all
 pub prefix_of_all : (old new : Option (List ℕ)) (lines front rest : List (List ℕ)) → lines ≡ front ++ rest → AppendsPrefix old new (answered front) → AppendsPrefix old new (text_for lines)
@@ -151,6 +143,9 @@ read_all setup read es all (line ∷ lines) accepted is =
               accepted = rest.accepted;
             }
 
+abbrev pub with_events : Setup → Result (List Event) ℕ → Result Transcript ℕ
+with_events setup reading = reading >>= λ events. Ok (record { setup = setup; events = events })
+
 -- the lines are a transcript of which nothing is refused
 pub record IsRun (lines : List (List ℕ)) (setup : Setup) (es : List Event) : Type 0 where
   pub reads : transcript_of lines ≡ Ok (record { setup = setup; events = es })
@@ -172,8 +167,8 @@ is_run (line ∷ lines) setup es is = by_setup (numbered 1 (setup_line line)) re
             let r = read_all first setup [] es lines passes is in
             record {
               reads = ap (λ (x : Result Setup ℕ). x >>= λ s. with_lines s lines) reads
-                  ∙ ap (λ (x : Result (List Event) ℕ). x >>= λ events. Ok (record { setup = first; events = events })) r.reads
-                  ∙ ap (λ (s : Setup). let t : Transcript = record { setup = s; events = r.more } in Ok t) r.same
-                  ∙ ap (λ (events : List Event). let t : Transcript = record { setup = setup; events = events } in Ok t) (sym r.behind);
+                  ∙ ap (with_events first) r.reads
+                  ∙ ap (λ (s : Setup). with_events s (Ok r.more)) r.same
+                  ∙ ap (λ (events : List Event). with_events setup (Ok events)) (sym r.behind);
               accepted = r.accepted;
             }

@@ -1,16 +1,17 @@
 -- What a turn of a conversation leaves.
-use Rattle.std.proofs.Common.{◌≡◌, ℕ, List, [], ◌∷◌, ◌++◌, true, false, Option, Some, None, refl, sym, ap, subst, arith}
+use Rattle.std.proofs.Common.{◌≡◌, ℕ, List, [], ◌∷◌, ◌++◌, true, false, Option, Some, None, Result, Ok, Err, refl, sym, ap, subst, arith}
 use Rattle.std.specs.Prelude.{option_map}
 use Rattle.js_io.specs.Causes.{Rose}
 use Rattle.js_lines.specs.Lines.{lines_of}
 use Rattle.js_tool.specs.declared.status.Status.TheVariants as status
+use Rattle.js_follow.specs.declared.incoming.Incoming.{Incoming}
 use Rattle.js_follow.specs.declared.incoming.Incoming.TheVariants as incoming
 use Rattle.js_follow.specs.declared.peer.Turn.{Turn}
 use Rattle.js_tool.specs.declared.status.Status.{Status}
 use Rattle.js_follow.specs.declared.answer.Listener.{Listener}
 use Rattle.js_follow.specs.Followed.{Stands, StandsOr, IsAt, IsOver, HasBegun, HasEnded, HasGone, IsCut, IsReadStop, TakesTurn, all_lines}
 use Rattle.js_follow.specs.Incoming.{IsNext, lines_left}
-use Rattle.js_follow.specs.Punctual.{whole_lines, Holds, Has, IsPunctual}
+use Rattle.js_follow.specs.Punctual.{whole_lines, Holds, Has, HearsNext, IsPunctual}
 use Rattle.js_follow.specs.Standing.{said, answered}
 use Rattle.js_follow.specs.Turns.{Dialogue, HasRead, HasWritten}
 use Rattle.js_follow.proofs.Going.{cut_line, cut_last, cut_end, no_lines, read_stops, says_nothing}
@@ -55,29 +56,34 @@ begun_gone from mid read = record {
   place = read.place;
 }
 
-pub begun_line : (from mid : Dialogue) (first line held : List ℕ) → first ≡ [] → HasRead from mid → IsNext incoming.Line (lines_left first from.left) line (lines_left held mid.left)
-    → (Holds from.turns (Has [] first (answered []) (answered [])) → Holds mid.turns (Has (line ∷ []) held (answered []) (answered []))) → HasBegun from mid true line held
-begun_line from mid first line held none read next hears = (
+pub begun_line : (from mid : Dialogue) (first line held : List ℕ) (next : Incoming) → next ≡ incoming.Line → first ≡ [] → HasRead from mid → IsNext next (lines_left first from.left) line (lines_left held mid.left)
+    → (Holds from.turns (Has [] first (answered []) (answered [])) → HearsNext {E = Status} [] (Ok next) line held mid.turns) → HasBegun from mid true line held
+begun_line from mid first line held next is none read cut hears = (
   begun_gone from mid read,
   read.taken,
-  cut_line (all_lines from) (lines_left first from.left) (lines_left held mid.left) [] line (all_left from.left first none) next,
-  λ told. subst (λ (t : List ℕ). Holds mid.turns (Has (line ∷ []) held t t)) (ap said none_told) (hears (none_said from.turns first none told)),
+  cut_line (all_lines from) (lines_left first from.left) (lines_left held mid.left) [] line (all_left from.left first none)
+      (subst (λ (n : Incoming). IsNext n (lines_left first from.left) line (lines_left held mid.left)) is cut),
+  λ told. subst (λ (t : List ℕ). Holds mid.turns (Has (line ∷ []) held t t)) (ap said none_told)
+      (subst (λ (n : Incoming). HearsNext {E = Status} [] (Ok n) line held mid.turns) is (hears (none_said from.turns first none told))),
 )
 
-pub begun_last : (from mid : Dialogue) (first line held : List ℕ) → first ≡ [] → HasRead from mid → IsNext incoming.Last (lines_left first from.left) line (lines_left held mid.left)
-    → (Holds from.turns (Has [] first (answered []) (answered [])) → Holds mid.turns IsPunctual) → HasBegun from mid false line held
-begun_last from mid first line held none read next hears = (
+pub begun_last : (from mid : Dialogue) (first line held : List ℕ) (next : Incoming) → next ≡ incoming.Last → first ≡ [] → HasRead from mid → IsNext next (lines_left first from.left) line (lines_left held mid.left)
+    → (Holds from.turns (Has [] first (answered []) (answered [])) → HearsNext {E = Status} [] (Ok next) line held mid.turns) → HasBegun from mid false line held
+begun_last from mid first line held next is none read cut hears = (
   begun_gone from mid read,
   read.taken,
-  cut_last (all_lines from) (lines_left first from.left) (lines_left held mid.left) [] line (all_left from.left first none) next,
-  λ told. hears (none_said from.turns first none told),
+  cut_last (all_lines from) (lines_left first from.left) (lines_left held mid.left) [] line (all_left from.left first none)
+      (subst (λ (n : Incoming). IsNext n (lines_left first from.left) line (lines_left held mid.left)) is cut),
+  λ told. subst (λ (n : Incoming). HearsNext {E = Status} [] (Ok n) line held mid.turns) is (hears (none_said from.turns first none told)),
 )
 
-pub begun_none : (from mid : Dialogue) (first line held : List ℕ) → first ≡ [] → HasRead from mid → IsNext incoming.End (lines_left first from.left) line (lines_left held mid.left)
-    → (Holds from.turns (Has [] first (answered []) (answered [])) → Holds mid.turns IsPunctual) → IsOver from mid (status.BadLine 1)
-begun_none from mid first line held none read next hears = record {
-  ended = no_lines from mid (begun_gone from mid read) read.taken (cut_end (all_lines from) (lines_left first from.left) (lines_left held mid.left) [] line (all_left from.left first none) next);
-  punctual = λ told. hears (none_said from.turns first none told);
+pub begun_none : (from mid : Dialogue) (first line held : List ℕ) (next : Incoming) → next ≡ incoming.End → first ≡ [] → HasRead from mid → IsNext next (lines_left first from.left) line (lines_left held mid.left)
+    → (Holds from.turns (Has [] first (answered []) (answered [])) → HearsNext {E = Status} [] (Ok next) line held mid.turns) → IsOver from mid (status.BadLine 1)
+begun_none from mid first line held next is none read cut hears = record {
+  ended = no_lines from mid (begun_gone from mid read) read.taken
+      (cut_end (all_lines from) (lines_left first from.left) (lines_left held mid.left) [] line (all_left from.left first none)
+      (subst (λ (n : Incoming). IsNext n (lines_left first from.left) line (lines_left held mid.left)) is cut));
+  punctual = λ told. subst (λ (n : Incoming). HearsNext {E = Status} [] (Ok n) line held mid.turns) is (hears (none_said from.turns first none told));
 }
 
 pub begun_fails : (from mid : Dialogue) (first : List ℕ) (s : Status) → first ≡ [] → HasRead from mid → IsReadStop s → (s ≡ status.ReadFault → Rose from.read_faults mid.read_faults)
