@@ -6,3 +6,4 @@ mod Runs
 mod Standings
 mod Turning
 mod Validly
+mod Worked
