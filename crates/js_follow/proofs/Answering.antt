@@ -1,5 +1,6 @@
 -- What a replay answers to a line.
 use Rattle.std.proofs.Common.{◌≡◌, ℕ, ◌+◌, List, [], ◌∷◌, ◌++◌, length, Bool, Option, Some, None, Result, Ok, Err, refl, sym, ap, subst, ◌∙◌, append-nil}
+use Rattle.std.specs.Prelude.{IfOk}
 use Rattle.js_ordered.specs.IncrementalReplay.{HasCome}
 use Rattle.js_table.specs.declared.event.Event.{Event}
 use Rattle.js_table.specs.declared.run.ReplayError.{ReplayError}
@@ -14,6 +15,7 @@ use Rattle.js_tool.specs.Setups.{setup_line}
 use Rattle.js_tool.specs.Texts.{refusal_text, last_line}
 use Rattle.js_tool.specs.Transcripts.{numbered}
 use Rattle.js_tool.proofs.Passing.{text_first, text_on, text_ends}
+use Rattle.js_follow.specs.declared.answer.Answer.{Answer}
 use Rattle.js_follow.specs.declared.answer.Listener.{Listener}
 use Rattle.js_follow.specs.Answered.{last_text, AnswersEvents, AnswersLine, AnswersEnd, IsEnding, IsTold}
 use Rattle.js_follow.specs.Standing.{Standing, Unopened, Going, Over, text_to, passed, opened, went_on, next, standing, said, said_in_all, end_of, answered}
@@ -78,3 +80,29 @@ answered_end lines listener ended number text ending told ends counted says is =
 -- what is told is not refused
 pub told_accepted : (lines : List (List ℕ)) (setup : Setup) (es : List Event) → standing lines ≡ Going setup es → refuse (given setup) setup.start es ≡ None
 told_accepted lines setup es stands = (is_run lines setup es stands).accepted
+
+never_both : (refusal : ReplayError) → ◌≡◌ {A = Option ReplayError} None (Some refusal) → ⊥
+never_both refusal same = cc
+
+-- so it is not refused at the end
+pub never_refused : (lines : List (List ℕ)) (listener : Listener) (refusal : ReplayError) (told : IsTold lines listener) → refuse (given told.setup) told.setup.start told.es ≡ Some refusal → ⊥
+never_refused lines listener refusal told refuses = never_both refusal (sym (told_accepted lines told.setup told.es told.stands) ∙ refuses)
+
+-- ---- where memory lasts
+
+pub end_so : {E : Type 0} (result : Result Answer E) (lines : List (List ℕ)) (listener : Listener) (ended : Bool) (number : ℕ) (told : IsTold lines listener) → ended ≡ (fold (given told.setup) told.setup.start told.es).ended
+    → number ≡ length told.es → IfOk result (λ answer. (answer.text.items ≡ last_line ended number) × (answer.ending ≡ Some status.Done)) → IfOk result (λ answer. AnswersEnd lines answer.text.items answer.ending)
+end_so (Ok answer) lines listener ended number told ends counted says = answered_end lines listener ended number answer.text.items answer.ending told ends counted says.0 says.1
+end_so (Err e) lines listener ended number told ends counted says = tt
+
+pub event_so : {E : Type 0} (result : Result Answer E) (lines : List (List ℕ)) (line : List ℕ) (setup : Setup) (es : List Event) (e : Event) (number : ℕ) (listener : Listener) → standing lines ≡ Going setup es → number ≡ length es + 2
+    → numbered number (event_line line) ≡ Ok e → HasCome (given setup) setup.start (es ++ e ∷ []) listener.replay → IfOk result (λ answer. AnswersEvents setup (es ++ e ∷ []) answer.text.items answer.ending)
+    → IfOk result (λ answer. AnswersLine (answered lines) (lines ++ line ∷ []) answer.text.items answer.ending listener)
+event_so (Ok answer) lines line setup es e number listener stands counted reads come says =
+    answered_event lines line answer.text.items setup es e answer.ending listener stands (subst (λ (n : ℕ). numbered n (event_line line) ≡ Ok e) counted reads) come says
+event_so (Err error) lines line setup es e number listener stands counted reads come says = tt
+
+pub unread_so : (lines : List (List ℕ)) (line text : List ℕ) (setup : Setup) (es : List Event) (n number : ℕ) (ending : Option Status) (listener : Listener) → standing lines ≡ Going setup es → number ≡ length es + 2
+    → numbered number (event_line line) ≡ Err n → text ≡ [] → ending ≡ Some (status.BadLine n) → AnswersLine (answered lines) (lines ++ line ∷ []) text ending listener
+unread_so lines line text setup es n number ending listener stands counted fails none is =
+    answered_unread lines line text setup es n ending listener stands (subst (λ (k : ℕ). numbered k (event_line line) ≡ Err n) counted fails) none is

@@ -1,6 +1,7 @@
 -- What a turn of a conversation leaves.
-use Rattle.std.proofs.Common.{◌≡◌, ℕ, List, [], ◌∷◌, ◌++◌, true, false, Option, Some, None, Result, Ok, Err, refl, sym, ap, subst, arith}
+use Rattle.std.proofs.Common.{◌≡◌, ℕ, List, [], ◌∷◌, ◌++◌, Bool, true, false, Option, Some, None, Result, Ok, Err, refl, sym, ap, subst, arith}
 use Rattle.std.specs.Prelude.{option_map}
+use Rattle.std.proofs.lemmas.Bool.{false≢true}
 use Rattle.js_io.specs.Causes.{Rose}
 use Rattle.js_lines.specs.Lines.{lines_of}
 use Rattle.js_tool.specs.declared.status.Status.TheVariants as status
@@ -14,7 +15,7 @@ use Rattle.js_follow.specs.Incoming.{IsNext, lines_left}
 use Rattle.js_follow.specs.Punctual.{whole_lines, Holds, Has, HearsNext, IsPunctual}
 use Rattle.js_follow.specs.Standing.{said, answered}
 use Rattle.js_follow.specs.Turns.{Dialogue, HasRead, HasWritten}
-use Rattle.js_follow.proofs.Going.{cut_line, cut_last, cut_end, no_lines, read_stops, says_nothing}
+use Rattle.js_follow.proofs.Going.{cut_line, cut_last, cut_end, no_lines, read_stops, says_nothing, stands_read}
 use Rattle.js_follow.proofs.Punctually.{is_punctual}
 use Rattle.js_follow.proofs.Standings.{none_told}
 
@@ -34,6 +35,35 @@ turned_line from mid now told line held listener (Some s) ended written heard sa
   ended = ended;
   punctual = λ none. punctual (is_punctual (told ++ line ∷ []) held (answered told) (answered told) mid.turns (heard none));
 }
+
+-- so a line that is there was read, told and answered
+pub took_line : (from old mid now : Dialogue) (told : List (List ℕ)) (line read before held : List ℕ) (listener new : Listener) (result : Option Status) (next : Incoming) → next ≡ incoming.Line → line ≡ read → IsAt from old told before listener
+    → HasRead old mid → IsNext next (lines_left before old.left) read (lines_left held mid.left)
+    → (Holds old.turns (Has told before (answered told) (answered told)) → HearsNext {E = Status} told (Ok next) read held mid.turns)
+    → (Stands from mid told (lines_left before old.left) listener → IsCut (all_lines from) (told ++ line ∷ []) (lines_left held mid.left) → StandsOr from now (told ++ line ∷ []) (lines_left held mid.left) new result)
+    → HasWritten mid now
+    → (Holds mid.turns (Has (told ++ line ∷ []) held (answered told) (answered told)) → result ≡ None → Holds now.turns (Has (told ++ line ∷ []) held (answered (told ++ line ∷ [])) (answered (told ++ line ∷ []))))
+    → (Holds mid.turns IsPunctual → Holds now.turns IsPunctual) → TakesTurn from now told held new result
+took_line from old mid now told line read before held listener new result next is same at reads cut hears tells written said punctual =
+    let here : IsNext incoming.Line (lines_left before old.left) line (lines_left held mid.left) =
+    subst (λ (l : List ℕ). IsNext incoming.Line (lines_left before old.left) l (lines_left held mid.left)) (sym same)
+    (subst (λ (n : Incoming). IsNext n (lines_left before old.left) read (lines_left held mid.left)) is cut) in
+    turned_line from mid now told line held new result
+    (tells (stands_read from old mid told (lines_left before old.left) listener reads at.stands) (cut_line (all_lines from) (lines_left before old.left) (lines_left held mid.left) told line at.stands.cut here))
+    written
+    (λ none. subst (λ (l : List ℕ). Holds mid.turns (Has (told ++ l ∷ []) held (answered told) (answered told))) (sym same)
+    (subst (λ (n : Incoming). HearsNext {E = Status} told (Ok n) read held mid.turns) is (hears (at.heard none))))
+    said punctual
+
+-- the opening was answered, behind whose line more may come
+pub began : (from old now : Dialogue) (more : Bool) (line held : List ℕ) (listener : Listener) → more ≡ true → HasBegun from old more line held → HasWritten old now
+    → (HasGone from old → old.taken ≡ from.taken → IsCut (all_lines from) (line ∷ []) (lines_left held old.left) → Stands from now (line ∷ []) (lines_left held old.left) listener)
+    → (Holds old.turns (Has (line ∷ []) held [] []) → Holds now.turns (Has (line ∷ []) held (answered (line ∷ [])) (answered (line ∷ [])))) → IsAt from now (line ∷ []) held listener
+began from old now true line held listener is (gone, same, cut, heard) written greets says = record {
+  stands = subst (λ (left : Option (List ℕ)). Stands from now (line ∷ []) (lines_left held left) listener) (sym written.left) (greets gone same cut);
+  heard = λ none. says (heard none);
+}
+began from old now false line held listener is begun written greets says = absurd (false≢true is)
 
 -- ---- the first line
 

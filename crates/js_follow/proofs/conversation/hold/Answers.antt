@@ -1,10 +1,10 @@
-use Rattle.std.proofs.Common.{[]}
+use Rattle.std.proofs.Common.{[], Err, ap}
 use Rattle.js_follow.proofs.Turning.{begun_line, begun_last, begun_none, begun_fails}
 use Rattle.js_follow.proofs.conversation.hold.Goals as goal
 
 pub returns-in-Err : goal.returns-in-Err
 returns-in-Err g c =
-    begun_fails (g.P.Peer.view c.args.peer.now) (g.P.Peer.view c.next.new.peer) c.args.lines.now.left c.in-Err.status c.requires c.in-Err.ensures.reads c.in-Err.ensures.stops c.in-Err.ensures.fault (c.in-Err.ensures.heard [])
+    begun_fails (g.P.Peer.view c.args.peer.now) (g.P.Peer.view c.next.new.peer) c.args.lines.now.left c.in-Err.status c.requires c.in-Err.ensures.reads c.in-Err.ensures.stops (λ is. c.in-Err.ensures.fault (ap Err is)) (c.in-Err.ensures.heard [])
 
 pub returns-in-Line : goal.returns-in-Line
 returns-in-Line g c =
