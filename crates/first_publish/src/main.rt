@@ -1,37 +1,33 @@
-//! Publishes a message, awaits its ack, and reads the message back. What `serve` does, an adapter to a real connection would do.
+//! Gets a consumer, publishes a message, awaits its ack, and reads the message back. What `serve` does, an adapter to a real connection would do.
 #![tactic(auto)]
 
 mod server;
 
-use jetstream::consumer::pull::{Stream, messages};
+use jetstream::consumer::pull::{Config, PullCalls};
 use jetstream::link::OutboxLink;
-use jetstream::{AnyError, Context, Next, PublishQueue};
+use jetstream::{AnyError, Context, Next, PublishQueue, drive};
 use server::serve;
-use std::sync::Wait;
 
 fn main(rt: HostRuntime) -> Result<(), AnyError> {
     let mut link = OutboxLink::new(rt.alloc(), "_INBOX", "c1")?;
     let context = Context::new(&rt, rt.alloc())?;
-    let mut news = messages(rt.alloc(), &context, &mut link, "news", "reader")?;
+    let reader = context.get_consumer_from_stream::<Config>(rt.alloc(), "reader", "news")?;
     let mut queue = PublishQueue::new(rt.alloc(), context, 5_000_000_000);
-    run(&rt, &mut link, &mut queue, &mut news)
-}
-
-fn run<R: Print + AllocGlobal + Wait>(
-    rt: &R,
-    link: &mut OutboxLink,
-    queue: &mut PublishQueue,
-    news: &mut Stream,
-) -> Result<(), AnyError> {
     queue.publish(rt.alloc(), "news.today", b"hello", 0)?;
+    let (mut reader, mut news) = (Some(reader), None);
     for now in 0..3 {
-        if let Next::Item(published) = queue.poll_next(rt, rt.alloc(), link, now) {
+        if let Next::Item(reader) = drive(&mut reader, rt.alloc(), &mut link, now) {
+            news = Some(reader?.messages(rt.alloc(), &mut link)?);
+        }
+        if let Next::Item(published) = queue.poll_next(&rt, rt.alloc(), &mut link, now) {
             println!(rt; "stored as {}", published.outcome?.sequence)?;
         }
-        if let Next::Item(message) = news.poll_next(rt.alloc(), link, now) {
-            println!(rt; "read {:?}", message?.payload)?;
+        if let Some(news) = &mut news {
+            if let Next::Item(message) = news.poll_next(rt.alloc(), &mut link, now) {
+                println!(rt; "read {:?}", message?.message.payload)?;
+            }
         }
-        serve(rt, link)?;
+        serve(&rt, &mut link)?;
     }
     Ok(())
 }

@@ -30,7 +30,7 @@ fn answer(
             Some(_) => bring(
                 link,
                 0,
-                received(rt.alloc(), reply.as_str(), ACK.as_bytes())?,
+                received(rt.alloc(), reply.as_str(), answer_to(subject.as_str()))?,
             )?,
             None => bring(link, 1, received(rt.alloc(), "news.today", b"hello")?)?,
         }
@@ -38,8 +38,18 @@ fn answer(
     Ok(())
 }
 
-/// The message was stored as the stream's first.
-const ACK: &str = r#"{"stream":"news","seq":1}"#;
+/// A message was stored as the stream's first, or a consumer is there.
+fn answer_to(subject: &str) -> &[u8] {
+    if subject == "news.today" {
+        br#"{"stream":"news","seq":1}"#
+    } else {
+        READER
+    }
+}
+
+/// What is known of the consumer.
+const READER: &[u8] =
+    br#"{"stream_name":"news","name":"reader","created":"2026-01-01T00:00:00Z","config":{"durable_name":"reader","deliver_policy":"all"},"delivered":{"consumer_seq":0,"stream_seq":0},"ack_floor":{"consumer_seq":0,"stream_seq":0},"num_ack_pending":0,"num_redelivered":0,"num_waiting":0,"num_pending":0}"#;
 
 fn bring(link: &mut OutboxLink, subscription: u64, message: PlainMessage) -> Result<(), AnyError> {
     link.deliver(subscription, message)?;

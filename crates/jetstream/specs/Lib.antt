@@ -1,4 +1,3 @@
 pub mod Received
 pub mod Configs
-pub mod Messages
 pub mod Drives

@@ -6,7 +6,7 @@ use js_base::OutOfMemory;
 use js_consumer_calls::ConsumerError;
 use js_context::PublishError;
 use js_link::LinkError;
-use js_pull_stream::MessagesError;
+use js_pull_calls::{BatchError, BatchItemError, BatchRequestError, MessagesError, StreamError};
 use js_stream_calls::{CreateStreamError, GetStreamError};
 use std::alloc::{AllocError, AllocFailed};
 use std::{error, fmt, io};
@@ -26,8 +26,18 @@ pub enum AnyError {
     Consumer(ConsumerError),
     /// A message was not sent or not stored.
     Publish(PublishError),
-    /// A stream of messages told of something in place of a message.
+    /// No messages of a consumer were opened.
+    Stream(StreamError),
+    /// No batch was asked for.
+    Batch(BatchError),
+    /// A pull request was not sent.
+    BatchRequest(BatchRequestError),
+    /// A stream of a pull consumer's messages told of something in place of a message.
     Messages(MessagesError),
+    /// A batch told of something in place of a message.
+    BatchItem(BatchItemError),
+    /// The messages of a push consumer told of something in place of a message.
+    PushMessages(js_push_calls::MessagesError),
     /// Something was not read or written.
     Io(io::Error),
 }
@@ -41,7 +51,12 @@ impl fmt::Display for AnyError {
             AnyError::GetStream(error) => write!(f, "{error}"),
             AnyError::Consumer(error) => write!(f, "{error}"),
             AnyError::Publish(error) => write!(f, "{error}"),
+            AnyError::Stream(error) => write!(f, "{error}"),
+            AnyError::Batch(error) => write!(f, "{error}"),
+            AnyError::BatchRequest(error) => write!(f, "{error}"),
             AnyError::Messages(error) => write!(f, "{error}"),
+            AnyError::BatchItem(error) => write!(f, "{error}"),
+            AnyError::PushMessages(error) => write!(f, "{error}"),
             AnyError::Io(error) => write!(f, "{error}"),
         }
     }
@@ -126,5 +141,45 @@ impl From<MessagesError> for AnyError {
 
     fn from(error: MessagesError) -> AnyError {
         AnyError::Messages(error)
+    }
+}
+
+impl From<StreamError> for AnyError {
+    ghost from_gives = { λ error told. told ≡ any.Stream error };
+
+    fn from(error: StreamError) -> AnyError {
+        AnyError::Stream(error)
+    }
+}
+
+impl From<BatchError> for AnyError {
+    ghost from_gives = { λ error told. told ≡ any.Batch error };
+
+    fn from(error: BatchError) -> AnyError {
+        AnyError::Batch(error)
+    }
+}
+
+impl From<BatchRequestError> for AnyError {
+    ghost from_gives = { λ error told. told ≡ any.BatchRequest error };
+
+    fn from(error: BatchRequestError) -> AnyError {
+        AnyError::BatchRequest(error)
+    }
+}
+
+impl From<BatchItemError> for AnyError {
+    ghost from_gives = { λ error told. told ≡ any.BatchItem error };
+
+    fn from(error: BatchItemError) -> AnyError {
+        AnyError::BatchItem(error)
+    }
+}
+
+impl From<js_push_calls::MessagesError> for AnyError {
+    ghost from_gives = { λ error told. told ≡ any.PushMessages error };
+
+    fn from(error: js_push_calls::MessagesError) -> AnyError {
+        AnyError::PushMessages(error)
     }
 }

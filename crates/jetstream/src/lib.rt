@@ -30,12 +30,17 @@
 //!
 //! **Which calls take what.** What makes a call takes the allocator and its arguments. A poll of a call takes the allocator, the link and the moment; it spends the
 //! state and hands it back, and [`drive`] does it in the state's place. A poll that publishes ([`publish::Sending`], [`publish::PublishAckFuture`]) also takes the runtime and the context, whose permits other threads may share.
-//! A reader or a list has `poll_next`, which answers a [`Next`] and keeps the state: a [`consumer::pull::Stream`] hands out one message, or one error, a poll.
+//! A reader or a list has `poll_next`, which answers a [`Next`] and keeps the state: a [`consumer::pull::Stream`] and a [`consumer::push::Messages`] hand out one message, or one
+//! error, a poll.
 //!
 //! **When to wake.** After `Pending`: when anything was brought, and at the latest when the state's wait is over. Its wait began at its first poll and
-//! lasts for the timeout of its call, of the context or of the link. A stream of messages tells it: a poll before [`consumer::pull::Stream::wakes_at`]
+//! lasts for the timeout of its call, of the context or of the link. A reader tells it: a poll before its `wakes_at`, as [`consumer::pull::Stream::wakes_at`],
 //! for which nothing came does nothing. [`link::OutboxLink::deliver`] answers which inbox or request wanted the message, so that
 //! a program that keeps many states polls the one whose request it was.
+//!
+//! **Reading a consumer.** A call of the context answers the consumer: `get_consumer_from_stream` one that is there, `create_consumer_on_stream` a new one, each as the kind that its
+//! configuration names. `messages` of the consumer opens what reads it: [`consumer::pull::PullCalls`] for one that is asked for messages, [`consumer::push::PushCalls`] for one that delivers
+//! to a subject. An adapter brings what came under the number of the subscription that the link's `Outgoing::Subscribe` named.
 //!
 //! **Before anything is sent,** a bad name or subject is answered by the first poll, with its own kind of error, and nothing goes out. What must not
 //! reach a wire is refused by the link itself.
@@ -54,7 +59,7 @@
 //! |---|---|
 //! | [`context`] | the context, its builder, what makes requests, lists of streams |
 //! | [`stream`] | configurations and infos of streams, and the calls on them |
-//! | [`consumer`] | the same of consumers; [`consumer::pull`], where the stream of messages stands, and [`consumer::push`] |
+//! | [`consumer`] | the same of consumers; [`consumer::pull`] and [`consumer::push`], where what reads them stands |
 //! | [`publish`] | messages that are published, and their acks |
 //! | [`message`] | messages that came from a stream, and their acknowledgement |
 //! | [`link`] | the trait `Link`, and the links |

@@ -1,2 +1,6 @@
-//! Push consumers: their configurations.
+//! Push consumers: their configurations, and what reads their messages.
+//!
+//! [`PushCalls`] has the call of a consumer that [`Context::get_consumer_from_stream`](crate::Context::get_consumer_from_stream) and its kin
+//! answer: `messages` reads what the server sends to the subject that the consumer delivers to.
 pub use js_json::push::{Config, OrderedConfig};
+pub use js_push_calls::{Messages, MessagesError, MessagesErrorKind, PushCalls};

@@ -1,0 +1,149 @@
+-- A row of a pull reader that was passed over a link, with what the consumer makes of what the reader tells.
+use Rattle.std.proofs.Common.{◌≡◌, ℕ, Bool, true, false, List, [], ◌∷◌, ◌++◌, map, Option, Some, None, refl, sym, ap, ◌∙◌, subst}
+use Rattle.std.specs.Prelude.{is_some, unwrap_or, Result, Ok, Err, IfOk, if◌then◌else◌}
+use Rattle.js_base.specs.declared.message.Message.{Message}
+use Rattle.js_link.specs.LinkView.{LinkView}
+use Rattle.js_link.specs.Met.{Met, passing_of, message_of, reply_of}
+use Rattle.js_link.specs.Passing.{Passing as Sends}
+use Rattle.js_message.specs.Ack.{Place}
+use Rattle.js_ordered_rows.specs.declared.task.Heard.{Heard}
+use Rattle.js_ordered_rows.specs.declared.task.Heard.TheVariants as hears
+use Rattle.js_ordered_rows.specs.declared.task.RowOutput.{RowOutput}
+use Rattle.js_ordered_rows.specs.Readings.{ReadsTo, brought}
+use Rattle.js_ordered_rows.specs.Tasks.{IsHeardFrom, StepsTo, heard_outputs, heard_row, reader_rows, told_outputs}
+use Rattle.js_ordered_rows.proofs.ReaderSteps.{reads_row}
+use Rattle.js_ordered_rows.proofs.Stepping.{from_stream}
+use Rattle.js_ordered_stream.specs.declared.left.Reply.{Reply}
+use Rattle.js_ordered_stream.specs.declared.reading.ReadMet.{ReadMet}
+use Rattle.js_ordered_stream.specs.declared.reading.Taken.{Taken}
+use Rattle.js_ordered_stream.specs.declared.rows.Handed.{Handed}
+use Rattle.js_ordered_stream.specs.declared.rows.Stepped.{Stepped}
+use Rattle.js_ordered_stream.specs.declared.rows.Stop.{Stop}
+use Rattle.js_ordered_stream.specs.declared.rows.Stop.TheVariants as stop
+use Rattle.js_ordered_stream.specs.Rows.{IsReadMet, MeetsReader, PassesRow, TakesIn, answer_shown, handed_by_heard, handed_list, read_by}
+use Rattle.js_pull.specs.Asking.{met_shown, reply_met}
+use Rattle.js_pull.specs.Reader as pull
+use Rattle.js_pull.specs.Steps.{IsInformed, met_row as reader_met, pin_brought, pin_named, row_list, row_of, told_shown}
+use Rattle.js_pull.specs.Steps.{StepsTo as ReaderStepsTo}
+use Rattle.js_pull.specs.declared.reader.Reader.{Reader}
+use Rattle.js_pull.specs.declared.reader.ReaderOutput.{ReaderOutput}
+use Rattle.js_pull.specs.declared.reader.ReaderOutput.TheVariants as telling
+use Rattle.js_pull.specs.declared.reader.Row.{Row as PullRow}
+use Rattle.js_pull.specs.declared.reader.Reason.{Reason}
+use Rattle.js_pull.specs.declared.rows.Due.{Due}
+use Rattle.js_pull.specs.declared.rows.Notice.{Notice}
+use Rattle.js_pull.specs.declared.rows.Step.{Step as Read}
+use Rattle.js_table.specs.declared.consumer.Consumer.{Consumer}
+use Rattle.js_table.specs.declared.consumer.Phase.TheVariants.{Pulls}
+use Rattle.js_table.specs.declared.consumer.ReplayInput.{ReplayInput}
+use Rattle.js_table.specs.declared.row.Row.{Row}
+use Rattle.js_table.specs.declared.row.Row.TheVariants as row
+use Rattle.js_table.specs.Reading.{read_row, told, with_sent}
+use Rattle.js_table.specs.Recreation.{message_on}
+use Rattle.js_table.specs.State.{Matter, Passed, at_phase, output_of}
+use Rattle.js_turns.specs.Polling.{yielded}
+use Rattle.js_turns.specs.Turns.{handed}
+use Rattle.js_turns.specs.Wishes.{arrival_of}
+use Rattle.js_ordered_stream.proofs.Meeting.{arrives, none_sent}
+
+-- ---- what is handed out of a message
+
+pub yields_handed : (number : ℕ) (message : Message) (up : Bool) (heard : Heard) (hand : Handed) → IsHeardFrom number message heard → hand ≡ handed_by_heard heard → handed_list hand (Some message) ≡ handed (heard_outputs up message heard)
+yields_handed number message up (hears.Yields place) hand is to =
+    ap (λ (h : Handed). handed_list h (Some message)) to ∙ ap (λ (o : Option Place). yielded o message ∷ []) is.0
+yields_handed number message up hears.Unreadable hand is to = ap (λ (h : Handed). handed_list h (Some message)) to
+yields_handed number message up hears.Gap hand is to = ap (λ (h : Handed). handed_list h (Some message)) to
+yields_handed number message up (hears.Beat last) hand is to = absurd is
+yields_handed number message up hears.OtherStatus hand is to = absurd is
+
+-- ---- what the consumer makes of it
+
+pub takes_told : (m : Matter) (tells silent : ReaderOutput) (rows : List Row) (message : Option Message) (c d : Consumer) (said : RowOutput) (taken : Taken) → tells ≡ silent
+    → StepsTo m (with_sent [] rows (told silent c)) (told_outputs said) d taken.next → handed_list taken.handed message ≡ handed (told_outputs said)
+    → TakesIn m tells rows message c d taken
+takes_told m tells silent rows message c d said taken is steps hands = record {
+  outputs = told_outputs said;
+  steps = subst (λ (t : ReaderOutput). StepsTo m (with_sent [] rows (told t c)) (told_outputs said) d taken.next) (sym is) steps;
+  shown = hands;
+}
+
+pub takes_handed : (m : Matter) (p : Sends) (rows : List Row) (message : Message) (heard : Heard) (c d : Consumer) (taken : Taken) → IsHeardFrom c.consumer_sequence message heard
+    → StepsTo m (with_sent [] rows (heard_row p message heard (record c { missed = false }))) (heard_outputs p.up message heard) d taken.next
+    → handed_list taken.handed (Some message) ≡ handed (heard_outputs p.up message heard)
+    → TakesIn m (telling.Hands message) rows (Some message) c d taken
+takes_handed m p rows message heard c d taken is steps hands = record {
+  outputs = heard_outputs p.up message heard;
+  steps = subst (λ (x : Passed). StepsTo m (with_sent [] rows x) (heard_outputs p.up message heard) d taken.next) (sym (from_stream p message heard (record c { missed = false }) is)) steps;
+  shown = hands;
+}
+
+pub takes_known : (m : Matter) (tells known : Notice) (message other : Option Message) (rows : List Row) (c d : Consumer) (taken : Taken) → tells ≡ known → message ≡ other
+    → TakesIn m (told_shown known other) rows other c d taken → TakesIn m (told_shown tells message) rows message c d taken
+takes_known m tells known message other rows c d taken is same takes =
+    subst (λ (n : Notice). TakesIn m (told_shown n message) rows message c d taken) (sym is)
+    (subst (λ (o : Option Message). TakesIn m (told_shown known o) rows o c d taken) (sym same) takes)
+
+-- ---- a row
+
+pub reply_kept : (replied : Bool) (met : Met) (request : ℕ) (message : Option Message) (reply : Option Reply) → replied ≡ is_some (reply_of met) → message ≡ reply_met met
+    → replied ≡ true → reply ≡ Some (record { request = request; message = message }) → brought (answer_shown reply) ≡ reply_met met
+reply_kept replied met request message reply is same there to = ap (λ (o : Option Reply). brought (answer_shown o)) to ∙ same
+
+pub reply_none : (replied : Bool) (met : Met) (reply : Option Reply) → replied ≡ is_some (reply_of met) → replied ≡ false → reply ≡ None → brought (answer_shown reply) ≡ reply_met met
+reply_none replied met reply is not_there to = ap (λ (o : Option Reply). brought (answer_shown o)) to ∙ by_reply (reply_of met) (sym is ∙ not_there)
+  where
+    by_reply : (o : Option (Option Message)) → is_some o ≡ false → None ≡ unwrap_or o None
+    by_reply None e = refl
+    by_reply (Some x) e = cc
+
+-- a row of a reader was passed with what it met
+pub read_passes : (g : ReplayInput) (now : ℕ) (one : PullRow) (r s : Reader) (c d : Consumer) (read : ReadMet) (step : Read) (taken : Taken) (message : Option Message) (reply : Option Reply) (done : Stepped) (v u : LinkView)
+    → IsReadMet read one r v u
+    → ReaderStepsTo (reader_met now one (met_shown read.met) r) (met_shown read.met) step s
+    → message ≡ message_of (met_shown read.met) → brought (answer_shown reply) ≡ reply_met (met_shown read.met)
+    → TakesIn (read_by (answer_shown reply)) (told_shown step.told message) (reader_rows (read_by (answer_shown reply)) step.next) message (at_phase (Pulls s) c) d taken
+    → done ≡ record { handed = taken.handed; next = taken.next; reply = reply; message = message }
+    → PassesRow g now (row.Read one) (at_phase (Pulls r) c) d v u (Ok done)
+read_passes g now one r s c d read step taken message reply done v u is steps took kept takes to =
+    let met : Met = met_shown read.met in
+    let m : Matter = read_by (answer_shown reply) in
+    let passed : pull.Passed = reader_met now one met r in
+    let reads : ReadsTo (brought m.answer) (message_of met) passed s step = record {
+      reader = steps.reader;
+      told = steps.told;
+      next = subst (λ (x : Option Message). row_list x step.next ≡ passed.next) (sym kept) steps.next;
+    } in
+    let t : TakesIn m (told_shown step.told (message_of met)) (reader_rows m step.next) (message_of met) (at_phase (Pulls s) c) d taken =
+    subst (λ (o : Option Message). TakesIn m (told_shown step.told o) (reader_rows m step.next) o (at_phase (Pulls s) c) d taken) took takes in
+    let all : StepsTo m (read_row passed (at_phase (Pulls r) c)) (map output_of passed.sent ++ t.outputs) d taken.next =
+    reads_row m (message_of met) passed passed.sent s step (at_phase (Pulls r) c) d t.outputs taken.next reads refl t.steps in
+    let same : read_row (pull.row (passing_of now met) (pull.answer_of (pull.wish one r) met) (message_on r.source.inbox (arrival_of (pull.wish one r) met)) one r) (at_phase (Pulls r) c) ≡ read_row passed (at_phase (Pulls r) c) =
+    ap (λ (o : Option Message). read_row (pull.row (passing_of now met) (pull.answer_of (pull.wish one r) met) o one r) (at_phase (Pulls r) c)) (arrives one r met v u is.meets) in
+    subst (λ (x : Stepped). PassesRow g now (row.Read one) (at_phase (Pulls r) c) d v u (Ok x)) (sym to) (
+      met,
+      is.meets,
+      is.is_open,
+      record {
+        consumer = all.consumer ∙ ap (λ (p : Passed). p.consumer) (sym same);
+        shown = ap (λ (p : Passed). handed p.outputs) same ∙ ap handed all.outputs ∙ none_sent passed.sent t.outputs ∙ sym t.shown;
+        next = all.next ∙ ap (λ (p : Passed). p.next) (sym same);
+        message = took;
+      },
+    )
+
+-- ---- what a row needs and meets
+
+-- no pin is brought where clients are not pinned
+pub no_pin : (pinned : Bool) (message : Option Message) → pinned ≡ false → None ≡ pin_brought pinned message
+no_pin pinned None is = refl
+no_pin pinned (Some message) is = ap (λ (b : Bool). if b then pin_named message message.status else None) (sym is)
+
+pub informed_as : {E : Type 0} (one : Due) (a b : Option Message) (told : Result (Option Reason) E) → a ≡ b → IfOk told (λ reason. IsInformed (row_of a one) reason)
+    → IfOk told (λ reason. IsInformed (row_of b one) reason)
+informed_as one a b told is holds = subst (λ (m : Option Message). IfOk told (λ reason. IsInformed (row_of m one) reason)) is holds
+
+-- a row that was not passed
+pub read_stops : (g : ReplayInput) (now : ℕ) (one : PullRow) (r : Reader) (c : Consumer) (v u : LinkView) (why : Stop) → MeetsReader (Err why) one r v u
+    → PassesRow g now (row.Read one) (at_phase (Pulls r) c) (at_phase (Pulls r) c) v u (Err why)
+read_stops g now one r c v u stop.Closed is = (refl, is)
+read_stops g now one r c v u stop.OutOfMemory is = (refl, is)

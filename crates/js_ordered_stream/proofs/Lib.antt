@@ -1,0 +1,6 @@
+mod Meeting
+mod Passing
+mod Hearing
+mod Turning
+mod Strides
+mod Opening

@@ -1,0 +1,550 @@
+-- Row after row: what a poll has walked, and what it answers then.
+use Rattle.std.proofs.Common.{◌≡◌, ℕ, Bool, true, false, List, [], ◌∷◌, ◌++◌, ◌⊎◌, inl, inr, Option, Some, None, refl, sym, ap, ◌∙◌, subst}
+use Rattle.std.specs.Prelude.{◌≢◌, ◌↔◌, not, ◌&&◌, ◌||◌, is_some, option_map}
+use Rattle.js_base.specs.declared.message.Message.{Message}
+use Rattle.js_link.specs.LinkView.{LinkView}
+use Rattle.js_link.specs.Meets.{Meets}
+use Rattle.js_link.specs.Met.{Wish, Met, Nothing, Opens_inbox, Watches, Publishes, Requests, Drops, Reads, Awaits, Took, IsClosing, message_of}
+use Rattle.js_pull.specs.Asking.{is_shut}
+use Rattle.js_table.specs.declared.consumer.ReplayInput.{ReplayInput}
+use Rattle.js_table.specs.declared.consumer.Phase.{Phase}
+use Rattle.js_table.specs.declared.consumer.Phase.TheVariants.{Pulls, Pushes, Recreates, Idle, Ended, Exhausted}
+use Rattle.js_table.specs.declared.row.Arrival.{Arrival}
+use Rattle.js_table.specs.declared.run.ItemKind.{ItemKind}
+use Rattle.js_table.specs.declared.run.ItemKind.TheVariants as item
+use Rattle.js_table.specs.declared.run.Output.{Output}
+use Rattle.js_table.specs.declared.run.Output.TheVariants as out
+use Rattle.js_table.specs.Fold.{is_over}
+use Rattle.js_ordered_stream.specs.declared.error.OrderedErrorKind.{OrderedErrorKind}
+use Rattle.js_ordered_stream.specs.declared.error.OrderedErrorKind.TheVariants as error
+use Rattle.js_ordered_stream.specs.declared.ordered.Turned.{Turned}
+use Rattle.js_ordered_stream.specs.declared.ordered.Turned.TheVariants as turns
+use Rattle.js_ordered_stream.specs.Stream.{PassesNext, TurnsTo, error_kind, told_of, is_spent, step_met, stride_met, stirring}
+use Rattle.js_turns.specs.Polling.{Answer, Yields, Tells, HandsEnd, Waits, Ends, Lacks, IsPoll, IsMet, IsQuietRow, AreQuiet, IsQuietTurn, IsTaken, StopsAtFirst, last_arrival, poll_wish, closed_at, handed_by}
+use Rattle.js_turns.specs.Turns.{Position, Stride, IsStride, step, walk, handed}
+use Rattle.js_turns.specs.Wishes.{arrival_of}
+use Rattle.js_turns.proofs.Polls.{poll_gapless}
+
+-- ---- lists of strides
+
+handed_append : (xs ys : List Output) → handed (xs ++ ys) ≡ handed xs ++ handed ys
+handed_append [] ys = refl
+handed_append (out.Yield sequence number subject payload ∷ xs) ys = ap (λ (zs : List Output). out.Yield sequence number subject payload ∷ zs) (handed_append xs ys)
+handed_append (out.Item kind ∷ xs) ys = ap (λ (zs : List Output). out.Item kind ∷ zs) (handed_append xs ys)
+handed_append (out.Recreate recreation_count start ∷ xs) ys = handed_append xs ys
+handed_append (out.Request number subject payload ∷ xs) ys = handed_append xs ys
+handed_append (out.Publish subject reply payload ∷ xs) ys = handed_append xs ys
+handed_append (out.Subscribe inbox subject ∷ xs) ys = handed_append xs ys
+
+pub handed_both : (xs ys : List Output) → handed xs ≡ [] → handed ys ≡ [] → handed (xs ++ ys) ≡ []
+handed_both xs ys e f = handed_append xs ys ∙ ap (λ (zs : List Output). zs ++ handed ys) e ∙ f
+
+no_left : (xs ys : List Output) → xs ++ ys ≡ [] → xs ≡ []
+no_left [] ys e = refl
+no_left (x ∷ xs) ys e = absurd (let h = e in cc)
+
+no_right : (xs ys : List Output) → xs ++ ys ≡ [] → ys ≡ []
+no_right [] ys e = e
+no_right (x ∷ xs) ys e = absurd (let h = e in cc)
+
+append_nil : (xs : List Output) → xs ++ [] ≡ xs
+append_nil [] = refl
+append_nil (x ∷ xs) = ap (λ (ys : List Output). x ∷ ys) (append_nil xs)
+
+append_outputs : (xs ys zs : List Output) → (xs ++ ys) ++ zs ≡ xs ++ (ys ++ zs)
+append_outputs [] ys zs = refl
+append_outputs (x ∷ xs) ys zs = ap (λ (ws : List Output). x ∷ ws) (append_outputs xs ys zs)
+
+append_strides : (xs ys zs : List Stride) → (xs ++ ys) ++ zs ≡ xs ++ (ys ++ zs)
+append_strides [] ys zs = refl
+append_strides (x ∷ xs) ys zs = ap (λ (ws : List Stride). x ∷ ws) (append_strides xs ys zs)
+
+walk_more : (g : ReplayInput) (strides : List Stride) (s : Stride) (at : Position) → (walk g (strides ++ s ∷ []) at).position ≡ (step g s (walk g strides at).position).position
+walk_more g [] s at = refl
+walk_more g (x ∷ strides) s at = walk_more g strides s (step g x at).position
+
+outputs_more : (g : ReplayInput) (strides : List Stride) (s : Stride) (at : Position) → (walk g (strides ++ s ∷ []) at).outputs ≡ (walk g strides at).outputs ++ (step g s (walk g strides at).position).outputs
+outputs_more g [] s at = append_nil (step g s at).outputs
+outputs_more g (x ∷ strides) s at =
+    ap (λ (ys : List Output). (step g x at).outputs ++ ys) (outputs_more g strides s (step g x at).position)
+    ∙ sym (append_outputs (step g x at).outputs (walk g strides (step g x at).position).outputs (step g s (walk g strides (step g x at).position).position).outputs)
+
+handed_more : (g : ReplayInput) (strides : List Stride) (s : Stride) (at : Position) → handed (walk g strides at).outputs ≡ [] → handed (walk g (strides ++ s ∷ []) at).outputs ≡ handed (step g s (walk g strides at).position).outputs
+handed_more g strides s at silent =
+    ap handed (outputs_more g strides s at) ∙ handed_append (walk g strides at).outputs (step g s (walk g strides at).position).outputs
+    ∙ ap (λ (xs : List Output). xs ++ handed (step g s (walk g strides at).position).outputs) silent
+
+met_more : (g : ReplayInput) (now : ℕ) (strides : List Stride) (s : Stride) (met : Met) (at : Position) (v u w : LinkView) → IsMet g now Meets strides at v u
+    → IsStride now (poll_wish g (walk g strides at).position) met s → is_shut met ≡ false → Meets (poll_wish g (walk g strides at).position) met u w
+    → IsMet g now Meets (strides ++ s ∷ []) at v w
+met_more g now [] s met at v u w e is is_open meets = (met, w, is, is_open, subst (λ (x : LinkView). Meets (poll_wish g at) met x w) e meets, refl)
+met_more g now (x ∷ strides) s met at v u w h is is_open meets =
+    (h.0, h.1, h.2, h.3, h.4, met_more g now strides s met (step g x at).position h.1 u w h.5 is is_open meets)
+
+first_silent : (g : ReplayInput) (x : Stride) (strides : List Stride) (at : Position) → handed (walk g (x ∷ strides) at).outputs ≡ [] → handed (step g x at).outputs ≡ []
+first_silent g x strides at e = no_left _ _ (sym (handed_append (step g x at).outputs (walk g strides (step g x at).position).outputs) ∙ e)
+
+rest_silent : (g : ReplayInput) (x : Stride) (strides : List Stride) (at : Position) → handed (walk g (x ∷ strides) at).outputs ≡ [] → handed (walk g strides (step g x at).position).outputs ≡ []
+rest_silent g x strides at e = no_right (handed (step g x at).outputs) _ (sym (handed_append (step g x at).outputs (walk g strides (step g x at).position).outputs) ∙ e)
+
+-- silent rows, and one more
+stops_more : (g : ReplayInput) (strides : List Stride) (s : Stride) (at : Position) → handed (walk g strides at).outputs ≡ [] → StopsAtFirst g (strides ++ s ∷ []) at
+stops_more g [] s at e = ((λ some. absurd (some refl)), tt)
+stops_more g (x ∷ strides) s at e = ((λ some. first_silent g x strides at e), stops_more g strides s (step g x at).position (rest_silent g x strides at e))
+
+stops_silent : (g : ReplayInput) (strides : List Stride) (at : Position) → handed (walk g strides at).outputs ≡ [] → StopsAtFirst g strides at
+stops_silent g [] at e = tt
+stops_silent g (x ∷ strides) at e = ((λ some. first_silent g x strides at e), stops_silent g strides (step g x at).position (rest_silent g x strides at e))
+
+pub walk_append : (g : ReplayInput) (xs ys : List Stride) (at : Position) → (walk g (xs ++ ys) at).position ≡ (walk g ys (walk g xs at).position).position
+walk_append g [] ys at = refl
+walk_append g (x ∷ xs) ys at = walk_append g xs ys (step g x at).position
+
+quiet_more : (g : ReplayInput) (strides : List Stride) (s : Stride) (at : Position) → AreQuiet g strides at → IsQuietRow g s (walk g strides at).position → AreQuiet g (strides ++ s ∷ []) at
+quiet_more g [] s at quiet row = (row, tt)
+quiet_more g (x ∷ strides) s at quiet row = (quiet.0, quiet_more g strides s (step g x at).position quiet.1 row)
+
+-- ---- what a poll has walked
+
+-- the turn that goes on has been quiet so far
+pub record Turning (g : ReplayInput) (strides : List Stride) (old : Position) : Type 0 where
+  pub first : List Stride
+  pub last : List Stride
+  pub parts : strides ≡ first ++ last
+  pub some : last ≡ [] → ⊥
+  pub rested : (walk g first old).position.todo ≡ []
+  pub quiet : AreQuiet g last (walk g first old).position
+
+-- rows of which none has handed anything out
+pub record Walked (g : ReplayInput) (now : ℕ) (quiet : Bool) (old at : Position) (before after : LinkView) : Type 0 where
+  pub strides : List Stride
+  pub leads : at ≡ (walk g strides old).position
+  pub met : IsMet g now Meets strides old before after
+  pub silent : handed (walk g strides old).outputs ≡ []
+  pub turn : quiet ≡ true → Turning g strides old
+  pub alive : is_over old.consumer.phase ≡ false
+  pub spent : is_spent at.consumer.phase ≡ false
+
+over_spent : (phase : Phase) → is_over phase ≡ false → is_spent phase ≡ false
+over_spent Exhausted e = absurd (let h = e in cc)
+over_spent (Pulls reader) e = refl
+over_spent (Pushes inbox heartbeat_timer) e = refl
+over_spent (Recreates r) e = refl
+over_spent Idle e = refl
+over_spent Ended e = refl
+
+no : false ≡ true → ⊥
+no e = cc
+
+pub walked_none : (g : ReplayInput) (now : ℕ) (old : Position) (v : LinkView) → is_over old.consumer.phase ≡ false → Walked g now false old old v v
+walked_none g now old v alive =
+    record { strides = []; leads = refl; met = refl; silent = refl; turn = λ e. absurd (no e); alive = alive; spent = over_spent old.consumer.phase alive }
+
+-- ---- one row more
+
+none_arrives : (w : Wish) (met : Met) → is_some (message_of met) ≡ false → is_some (arrival_of w met) ≡ false
+none_arrives (Reads inbox) (Took message) e = absurd (let h = e in cc)
+none_arrives (Reads inbox) met e = refl
+none_arrives w met e = refl
+
+or_left : (a b : Bool) → (a || b) ≡ false → a ≡ false
+or_left true b e = e
+or_left false b e = refl
+
+or_right : (a b : Bool) → (a || b) ≡ false → b ≡ false
+or_right true b e = absurd (let h = e in cc)
+or_right false b e = e
+
+row_quiet : (g : ReplayInput) (now : ℕ) (met : Met) (at : Position) → stirring met at.consumer.phase (step_met g now met at).position.consumer.phase ≡ false → IsQuietRow g (stride_met g now met at) at
+row_quiet g now met at still = record {
+  untaken = none_arrives (poll_wish g at) met (or_left (is_some (message_of met)) _ still);
+  unstarted = or_right (is_some (message_of met)) _ still;
+}
+
+-- what was quiet so far, is so with one quiet row more
+turn_more : (g : ReplayInput) (quiet begins stirs : Bool) (strides : List Stride) (s : Stride) (old : Position) → (quiet ≡ true → Turning g strides old) → (begins ≡ true → (walk g strides old).position.todo ≡ [])
+    → (stirs ≡ false → IsQuietRow g s (walk g strides old).position) → ((begins || quiet) && not stirs) ≡ true → Turning g (strides ++ s ∷ []) old
+turn_more g quiet begins true strides s old turn is row e = absurd (never (begins || quiet) e)
+  where
+    never : (b : Bool) → (b && false) ≡ true → ⊥
+    never true e = cc
+    never false e = cc
+turn_more g quiet true false strides s old turn is row e = record {
+  first = strides;
+  last = s ∷ [];
+  parts = refl;
+  some = λ e. never s e;
+  rested = is refl;
+  quiet = (row refl, tt);
+}
+  where
+    never : (s : Stride) → s ∷ [] ≡ [] → ⊥
+    never s e = cc
+turn_more g true false false strides s old turn is row e =
+    let t = turn refl in
+    record {
+      first = t.first;
+      last = t.last ++ s ∷ [];
+      parts = ap (λ (xs : List Stride). xs ++ s ∷ []) t.parts ∙ append_strides t.first t.last (s ∷ []);
+      some = λ e. never t.last e;
+      rested = t.rested;
+      quiet = quiet_more g t.last s (walk g t.first old).position t.quiet
+          (subst (λ (at : Position). IsQuietRow g s at) (ap (λ (xs : List Stride). (walk g xs old).position) t.parts ∙ walk_append g t.first t.last old) (row refl));
+    }
+  where
+    never : (xs : List Stride) → xs ++ s ∷ [] ≡ [] → ⊥
+    never [] e = cc
+    never (x ∷ xs) e = cc
+turn_more g false false false strides s old turn is row e = absurd (no e)
+
+at_end : (g : ReplayInput) (now : ℕ) (met : Met) (at bt new : Position) (v u : LinkView) → at ≡ bt → PassesNext g now met at new v u → PassesNext g now met bt new v u
+at_end g now met at bt new v u e p = subst (λ (x : Position). PassesNext g now met x new v u) e p
+
+-- rows were passed in silence, and then this one
+pub walked_more : (g : ReplayInput) (now : ℕ) (quiet begins stirs : Bool) (met : Met) (old at new : Position) (v u w : LinkView) → Walked g now quiet old at v u → (begins ≡ true → at.todo ≡ [])
+    → PassesNext g now met at new u w → handed (step_met g now met at).outputs ≡ [] → stirs ≡ stirring met at.consumer.phase new.consumer.phase → is_spent new.consumer.phase ≡ false
+    → Walked g now ((begins || quiet) && not stirs) old new v w
+walked_more g now quiet begins stirs met old at new v u w walked begins_is passes silent stirred spent =
+    let bt : Position = (walk g walked.strides old).position in
+    let p : PassesNext g now met bt new u w = at_end g now met at bt new u w walked.leads passes in
+    let s : Stride = stride_met g now met bt in
+    record {
+      strides = walked.strides ++ s ∷ [];
+      leads = p.leads ∙ sym (walk_more g walked.strides s old);
+      met = met_more g now walked.strides s met old v u w walked.met (record { passing = refl; matter = refl }) p.is_open p.meets;
+      silent = handed_more g walked.strides s old walked.silent ∙ subst (λ (x : Position). handed (step_met g now met x).outputs ≡ []) walked.leads silent;
+      turn = turn_more g quiet begins stirs walked.strides s old walked.turn (λ e. ap (λ (x : Position). x.todo) (sym walked.leads) ∙ begins_is e)
+          (λ still. row_quiet g now met bt
+          (ap (λ (x : Position). stirring met bt.consumer.phase x.consumer.phase) (sym p.leads) ∙ ap (λ (x : Position). stirring met x.consumer.phase new.consumer.phase) (sym walked.leads) ∙ sym stirred ∙ still));
+      alive = walked.alive;
+      spent = spent;
+    }
+
+-- ---- answers
+
+abbrev Polls : ReplayInput → ℕ → Position → Position → LinkView → LinkView → Answer → Type 0
+Polls g now old new before after answer = IsPoll g Meets now old new before after answer
+
+spent_is : (phase : Phase) → phase ≡ Exhausted → is_spent phase ≡ true
+spent_is phase e = ap is_spent e
+
+is_exhausted : (phase : Phase) → is_spent phase ≡ true → phase ≡ Exhausted
+is_exhausted Exhausted e = refl
+is_exhausted (Pulls reader) e = absurd (let h = e in cc)
+is_exhausted (Pushes inbox heartbeat_timer) e = absurd (let h = e in cc)
+is_exhausted (Recreates r) e = absurd (let h = e in cc)
+is_exhausted Idle e = absurd (let h = e in cc)
+is_exhausted Ended e = absurd (let h = e in cc)
+
+unspent : (phase : Phase) → is_spent phase ≡ false → phase ≢ Exhausted
+unspent phase spent = λ e. no (sym spent ∙ spent_is phase e)
+
+-- nor had it ended
+unended : (answer : Answer) (phase : Phase) → (answer ≡ Ends → ⊥) → is_over phase ≡ false → answer ≡ Ends ↔ ((false ≡ true) ⊎ (is_over phase ≡ true))
+unended answer phase other alive = ((λ e. absurd (other e)), (λ either. absurd (never (is_over phase) alive either)))
+  where
+    never : (b : Bool) → b ≡ false → (false ≡ true) ⊎ (b ≡ true) → ⊥
+    never b is (inl e) = cc
+    never b is (inr e) = cc
+
+yields_ends : (x : Message) → Yields x ≡ Ends → ⊥
+yields_ends x e = cc
+
+yields_end : (x : Message) → Yields x ≡ HandsEnd → ⊥
+yields_end x e = cc
+
+yields_waits : (x : Message) → Yields x ≡ Waits → ⊥
+yields_waits x e = cc
+
+tells_ends : (k : ItemKind) → Tells k ≡ Ends → ⊥
+tells_ends k e = cc
+
+tells_end : (k : ItemKind) → Tells k ≡ HandsEnd → ⊥
+tells_end k e = cc
+
+tells_waits : (k : ItemKind) → Tells k ≡ Waits → ⊥
+tells_waits k e = cc
+
+end_ends : HandsEnd ≡ Ends → ⊥
+end_ends e = cc
+
+end_waits : HandsEnd ≡ Waits → ⊥
+end_waits e = cc
+
+ends_end : Ends ≡ HandsEnd → ⊥
+ends_end e = cc
+
+ends_waits : Ends ≡ Waits → ⊥
+ends_waits e = cc
+
+waits_end : Waits ≡ HandsEnd → ⊥
+waits_end e = cc
+
+waits_ends : Waits ≡ Ends → ⊥
+waits_ends e = cc
+
+lacks_end : Lacks ≡ HandsEnd → ⊥
+lacks_end e = cc
+
+lacks_ends : Lacks ≡ Ends → ⊥
+lacks_ends e = cc
+
+lacks_waits : Lacks ≡ Waits → ⊥
+lacks_waits e = cc
+
+quiet_turn : (g : ReplayInput) (strides : List Stride) (old at : Position) → Turning g strides old → at ≡ (walk g strides old).position → at.todo ≡ []
+    → (first : List Stride) × (last : List Stride) × (strides ≡ first ++ last) × IsQuietTurn g last (walk g first old).position
+quiet_turn g strides old at t leads rests = (
+  t.first,
+  t.last,
+  t.parts,
+  (
+    t.rested,
+    t.some,
+    ap (λ (x : Position). x.todo) (sym (leads ∙ ap (λ (xs : List Stride). (walk g xs old).position) t.parts ∙ walk_append g t.first t.last old)) ∙ rests,
+    t.quiet,
+  ),
+)
+
+-- it waits
+pub poll_waits : (g : ReplayInput) (now : ℕ) (quiet : Bool) (old at : Position) (v u : LinkView) → Walked g now quiet old at v u → quiet ≡ true → at.todo ≡ [] → Polls g now old at v u Waits
+poll_waits g now quiet old at v u walked is none = record {
+  strides = walked.strides;
+  closed = false;
+  leads = walked.leads;
+  between = u;
+  met = walked.met;
+  closing = refl;
+  out = walked.silent;
+  stops = stops_silent g walked.strides old walked.silent;
+  taken = tt;
+  exhausted = λ e. absurd (waits_end e);
+  ended = unended Waits old.consumer.phase waits_ends walked.alive;
+  alive = λ _. unspent at.consumer.phase walked.spent;
+  waits = λ _. quiet_turn g walked.strides old at (walked.turn is) walked.leads none;
+  gapless = λ s whole kept honest. poll_gapless g walked.strides false old at Waits walked.leads walked.silent s whole kept honest;
+}
+
+-- it lacks memory
+pub poll_lacks : (g : ReplayInput) (now : ℕ) (quiet : Bool) (old at new : Position) (v u w : LinkView) → Walked g now quiet old at v u → new ≡ at → w ≡ u → Polls g now old new v w Lacks
+poll_lacks g now quiet old at new v u w walked same view = record {
+  strides = walked.strides;
+  closed = false;
+  leads = same ∙ walked.leads;
+  between = u;
+  met = walked.met;
+  closing = view;
+  out = walked.silent;
+  stops = stops_silent g walked.strides old walked.silent;
+  taken = tt;
+  exhausted = λ e. absurd (lacks_end e);
+  ended = unended Lacks old.consumer.phase lacks_ends walked.alive;
+  alive = λ e. absurd (lacks_waits e);
+  waits = λ e. absurd (lacks_waits e);
+  gapless = λ s whole kept honest. poll_gapless g walked.strides false old new Lacks (same ∙ walked.leads) walked.silent s whole kept honest;
+}
+
+-- its inbox is closed
+pub poll_closes : (g : ReplayInput) (now : ℕ) (quiet : Bool) (old at new : Position) (v u w : LinkView) → Walked g now quiet old at v u → new ≡ closed_at true at → IsClosing Meets (poll_wish g at) true u w → Polls g now old new v w Ends
+poll_closes g now quiet old at new v u w walked leads closing =
+    let to : new ≡ closed_at true (walk g walked.strides old).position = leads ∙ ap (λ (x : Position). closed_at true x) walked.leads in
+    record {
+      strides = walked.strides;
+      closed = true;
+      leads = to;
+      between = u;
+      met = walked.met;
+      closing = subst (λ (x : Position). IsClosing Meets (poll_wish g x) true u w) walked.leads closing;
+      out = walked.silent;
+      stops = stops_silent g walked.strides old walked.silent;
+      taken = tt;
+      exhausted = λ e. absurd (ends_end e);
+      ended = ((λ _. inl refl), (λ _. refl));
+      alive = λ e. absurd (ends_waits e);
+      waits = λ e. absurd (ends_waits e);
+      gapless = λ s whole kept honest. poll_gapless g walked.strides true old new Ends to walked.silent s whole kept honest;
+    }
+
+-- it had ended before
+pub poll_over : (g : ReplayInput) (now : ℕ) (old : Position) (v : LinkView) → is_over old.consumer.phase ≡ true → Polls g now old old v v Ends
+poll_over g now old v over = record {
+  strides = [];
+  closed = false;
+  leads = refl;
+  between = v;
+  met = refl;
+  closing = refl;
+  out = refl;
+  stops = tt;
+  taken = tt;
+  exhausted = λ e. absurd (ends_end e);
+  ended = ((λ _. inr over), (λ _. refl));
+  alive = λ e. absurd (ends_waits e);
+  waits = λ e. absurd (ends_waits e);
+  gapless = λ s whole kept honest. poll_gapless g [] false old old Ends refl refl s whole kept honest;
+}
+
+-- the message that a row looked at
+abbrev message_at : ReplayInput → Met → Position → Option Message
+message_at g met at = option_map (λ (arrival : Arrival). arrival.message) (arrival_of (poll_wish g at) met)
+
+last_more : (strides : List Stride) (s : Stride) → last_arrival (strides ++ s ∷ []) ≡ option_map (λ (arrival : Arrival). arrival.message) s.matter.arrival
+last_more [] s = refl
+last_more (x ∷ []) s = refl
+last_more (x ∷ y ∷ strides) s = last_more (y ∷ strides) s
+
+none_some : (message : Message) → None ≡ Some message → ⊥
+none_some message e = cc
+
+took_from : (wish : Wish) (met : Met) (message : Message) (v u : LinkView) → Meets wish met v u → message_of met ≡ Some message → option_map (λ (arrival : Arrival). arrival.message) (arrival_of wish met) ≡ Some message
+took_from (Reads inbox) (Took taken) message v u m e = e
+took_from Nothing (Took taken) message v u m e = absurd m
+took_from Opens_inbox (Took taken) message v u m e = absurd m
+took_from Watches (Took taken) message v u m e = absurd m
+took_from (Publishes subject reply payload) (Took taken) message v u m e = absurd m
+took_from (Requests subject payload) (Took taken) message v u m e = absurd m
+took_from (Drops inbox) (Took taken) message v u m e = absurd m
+took_from (Awaits request) (Took taken) message v u m e = absurd m
+took_from wish met message v u m e = absurd (none_some message e)
+
+-- the last row of a poll
+pub record Last (g : ReplayInput) (now : ℕ) (old new : Position) (before after : LinkView) (outputs : List Output) (message : Option Message) : Type 0 where
+  pub strides : List Stride
+  pub leads : new ≡ (walk g strides old).position
+  pub met : IsMet g now Meets strides old before after
+  pub out : handed (walk g strides old).outputs ≡ outputs
+  pub arrival : last_arrival strides ≡ message
+  pub stops : StopsAtFirst g strides old
+
+last_row : (g : ReplayInput) (now : ℕ) (quiet : Bool) (met : Met) (old at new : Position) (v u w : LinkView) (outputs : List Output) → Walked g now quiet old at v u → PassesNext g now met at new u w
+    → handed (step_met g now met at).outputs ≡ outputs → Last g now old new v w outputs (message_at g met at)
+last_row g now quiet met old at new v u w outputs walked passes hands =
+    let bt : Position = (walk g walked.strides old).position in
+    let p : PassesNext g now met bt new u w = at_end g now met at bt new u w walked.leads passes in
+    let s : Stride = stride_met g now met bt in
+    record {
+      strides = walked.strides ++ s ∷ [];
+      leads = p.leads ∙ sym (walk_more g walked.strides s old);
+      met = met_more g now walked.strides s met old v u w walked.met (record { passing = refl; matter = refl }) p.is_open p.meets;
+      out = handed_more g walked.strides s old walked.silent ∙ subst (λ (x : Position). handed (step_met g now met x).outputs ≡ outputs) walked.leads hands;
+      arrival = last_more walked.strides s ∙ ap (λ (x : Position). message_at g met x) (sym walked.leads);
+      stops = stops_more g walked.strides s old walked.silent;
+    }
+
+-- it hands something out
+poll_hands : (g : ReplayInput) (now : ℕ) (quiet : Bool) (met : Met) (old at new : Position) (v u w : LinkView) (answer : Answer) → Walked g now quiet old at v u → PassesNext g now met at new u w
+    → handed (step_met g now met at).outputs ≡ handed_by answer → (answer ≡ Ends → ⊥) → (answer ≡ Waits → ⊥) → (answer ≡ HandsEnd → ⊥)
+    → ((strides : List Stride) → last_arrival strides ≡ message_at g met at → IsTaken answer strides) → Polls g now old new v w answer
+poll_hands g now quiet met old at new v u w answer walked passes hands no_end no_wait no_spent taken =
+    let last : Last g now old new v w (handed_by answer) (message_at g met at) = last_row g now quiet met old at new v u w (handed_by answer) walked passes hands in
+    record {
+      strides = last.strides;
+      closed = false;
+      leads = last.leads;
+      between = w;
+      met = last.met;
+      closing = refl;
+      out = last.out;
+      taken = taken last.strides last.arrival;
+      stops = last.stops;
+      exhausted = λ e. absurd (no_spent e);
+      ended = unended answer old.consumer.phase no_end walked.alive;
+      alive = λ e. absurd (no_wait e);
+      waits = λ e. absurd (no_wait e);
+      gapless = λ s whole kept honest. poll_gapless g last.strides false old new answer last.leads last.out s whole kept honest;
+    }
+
+pub poll_yields : (g : ReplayInput) (now : ℕ) (quiet : Bool) (met : Met) (old at new : Position) (v u w : LinkView) (message : Message) → Walked g now quiet old at v u → PassesNext g now met at new u w
+    → handed (step_met g now met at).outputs ≡ handed_by (Yields message) → message_of met ≡ Some message → Polls g now old new v w (Yields message)
+poll_yields g now quiet met old at new v u w message walked passes hands took =
+    poll_hands g now quiet met old at new v u w (Yields message) walked passes hands (λ e. yields_ends message e) (λ e. yields_waits message e) (λ e. yields_end message e)
+    (λ strides last. last ∙ took_from (poll_wish g at) met message u w passes.meets took)
+
+poll_tells : (g : ReplayInput) (now : ℕ) (quiet : Bool) (met : Met) (old at new : Position) (v u w : LinkView) (kind : ItemKind) → Walked g now quiet old at v u → PassesNext g now met at new u w
+    → handed (step_met g now met at).outputs ≡ handed_by (Tells kind) → Polls g now old new v w (Tells kind)
+poll_tells g now quiet met old at new v u w kind walked passes hands =
+    poll_hands g now quiet met old at new v u w (Tells kind) walked passes hands (λ e. tells_ends kind e) (λ e. tells_waits kind e) (λ e. tells_end kind e) (λ strides last. tt)
+
+error_tells : (kind : ItemKind) → told_of (error_kind kind) ≡ Tells kind
+error_tells item.MissingHeartbeat = refl
+error_tells item.RequestLimitExceeded = refl
+error_tells item.PushBasedConsumer = refl
+error_tells item.Pull = refl
+error_tells item.Recreate = refl
+error_tells item.Other = refl
+
+-- an error of the table
+pub poll_errs : (g : ReplayInput) (now : ℕ) (quiet : Bool) (met : Met) (old at new : Position) (v u w : LinkView) (kind : ItemKind) (told : OrderedErrorKind) → told ≡ error_kind kind → Walked g now quiet old at v u → PassesNext g now met at new u w
+    → handed (step_met g now met at).outputs ≡ handed_by (Tells kind) → Polls g now old new v w (told_of told)
+poll_errs g now quiet met old at new v u w kind told is walked passes hands =
+    subst (λ (a : Answer). Polls g now old new v w a) (sym (ap told_of is ∙ error_tells kind)) (poll_tells g now quiet met old at new v u w kind walked passes hands)
+
+-- there is no sequence to go on from
+pub poll_exhausts : (g : ReplayInput) (now : ℕ) (quiet : Bool) (met : Met) (old at new : Position) (v u w : LinkView) → Walked g now quiet old at v u → PassesNext g now met at new u w
+    → handed (step_met g now met at).outputs ≡ [] → is_spent new.consumer.phase ≡ true → Polls g now old new v w HandsEnd
+poll_exhausts g now quiet met old at new v u w walked passes hands spent =
+    let last : Last g now old new v w [] (message_at g met at) = last_row g now quiet met old at new v u w [] walked passes hands in
+    record {
+      strides = last.strides;
+      closed = false;
+      leads = last.leads;
+      between = w;
+      met = last.met;
+      closing = refl;
+      out = last.out;
+      taken = tt;
+      stops = last.stops;
+      exhausted = λ _. (unspent old.consumer.phase (over_spent old.consumer.phase walked.alive), is_exhausted new.consumer.phase spent);
+      ended = unended HandsEnd old.consumer.phase end_ends walked.alive;
+      alive = λ e. absurd (end_waits e);
+      waits = λ e. absurd (end_waits e);
+      gapless = λ s whole kept honest. poll_gapless g last.strides false old new HandsEnd last.leads last.out s whole kept honest;
+    }
+
+-- ---- what the next row came to, by what its code says
+
+known : (t : Turned) (g h : ReplayInput) (now : ℕ) (old new : Position) (v u : LinkView) → h ≡ g → TurnsTo t h now old new v u → TurnsTo t g now old new v u
+known t g h now old new v u same turned = subst (λ (x : ReplayInput). TurnsTo t x now old new v u) same turned
+
+pub on_silent : (g h : ReplayInput) (now : ℕ) (quiet begins stirs : Bool) (old at new : Position) (v u w : LinkView) → h ≡ g → Walked g now quiet old at v u → (begins ≡ true → at.todo ≡ [])
+    → TurnsTo (turns.Silent stirs) h now at new u w → Walked g now ((begins || quiet) && not stirs) old new v w
+on_silent g h now quiet begins stirs old at new v u w same walked rests turned =
+    let t : TurnsTo (turns.Silent stirs) g now at new u w = known (turns.Silent stirs) g h now at new u w same turned in
+    walked_more g now quiet begins stirs t.0 old at new v u w walked rests t.1 t.2 t.3 t.4
+
+pub on_hands : (g h : ReplayInput) (now : ℕ) (quiet : Bool) (message : Message) (old at new : Position) (v u w : LinkView) → h ≡ g → Walked g now quiet old at v u
+    → TurnsTo (turns.Hands message) h now at new u w → Polls g now old new v w (Yields message)
+on_hands g h now quiet message old at new v u w same walked turned =
+    let t : TurnsTo (turns.Hands message) g now at new u w = known (turns.Hands message) g h now at new u w same turned in
+    poll_yields g now quiet t.0 old at new v u w message walked t.1 t.2 t.3
+
+pub on_tells : (g h : ReplayInput) (now : ℕ) (quiet : Bool) (kind : ItemKind) (told : OrderedErrorKind) (old at new : Position) (v u w : LinkView) → h ≡ g → Walked g now quiet old at v u
+    → told ≡ error_kind kind → TurnsTo (turns.Tells kind) h now at new u w → Polls g now old new v w (told_of told)
+on_tells g h now quiet kind told old at new v u w same walked is turned =
+    let t : TurnsTo (turns.Tells kind) g now at new u w = known (turns.Tells kind) g h now at new u w same turned in
+    poll_errs g now quiet t.0 old at new v u w kind told is walked t.1 t.2
+
+pub on_exhausted : (g h : ReplayInput) (now : ℕ) (quiet : Bool) (told : OrderedErrorKind) (old at new : Position) (v u w : LinkView) → h ≡ g → Walked g now quiet old at v u
+    → told ≡ error.SequenceEnd → TurnsTo turns.Exhausted h now at new u w → Polls g now old new v w (told_of told)
+on_exhausted g h now quiet told old at new v u w same walked is turned =
+    let t : TurnsTo turns.Exhausted g now at new u w = known turns.Exhausted g h now at new u w same turned in
+    subst (λ (k : OrderedErrorKind). Polls g now old new v w (told_of k)) (sym is) (poll_exhausts g now quiet t.0 old at new v u w walked t.1 t.2 t.3)
+
+pub on_closed : (g h : ReplayInput) (now : ℕ) (quiet : Bool) (old at new : Position) (v u w : LinkView) → h ≡ g → Walked g now quiet old at v u
+    → TurnsTo turns.Closed h now at new u w → Polls g now old new v w Ends
+on_closed g h now quiet old at new v u w same walked turned =
+    let t : TurnsTo turns.Closed g now at new u w = known turns.Closed g h now at new u w same turned in
+    poll_closes g now quiet old at new v u w walked t.0 t.1
+
+pub on_lacks : (g h : ReplayInput) (now : ℕ) (quiet : Bool) (old at new : Position) (v u w : LinkView) → h ≡ g → Walked g now quiet old at v u
+    → TurnsTo turns.OutOfMemory h now at new u w → Polls g now old new v w Lacks
+on_lacks g h now quiet old at new v u w same walked turned =
+    let t : TurnsTo turns.OutOfMemory g now at new u w = known turns.OutOfMemory g h now at new u w same turned in
+    poll_lacks g now quiet old at new v u w walked t.0 t.1
+
+-- it waits where nothing is left of a turn that was quiet
+pub on_waits : (g : ReplayInput) (now : ℕ) (quiet begins both : Bool) (old at : Position) (v u : LinkView) → Walked g now quiet old at v u → (begins ≡ true → at.todo ≡ [])
+    → both ≡ (begins && quiet) → both ≡ true → Polls g now old at v u Waits
+on_waits g now true true both old at v u walked rests is e = poll_waits g now true old at v u walked refl (rests refl)
+on_waits g now false true both old at v u walked rests is e = absurd (no (sym is ∙ e))
+on_waits g now quiet false both old at v u walked rests is e = absurd (no (sym is ∙ e))

@@ -1,0 +1,175 @@
+-- The next row of a position, and what is left then.
+use Rattle.std.proofs.Common.{◌≡◌, ℕ, Bool, true, false, List, [], ◌∷◌, ◌++◌, Option, Some, None, refl, sym, ap, ◌∙◌, subst, append-nil, append_assoc}
+use Rattle.std.specs.Prelude.{◌||◌, ◌&&◌, not, is_some, Result, Ok, Err}
+use Rattle.js_base.specs.declared.message.Message.{Message}
+use Rattle.js_link.specs.LinkView.{LinkView}
+use Rattle.js_link.specs.Meets.{Meets}
+use Rattle.js_link.specs.Met.{Met, message_of, IsClosing}
+use Rattle.js_ordered_rows.specs.declared.task.Task.{Task}
+use Rattle.js_ordered_rows.specs.declared.task.Task.TheVariants as task
+use Rattle.js_ordered_rows.specs.Readings.{brought}
+use Rattle.js_pull.specs.Reader.{Answer}
+use Rattle.js_pull.specs.declared.reader.Row.{Row as PullRow}
+use Rattle.js_pull.specs.declared.rows.Due.{Due}
+use Rattle.js_table.specs.declared.row.Row.TheVariants as row
+use Rattle.js_ordered_rows.specs.Tasks.{next_rows, rows_of}
+use Rattle.js_ordered_stream.specs.declared.left.Left.{Left}
+use Rattle.js_ordered_stream.specs.declared.left.Todo.{Todo}
+use Rattle.js_ordered_stream.specs.declared.left.Todo.TheVariants as todo
+use Rattle.js_ordered_stream.specs.declared.ordered.Turned.{Turned}
+use Rattle.js_ordered_stream.specs.declared.rows.Handed.{Handed}
+use Rattle.js_ordered_stream.specs.declared.rows.Handed.TheVariants as hands
+use Rattle.js_ordered_stream.specs.declared.rows.Stepped.{Stepped}
+use Rattle.js_ordered_stream.specs.declared.rows.Stop.{Stop}
+use Rattle.js_ordered_stream.specs.declared.rows.Stop.TheVariants as stop
+use Rattle.js_ordered_stream.specs.Rows.{Fits, IfAlone, IsPlain, ReadsNone, PassesRow, PassesRows, Steps, answer_shown, handed_list, is_rested, later_of, left_rows, met_row, read_by, todo_rows}
+use Rattle.js_ordered_stream.specs.Stream.{IsNext, PassesFirst, PassesNext, TurnsTo, is_spent, step_met, stirring, turned_by, silent_by}
+use Rattle.js_table.specs.declared.consumer.Consumer.{Consumer}
+use Rattle.js_table.specs.declared.consumer.ReplayInput.{ReplayInput}
+use Rattle.js_table.specs.declared.row.Row.{Row}
+use Rattle.js_table.specs.declared.row.Row.TheVariants.{Event}
+use Rattle.js_table.specs.State.{Matter}
+use Rattle.js_turns.specs.Polling.{closed_at, is_reading, poll_wish, poll_wish_at}
+use Rattle.js_turns.specs.Turns.{Position, first_row, handed, later_rows}
+
+-- ---- the rows that are left
+
+pub one_left : (m : Matter) (later : Task) → rows_of m later ≡ [] ++ rows_of m later
+one_left m later = refl
+
+pub none_later : (m : Matter) (one : Task) → rows_of m one ≡ rows_of m one ++ []
+none_later m one = sym (append-nil (rows_of m one))
+
+pub none_after : (m : Matter) (one second : Task) → rows_of m one ++ rows_of m second ≡ (rows_of m one ++ rows_of m second) ++ []
+none_after m one second = sym (append-nil (rows_of m one ++ rows_of m second))
+
+pub three_left : (m : Matter) (one second third : Task) → rows_of m one ++ (rows_of m second ++ rows_of m third) ≡ (rows_of m one ++ rows_of m second) ++ rows_of m third
+three_left m one second third = sym (append_assoc (rows_of m one) (rows_of m second) (rows_of m third))
+
+pub read_plain : (one : Due) (plain : Bool) → ReadsNone one plain → IsPlain (task.Read one) plain
+read_plain one true same = λ m u. ap (λ (x : PullRow). row.Read x ∷ []) (same (brought m.answer) (brought u.answer))
+read_plain one false same = tt
+
+-- nothing is left
+pub rested : (left : Left) (b : Bool) → b ≡ is_rested left.todo → b ≡ true → left_rows left ≡ []
+rested left b is e = by_todo left.todo (sym is ∙ e)
+  where
+    by_todo : (t : Todo) → is_rested t ≡ true → todo_rows (read_by (answer_shown left.reply)) t ≡ []
+    by_todo todo.Nothing e = refl
+    by_todo (todo.One one) e = absurd (let h = e in cc)
+    by_todo (todo.Two one second) e = absurd (let h = e in cc)
+    by_todo (todo.Three one second third) e = absurd (let h = e in cc)
+
+-- this task comes first
+abbrev IsFirst : Option Answer → Todo → Task → Type 0
+IsFirst a t one = (todo_rows (read_by a) t ≡ rows_of (read_by a) one ++ later_of (read_by a) t) × ((m u : Matter) → later_of m t ≡ later_of u t) × Fits t
+
+pub first_one : (left : Left) (one : Task) → left.todo ≡ todo.One one → IsFirst (answer_shown left.reply) left.todo one
+first_one left one is =
+    subst (λ (t : Todo). IsFirst (answer_shown left.reply) t one) (sym is) (sym (append-nil (rows_of (read_by (answer_shown left.reply)) one)), (λ m u. refl), tt)
+
+pub first_two : (left : Left) (one later : Task) (plain : Bool) → left.todo ≡ todo.Two one later → IsPlain later plain → plain ≡ true → IsFirst (answer_shown left.reply) left.todo one
+first_two left one later plain is same plain_is =
+    subst (λ (t : Todo). IsFirst (answer_shown left.reply) t one) (sym is) (refl, subst (λ (b : Bool). IsPlain later b) plain_is same, tt)
+
+-- what is left after it
+pub later_none : (m : Matter) (t : Todo) → t ≡ todo.Nothing → [] ≡ later_of m t
+later_none m t is = sym (ap (later_of m) is)
+
+pub later_one : (m : Matter) (t : Todo) (one : Task) → t ≡ todo.One one → [] ≡ later_of m t
+later_one m t one is = sym (ap (later_of m) is)
+
+pub later_two : (m : Matter) (t : Todo) (one second : Task) → t ≡ todo.Two one second → rows_of m second ≡ later_of m t
+later_two m t one second is = sym (ap (later_of m) is)
+
+pub later_three : (m : Matter) (t : Todo) (one second third : Task) (rows : List Row) → t ≡ todo.Three one second third → Fits t → rows ≡ later_of m t
+later_three m t one second third rows is fits = absurd (let h : Fits (todo.Three one second third) = subst Fits is fits in h)
+
+-- ---- a task that comes next
+
+abbrev place : Consumer → List Row → Position
+place c rows = record { consumer = c; todo = rows }
+
+-- the row that it stands for comes next
+pub next_of : (left : Left) (rows later : List Row) (holds : Row → Type 0) → left_rows left ≡ rows ++ later → ((m : Matter) → later ≡ later_of m left.todo) → IfAlone rows holds → IsNext left holds
+next_of left [] later holds is same alone = absurd alone
+next_of left (one ∷ []) later holds is same alone = (one, ap first_row is, (λ m. ap later_rows is ∙ same m), alone)
+next_of left (one ∷ second ∷ rows) later holds is same alone = absurd alone
+
+pub passes_first : (g : ReplayInput) (now : ℕ) (left : Left) (rows later : List Row) (c d : Consumer) (v u : LinkView) (result : Result Stepped Stop) → left_rows left ≡ rows ++ later
+    → ((m : Matter) → later ≡ later_of m left.todo) → Fits left.todo → PassesRows g now rows c d v u result → PassesFirst g now left c d v u result
+passes_first g now left rows later c d v u (Ok done) is same fits passes = (fits, next_of left rows later (λ one. PassesRow g now one c d v u (Ok done)) is same passes)
+passes_first g now left rows later c d v u (Err stop.Closed) is same fits passes = next_of left rows later (λ one. PassesRow g now one c d v u (Err stop.Closed)) is same passes
+passes_first g now left rows later c d v u (Err stop.OutOfMemory) is same fits passes = passes
+
+-- a turn begins
+pub begins_first : (g : ReplayInput) (now : ℕ) (left : Left) (c d : Consumer) (v u : LinkView) (result : Result Stepped Stop) → left.todo ≡ todo.Nothing
+    → PassesRow g now Event c d v u result → PassesFirst g now left c d v u result
+begins_first g now left c d v u result is passes = by_result result passes
+  where
+    none : left_rows left ≡ []
+    none = ap (todo_rows (read_by (answer_shown left.reply))) is
+
+    same : (m : Matter) → later_rows (left_rows left) ≡ later_of m left.todo
+    same m = ap later_rows none ∙ sym (ap (later_of m) is)
+
+    fits : Fits left.todo
+    fits = subst Fits (sym is) tt
+
+    by_result : (result : Result Stepped Stop) → PassesRow g now Event c d v u result → PassesFirst g now left c d v u result
+    by_result (Ok done) passes = (fits, (Event, ap first_row none, same, passes))
+    by_result (Err stop.Closed) passes = (Event, ap first_row none, same, passes)
+    by_result (Err stop.OutOfMemory) passes = passes
+
+-- ---- what the next row comes to
+
+turned_silent : (g : ReplayInput) (now : ℕ) (met : Met) (old new : Position) (v u : LinkView) (stirs spent : Bool) → PassesNext g now met old new v u → handed (step_met g now met old).outputs ≡ []
+    → stirs ≡ stirring met old.consumer.phase new.consumer.phase → spent ≡ is_spent new.consumer.phase → TurnsTo (silent_by stirs spent) g now old new v u
+turned_silent g now met old new v u stirs true passes shows stirred is = (met, passes, shows, sym is)
+turned_silent g now met old new v u stirs false passes shows stirred is = (met, passes, shows, stirred, sym is)
+
+turned_to : (g : ReplayInput) (now : ℕ) (met : Met) (old new : Position) (v u : LinkView) (hand : Handed) (message : Option Message) (stirs spent : Bool) → PassesNext g now met old new v u
+    → message ≡ message_of met → handed (step_met g now met old).outputs ≡ handed_list hand message
+    → stirs ≡ stirring met old.consumer.phase new.consumer.phase → spent ≡ is_spent new.consumer.phase → TurnsTo (turned_by hand message stirs spent) g now old new v u
+turned_to g now met old new v u hands.Nothing message stirs spent passes took shows stirred is = turned_silent g now met old new v u stirs spent passes shows stirred is
+turned_to g now met old new v u hands.Message None stirs spent passes took shows stirred is = turned_silent g now met old new v u stirs spent passes shows stirred is
+turned_to g now met old new v u hands.Message (Some message) stirs spent passes took shows stirred is = (met, passes, shows, sym took)
+turned_to g now met old new v u (hands.Error kind) message stirs spent passes took shows stirred is = (met, passes, shows)
+
+-- the next row was passed
+pub next_passed : (g : ReplayInput) (now : ℕ) (left after : Left) (c d e : Consumer) (done : Stepped) (was_reading : Bool) (turned : Turned) (v u : LinkView) → PassesFirst g now left c d v u (Ok done) → e ≡ d
+    → was_reading ≡ is_reading c.phase
+    → left_rows after ≡ next_rows (read_by (answer_shown done.reply)) done.next ++ later_of (read_by (answer_shown done.reply)) left.todo
+    → turned ≡ turned_by done.handed done.message (is_some done.message || (not was_reading && is_reading d.phase)) (is_spent d.phase)
+    → TurnsTo turned g now (place c (left_rows left)) (place e (left_rows after)) v u
+next_passed g now left after c d e done was_reading turned v u (fits, (one, first_is, later_is, (met, meets, is_open, steps))) kept was rows to =
+    let old : Position = place c (left_rows left) in
+    let new : Position = place d (left_rows after) in
+    let known : Steps g now (first_row (left_rows left)) met c d done = subst (λ (x : Row). Steps g now x met c d done) (sym first_is) steps in
+    let passes : PassesNext g now met old new v u = record {
+      meets = subst (λ (x : Row). Meets (poll_wish_at g x c.phase) met v u) (sym first_is) meets;
+      is_open = is_open;
+      leads = ap (λ (x : Consumer). place x (left_rows after)) known.consumer
+          ∙ ap (λ (xs : List Row). place (step_met g now met old).position.consumer xs)
+          (rows ∙ ap (λ (xs : List Row). xs ++ later_of (read_by (answer_shown done.reply)) left.todo) known.next
+          ∙ ap (λ (xs : List Row). (met_row g now (first_row (left_rows left)) met c).next ++ xs) (sym (later_is (read_by (answer_shown done.reply)))));
+    } in
+    let stirred : (is_some done.message || (not was_reading && is_reading d.phase)) ≡ stirring met c.phase d.phase =
+    ap (λ (o : Option Message). is_some o || (not was_reading && is_reading d.phase)) known.message ∙ ap (λ (b : Bool). is_some (message_of met) || (not b && is_reading d.phase)) was in
+    subst (λ (x : Consumer). TurnsTo turned g now old (place x (left_rows after)) v u) (sym kept)
+    (subst (λ (t : Turned). TurnsTo t g now old new v u) (sym to)
+    (turned_to g now met old new v u done.handed done.message (is_some done.message || (not was_reading && is_reading d.phase)) (is_spent d.phase) passes known.message
+    (known.shown ∙ ap (λ (o : Option Message). handed_list done.handed o) (sym known.message)) stirred refl))
+
+-- its inbox is closed
+pub next_closed : (g : ReplayInput) (now : ℕ) (left : Left) (c d : Consumer) (new : Position) (v u : LinkView) → PassesFirst g now left c d v u (Err stop.Closed)
+    → new ≡ closed_at true (place d (left_rows left))
+    → (new ≡ closed_at true (place c (left_rows left))) × IsClosing Meets (poll_wish g (place c (left_rows left))) true v u
+next_closed g now left c d new v u (one, first_is, later_is, (same, closing)) leads = (
+  leads ∙ ap (λ (x : Consumer). closed_at true (place x (left_rows left))) same,
+  subst (λ (x : Row). IsClosing Meets (poll_wish_at g x c.phase) true v u) (sym first_is) closing,
+)
+
+pub next_lacks : (g : ReplayInput) (now : ℕ) (left after : Left) (c d : Consumer) (v u : LinkView) → PassesFirst g now left c d v u (Err stop.OutOfMemory) → after ≡ left
+    → (place d (left_rows after) ≡ place c (left_rows left)) × (u ≡ v)
+next_lacks g now left after c d v u (same, view) kept = (ap (λ (x : Consumer). place x (left_rows after)) same ∙ ap (λ (l : Left). place c (left_rows l)) kept, view)

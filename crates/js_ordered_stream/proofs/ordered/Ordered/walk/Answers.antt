@@ -1,0 +1,60 @@
+use Rattle.std.proofs.Common.{Bool, refl, sym, subst, ◌∙◌}
+use Rattle.js_ordered_stream.specs.Stream.{given_to, position_of}
+use Rattle.js_ordered_stream.proofs.Strides.{Walked, walked_none, on_waits, on_silent, on_hands, on_tells, on_exhausted, on_closed, on_lacks, poll_lacks}
+use Rattle.js_ordered_stream.proofs.Turning.{rested}
+use Rattle.js_base.specs.Errors.{kind_of}
+use Rattle.js_ordered_stream.proofs.ordered.Ordered.walk.Goals as goal
+
+pub rows-init : goal.rows-init
+rows-init g c = record { given = refl; walked = walked_none (given_to c.args.self.now) c.args.now (position_of c.args.self.now) (g.L.Link.view c.args.link.now) c.requires }
+
+pub returns-then-both-clause-polls : goal.returns-then-both-clause-polls
+returns-then-both-clause-polls g c =
+    let view = g.L.Link.view in
+    on_waits (given_to c.args.self.now) c.args.now c.rows.quiet c.is_empty-begins.result c.both.result (position_of c.args.self.now) (position_of c.rows.self) (view c.args.link.now) (view c.rows.link) c.rows.invariant.walked
+    (rested c.rows.self.left c.is_empty-begins.result c.is_empty-begins.ensures) c.both.ensures c.if-both.true
+
+pub rows-preserved : goal.rows-preserved
+rows-preserved g c =
+    let view = g.L.Link.view in
+    record {
+      given = c.pass_next.ensures.given ∙ c.rows.invariant.given;
+      walked = subst (λ (q : Bool). Walked (given_to c.args.self.now) c.args.now q (position_of c.args.self.now) (position_of c.pass_next.new.self) (view c.args.link.now) (view c.pass_next.new.link)) (sym c.is_quiet-quiet.ensures)
+          (on_silent (given_to c.args.self.now) (given_to c.rows.self) c.args.now c.rows.quiet c.is_empty-begins.result c.in-Silent.stirs (position_of c.args.self.now) (position_of c.rows.self) (position_of c.pass_next.new.self) (view c.args.link.now) (view c.rows.link) (view c.pass_next.new.link)
+          c.rows.invariant.given c.rows.invariant.walked (rested c.rows.self.left c.is_empty-begins.result c.is_empty-begins.ensures) c.in-Silent.ensures.turns);
+    }
+
+pub returns-in-Hands-clause-polls : goal.returns-in-Hands-clause-polls
+returns-in-Hands-clause-polls g c =
+    let view = g.L.Link.view in
+    on_hands (given_to c.args.self.now) (given_to c.rows.self) c.args.now c.rows.quiet c.in-Hands.message (position_of c.args.self.now) (position_of c.rows.self) (position_of c.pass_next.new.self) (view c.args.link.now) (view c.rows.link) (view c.pass_next.new.link)
+    c.rows.invariant.given c.rows.invariant.walked c.in-Hands.ensures.turns
+
+pub returns-in-Tells-clause-polls : goal.returns-in-Tells-clause-polls
+returns-in-Tells-clause-polls g c =
+    let view = g.L.Link.view in
+    on_tells (given_to c.args.self.now) (given_to c.rows.self) c.args.now c.rows.quiet c.in-Tells.kind (kind_of c.error_of.result) (position_of c.args.self.now) (position_of c.rows.self) (position_of c.pass_next.new.self) (view c.args.link.now) (view c.rows.link) (view c.pass_next.new.link)
+    c.rows.invariant.given c.rows.invariant.walked c.error_of.ensures c.in-Tells.ensures.turns
+
+pub returns-in-Exhausted-clause-polls : goal.returns-in-Exhausted-clause-polls
+returns-in-Exhausted-clause-polls g c =
+    let view = g.L.Link.view in
+    on_exhausted (given_to c.args.self.now) (given_to c.rows.self) c.args.now c.rows.quiet (kind_of c.sequence_end.result) (position_of c.args.self.now) (position_of c.rows.self) (position_of c.pass_next.new.self) (view c.args.link.now) (view c.rows.link) (view c.pass_next.new.link)
+    c.rows.invariant.given c.rows.invariant.walked c.sequence_end.ensures c.in-Exhausted.ensures.turns
+
+pub returns-in-Closed-clause-polls : goal.returns-in-Closed-clause-polls
+returns-in-Closed-clause-polls g c =
+    let view = g.L.Link.view in
+    on_closed (given_to c.args.self.now) (given_to c.rows.self) c.args.now c.rows.quiet (position_of c.args.self.now) (position_of c.rows.self) (position_of c.pass_next.new.self) (view c.args.link.now) (view c.rows.link) (view c.pass_next.new.link)
+    c.rows.invariant.given c.rows.invariant.walked c.in-Closed.ensures.turns
+
+pub returns-in-OutOfMemory-clause-polls : goal.returns-in-OutOfMemory-clause-polls
+returns-in-OutOfMemory-clause-polls g c =
+    let view = g.L.Link.view in
+    on_lacks (given_to c.args.self.now) (given_to c.rows.self) c.args.now c.rows.quiet (position_of c.args.self.now) (position_of c.rows.self) (position_of c.pass_next.new.self) (view c.args.link.now) (view c.rows.link) (view c.pass_next.new.link)
+    c.rows.invariant.given c.rows.invariant.walked c.in-OutOfMemory.ensures.turns
+
+pub returns-clause-polls : goal.returns-clause-polls
+returns-clause-polls g c =
+    let view = g.L.Link.view in
+    poll_lacks (given_to c.args.self.now) c.args.now c.rows.quiet (position_of c.args.self.now) (position_of c.rows.self) (position_of c.rows.self) (view c.args.link.now) (view c.rows.link) (view c.rows.link) c.rows.invariant.walked refl refl

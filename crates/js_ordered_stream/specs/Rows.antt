@@ -1,0 +1,179 @@
+-- The rows that are left of a turn, as the code keeps them, and what a function says that passes one over a link.
+use Rattle.std.specs.Prelude.{◌≡◌, ℕ, Bool, true, false, List, [], ◌∷◌, ◌++◌, Option, Some, None, Result, Ok, Err, ⊤}
+use Rattle.js_base.specs.declared.message.Message.{Message}
+use Rattle.js_link.specs.LinkView.{LinkView}
+use Rattle.js_link.specs.Meets.{Meets}
+use Rattle.js_link.specs.Met.{Met, Opened, passing_of, message_of, IsClosing}
+use Rattle.js_message.specs.Ack.{readable_as}
+use Rattle.js_ordered_rows.specs.declared.task.Heard.{Heard}
+use Rattle.js_ordered_rows.specs.declared.task.Heard.TheVariants as hears
+use Rattle.js_ordered_rows.specs.declared.task.Inbox.{Inbox}
+use Rattle.js_ordered_rows.specs.declared.task.Task.{Task}
+use Rattle.js_ordered_rows.specs.Tasks.{StepsTo, next_rows, rows_of}
+use Rattle.js_ordered_stream.specs.declared.left.First.{First}
+use Rattle.js_ordered_stream.specs.declared.left.First.TheVariants as first
+use Rattle.js_ordered_stream.specs.declared.left.Left.{Left}
+use Rattle.js_ordered_stream.specs.declared.left.Reply.{Reply}
+use Rattle.js_ordered_stream.specs.declared.left.Todo.{Todo}
+use Rattle.js_ordered_stream.specs.declared.left.Todo.TheVariants as todo
+use Rattle.js_ordered_stream.specs.declared.reading.ReadMet.{ReadMet}
+use Rattle.js_ordered_stream.specs.declared.reading.Taken.{Taken}
+use Rattle.js_ordered_stream.specs.declared.rows.Handed.{Handed}
+use Rattle.js_ordered_stream.specs.declared.rows.Handed.TheVariants as hands
+use Rattle.js_ordered_stream.specs.declared.rows.Stepped.{Stepped}
+use Rattle.js_ordered_stream.specs.declared.rows.Stop.{Stop}
+use Rattle.js_ordered_stream.specs.declared.rows.Stop.TheVariants as stop
+use Rattle.js_pull.specs.Asking.{is_shut, met_shown}
+use Rattle.js_pull.specs.Reader.{Answer}
+use Rattle.js_pull.specs.Reader as pull
+use Rattle.js_pull.specs.Steps.{IsInformed, row_of}
+use Rattle.js_pull.specs.declared.rows.Due.{Due}
+use Rattle.js_pull.specs.declared.reader.Reader.{Reader}
+use Rattle.js_pull.specs.declared.reader.ReaderOutput.{ReaderOutput}
+use Rattle.js_pull.specs.declared.reader.Row.{Row as PullRow}
+use Rattle.js_table.specs.declared.consumer.Consumer.{Consumer}
+use Rattle.js_table.specs.declared.consumer.ReplayInput.{ReplayInput}
+use Rattle.js_table.specs.declared.consumer.Stage.{Stage}
+use Rattle.js_table.specs.declared.consumer.Stage.TheVariants.{Deleting, Creating}
+use Rattle.js_table.specs.declared.row.Row.{Row}
+use Rattle.js_table.specs.declared.run.ItemKind.TheVariants as item
+use Rattle.js_table.specs.declared.run.Output.{Output}
+use Rattle.js_table.specs.declared.run.Output.TheVariants as out
+use Rattle.js_table.specs.Reading.{told, with_sent}
+use Rattle.js_table.specs.State.{Matter, Passed, Unchanged}
+use Rattle.js_table.specs.Turn.{pass}
+use Rattle.js_turns.specs.Polling.{poll_wish_at, yielded}
+use Rattle.js_turns.specs.Turns.{handed}
+use Rattle.js_turns.specs.Wishes.{matter_of}
+
+-- ---- the rows that are left
+
+abbrev pub answer_shown : Option Reply → Option Answer
+answer_shown None = None
+answer_shown (Some reply) = Some (record { request = reply.request; reply = reply.message })
+
+-- what the rows read that are left
+abbrev pub read_by : Option Answer → Matter
+read_by answer = record { change = Unchanged; answer = answer; arrival = None }
+
+-- in order
+abbrev pub todo_rows : Matter → Todo → List Row
+todo_rows m todo.Nothing = []
+todo_rows m (todo.One one) = rows_of m one
+todo_rows m (todo.Two one second) = rows_of m one ++ rows_of m second
+todo_rows m (todo.Three one second third) = rows_of m one ++ (rows_of m second ++ rows_of m third)
+
+-- what is left after the next row
+abbrev pub later_of : Matter → Todo → List Row
+later_of m todo.Nothing = []
+later_of m (todo.One one) = []
+later_of m (todo.Two one second) = rows_of m second
+later_of m (todo.Three one second third) = rows_of m second ++ rows_of m third
+
+abbrev pub later_list : Matter → Option Task → List Row
+later_list m None = []
+later_list m (Some one) = rows_of m one
+
+abbrev pub left_rows : Left → List Row
+left_rows left = todo_rows (read_by (answer_shown left.reply)) left.todo
+
+abbrev pub is_rested : Todo → Bool
+is_rested todo.Nothing = true
+is_rested _ = false
+
+-- there is room for what follows the next row
+abbrev pub Fits : Todo → Type 0
+Fits (todo.Three one second third) = ⊥
+Fits _ = ⊤
+
+-- a row of a reader is the same whatever is read
+abbrev pub ReadsNone : Due → Bool → Type 0
+ReadsNone due true = (a b : Option Message) → row_of a due ≡ row_of b due
+ReadsNone due false = ⊤
+
+-- and so is any row
+abbrev pub IsPlain : Task → Bool → Type 0
+IsPlain one true = (m u : Matter) → rows_of m one ≡ rows_of u one
+IsPlain one false = ⊤
+
+-- the next row, after which the others stay the same
+abbrev pub FirstOf : First → Left → Type 0
+FirstOf first.Rests left = left.todo ≡ todo.Nothing
+FirstOf (first.Next task) left =
+    (left_rows left ≡ rows_of (read_by (answer_shown left.reply)) task.now ++ later_of (read_by (answer_shown left.reply)) left.todo)
+    × ((m u : Matter) → later_of m left.todo ≡ later_of u left.todo) × Fits left.todo
+FirstOf first.Blocked left = ⊤
+
+-- ---- a row is passed
+
+-- what is handed out, with the message that was taken
+abbrev pub handed_list : Handed → Option Message → List Output
+handed_list hands.Nothing message = []
+handed_list hands.Message None = []
+handed_list hands.Message (Some message) = yielded (readable_as message.reply) message ∷ []
+handed_list (hands.Error kind) message = out.Item kind ∷ []
+
+-- what is handed out of a message of the stream
+abbrev pub handed_by_heard : Heard → Handed
+handed_by_heard (hears.Yields place) = hands.Message
+handed_by_heard hears.Unreadable = hands.Error item.Other
+handed_by_heard heard = hands.Nothing
+
+-- the row of the table at what was met
+abbrev pub met_row : ReplayInput → ℕ → Row → Met → Consumer → Passed
+met_row g now row met c = pass g (passing_of now met) (matter_of (poll_wish_at g row c.phase) met) row c
+
+-- the consumer after it, what it hands out, and the rows that follow at once
+pub record Steps (g : ReplayInput) (now : ℕ) (row : Row) (met : Met) (old new : Consumer) (done : Stepped) : Type 0 where
+  pub consumer : new ≡ (met_row g now row met old).consumer
+  pub shown : handed (met_row g now row met old).outputs ≡ handed_list done.handed (message_of met)
+  pub next : next_rows (read_by (answer_shown done.reply)) done.next ≡ (met_row g now row met old).next
+  pub message : done.message ≡ message_of met
+
+-- a row was passed with what it met; or its inbox is closed, or there was no memory, and it was not passed
+abbrev pub PassesRow : ReplayInput → ℕ → Row → Consumer → Consumer → LinkView → LinkView → Result Stepped Stop → Type 0
+PassesRow g now row old new before after (Ok done) =
+    (met : Met) × Meets (poll_wish_at g row old.phase) met before after × (is_shut met ≡ false) × Steps g now row met old new done
+PassesRow g now row old new before after (Err stop.Closed) = (new ≡ old) × IsClosing Meets (poll_wish_at g row old.phase) true before after
+PassesRow g now row old new before after (Err stop.OutOfMemory) = (new ≡ old) × (after ≡ before)
+
+-- where there is one row
+abbrev pub IfAlone : List Row → (Row → Type 0) → Type 0
+IfAlone (row ∷ []) holds = holds row
+IfAlone rows holds = ⊥
+
+-- what a task stands for was passed
+abbrev pub PassesRows : ReplayInput → ℕ → List Row → Consumer → Consumer → LinkView → LinkView → Result Stepped Stop → Type 0
+PassesRows g now rows old new before after (Ok done) = IfAlone rows (λ row. PassesRow g now row old new before after (Ok done))
+PassesRows g now rows old new before after (Err stop.Closed) = IfAlone rows (λ row. PassesRow g now row old new before after (Err stop.Closed))
+PassesRows g now rows old new before after (Err stop.OutOfMemory) = (new ≡ old) × (after ≡ before)
+
+-- ---- what is met
+
+-- the request whose answer a recreation waits for
+abbrev pub replied : Stage → ℕ
+replied (Deleting request timeout) = request
+replied (Creating request timeout) = request
+replied _ = 0
+
+-- the inbox that was opened
+abbrev pub inbox_in : Met → Option Inbox
+inbox_in (Opened inbox subject) = Some (record { number = inbox; subject = subject })
+inbox_in met = None
+
+-- a reader's row met this, and its reply tells that
+pub record IsReadMet (read : ReadMet) (one : PullRow) (r : Reader) (before after : LinkView) : Type 0 where
+  pub meets : Meets (pull.wish one r) (met_shown read.met) before after
+  pub is_open : is_shut (met_shown read.met) ≡ false
+  pub informed : IsInformed one read.informed
+
+abbrev pub MeetsReader : Result ReadMet Stop → PullRow → Reader → LinkView → LinkView → Type 0
+MeetsReader (Ok read) one r before after = IsReadMet read one r before after × (r.source.pinned ≡ false)
+MeetsReader (Err stop.Closed) one r before after = IsClosing Meets (pull.wish one r) true before after
+MeetsReader (Err stop.OutOfMemory) one r before after = after ≡ before
+
+-- what the consumer makes of what its reader tells
+pub record TakesIn (m : Matter) (tells : ReaderOutput) (rows : List Row) (message : Option Message) (old new : Consumer) (taken : Taken) : Type 0 where
+  pub outputs : List Output
+  pub steps : StepsTo m (with_sent [] rows (told tells old)) outputs new taken.next
+  pub shown : handed_list taken.handed message ≡ handed outputs

@@ -1,0 +1,198 @@
+-- Where an ordered stream stands, and what its polls answer.
+use Rattle.std.specs.Prelude.{◌≡◌, ℕ, Bool, true, false, ◌||◌, List, [], Option, Some, None, Result, Ok, Err, codes, is_some, map}
+use Rattle.js_base.specs.declared.error.Error.{Error}
+use Rattle.js_base.specs.Errors.{kind_of}
+use Rattle.js_base.specs.declared.message.Message.{Message}
+use Rattle.js_base.specs.declared.message.State.TheVariants.{Connected}
+use Rattle.js_base.specs.declared.turn.Next.{Next}
+use Rattle.js_base.specs.declared.turn.Next.TheVariants as next
+use Rattle.js_json.specs.declared.consumer.info.Info.{Info}
+use Rattle.js_json.specs.declared.pull.OrderedConfig.{OrderedConfig}
+use Rattle.js_link.specs.Calls.{OpensOwn, RefusedSend}
+use Rattle.js_link.specs.declared.link.LinkError.{LinkError}
+use Rattle.js_link.specs.LinkView.{LinkView}
+use Rattle.js_link.specs.Meets.{Meets}
+use Rattle.js_link.specs.Met.{Met, passing_of, message_of, IsClosing}
+use Rattle.js_ordered_stream.specs.declared.error.OrderedErrorKind.{OrderedErrorKind}
+use Rattle.js_ordered_stream.specs.declared.error.OrderedErrorKind.TheVariants as error
+use Rattle.js_ordered_stream.specs.declared.ordered.Ordered.{Ordered}
+use Rattle.js_ordered_stream.specs.declared.ordered.Turned.{Turned}
+use Rattle.js_ordered_stream.specs.declared.ordered.Turned.TheVariants as turns
+use Rattle.js_ordered_stream.specs.declared.rows.Handed.{Handed}
+use Rattle.js_ordered_stream.specs.declared.rows.Handed.TheVariants as hands
+use Rattle.js_ordered_stream.specs.declared.left.Left.{Left}
+use Rattle.js_ordered_stream.specs.declared.rows.Stepped.{Stepped}
+use Rattle.js_ordered_stream.specs.declared.rows.Stop.{Stop}
+use Rattle.js_ordered_stream.specs.declared.rows.Stop.TheVariants as stop
+use Rattle.js_ordered_stream.specs.Rows.{Fits, PassesRow, later_of, left_rows}
+use Rattle.js_pull.specs.declared.reader.Reader.{Reader}
+use Rattle.js_table.specs.State.{Matter}
+use Rattle.js_pull.specs.Asking.{is_shut}
+use Rattle.js_pull.specs.Reader.{new_reader, opening}
+use Rattle.js_table.specs.declared.consumer.Consumer.{Consumer}
+use Rattle.js_table.specs.declared.consumer.ReplayInput.{ReplayInput}
+use Rattle.js_table.specs.declared.consumer.Phase.{Phase}
+use Rattle.js_table.specs.declared.consumer.Phase.TheVariants.{Pulls, Exhausted}
+use Rattle.js_table.specs.declared.row.Row.{Row}
+use Rattle.js_table.specs.declared.row.Row.TheVariants.{Read}
+use Rattle.js_table.specs.declared.run.ItemKind.{ItemKind}
+use Rattle.js_table.specs.declared.run.ItemKind.TheVariants as item
+use Rattle.js_table.specs.declared.setup.OrderedSetup.TheVariants.{Pull}
+use Rattle.js_table.specs.declared.setup.Settings.{Settings}
+use Rattle.js_table.specs.Texts.{source_of}
+use Rattle.js_turns.specs.Polling.{Answer, Yields, Tells, HandsEnd, Waits, Ends, Lacks, poll_wish, has_started, closed_at, handed_by}
+use Rattle.js_turns.specs.Turns.{Position, Stride, Moved, step, first_row, later_rows, handed}
+use Rattle.js_turns.specs.Wishes.{matter_of}
+
+-- ---- errors
+
+-- the error that an item of the table is
+abbrev pub error_kind : ItemKind → OrderedErrorKind
+error_kind item.MissingHeartbeat = error.MissingHeartbeat
+error_kind item.RequestLimitExceeded = error.RequestLimitExceeded
+error_kind item.PushBasedConsumer = error.PushBasedConsumer
+error_kind item.Pull = error.Pull
+error_kind item.Recreate = error.Recreate
+error_kind item.Other = error.Other
+
+-- how it is printed
+abbrev pub kind_text : OrderedErrorKind → List ℕ
+kind_text error.MissingHeartbeat = codes "missed idle heartbeat"
+kind_text error.Pull = codes "pull request failed"
+kind_text error.Other = codes "error"
+kind_text error.Recreate = codes "consumer recreation failed"
+kind_text error.RequestLimitExceeded = codes "pull request exceeded consumer limits"
+kind_text error.PushBasedConsumer = codes "cannot use with push consumer"
+kind_text error.SequenceEnd = codes "sequence end"
+
+-- what an error answers
+abbrev pub told_of : OrderedErrorKind → Answer
+told_of error.MissingHeartbeat = Tells item.MissingHeartbeat
+told_of error.Pull = Tells item.Pull
+told_of error.Other = Tells item.Other
+told_of error.Recreate = Tells item.Recreate
+told_of error.RequestLimitExceeded = Tells item.RequestLimitExceeded
+told_of error.PushBasedConsumer = Tells item.PushBasedConsumer
+told_of error.SequenceEnd = HandsEnd
+
+-- what a poll answers
+abbrev pub poll_answer : Next (Result Message (Error OrderedErrorKind)) → Answer
+poll_answer (next.Item (Ok message)) = Yields message
+poll_answer (next.Item (Err e)) = told_of (kind_of e)
+poll_answer next.Pending = Waits
+poll_answer next.End = Ends
+poll_answer next.OutOfMemory = Lacks
+
+-- ---- where a stream stands
+
+-- what it is made with
+abbrev pub given_to : Ordered → ReplayInput
+given_to o = o.given
+
+abbrev pub position_of : Ordered → Position
+position_of o = record { consumer = o.consumer; todo = left_rows o.left }
+
+-- this row comes next, after which the others stay the same
+abbrev pub IsNext : Left → (Row → Type 0) → Type 0
+IsNext left holds =
+    (row : Row) × (first_row (left_rows left) ≡ row) × ((m : Matter) → later_rows (left_rows left) ≡ later_of m left.todo) × holds row
+
+-- there is no sequence to go on from
+abbrev pub is_spent : Phase → Bool
+is_spent Exhausted = true
+is_spent phase = false
+
+-- ---- the next row of a position
+
+abbrev pub stride_met : ReplayInput → ℕ → Met → Position → Stride
+stride_met g now met at = record { passing = passing_of now met; matter = matter_of (poll_wish g at) met }
+
+abbrev pub step_met : ReplayInput → ℕ → Met → Position → Moved
+step_met g now met at = step g (stride_met g now met at) at
+
+-- a row took a message, or started a reader
+abbrev pub stirring : Met → Phase → Phase → Bool
+stirring met before after = is_some (message_of met) || has_started before after
+
+-- the next row was passed with what it met
+pub record PassesNext (g : ReplayInput) (now : ℕ) (met : Met) (old new : Position) (before after : LinkView) : Type 0 where
+  pub meets : Meets (poll_wish g old) met before after
+  pub is_open : is_shut met ≡ false
+  pub leads : new ≡ (step_met g now met old).position
+
+-- it hands this out
+abbrev pub hands_out : ReplayInput → ℕ → Met → Position → Answer → Type 0
+hands_out g now met at answer = handed (step_met g now met at).outputs ≡ handed_by answer
+
+-- the next row of a position was passed, or its inbox is closed, or there was no memory for it
+abbrev pub TurnsTo : Turned → ReplayInput → ℕ → Position → Position → LinkView → LinkView → Type 0
+TurnsTo (turns.Silent stirs) g now old new before after =
+    (met : Met) × PassesNext g now met old new before after × (handed (step_met g now met old).outputs ≡ [])
+    × (stirs ≡ stirring met old.consumer.phase new.consumer.phase) × (is_spent new.consumer.phase ≡ false)
+TurnsTo (turns.Hands message) g now old new before after =
+    (met : Met) × PassesNext g now met old new before after × hands_out g now met old (Yields message) × (message_of met ≡ Some message)
+TurnsTo (turns.Tells kind) g now old new before after =
+    (met : Met) × PassesNext g now met old new before after × hands_out g now met old (Tells kind)
+TurnsTo turns.Exhausted g now old new before after =
+    (met : Met) × PassesNext g now met old new before after × (handed (step_met g now met old).outputs ≡ [])
+    × (is_spent new.consumer.phase ≡ true)
+TurnsTo turns.Closed g now old new before after = (new ≡ closed_at true old) × IsClosing Meets (poll_wish g old) true before after
+TurnsTo turns.OutOfMemory g now old new before after = (new ≡ old) × (after ≡ before)
+
+-- the first row that is left was passed over a link
+abbrev pub PassesFirst : ReplayInput → ℕ → Left → Consumer → Consumer → LinkView → LinkView → Result Stepped Stop → Type 0
+PassesFirst g now left old new before after (Ok done) =
+    Fits left.todo × IsNext left (λ row. PassesRow g now row old new before after (Ok done))
+PassesFirst g now left old new before after (Err stop.Closed) = IsNext left (λ row. PassesRow g now row old new before after (Err stop.Closed))
+PassesFirst g now left old new before after (Err stop.OutOfMemory) = (new ≡ old) × (after ≡ before)
+
+-- what a row comes to, by what it hands out
+abbrev pub silent_by : Bool → Bool → Turned
+silent_by stirs true = turns.Exhausted
+silent_by stirs false = turns.Silent stirs
+
+abbrev pub turned_by : Handed → Option Message → Bool → Bool → Turned
+turned_by hands.Nothing message stirs spent = silent_by stirs spent
+turned_by hands.Message None stirs spent = silent_by stirs spent
+turned_by hands.Message (Some message) stirs spent = turns.Hands message
+turned_by (hands.Error kind) message stirs spent = turns.Tells kind
+
+-- ---- the beginning of a stream
+
+-- the consumer with this name, whose reader has read nothing yet
+abbrev pub first_of : List ℕ → Reader → Consumer
+first_of name reader = record {
+  phase = Pulls reader;
+  consumer_sequence = 0;
+  stream_sequence = 0;
+  recreation_count = 0;
+  name = name;
+  missed = false;
+  limited = false;
+  connection = Connected;
+}
+
+-- a consumer whose reader reads this inbox, before its opening is passed
+abbrev pub opened_at : ReplayInput → ℕ → List ℕ → Position
+opened_at g inbox subject = record {
+  consumer = first_of g.first.name (new_reader (source_of g 0 inbox subject g.first));
+  todo = map Read opening;
+}
+
+-- a recreation is tried as often as a number counts
+abbrev pub with_retries : Settings → Settings
+with_retries settings = record settings { retries = 4294967295 }
+
+-- an inbox is opened for the reader of the first consumer
+abbrev pub OpensConsumer : Result Consumer LinkError → ReplayInput → LinkView → LinkView → Type 0
+OpensConsumer (Ok c) g old new =
+    (inbox : ℕ) × (subject : List ℕ) × OpensOwn inbox subject old new × (c ≡ first_of g.first.name (new_reader (source_of g 0 inbox subject g.first)))
+OpensConsumer (Err e) g old new = RefusedSend e old new
+
+-- what `open` does: it opens one inbox, and asks for nothing
+abbrev pub OpensOrdered : Result Ordered LinkError → Settings → OrderedConfig → Info → LinkView → LinkView → Type 0
+OpensOrdered (Ok o) settings config first old new =
+    (inbox : ℕ) × (subject : List ℕ) × OpensOwn inbox subject old new
+    × (given_to o ≡ record { settings = with_retries settings; setup = Pull config; first = first })
+    × (position_of o ≡ opened_at (given_to o) inbox subject)
+OpensOrdered (Err e) settings config first old new = RefusedSend e old new

@@ -1,0 +1,78 @@
+//! What an ordered stream tells of in place of a message.
+ghost use Rattle.std.specs.Prelude.{◌≡◌, Some};
+ghost use Rattle.js_base.specs.Errors.{kind_of};
+ghost use Rattle.js_ordered_stream.specs.Stream.{error_kind, kind_text};
+
+use js_base::Error;
+use js_table::ItemKind;
+use std::{error, fmt};
+
+/// What an ordered stream tells of in place of a message.
+#[derive(Clone, Copy, Debug, PartialEq, Eq)]
+pub enum OrderedErrorKind {
+    /// Push: nothing was heard of the server for ten seconds. The consumer is made anew.
+    MissingHeartbeat,
+    /// A pull request was not sent, or the consumer's info was asked for six times in vain.
+    Pull,
+    /// An arrival that can't be read; or, for push, the end of the connection's watcher, after which the stream has ended.
+    Other,
+    /// The consumer could not be made anew, as often as it was tried. The next poll tries again.
+    Recreate,
+    /// The server refuses requests of this size, twice without a message between. The stream has ended.
+    RequestLimitExceeded,
+    /// The consumer is a push consumer. The stream has ended.
+    PushBasedConsumer,
+    /// A recreation is due after the last of all sequences. The stream has ended.
+    SequenceEnd,
+}
+
+impl fmt::Display for OrderedErrorKind {
+    ghost output = { λ kind. Some (kind_text kind) };
+
+    fn fmt<W: fmt::Write>(&self, f: &mut fmt::Formatter<W>) -> fmt::Result {
+        match self {
+            OrderedErrorKind::MissingHeartbeat => write!(f, "missed idle heartbeat"),
+            OrderedErrorKind::Pull => write!(f, "pull request failed"),
+            OrderedErrorKind::Other => write!(f, "error"),
+            OrderedErrorKind::Recreate => write!(f, "consumer recreation failed"),
+            OrderedErrorKind::RequestLimitExceeded => {
+                write!(f, "pull request exceeded consumer limits")
+            }
+            OrderedErrorKind::PushBasedConsumer => write!(f, "cannot use with push consumer"),
+            OrderedErrorKind::SequenceEnd => write!(f, "sequence end"),
+        }
+    }
+}
+
+impl error::Error for OrderedErrorKind {}
+
+/// An error of an ordered stream.
+pub type OrderedError = Error<OrderedErrorKind>;
+
+/// The kind of the error that an item of the table is.
+fn kind_of_item(kind: ItemKind) -> OrderedErrorKind
+    ensures { result ≡ error_kind kind }
+{
+    match kind {
+        ItemKind::MissingHeartbeat => OrderedErrorKind::MissingHeartbeat,
+        ItemKind::RequestLimitExceeded => OrderedErrorKind::RequestLimitExceeded,
+        ItemKind::PushBasedConsumer => OrderedErrorKind::PushBasedConsumer,
+        ItemKind::Pull => OrderedErrorKind::Pull,
+        ItemKind::Recreate => OrderedErrorKind::Recreate,
+        ItemKind::Other => OrderedErrorKind::Other,
+    }
+}
+
+/// The error that an item of the table is.
+pub(crate) fn error_of(kind: ItemKind) -> OrderedError
+    ensures { kind_of result ≡ error_kind kind }
+{
+    Error::new(kind_of_item(kind))
+}
+
+/// There is no sequence to go on from.
+pub(crate) fn sequence_end() -> OrderedError
+    ensures { kind_of result ≡ OrderedErrorKind.SequenceEnd }
+{
+    Error::new(OrderedErrorKind::SequenceEnd)
+}

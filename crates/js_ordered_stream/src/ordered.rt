@@ -1,0 +1,324 @@
+//! The stream of an ordered pull consumer over its link: it passes row after row, and may stop between any two.
+ghost use Rattle.std.specs.Prelude.{◌≡◌, ◌||◌, ◌&&◌, ◌++◌, false, is_some, not, true};
+ghost use Rattle.js_link.specs.Meets.{Meets};
+ghost use Rattle.js_ordered_rows.specs.Tasks.{next_rows};
+ghost use Rattle.js_ordered_stream.specs.Rows.{Fits, answer_shown, later_of, left_rows, read_by};
+ghost use Rattle.js_ordered_stream.specs.Stream.{OpensConsumer, OpensOrdered, PassesFirst, TurnsTo, first_of, given_to, is_spent as has_no_sequence, poll_answer, position_of, silent_by, turned_by};
+ghost use Rattle.js_table.specs.Fold.{is_over as has_ended};
+ghost use Rattle.js_table.specs.Passes.{given_of};
+ghost use Rattle.js_turns.specs.Polling.{IsPoll, closed_at, is_reading as reads_inbox};
+
+use crate::error::{OrderedError, error_of, sequence_end};
+use crate::left::{First, Left};
+use crate::rows::{Handed, Stepped, Stop, begin, pass};
+use js_base::{Boxed, Message, Moment, Next, State, Subject, Text, TryClone};
+use js_json::consumer::Info;
+use js_json::pull::OrderedConfig;
+use js_link::{Link, LinkError};
+use js_ordered_rows::event::is_over;
+use js_pull::Reader;
+use js_table::{
+    Consumer, EventContext, EventKind, ItemKind, OrderedSetup, Phase, ReplayInput, Settings, texts,
+};
+use std::alloc::Global;
+
+/// The stream of an ordered pull consumer: it yields the messages of its stream in order and without a gap, and makes its consumer anew where one shows.
+#[derive(Drop)]
+pub struct Ordered {
+    given: Boxed<ReplayInput>,
+    consumer: Consumer,
+    left: Left,
+}
+
+/// What the next row comes to.
+#[derive(Drop)]
+pub(crate) enum Turned {
+    /// Nothing is handed out.
+    Silent { stirs: bool },
+    Hands(Message),
+    Tells(ItemKind),
+    /// There is no sequence to go on from.
+    Exhausted,
+    Closed,
+    OutOfMemory,
+}
+
+fn is_reading(phase: &Phase) -> bool
+    ensures { result ≡ reads_inbox phase.now }
+{
+    match phase {
+        Phase::Pulls(_) => true,
+        Phase::Pushes { .. } => true,
+        Phase::Recreates(_) => false,
+        Phase::Idle => false,
+        Phase::Ended => false,
+        Phase::Exhausted => false,
+    }
+}
+
+fn is_spent(phase: &Phase) -> bool
+    ensures { result ≡ has_no_sequence phase.now }
+{
+    match phase {
+        Phase::Exhausted => true,
+        Phase::Pulls(_) => false,
+        Phase::Pushes { .. } => false,
+        Phase::Recreates(_) => false,
+        Phase::Idle => false,
+        Phase::Ended => false,
+    }
+}
+
+/// Nothing is handed out.
+fn silently(stirs: bool, spent: bool) -> Turned
+    ensures { result ≡ silent_by stirs spent }
+{
+    if spent {
+        Turned::Exhausted
+    } else {
+        Turned::Silent { stirs }
+    }
+}
+
+/// What a row comes to, by what it hands out.
+fn turn_of(handed: Handed, message: Option<Message>, stirs: bool, spent: bool) -> Turned
+    ensures { result ≡ turned_by handed message stirs spent }
+{
+    match handed {
+        Handed::Nothing => silently(stirs, spent),
+        Handed::Message => match message {
+            Some(message) => Turned::Hands(message),
+            None => silently(stirs, spent),
+        },
+        Handed::Error(kind) => Turned::Tells(kind),
+    }
+}
+
+/// A row took a message, or started a reader.
+fn stirs(took: bool, was_reading: bool, phase: &Phase) -> bool
+    ensures { result ≡ (took || (not was_reading && reads_inbox phase.now)) }
+{
+    let reads = is_reading(phase);
+    took || (!was_reading && reads)
+}
+
+/// A turn that begins is quiet until a row stirs.
+fn is_quiet(quiet: bool, begins: bool, stirs: bool) -> bool
+    ensures { result ≡ ((begins || quiet) && not stirs) }
+{
+    (begins || quiet) && !stirs
+}
+
+/// Nothing is left of a turn that was quiet.
+fn both(begins: bool, quiet: bool) -> bool
+    ensures { result ≡ (begins && quiet) }
+{
+    begins && quiet
+}
+
+/// The consumer with this name, whose reader has read nothing yet.
+fn first_consumer(name: Text, reader: Reader) -> Consumer
+    ensures { result ≡ first_of name reader }
+{
+    Consumer {
+        phase: Phase::Pulls(reader),
+        consumer_sequence: 0,
+        stream_sequence: 0,
+        recreation_count: 0,
+        name,
+        missed: false,
+        limited: false,
+        connection: State::Connected,
+    }
+}
+
+/// Opens an inbox for the reader of the first consumer.
+fn open_consumer<L: Link>(
+    alloc: Global,
+    link: &mut L,
+    given: &ReplayInput,
+) -> Result<Consumer, LinkError>
+    ensures { OpensConsumer result given.now (L.view link.old) (L.view link.new) }
+{
+    let tick = EventKind::Tick;
+    let context = EventContext {
+        settings: &given.settings,
+        setup: &given.setup,
+        first: &given.first,
+        moment: 0,
+        what: &tick,
+    };
+    let unknown = Subject::from(String::new(alloc));
+    let mut source = texts::source_of(&context, 0, 0, unknown, &given.first)?;
+    let name = given.first.name.try_clone()?;
+    let (inbox, subject) = link.open_inbox(alloc)?;
+    source.inbox = inbox.0;
+    source.subject = subject;
+    Ok(first_consumer(name, Reader::new(source)))
+}
+
+/// Passes the first of the rows that are left. A turn begins where none is left.
+fn pass_first<L: Link>(
+    alloc: Global,
+    context: &EventContext<'_>,
+    link: &mut L,
+    consumer: &mut Consumer,
+    left: &Left,
+) -> Result<Stepped, Stop>
+    ensures { PassesFirst (given_of context.now) context.now.moment left.now consumer.old consumer.new (L.view link.old) (L.view link.new) result }
+{
+    match left.first() {
+        First::Rests => begin(alloc, context, link, consumer),
+        First::Next(task) => pass(alloc, context, link, consumer, task, &left.reply),
+        First::Blocked => Err(Stop::OutOfMemory),
+    }
+}
+
+impl Ordered {
+    /// Opens an inbox, and a stream that reads the consumer of this info there. It asks for nothing before its first poll.
+    ///
+    /// The settings' number of retries does not count: a consumer is tried to be made anew 4,294,967,295 times.
+    ///
+    /// # Errors
+    ///
+    /// A refused subscription, and want of memory.
+    pub fn open<L: Link>(
+        alloc: Global,
+        link: &mut L,
+        mut settings: Settings,
+        config: OrderedConfig,
+        first: Info,
+    ) -> Result<Ordered, LinkError>
+        ensures { OpensOrdered result settings config first (L.view link.old) (L.view link.new) }
+    {
+        settings.retries = u32::MAX;
+        let given = Boxed::new(
+            alloc,
+            ReplayInput {
+                settings,
+                setup: OrderedSetup::Pull(config),
+                first,
+            },
+        )?;
+        let consumer = open_consumer(alloc, link, given.get())?;
+        Ok(Ordered {
+            given,
+            consumer,
+            left: Left::opening(),
+        })
+    }
+
+    /// Reads the next message or error. It waits after a turn in which nothing came.
+    pub fn poll_next<L: Link>(
+        &mut self,
+        alloc: Global,
+        link: &mut L,
+        now: Moment,
+    ) -> Next<Result<Message, OrderedError>>
+        ensures given { given_to self.new ≡ given_to self.old }
+        ensures polls { IsPoll (given_to self.old) Meets now (position_of self.old) (position_of self.new) (L.view link.old) (L.view link.new) (poll_answer result) }
+    {
+        if is_over(&self.consumer.phase) {
+            return Next::End;
+        }
+        self.walk(alloc, link, now)
+    }
+
+    /// Passes row after row, up to the first that hands something out.
+    ///
+    /// A poll has fewer rows than a `u64` counts: memory ends long before.
+    fn walk<L: Link>(
+        &mut self,
+        alloc: Global,
+        link: &mut L,
+        now: Moment,
+    ) -> Next<Result<Message, OrderedError>>
+        requires { has_ended self.old.consumer.phase ≡ false }
+        ensures given { given_to self.new ≡ given_to self.old }
+        ensures polls { IsPoll (given_to self.old) Meets now (position_of self.old) (position_of self.new) (L.view link.old) (L.view link.new) (poll_answer result) }
+    {
+        let mut quiet = false;
+        'rows: for _ in 0..u64::MAX {
+            let begins = self.left.is_empty();
+            if both(begins, quiet) {
+                return Next::Pending;
+            }
+            match self.pass_next(alloc, link, now) {
+                Turned::Silent { stirs } => quiet = is_quiet(quiet, begins, stirs),
+                Turned::Hands(message) => return Next::Item(Ok(message)),
+                Turned::Tells(kind) => return Next::Item(Err(error_of(kind))),
+                Turned::Exhausted => return Next::Item(Err(sequence_end())),
+                Turned::Closed => return Next::End,
+                Turned::OutOfMemory => return Next::OutOfMemory,
+            }
+        }
+        Next::OutOfMemory
+    }
+
+    /// Passes the next row over its link.
+    fn pass_over<L: Link>(
+        &mut self,
+        alloc: Global,
+        link: &mut L,
+        now: Moment,
+    ) -> Result<Stepped, Stop>
+        ensures given { given_to self.new ≡ given_to self.old }
+        ensures left { self.new.left ≡ self.old.left }
+        ensures passes { PassesFirst (given_to self.old) now self.old.left self.old.consumer self.new.consumer (L.view link.old) (L.view link.new) result }
+    {
+        let given = self.given.get();
+        let tick = EventKind::Tick;
+        let context = EventContext {
+            settings: &given.settings,
+            setup: &given.setup,
+            first: &given.first,
+            moment: now,
+            what: &tick,
+        };
+        pass_first(alloc, &context, link, &mut self.consumer, &self.left)
+    }
+
+    /// A closed inbox ends the stream.
+    fn close(&mut self)
+        ensures given { given_to self.new ≡ given_to self.old }
+        ensures place { position_of self.new ≡ closed_at true (position_of self.old) }
+    {
+        self.consumer.phase = Phase::Ended;
+        self.left.clear();
+    }
+
+    /// Passes the next row, and keeps what is left then.
+    fn pass_next<L: Link>(&mut self, alloc: Global, link: &mut L, now: Moment) -> Turned
+        ensures given { given_to self.new ≡ given_to self.old }
+        ensures turns { TurnsTo result (given_to self.old) now (position_of self.old) (position_of self.new) (L.view link.old) (L.view link.new) }
+    {
+        let was_reading = is_reading(&self.consumer.phase);
+        match self.pass_over(alloc, link, now) {
+            Ok(done) => self.settle(done, was_reading),
+            Err(Stop::Closed) => {
+                self.close();
+                Turned::Closed
+            }
+            Err(Stop::OutOfMemory) => Turned::OutOfMemory,
+        }
+    }
+
+    /// Keeps what is left after a row.
+    fn settle(&mut self, done: Stepped, was_reading: bool) -> Turned
+        requires { Fits self.old.left.todo }
+        ensures given { given_to self.new ≡ given_to self.old }
+        ensures consumer { self.new.consumer ≡ self.old.consumer }
+        ensures left { left_rows self.new.left ≡ next_rows (read_by (answer_shown done.reply)) done.next ++ later_of (read_by (answer_shown done.reply)) self.old.left.todo }
+        ensures turned { result ≡ turned_by done.handed done.message (is_some done.message || (not was_reading && reads_inbox self.old.consumer.phase)) (has_no_sequence self.old.consumer.phase) }
+    {
+        let Stepped {
+            handed,
+            next,
+            reply,
+            message,
+        } = done;
+        self.left.follow(next, reply);
+        let stirs = stirs(message.is_some(), was_reading, &self.consumer.phase);
+        turn_of(handed, message, stirs, is_spent(&self.consumer.phase))
+    }
+}

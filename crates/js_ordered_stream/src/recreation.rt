@@ -1,0 +1,476 @@
+//! The rows of a recreation over a link.
+ghost use Rattle.std.specs.Prelude.{◌≡◌, [], IfOk, OnErr, Some, codes, option_map};
+ghost use Rattle.js_link.specs.Meets.{Meets};
+ghost use Rattle.js_link.specs.LinkView.{LinkView};
+ghost use Rattle.js_link.specs.Met.{Opens_inbox, Requests, reply_of};
+ghost use Rattle.js_ordered_rows.specs.Tasks.{rows_of};
+ghost use Rattle.js_ordered_stream.specs.Rows.{PassesRow, PassesRows, answer_shown, inbox_in, read_by, replied};
+ghost use Rattle.js_pull.specs.Asking.{met_shown, wish_shown};
+ghost use Rattle.js_pull.specs.Reader.{info_of_reply as info_in, reply_to};
+ghost use Rattle.js_table.specs.Kept.{IsPull};
+ghost use Rattle.js_table.specs.Passes.{given_of};
+ghost use Rattle.js_table.specs.Texts as texts_of;
+ghost use Rattle.js_table.specs.declared.row.Row.TheVariants as row;
+ghost use Rattle.js_turns.specs.Wishes as wishes;
+
+use crate::left::Reply;
+use crate::rows::{Handed, Stepped, Stop, quietly, untaken};
+use bytes::Bytes;
+use js_base::{Boxed, Message, OutOfMemory, Subject, TryClone};
+use js_json::consumer::Info;
+use js_link::Link;
+use js_ordered_rows::recreation::{
+    pass_answered, pass_ask, pass_await, pass_create, pass_fail, pass_start, pass_succeed_pull,
+    pass_try,
+};
+use js_ordered_rows::{Inbox, NextTasks, Task};
+use js_pull::{Met, Source, Wish, ask, info_of_reply};
+use js_table::{Consumer, EventContext, Opened, OrderedSetup, Phase, Recreation, Stage, texts};
+use std::alloc::Global;
+use std::mem;
+
+// ---- what is asked
+
+fn opened_dropped(opened: &Option<Opened>) -> Wish
+    ensures { wish_shown result ≡ wishes.opened_dropped opened.now }
+{
+    match opened {
+        None => Wish::Nothing,
+        Some(opened) => Wish::Drops {
+            inbox: opened.inbox,
+        },
+    }
+}
+
+/// The inbox that a phase has is given up.
+fn dropped(phase: &Phase) -> Wish
+    ensures { wish_shown result ≡ wishes.dropped phase.now }
+{
+    match phase {
+        Phase::Pulls(reader) => Wish::Drops {
+            inbox: reader.source.inbox,
+        },
+        Phase::Pushes { inbox, .. } => Wish::Drops { inbox: *inbox },
+        Phase::Recreates(recreation) => opened_dropped(&recreation.opened),
+        Phase::Idle => Wish::Nothing,
+        Phase::Ended => Wish::Nothing,
+        Phase::Exhausted => Wish::Nothing,
+    }
+}
+
+/// The answer that a recreation waits for.
+fn awaited(stage: Stage) -> Wish
+    ensures { wish_shown result ≡ wishes.awaited stage }
+{
+    match stage {
+        Stage::Deleting { request, .. } => Wish::Awaits { request },
+        Stage::Creating { request, .. } => Wish::Awaits { request },
+        Stage::Between => Wish::Nothing,
+        Stage::Waiting { .. } => Wish::Nothing,
+    }
+}
+
+// ---- a recreation starts
+
+/// A recreation starts: the current inbox is given up.
+pub(crate) fn start<L: Link>(
+    alloc: Global,
+    context: &EventContext<'_>,
+    link: &mut L,
+    consumer: &mut Consumer,
+) -> Result<Stepped, Stop>
+    ensures { PassesRow (given_of context.now) context.now.moment row.Start consumer.old consumer.new (L.view link.old) (L.view link.new) result }
+{
+    let name = texts::consumer_name(alloc, context, consumer.recreation_count.saturating_add(1))?;
+    let again = name.try_clone()?;
+    let _met = ask(alloc, link, &dropped(&consumer.phase))?;
+    Ok(untaken(pass_start(context, consumer, name, again)))
+}
+
+// ---- a try
+
+/// The deletion of the old consumer is asked for.
+fn try_met<L: Link>(
+    alloc: Global,
+    context: &EventContext<'_>,
+    link: &mut L,
+    recreation: &Recreation,
+) -> Result<Met, OutOfMemory>
+    ensures met { IfOk result (λ met. Meets (Requests (texts_of.delete_subject (given_of context.now) recreation.now) (codes "{}")) (met_shown met) (L.view link.old) (L.view link.new)) }
+    ensures refused { OnErr result (L.view link.new ≡ L.view link.old) }
+{
+    let wish = Wish::Requests {
+        subject: texts::delete_subject(alloc, context, recreation)?,
+        payload: Bytes::from_static(b"{}"),
+    };
+    ask(alloc, link, &wish)
+}
+
+/// A try begins.
+fn begin_try<L: Link>(
+    alloc: Global,
+    context: &EventContext<'_>,
+    link: &mut L,
+    consumer: &mut Consumer,
+    recreation: Recreation,
+) -> Result<Stepped, Stop>
+    ensures { PassesRow (given_of context.now) context.now.moment row.Try (record consumer.old { phase = Phase.Recreates recreation }) consumer.new (L.view link.old) (L.view link.new) result }
+{
+    match try_met(alloc, context, link, &recreation) {
+        Err(_) => {
+            consumer.phase = Phase::Recreates(recreation);
+            Err(Stop::OutOfMemory)
+        }
+        Ok(met) => Ok(quietly(pass_try(context, consumer, recreation, met.request()))),
+    }
+}
+
+/// The new consumer is to be asked for.
+fn create<L: Link>(
+    alloc: Global,
+    context: &EventContext<'_>,
+    link: &mut L,
+    consumer: &mut Consumer,
+    recreation: Recreation,
+) -> Result<Stepped, Stop>
+    ensures { PassesRow (given_of context.now) context.now.moment row.Create (record consumer.old { phase = Phase.Recreates recreation }) consumer.new (L.view link.old) (L.view link.new) result }
+{
+    match context.setup {
+        OrderedSetup::Pull(_) => {
+            Ok(quietly(pass_create(alloc, context, consumer, recreation, None)))
+        }
+        // The consumer is a pull consumer.
+        OrderedSetup::Push(_) => {
+            consumer.phase = Phase::Recreates(recreation);
+            Err(Stop::OutOfMemory)
+        }
+    }
+}
+
+/// The new consumer is asked for.
+fn ask_met<L: Link>(
+    alloc: Global,
+    context: &EventContext<'_>,
+    link: &mut L,
+    recreation: &Recreation,
+) -> Result<Met, OutOfMemory>
+    ensures met { IfOk result (λ met. Meets (Requests (texts_of.create_subject (given_of context.now) recreation.now) (texts_of.create_body (given_of context.now) recreation.now)) (met_shown met) (L.view link.old) (L.view link.new)) }
+    ensures refused { OnErr result (L.view link.new ≡ L.view link.old) }
+{
+    let wish = Wish::Requests {
+        subject: texts::create_subject(alloc, context, recreation)?,
+        payload: texts::create_body(alloc, context, recreation)?,
+    };
+    ask(alloc, link, &wish)
+}
+
+/// The create request.
+fn ask_create<L: Link>(
+    alloc: Global,
+    context: &EventContext<'_>,
+    link: &mut L,
+    consumer: &mut Consumer,
+    recreation: Recreation,
+) -> Result<Stepped, Stop>
+    ensures { PassesRow (given_of context.now) context.now.moment row.Ask (record consumer.old { phase = Phase.Recreates recreation }) consumer.new (L.view link.old) (L.view link.new) result }
+{
+    match ask_met(alloc, context, link, &recreation) {
+        Err(_) => {
+            consumer.phase = Phase::Recreates(recreation);
+            Err(Stop::OutOfMemory)
+        }
+        Ok(met) => Ok(quietly(pass_ask(context, consumer, recreation, met.request()))),
+    }
+}
+
+/// A try has failed: what it has opened is given up.
+fn fail<L: Link>(
+    alloc: Global,
+    context: &EventContext<'_>,
+    link: &mut L,
+    consumer: &mut Consumer,
+    recreation: Recreation,
+) -> Result<Stepped, Stop>
+    ensures { PassesRow (given_of context.now) context.now.moment row.Fail (record consumer.old { phase = Phase.Recreates recreation }) consumer.new (L.view link.old) (L.view link.new) result }
+{
+    match ask(alloc, link, &opened_dropped(&recreation.opened)) {
+        Err(_) => {
+            consumer.phase = Phase::Recreates(recreation);
+            Err(Stop::OutOfMemory)
+        }
+        Ok(_met) => Ok(untaken(pass_fail(context, consumer, recreation))),
+    }
+}
+
+// ---- an open recreation
+
+/// The request whose answer a recreation waits for.
+fn request_of(stage: Stage) -> u64
+    ensures { result ≡ replied stage }
+{
+    match stage {
+        Stage::Deleting { request, .. } => request,
+        Stage::Creating { request, .. } => request,
+        Stage::Between => 0,
+        Stage::Waiting { .. } => 0,
+    }
+}
+
+/// The answer that was met, to this request.
+pub(crate) fn reply_met(request: u64, met: Met) -> Option<Reply>
+    ensures { answer_shown result ≡ option_map (λ reply. record { request = request; reply = reply }) (reply_of (met_shown met)) }
+{
+    if !met.is_answer() {
+        return None;
+    }
+    let (_, message) = met.into_parts();
+    Some(Reply { request, message })
+}
+
+/// What an open recreation waits for is looked at.
+fn look_on<L: Link>(
+    alloc: Global,
+    context: &EventContext<'_>,
+    link: &mut L,
+    consumer: &mut Consumer,
+    recreation: Recreation,
+) -> Result<Stepped, Stop>
+    ensures { PassesRow (given_of context.now) context.now.moment row.Await (record consumer.old { phase = Phase.Recreates recreation }) consumer.new (L.view link.old) (L.view link.new) result }
+{
+    let stage = recreation.stage;
+    match ask(alloc, link, &awaited(stage)) {
+        Err(_) => {
+            consumer.phase = Phase::Recreates(recreation);
+            Err(Stop::OutOfMemory)
+        }
+        Ok(met) => {
+            let next = pass_await(context, consumer, recreation, met.is_answer());
+            let reply = reply_met(request_of(stage), met);
+            Ok(answered_by(next, reply))
+        }
+    }
+}
+
+/// A row that hands nothing out, with the answer that it met.
+fn answered_by(next: NextTasks, reply: Option<Reply>) -> Stepped
+    ensures { result ≡ record { handed = Handed.Nothing; next = next; reply = reply; message = None } }
+{
+    Stepped {
+        handed: Handed::Nothing,
+        next,
+        reply,
+        message: None,
+    }
+}
+
+/// What a reply tells, in a box.
+fn told_by(alloc: Global, message: &Option<Message>) -> Result<Option<Boxed<Info>>, OutOfMemory>
+    ensures { IfOk result (λ info. info ≡ info_in message.now) }
+{
+    match info_of_reply(alloc, message.as_ref())? {
+        None => Ok(None),
+        Some(info) => Ok(Some(Boxed::new(alloc, info)?)),
+    }
+}
+
+/// What the answer to a create tells.
+fn info_met(
+    alloc: Global,
+    request: u64,
+    reply: &Option<Reply>,
+) -> Result<Option<Boxed<Info>>, OutOfMemory>
+    ensures { IfOk result (λ info. option_map info_in (reply_to request (answer_shown reply.now)) ≡ Some info) }
+{
+    match reply {
+        Some(reply) => {
+            if reply.request == request {
+                return told_by(alloc, &reply.message);
+            }
+            Err(OutOfMemory)
+        }
+        // An answer is read only where it was met.
+        None => Err(OutOfMemory),
+    }
+}
+
+/// The answer to a create is read.
+fn answered(
+    alloc: Global,
+    context: &EventContext<'_>,
+    consumer: &mut Consumer,
+    recreation: Recreation,
+    request: u64,
+    reply: &Option<Reply>,
+) -> Result<Stepped, Stop>
+    ensures { (v : LinkView) → PassesRows (given_of context.now) context.now.moment (rows_of (read_by (answer_shown reply.now)) (Task.Answered request)) (record consumer.old { phase = Phase.Recreates recreation }) consumer.new v v result }
+{
+    match info_met(alloc, request, reply) {
+        Err(_) => {
+            consumer.phase = Phase::Recreates(recreation);
+            Err(Stop::OutOfMemory)
+        }
+        Ok(info) => Ok(quietly(pass_answered(context, consumer, recreation, info))),
+    }
+}
+
+// ---- success
+
+/// Whom the next reader asks, but for its inbox.
+fn source_for(
+    alloc: Global,
+    context: &EventContext<'_>,
+    recreation_count: u64,
+    info: &Info,
+) -> Result<Source, OutOfMemory>
+    ensures { IfOk result (λ source. source ≡ texts_of.source_of (given_of context.now) recreation_count 0 [] info.now) }
+{
+    let unknown = Subject::from(String::new(alloc));
+    Ok(texts::source_of(context, recreation_count, 0, unknown, info)?)
+}
+
+/// The inbox that was opened, or could not be.
+fn inbox_met(met: Met) -> Option<Inbox>
+    ensures { result ≡ inbox_in (met_shown met) }
+{
+    match met {
+        Met::Opened { inbox, subject } => Some(Inbox {
+            number: inbox,
+            subject,
+        }),
+        Met::Unasked
+        | Met::GoneOut
+        | Met::Refused
+        | Met::Dropped
+        | Met::Requested { .. }
+        | Met::Empty
+        | Met::Shut
+        | Met::Took(_)
+        | Met::Waiting
+        | Met::Gone
+        | Met::Got(_)
+        | Met::Stands(_)
+        | Met::WatchOver => None,
+    }
+}
+
+/// What pull needs for its next reader.
+#[derive(Drop)]
+struct Reading {
+    source: Source,
+    met: Met,
+}
+
+/// Pull's next inbox is opened.
+fn reading_for<L: Link>(
+    alloc: Global,
+    context: &EventContext<'_>,
+    link: &mut L,
+    recreation_count: u64,
+    info: &Info,
+) -> Result<Reading, OutOfMemory>
+    ensures source { IfOk result (λ reading. reading.source ≡ texts_of.source_of (given_of context.now) recreation_count 0 [] info.now) }
+    ensures met { IfOk result (λ reading. Meets Opens_inbox (met_shown reading.met) (L.view link.old) (L.view link.new)) }
+    ensures refused { OnErr result (L.view link.new ≡ L.view link.old) }
+{
+    let source = source_for(alloc, context, recreation_count, info)?;
+    let met = ask(alloc, link, &Wish::OpensInbox)?;
+    Ok(Reading { source, met })
+}
+
+/// A create was answered well: pull reads its next inbox.
+fn succeed<L: Link>(
+    alloc: Global,
+    context: &EventContext<'_>,
+    link: &mut L,
+    consumer: &mut Consumer,
+    recreation: Recreation,
+    info: &Info,
+) -> Result<Stepped, Stop>
+    ensures { PassesRow (given_of context.now) context.now.moment (row.Succeed info.now) (record consumer.old { phase = Phase.Recreates recreation }) consumer.new (L.view link.old) (L.view link.new) result }
+{
+    match context.setup {
+        OrderedSetup::Pull(_) => { succeed_pull(alloc, context, link, consumer, recreation, info) }
+        // The consumer is a pull consumer.
+        OrderedSetup::Push(_) => {
+            consumer.phase = Phase::Recreates(recreation);
+            Err(Stop::OutOfMemory)
+        }
+    }
+}
+
+fn succeed_pull<L: Link>(
+    alloc: Global,
+    context: &EventContext<'_>,
+    link: &mut L,
+    consumer: &mut Consumer,
+    recreation: Recreation,
+    info: &Info,
+) -> Result<Stepped, Stop>
+    requires pull { IsPull context.now.setup.now }
+    ensures { PassesRow (given_of context.now) context.now.moment (row.Succeed info.now) (record consumer.old { phase = Phase.Recreates recreation }) consumer.new (L.view link.old) (L.view link.new) result }
+{
+    match reading_for(alloc, context, link, consumer.recreation_count, info) {
+        Err(_) => {
+            consumer.phase = Phase::Recreates(recreation);
+            Err(Stop::OutOfMemory)
+        }
+        Ok(reading) => {
+            let Reading { source, met } = reading;
+            let inbox = inbox_met(met);
+            Ok(quietly(pass_succeed_pull(context, consumer, recreation, source, inbox)))
+        }
+    }
+}
+
+// ---- any row of a recreation
+
+/// A row of the open recreation is passed.
+fn pass_recreating<L: Link>(
+    alloc: Global,
+    context: &EventContext<'_>,
+    link: &mut L,
+    consumer: &mut Consumer,
+    recreation: Recreation,
+    task: &Task,
+    reply: &Option<Reply>,
+) -> Result<Stepped, Stop>
+    ensures { PassesRows (given_of context.now) context.now.moment (rows_of (read_by (answer_shown reply.now)) task.now) (record consumer.old { phase = Phase.Recreates recreation }) consumer.new (L.view link.old) (L.view link.new) result }
+{
+    match task {
+        Task::Try => begin_try(alloc, context, link, consumer, recreation),
+        Task::Create => create(alloc, context, link, consumer, recreation),
+        Task::Ask => ask_create(alloc, context, link, consumer, recreation),
+        Task::Await => look_on(alloc, context, link, consumer, recreation),
+        Task::Answered { request } => {
+            answered(alloc, context, consumer, recreation, *request, reply)
+        }
+        Task::Succeed(info) => succeed(alloc, context, link, consumer, recreation, info.get()),
+        Task::Fail => fail(alloc, context, link, consumer, recreation),
+        _ => {
+            consumer.phase = Phase::Recreates(recreation);
+            Err(Stop::OutOfMemory)
+        }
+    }
+}
+
+/// A row that belongs to an open recreation is passed. No such row is left where none is open.
+pub(crate) fn pass_open<L: Link>(
+    alloc: Global,
+    context: &EventContext<'_>,
+    link: &mut L,
+    consumer: &mut Consumer,
+    task: &Task,
+    reply: &Option<Reply>,
+) -> Result<Stepped, Stop>
+    ensures { PassesRows (given_of context.now) context.now.moment (rows_of (read_by (answer_shown reply.now)) task.now) consumer.old consumer.new (L.view link.old) (L.view link.new) result }
+{
+    match mem::replace(&mut consumer.phase, Phase::Idle) {
+        Phase::Recreates(recreation) => {
+            pass_recreating(alloc, context, link, consumer, recreation, task, reply)
+        }
+        phase => {
+            consumer.phase = phase;
+            Err(Stop::OutOfMemory)
+        }
+    }
+}
