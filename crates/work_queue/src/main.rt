@@ -2,6 +2,7 @@
 //! answer and what they send goes to standard output, which the gate compares with the stored text.
 #![tactic(auto)]
 
+mod pushed;
 mod renewal;
 mod server;
 mod worker;

@@ -1,7 +1,7 @@
 //! What the server side of the link says, and how what was sent is shown.
 
 use bytes::Bytes;
-use js_base::{Message, OutOfMemory, StatusCode, Subject, Text, TryClone};
+use js_base::{HeaderMap, Message, OutOfMemory, StatusCode, Subject, Text, TryClone};
 use js_call::ApiScope;
 use js_consumer_calls::PullConsumer;
 use js_json::consumer::{FromConsumer, Info};
@@ -14,7 +14,7 @@ use std::alloc::Global;
 const INFO: &str =
     "{\"stream_name\":\"jobs\",\"name\":\"c1\",\"created\":\"2026-01-01T00:00:00Z\",\"config\":{\"deliver_policy\":\"all\",\"max_batch\":100},\"delivered\":{\"consumer_seq\":0,\"stream_seq\":0},\"ack_floor\":{\"consumer_seq\":0,\"stream_seq\":0},\"num_ack_pending\":0,\"num_redelivered\":0,\"num_waiting\":0,\"num_pending\":7}";
 
-fn info(alloc: Global) -> Result<Info, OutOfMemory> {
+pub fn info(alloc: Global) -> Result<Info, OutOfMemory> {
     match response_as::<Info>(alloc, INFO.as_bytes()) {
         Ok(Response::Ok(info)) => Ok(info),
         _ => Err(OutOfMemory),
@@ -70,6 +70,24 @@ pub fn status(alloc: Global, code: u16, description: &str) -> Result<Message, Ou
     })
 }
 
+/// A heartbeat that asks for an answer to that subject.
+pub fn flow_control(alloc: Global, subject: &str) -> Result<Message, OutOfMemory> {
+    Ok(Message {
+        reply: Some(Subject::new(alloc, subject)?),
+        ..status(alloc, 100, "FlowControl Request")?
+    })
+}
+
+/// A heartbeat of a consumer that waits for an answer to that subject.
+pub fn stalled(alloc: Global, subject: &str) -> Result<Message, OutOfMemory> {
+    let mut headers = HeaderMap::new(alloc);
+    headers.insert(alloc, "Nats-Consumer-Stalled", subject)?;
+    Ok(Message {
+        headers: Some(headers),
+        ..status(alloc, 100, "Idle Heartbeat")?
+    })
+}
+
 /// A number, or 0.
 pub fn number(word: &str) -> u64 {
     read_u64(word).unwrap_or(0)
@@ -82,6 +100,11 @@ fn payload_text(alloc: Global, payload: &Bytes) -> Result<String, OutOfMemory> {
 /// One thing that was sent.
 pub fn sent_text(alloc: Global, sent: &Sent) -> Result<String, OutOfMemory> {
     match sent {
+        Sent::Subscribe {
+            subject,
+            group: Some(group),
+            ..
+        } => Ok(format!(in alloc; "subscribes to {subject} in {group}")?),
         Sent::Subscribe { subject, .. } => Ok(format!(in alloc; "subscribes to {subject}")?),
         Sent::Request {
             subject,

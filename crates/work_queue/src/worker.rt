@@ -1,14 +1,16 @@
 //! A worker of the queue: what it reads by, and the last job that it was given.
 
+use crate::pushed::push_consumer;
 use crate::renewal::Renewal;
-use crate::server::{consumer, job, number, reply, status};
+use crate::server::{consumer, flow_control, job, number, reply, stalled, status};
 use js_base::{Moment, Next, OutOfMemory};
 use js_consumer_calls::PullConsumer;
 use js_json::consumer::PriorityPolicy;
 use js_json::pull::BatchConfig;
-use js_link::{InboxId, MemoryLink, RequestId, Sent};
+use js_link::{InboxId, Link, MemoryLink, RequestId, Sent};
 use js_message::{AckKind, Message};
-use js_pull_calls::{Batch, BatchItemError, MessagesError, PullCalls, Sequence, Stream};
+use js_pull_calls::{Batch, MessagesError, PullCalls, Sequence, Stream};
+use js_push_calls::{Messages, PushCalls};
 use std::alloc::Global;
 use std::{fmt, mem};
 
@@ -19,6 +21,7 @@ enum Reader {
     Stream(Stream),
     Batch(Batch),
     Sequence(Sequence),
+    Messages(Messages),
 }
 
 /// A worker of the queue.
@@ -62,27 +65,10 @@ fn job_text(alloc: Global, message: &Message) -> Result<String, OutOfMemory> {
     }
 }
 
-/// An error of a stream, with what the server says.
-fn messages_error(alloc: Global, error: MessagesError) -> Result<String, OutOfMemory> {
-    Ok(format!(in alloc; "error: {error}")?)
-}
-
-fn stream_item(
+/// What a reader gives, with the text of its error.
+fn item<E: fmt::Display + Drop>(
     alloc: Global,
-    next: Next<Result<Message, MessagesError>>,
-) -> Result<Next<Result<Message, String>>, OutOfMemory> {
-    match next {
-        Next::Pending => Ok(Next::Pending),
-        Next::End => Ok(Next::End),
-        Next::OutOfMemory => Err(OutOfMemory),
-        Next::Item(Ok(message)) => Ok(Next::Item(Ok(message))),
-        Next::Item(Err(error)) => Ok(Next::Item(Err(messages_error(alloc, error)?))),
-    }
-}
-
-fn batch_item(
-    alloc: Global,
-    next: Next<Result<Message, BatchItemError>>,
+    next: Next<Result<Message, E>>,
 ) -> Result<Next<Result<Message, String>>, OutOfMemory> {
     match next {
         Next::Pending => Ok(Next::Pending),
@@ -126,6 +112,7 @@ impl Worker {
             "messages" | "stream" | "endless" => self.open_stream(alloc, verb),
             "fetch" | "batch" | "few" => self.open_batch(alloc, verb, rest),
             "sequence" => self.open_sequence(alloc, number(rest)),
+            "push" => self.open_messages(alloc, rest),
             "request" => self.request(alloc, rest),
             "poll" => self.poll(alloc, number(rest)),
             "wakes" => self.wakes(alloc),
@@ -154,6 +141,9 @@ impl Worker {
             "answer" => self
                 .link
                 .respond(RequestId(inbox.0), Some(reply(alloc, rest)?))?,
+            "flow" => self.link.deliver(inbox, flow_control(alloc, rest)?)?,
+            "stalled" => self.link.deliver(inbox, stalled(alloc, rest)?)?,
+            "close" => self.link.unsubscribe(inbox),
             "down" => self.link.set_up(false),
             "up" => self.link.set_up(true),
             "pin" => self.consumer.config.priority_policy = PriorityPolicy::PinnedClient,
@@ -240,6 +230,18 @@ impl Worker {
         }
     }
 
+    fn open_messages(&mut self, alloc: Global, rest: &str) -> Result<String, OutOfMemory> {
+        let (subject, heartbeat) = cut(rest);
+        let consumer = push_consumer(alloc, subject, number(heartbeat))?;
+        match consumer.messages(alloc, &mut self.link) {
+            Ok(messages) => {
+                self.reader = Reader::Messages(messages);
+                told(alloc, Ok::<(), OutOfMemory>(()))
+            }
+            Err(error) => told(alloc, Err(error)),
+        }
+    }
+
     fn request(&mut self, alloc: Global, inbox: &str) -> Result<String, OutOfMemory> {
         let config = BatchConfig {
             batch: 1,
@@ -275,12 +277,17 @@ impl Worker {
             Reader::Nothing => Ok(format!(in alloc; "nothing is read")?),
             Reader::Stream(stream) => {
                 let next = stream.poll_next(alloc, &mut self.link, now);
-                let next = stream_item(alloc, next)?;
+                let next = item(alloc, next)?;
                 self.given(alloc, next)
             }
             Reader::Batch(batch) => {
                 let next = batch.poll_next(&mut self.link, now);
-                let next = batch_item(alloc, next)?;
+                let next = item(alloc, next)?;
+                self.given(alloc, next)
+            }
+            Reader::Messages(messages) => {
+                let next = messages.poll_next(alloc, &mut self.link, now);
+                let next = item(alloc, next)?;
                 self.given(alloc, next)
             }
             Reader::Sequence(sequence) => {
@@ -299,7 +306,7 @@ impl Worker {
         match next {
             Next::Pending | Next::End => Ok(format!(in alloc; "nothing")?),
             Next::OutOfMemory => Err(OutOfMemory),
-            Next::Item(Err(error)) => messages_error(alloc, error),
+            Next::Item(Err(error)) => Ok(format!(in alloc; "error: {error}")?),
             Next::Item(Ok(batch)) => {
                 self.reader = Reader::Batch(batch);
                 Ok(format!(in alloc; "a batch")?)
@@ -313,6 +320,7 @@ impl Worker {
             Reader::Stream(stream) => stream.wakes_at(),
             Reader::Batch(batch) => batch.wakes_at(),
             Reader::Sequence(sequence) => sequence.wakes_at(),
+            Reader::Messages(messages) => messages.wakes_at(),
         };
         match moment {
             Some(moment) => Ok(format!(in alloc; "at {moment}")?),

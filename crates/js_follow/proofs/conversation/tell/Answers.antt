@@ -1,0 +1,21 @@
+use Rattle.std.proofs.Common.{List, ℕ, ◌++◌, ◌∷◌, [], sym, subst}
+use Rattle.js_follow.specs.Punctual.{Holds, Has}
+use Rattle.js_follow.specs.Standing.{answered}
+use Rattle.js_follow.proofs.Going.{replied, says_in, out_of_memory, stands_stops}
+use Rattle.js_follow.proofs.conversation.tell.Goals as goal
+
+pub returns-in-Ok-clause-told : goal.returns-in-Ok-clause-told
+returns-in-Ok-clause-told g c = λ from lines before left stands cut.
+    replied from (g.P.Peer.view c.args.peer.now) (g.P.Peer.view c.reply.new.peer) (lines ++ c.args.line.now ∷ []) left (answered lines) c.in-Ok.answer.text.items c.in-Ok.answer.ending c.reply.result c.hear.new.self
+    stands.gone c.reply.ensures.writes cut stands.written (c.in-Ok.ensures lines stands.told) c.reply.ensures.replies
+
+pub returns-in-Err-clause-told : goal.returns-in-Err-clause-told
+returns-in-Err-clause-told g c = λ from lines before left stands cut.
+    out_of_memory from (g.P.Peer.view c.args.peer.now) stands.gone (stands_stops from (g.P.Peer.view c.args.peer.now) lines before c.args.listener.now stands)
+
+pub returns-in-Ok-clause-said : goal.returns-in-Ok-clause-said
+returns-in-Ok-clause-said g c = λ lines held told has none.
+    let all = lines ++ c.args.line.now ∷ [] in
+    subst (λ (t : List ℕ). Holds (g.P.Peer.view c.reply.new.peer).turns (Has all held t t))
+    (sym (says_in (answered lines) c.in-Ok.answer.text.items all c.in-Ok.answer.ending c.hear.new.self (c.in-Ok.ensures lines told)))
+    (c.reply.ensures.said all held (answered lines) has none)
