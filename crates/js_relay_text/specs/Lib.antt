@@ -1,0 +1,5 @@
+pub mod SetupData
+pub mod RelayText
+pub mod Members
+pub mod SetupRead
+pub mod ReadsBack
