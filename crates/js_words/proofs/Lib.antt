@@ -3,4 +3,5 @@ mod Applying
 mod LogsShown
 mod Named
 mod Passing
+mod Serving
 mod Worked

@@ -42,6 +42,7 @@ pub(crate) fn relay(
     }
 }
 
+#[tactic(auto, using(std::proofs::lemmas::Grind::common_steps, crate::proofs::Serving::filling_later, crate::proofs::Serving::fills_not))]
 fn mirror_of(alloc: Global, start: u64, entries: Items<Entry>) -> Result<Mirror, MirrorError>
     requires { 0 < start }
     ensures { Fills start entries result }
