@@ -15,7 +15,7 @@ ghost use Rattle.js_relay_text.specs.ReadsBack.{AreTexts, ReadsAs, ReplaysTo, St
 use itoa::Buffer;
 use js_base::{Entry, Text};
 use js_mirror::Mirror;
-use js_ordered::OrderedSetup;
+use js_table::OrderedSetup;
 use js_tool::push_quoted;
 use std::alloc::{AllocError, Global};
 
