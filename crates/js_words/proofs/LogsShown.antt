@@ -164,6 +164,9 @@ serves_made : (wanted : Wanted) (t : Transcript) (start : ℕ) (made : Report) �
 serves_made wanted t start made configured accepted more =
     by_cases (configured_start t.setup.setup) configured (refuse (given t.setup) t.setup.start t.events) accepted more
   where
+    injected : (x y : ℕ) → Some x ≡ Some y → x ≡ y
+    injected x y same = cc
+
     by_cases : (found : Option ℕ) → found ≡ Some start → (refusal : Option ReplayError) → refusal ≡ None → ServesFrom wanted t.setup.setup found (ends refusal (yields_of t)) made
         → Serves wanted t.setup.setup start (yields_of t) made
     by_cases None configured refusal accepted more = absurd (cc)
@@ -171,9 +174,6 @@ serves_made wanted t start made configured accepted more =
     by_cases (Some found) configured None accepted more =
         let same : found ≡ start = injected found start configured in
         subst (λ (n : ℕ). Serves wanted t.setup.setup n (yields_of t) made) same more
-      where
-        injected : (x y : ℕ) → Some x ≡ Some y → x ≡ y
-        injected x y same = cc
 
 relay_on_log : (stream name bytes : List ℕ) (taken taken_after : Option (List ℕ)) (t : Transcript) (text : List ℕ) → Reads bytes t → report_of (Relay stream name) t ≡ report.Done text
     → Appends taken taken_after text → ServesOf (Relay stream name) t (report.Done text) → WritesLogsRelay stream name bytes taken taken_after
