@@ -83,6 +83,7 @@ fn no_start_line(alloc: Global) -> Result<Vec<u8>, AllocError>
     Ok(out)
 }
 
+#[tactic(auto, using(std::proofs::lemmas::Grind::common_steps, crate::proofs::Serving::all_ok))]
 fn log_report(
     alloc: Global,
     command: LogCommand<'_>,
@@ -102,6 +103,7 @@ fn log_report(
     }
 }
 
+#[tactic(auto, using(std::proofs::lemmas::Grind::common_steps, crate::proofs::Serving::serves_none, crate::proofs::Serving::serves_refused, crate::proofs::Serving::serves_yields))]
 fn report_ending(
     alloc: Global,
     command: LogCommand<'_>,
