@@ -1,5 +1,5 @@
 -- What the configuration and the info of a consumer that reads a mirror are read as.
-use Rattle.std.proofs.Common.{◌≡◌, ℕ, ◌^◌, ◌<◌, ◌≤◌, ◌||◌, Bool, false, List, [], ◌∷◌, Option, Some, Ok, option_map, refl, sym, ap, ◌∙◌, arith, decimal}
+use Rattle.std.proofs.Common.{◌≡◌, ℕ, ◌^◌, ◌<◌, ◌≤◌, false, List, [], ◌∷◌, Some, Ok, refl, arith}
 use Rattle.std.specs.List.{AllByRecursion}
 use Rattle.std.specs.Str.{IsUtf8}
 use Rattle.std.proofs.lemmas.Str.{is_utf8-from_IsUtf8}
@@ -12,7 +12,7 @@ use Rattle.serde_json.specs.Written.{outline, items_outline, compact_text, has_f
 use Rattle.serde_json.proofs.Numbers.{number_of-decimal}
 use Rattle.js_fields.specs.declared.key.Key.{Key}
 use Rattle.js_fields.specs.declared.key.Key.TheVariants as key
-use Rattle.js_fields.specs.Reading.{◌>>=◌, text, list_of, all_read, float_free}
+use Rattle.js_fields.specs.Reading.{text, all_read, float_free}
 use Rattle.js_fields.specs.Values.{value_of}
 use Rattle.js_json.specs.ConsumerConfig.{config_fields}
 use Rattle.js_json.specs.ConsumerInfo.{info_fields}
@@ -21,7 +21,7 @@ use Rattle.js_json.specs.ConsumerInfo.{identity, progress, states}
 use Rattle.js_json.specs.SequenceInfo.{sequence_info_fields}
 use Rattle.js_json.proofs.OnLiterals.{infos_on_literals}
 use Rattle.js_fields.proofs.OnLiterals.{reading_on_literals}
-use Rattle.js_relay_text.specs.SetupData.{texts, with_filter, with_filters, config_data, nowhere_data, info_data}
+use Rattle.js_relay_text.specs.SetupData.{texts, config_data, info_data}
 use Rattle.js_relay_text.specs.SetupRead.{relay_config, relay_info}
 use Rattle.js_relay_text.proofs.Printed.{IsSimple, ItemsAreSimple, MembersAreSimple, text_utf8, text_read}
 

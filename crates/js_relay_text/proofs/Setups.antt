@@ -1,5 +1,5 @@
 -- The setup and the arrivals of a mirror's transcript are read as they were meant.
-use Rattle.std.proofs.Common.{◌≡◌, ℕ, ◌+◌, ◌^◌, ◌<◌, ◌≤◌, List, [], ◌∷◌, ◌++◌, codes, decimal, Some, refl, ap, ◌∙◌, arith}
+use Rattle.std.proofs.Common.{◌≡◌, ℕ, ◌^◌, ◌<◌, ◌≤◌, List, ◌++◌, codes, decimal, Some, refl, ap, ◌∙◌, arith}
 use Rattle.std.specs.Prelude.{Result, Ok, Err, if◌then◌else◌}
 use Rattle.std.specs.List.{AllByRecursion}
 use Rattle.std.specs.Fmt.{digits}
@@ -18,18 +18,13 @@ use Rattle.js_fields.specs.declared.error.ReadError.{ReadError}
 use Rattle.js_fields.specs.declared.error.ReadError.TheVariants.{NotJson}
 use Rattle.js_fields.specs.Reading.{◌>>=◌, required, optional, defaulted, given, named, nested, text, natural, natural_of}
 use Rattle.js_fields.specs.Values.{value_of, has_only}
-use Rattle.js_json.specs.declared.consumer.config.Config.{Config}
-use Rattle.js_json.specs.declared.consumer.info.Info.{Info}
 use Rattle.js_json.specs.ConsumerConfig.{config_fields}
 use Rattle.js_json.specs.ConsumerInfo.{info_fields}
 use Rattle.js_relay.specs.Relayed.{reply, arrival}
-use Rattle.js_relay.specs.Handed.{default_settings}
-use Rattle.js_tool.specs.declared.transcript.setup.Mode.TheVariants as mode
 use Rattle.js_tool.specs.Events.{event_line, event_keys, event_fields, what_fields, with_key, arrival_fields}
 use Rattle.js_tool.specs.Members.{only, line_as}
 use Rattle.js_tool.specs.Messages.{message_fields}
 use Rattle.js_tool.specs.Setups.{mode_named, settings_fields, ordered_setup, setup_keys, setup_with, setup_fields, setup_line}
-use Rattle.js_tool.specs.Texts.{count}
 use Rattle.js_relay_text.specs.SetupData.{with_filter, with_filters, start_member, config_data, nowhere_data, info_data, setup_data}
 use Rattle.js_relay_text.specs.SetupRead.{relay_config, relay_info}
 use Rattle.js_relay_text.specs.RelayText.{arrival_data}
@@ -143,15 +138,11 @@ setup_simple stream name config s n simple = (
   ),
 )
 
-setup_fields_read : (stream name : List ℕ) (further : Members) (said : Config) (info : Info) → config_fields (object further) ≡ Ok said → info_fields (info_data stream name (object further)) ≡ Ok info
-    → setup_fields (setup_data stream name (object further)) ≡ setup_with mode.Pull 0 default_settings said info
-unfolding setup_fields settings_fields only required nested named mode_named text natural given defaulted
-setup_fields_read stream name further said info config first = rw (config, first) refl
-
-setup_is : (stream name filter : List ℕ) (filters : List (List ℕ)) (start : ℕ)
-    → setup_with mode.Pull 0 default_settings (relay_config filter filters start) (relay_info stream name (relay_config filter filters start)) ≡ Ok (relay_setup stream name filter filters start)
-unfolding setup_with ordered_setup
-setup_is stream name filter filters start = refl
+setup_fields_read : (stream name filter : List ℕ) (filters : List (List ℕ)) (start : ℕ) (further : Members) → config_fields (object further) ≡ Ok (relay_config filter filters start)
+    → info_fields (info_data stream name (object further)) ≡ Ok (relay_info stream name (relay_config filter filters start))
+    → setup_fields (setup_data stream name (object further)) ≡ Ok (relay_setup stream name filter filters start)
+unfolding setup_fields settings_fields only required nested named mode_named text natural given defaulted setup_with ordered_setup
+setup_fields_read stream name filter filters start further config first = rw (config, first) refl
 
 pub setup_reads : (stream name filter : List ℕ) (filters : List (List ℕ)) (start : ℕ) → IsUtf8 stream → IsUtf8 name → IsUtf8 filter → AllByRecursion IsUtf8 filters → start < 2 ^ 64
     → (IsSimple IsUtf8 (setup_data stream name (config_data filter filters start)))
@@ -169,9 +160,7 @@ setup_reads stream name filter filters start s n one more small =
     (setup_outlined stream name config outlined (info_outlined stream name config outlined)) in (
       simple,
       ap (λ (v : Result Data ReadError). v >>= λ d. if has_only setup_keys d then setup_fields d else Err NotJson) value
-          ∙ setup_fields_read stream name further (relay_config filter filters start) (relay_info stream name (relay_config filter filters start)) said
-          (info_reads stream name further (relay_config filter filters start) said)
-          ∙ setup_is stream name filter filters start,
+          ∙ setup_fields_read stream name filter filters start further said (info_reads stream name further (relay_config filter filters start) said),
     )
 
 -- ---- an arrival

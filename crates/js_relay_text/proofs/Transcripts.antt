@@ -1,6 +1,6 @@
 -- The bytes of a mirror's transcript are read as that transcript, and replay to the mirror's entries.
-use Rattle.std.proofs.Common.{◌≡◌, ℕ, ◌+◌, ◌^◌, ◌<◌, ◌≤◌, ◌==◌, true, false, not, List, [], ◌∷◌, ◌++◌, length, map, Option, Some, None, option_map, refl, sym, ap, ◌∙◌, subst, arith, append_assoc}
-use Rattle.std.specs.Prelude.{Result, Ok, Err, if◌then◌else◌}
+use Rattle.std.proofs.Common.{◌≡◌, ℕ, ◌+◌, ◌^◌, ◌<◌, ◌≤◌, ◌==◌, true, false, List, [], ◌∷◌, ◌++◌, length, map, Option, Some, None, option_map, refl, sym, ap, ◌∙◌, subst, arith, append_assoc}
+use Rattle.std.specs.Prelude.{Result, Ok, if◌then◌else◌}
 use Rattle.std.specs.List.{AllByRecursion}
 use Rattle.std.specs.Str.{IsUtf8}
 use Rattle.serde_json.specs.Data.{Data}
@@ -14,7 +14,6 @@ use Rattle.js_mirror.specs.Mirrored.{Mirrored, IsMirror}
 use Rattle.js_table.specs.declared.consumer.ReplayInput.{ReplayInput}
 use Rattle.js_table.specs.declared.event.Event.{Event}
 use Rattle.js_table.specs.declared.run.Run.{Run}
-use Rattle.js_table.specs.declared.run.ReplayError.{ReplayError}
 use Rattle.js_table.specs.declared.setup.OrderedSetup.{OrderedSetup}
 use Rattle.js_table.specs.declared.setup.OrderedSetup.TheVariants.{Pull}
 use Rattle.js_table.specs.declared.setup.Settings.{Settings}
@@ -24,19 +23,18 @@ use Rattle.js_table.specs.Refusal.{first_of, bad_field, first_early, refuse_inpu
 use Rattle.js_table.specs.Texts.{config_of, configured_start, filters as filters_of}
 use Rattle.js_table.specs.Valid.{IsReplay}
 use Rattle.js_relay.specs.Relayed.{arrival, relayed, AllFit}
-use Rattle.js_relay.specs.Handed.{HandsOut, IsReader, default_settings}
+use Rattle.js_relay.specs.Handed.{IsReader, default_settings}
 use Rattle.js_relay.proofs.Answered.{replays}
 use Rattle.js_relay.proofs.Kept.{stays_honest}
 use Rattle.js_tool.specs.declared.transcript.setup.Setup.{Setup}
 use Rattle.js_tool.specs.declared.transcript.Transcript.{Transcript}
 use Rattle.js_tool.specs.Events.{event_line}
 use Rattle.js_tool.specs.Program.{given, Replays}
-use Rattle.js_tool.specs.Setups.{setup_line}
 use Rattle.js_tool.specs.Transcripts.{◌>>=◌, numbered, events_from, with_lines, transcript_of, transcript}
 use Rattle.js_relay_text.specs.SetupData.{config_data, setup_data}
 use Rattle.js_relay_text.specs.RelayText.{arrival_data, arrivals, value_lines, relay_text}
 use Rattle.js_relay_text.specs.SetupRead.{relay_config, relay_info}
-use Rattle.js_relay_text.specs.ReadsBack.{relay_reader, relay_setup, relay_transcript, IsText, AreTexts, ReadsAs, ReplaysTo, StaysHonestIn}
+use Rattle.js_relay_text.specs.ReadsBack.{relay_reader, relay_setup, relay_transcript, IsText, AreTexts, ReplaysTo, StaysHonestIn}
 use Rattle.js_relay_text.proofs.Printed.{IsSimple, IsOneLine, text_line, simple_line}
 use Rattle.js_relay_text.proofs.Setups.{setup_reads, arrival_simple, arrival_reads}
 

@@ -1,5 +1,4 @@
-use Rattle.std.proofs.Common.{◌++◌, ◌∷◌, ℕ, List, codes, decimal, sym, ap, ◌∙◌}
-use Rattle.json.specs.Print.{quoted}
+use Rattle.std.proofs.Common.{◌++◌, ℕ, List, ap, ◌∙◌}
 use Rattle.js_relay_text.proofs.Pushing.{config_pushed, start_text}
 use Rattle.js_relay_text.specs.Members.{filter_text, filters_text}
 use Rattle.js_relay_text.proofs.transcript.config_of.Goals as goal

@@ -1,4 +1,4 @@
-use Rattle.std.proofs.Common.{◌++◌, ◌∷◌, ℕ, List, codes, decimal, sym, ap, ◌∙◌}
+use Rattle.std.proofs.Common.{◌++◌, ℕ, List, decimal, ap, ◌∙◌}
 use Rattle.json.specs.Print.{quoted}
 use Rattle.js_relay_text.proofs.Pushing.{arrival_pushed, before_reply, before_subject, before_at, arrival_closes}
 use Rattle.js_relay_text.proofs.transcript.push_arrival.Goals as goal

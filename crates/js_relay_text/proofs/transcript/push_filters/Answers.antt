@@ -1,4 +1,4 @@
-use Rattle.std.proofs.Common.{◌++◌, ◌∷◌, ℕ, List, codes, decimal, sym, ap, ◌∙◌}
+use Rattle.std.proofs.Common.{◌++◌, ◌∷◌, ℕ, List, codes, sym, ap, ◌∙◌}
 use Rattle.json.specs.Print.{quoted}
 use Rattle.js_relay_text.proofs.Pushing.{filters_pushed}
 use Rattle.js_relay_text.specs.Members.{further_texts}

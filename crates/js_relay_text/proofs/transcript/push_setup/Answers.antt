@@ -1,4 +1,4 @@
-use Rattle.std.proofs.Common.{◌++◌, ◌∷◌, ℕ, List, codes, decimal, sym, ap, ◌∙◌}
+use Rattle.std.proofs.Common.{◌++◌, ℕ, List, ap, ◌∙◌}
 use Rattle.json.specs.Print.{quoted}
 use Rattle.js_relay_text.proofs.Pushing.{setup_pushed, info_opens, before_name, before_stream, setup_closes}
 use Rattle.js_relay_text.proofs.transcript.push_setup.Goals as goal

@@ -1,5 +1,4 @@
 use Rattle.std.proofs.Common.{◌≡◌, ◌<◌, ◌^◌, ℕ, List, Ok, sym, ◌∙◌, subst, arith}
-use Rattle.js_base.specs.declared.message.Entry.{Entry}
 use Rattle.js_relay.specs.Relayed.{AllFit}
 use Rattle.js_table.specs.Texts.{config_of}
 use Rattle.js_tool.specs.Transcripts.{transcript}
