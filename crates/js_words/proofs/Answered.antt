@@ -1,5 +1,5 @@
 -- What an input calls for, by what it says, and what was answered to it.
-use Rattle.std.proofs.Common.{◌≡◌, ℕ, ◌<◌, ◌≤◌, ◌⊎◌, inl, inr, List, [], length, true, false, nat_lt, Option, Some, None, IfSome, Result, Ok, Err, OnOk, OnErr, refl, subst, sym, ap, ◌∙◌, arith, rules}
+use Rattle.std.proofs.Common.{◌≡◌, ℕ, ◌<◌, ◌≤◌, inl, inr, List, [], length, true, false, nat_lt, Option, Some, None, IfSome, Result, Ok, Err, OnOk, OnErr, refl, subst, sym, ap, ◌∙◌, arith, rules}
 use Rattle.std.proofs.lemmas.Bool.Decides.{nat_tests}
 use Rattle.std.specs.Io.KnownBytes.{Appends, IsAtEnd}
 use Rattle.js_io.specs.Causes.{Rose, AppendsPrefix}

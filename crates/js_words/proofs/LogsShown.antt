@@ -1,5 +1,5 @@
 -- What the written texts say of an honest server's log.
-use Rattle.std.proofs.Common.{◌≡◌, ℕ, suc, zero, ◌+◌, ◌-◌, ◌<◌, ◌≤◌, ◌==◌, nat_lt, Bool, true, false, cond, List, [], ◌∷◌, map, Option, Some, None, IfSome, refl, subst, sym, ap, ◌∙◌, arith}
+use Rattle.std.proofs.Common.{◌≡◌, ℕ, ◌+◌, ◌-◌, ◌<◌, ◌≤◌, ◌==◌, nat_lt, Bool, true, false, cond, List, [], ◌∷◌, map, Option, Some, None, IfSome, refl, subst, sym, ap, ◌∙◌, arith}
 use Rattle.std.proofs.lemmas.Bool.Decides.{nat_tests}
 use Rattle.std.specs.Io.KnownBytes.{Appends}
 use Rattle.js_base.specs.declared.message.Entry.{Entry}
@@ -10,7 +10,7 @@ use Rattle.js_log_table.specs.Kept.{HasTableOf}
 use Rattle.js_log_table.specs.Yielded.{as_entry, not_rising}
 use Rattle.js_log_table.proofs.OnHonestLog.{run_has_table}
 use Rattle.js_mirror.specs.Mirrored.{IsMirror, RisesFrom}
-use Rattle.js_project.specs.Table.{last_sequence, table, matched}
+use Rattle.js_project.specs.Table.{last_sequence}
 use Rattle.js_relay.specs.Copied.{IsCopy}
 use Rattle.js_relay.specs.Handed.{handed}
 use Rattle.js_relay.proofs.Shown.{shows_each_log}
@@ -29,10 +29,10 @@ use Rattle.js_words.specs.declared.report.Report.{Report}
 use Rattle.js_words.specs.declared.report.Report.TheVariants as report
 use Rattle.js_words.specs.Gathered.{ends}
 use Rattle.js_words.specs.LogTexts.{rows_text, table_text, mirror_text, served_text}
-use Rattle.js_words.specs.OnLogs.{run_of, yields_of, mirror_of, KeepsHonest, WritesLogsTable, WritesLogsMirror, WritesLogsRelay}
+use Rattle.js_words.specs.OnLogs.{run_of, yields_of, mirror_of, WritesLogsTable, WritesLogsMirror, WritesLogsRelay}
 use Rattle.js_words.specs.Reports.{unless_falling, log_report, report_from, report_of}
 use Rattle.js_words.specs.Served.{HasTexts, IsServed, Serves, ServesFrom, ServesOf}
-use Rattle.js_words.specs.Told.{Reads, AnswersBytes, AnswersLog}
+use Rattle.js_words.specs.Told.{Reads, AnswersLog}
 
 -- ---- a text that was made
 

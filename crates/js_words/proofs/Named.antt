@@ -1,6 +1,6 @@
 -- The names that words ask for are valid.
-use Rattle.std.proofs.Common.{◌≡◌, ℕ, List, [], ◌∷◌, codes, Bool, true, false, ◌&&◌, Option, Some, None, IfSome, refl, subst, sym, ◌∙◌}
-use Rattle.std.specs.Prelude.{IsTrue, option_and_then, if◌then◌else◌}
+use Rattle.std.proofs.Common.{◌≡◌, ℕ, List, [], ◌∷◌, codes, Bool, true, false, ◌&&◌, Option, Some, None, IfSome, refl, subst, sym}
+use Rattle.std.specs.Prelude.{option_and_then, if◌then◌else◌}
 use Rattle.std.specs.Str.{bytes_eq}
 use Rattle.js_base.specs.Match.{is_valid_subject}
 use Rattle.js_codes.specs.Names.{is_name}

@@ -3,7 +3,7 @@ use Rattle.std.specs.Prelude.{◌≡◌, ℕ, List, [], ◌∷◌, Some, None, r
 use Rattle.js_base.specs.declared.message.Entry.{Entry}
 use Rattle.js_table.specs.declared.run.ReplayError.TheVariants.{BadEvent}
 use Rattle.js_table.specs.declared.setup.OrderedSetup.{OrderedSetup}
-use Rattle.js_words.specs.Commands.{Wanted, Project, Mirror, Relay, wanted_of, project_of, project_up_to, relay_of, with_two}
+use Rattle.js_words.specs.Commands.{Project, Mirror, Relay, wanted_of, project_of, project_up_to, relay_of, with_two}
 use Rattle.js_words.specs.declared.gathering.Ending.TheVariants as ending
 use Rattle.js_words.specs.declared.report.Report.TheVariants as report
 use Rattle.js_words.specs.LogTexts.{no_start_text, not_rising_text, hole_text}

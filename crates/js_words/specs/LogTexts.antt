@@ -1,6 +1,6 @@
 -- The lines that are written of a log: its table, its messages and holes, its transcript, and why there are none.
 use Rattle.std.specs.Prelude.{ℕ, ◌+◌, ◌-◌, nat_lt, List, [], ◌∷◌, ◌++◌, codes, length, fold, flat_map, Option, Some, None, if◌then◌else◌}
-use Rattle.serde_json.specs.Data.{Data, string}
+use Rattle.serde_json.specs.Data.{string}
 use Rattle.js_base.specs.declared.message.Entry.{Entry}
 use Rattle.js_project.specs.Table.{up_to, last_sequence, table, matched}
 use Rattle.js_relay_text.specs.RelayText.{relay_text}

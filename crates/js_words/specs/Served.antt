@@ -1,5 +1,5 @@
 -- What is promised of the transcript that is written of a mirror.
-use Rattle.std.specs.Prelude.{ℕ, List, ⊤, Option, Some, None}
+use Rattle.std.specs.Prelude.{ℕ, List, ⊤, Option, Some}
 use Rattle.js_base.specs.declared.message.Entry.{Entry}
 use Rattle.js_mirror.specs.Mirrored.{Mirrored}
 use Rattle.js_relay_text.specs.ReadsBack.{AreTexts, ReadsAs, ReplaysTo, StaysHonestIn, relay_transcript}

@@ -92,7 +92,7 @@ fn log_report(
     entries: Items<Entry>,
 ) -> Result<Report, OutOfMemory>
     requires above { 0 < start }
-    requires names { HasNames (wanted command.entry) }
+    requires names { HasNames (wanted command) }
     ensures report { IfOk result (λ r. r ≡ log_report_in (wanted command.entry) setup.now start entries) }
     ensures serves { IfOk result (λ r. Serves (wanted command.entry) setup.now start entries r) }
 {
@@ -110,7 +110,7 @@ fn report_ending(
     setup: &OrderedSetup,
     ending: Ending,
 ) -> Result<Report, OutOfMemory>
-    requires { HasNames (wanted command.entry) }
+    requires { HasNames (wanted command) }
     ensures report { IfOk result (λ r. r ≡ report_from (wanted command.entry) setup.now (configured_start setup.now) ending) }
     ensures serves { IfOk result (λ r. ServesFrom (wanted command.entry) setup.now (configured_start setup.now) ending r) }
 {
@@ -133,7 +133,7 @@ pub(crate) fn report_on(
     bytes: Pieces,
 ) -> Result<Report, Unread>
     requires within { length bytes ≤ 67_108_864 }
-    requires names { HasNames (wanted command.entry) }
+    requires names { HasNames (wanted command) }
     ensures { Reports (report_of (wanted command.entry)) (ServesOf (wanted command.entry)) (transcript bytes) result }
 {
     let mut lines = Lines::new(alloc, bytes);

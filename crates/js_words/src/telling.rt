@@ -23,7 +23,7 @@ pub(crate) fn tell<S: Source, K: Sink>(
     input: &mut S,
     output: &mut K,
 ) -> Status
-    requires { HasNames (wanted command.entry) }
+    requires { HasNames (wanted command) }
     ensures not_usage { result ≡ Status.Usage → ⊥ }
     ensures answers { AnswersLog (wanted command.entry) (S.left input.old) (S.left input.new)
         (K.taken output.old) (K.taken output.new) (K.faults output.old) (K.faults output.new) result }
@@ -46,7 +46,7 @@ pub(crate) fn tell<S: Source, K: Sink>(
 // Writes what the command makes of the bytes.
 fn answer<K: Sink>(alloc: Global, command: LogCommand<'_>, bytes: Pieces, output: &mut K) -> Status
     requires within { length bytes ≤ 67_108_864 }
-    requires names { HasNames (wanted command.entry) }
+    requires names { HasNames (wanted command) }
     ensures not_usage { result ≡ Status.Usage → ⊥ }
     ensures not_read_fault { result ≡ Status.ReadFault → ⊥ }
     ensures not_too_long { result ≡ Status.TooLong → ⊥ }

@@ -13,7 +13,7 @@ returns-in-Ok-clause-answers g c =
     let made = c.in-Ok-Done.ensures in
     answers_done transcript (report_of (wanted c.args.command)) (ServesOf (wanted c.args.command)) _ _ _ _ c.args.bytes made.0 c.in-Ok-Done.text c.requires.within made.1 (sym c.in-Ok-Done.field-0-is ∙ made.2)
     (rw c.as_slice.ensures at c.in-Ok.ensures.ok)
-    (subst (λ (report : Report). ServesOf (wanted c.args.command) made.0 report) (sym c.in-Ok-Done.field-0-is) made.3)
+    (subst (λ (report : Report). ServesOf (wanted c.args.command) made.0 report) c.in-Ok-Done.field-0-is made.3)
 
 pub returns-in-Ok-Done-clause-answers : goal.returns-in-Ok-Done-clause-answers
 returns-in-Ok-Done-clause-answers g c =
