@@ -43,6 +43,8 @@
 //! **Letting go.** A state can be let go at any time, but a [`publish::PublishAckFuture`] bears a permit and is spent: poll it until it is ready, or `detach` it. A
 //! request whose answer nobody awaits any more is ended by [`link::OutboxLink::forget`].
 //!
+//! **One message.** [`publish::PublishCalls::publish_and_confirm`] publishes a message and awaits its ack, as one state.
+//!
 //! **Many messages.** A [`PublishQueue`] publishes any number of messages under the permits of its context, keeps those that could not be sent, and
 //! hands out one outcome a message.
 //!

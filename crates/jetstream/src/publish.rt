@@ -2,4 +2,6 @@
 pub use js_context::{PublishAckFuture, PublishError, PublishErrorKind, Sending};
 pub use js_json::PublishAck;
 pub use js_message::{OutboundMessage, PublishMessage};
-pub use js_publish_queue::{Closed, PublishQueue, Published, Tag, Unsent};
+pub use js_publish_queue::{
+    Closed, Confirming, PublishCalls, PublishQueue, Published, Tag, Unsent,
+};

@@ -2,3 +2,4 @@ pub mod Tries
 pub mod Flights
 pub mod Queue
 pub mod Steps
+pub mod Confirms

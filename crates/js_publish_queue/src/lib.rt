@@ -8,14 +8,18 @@
 //! - A message that was sent has its outcome when its ack comes, or when the context's timeout is due.
 //!
 //! Each message has one outcome. `close` hands back the messages that were not sent, and the context.
+//!
+//! One message alone is published and confirmed by [`PublishCalls::publish_and_confirm`].
 #![tactic(auto)]
 
+mod confirm;
 mod flying;
 mod published;
 mod queue;
 mod tries;
 mod unsent;
 
+pub use confirm::{Confirming, PublishCalls};
 pub use published::{Published, Tag};
 pub use queue::{Closed, PublishQueue};
 pub use unsent::Unsent;

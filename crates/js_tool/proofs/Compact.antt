@@ -1,7 +1,9 @@
 -- What lines in their shortest form say.
-use Rattle.std.proofs.Common.{◌≡◌, ℕ, ◌^◌, ◌<◌, ◌≤◌, ◌++◌, List, [], ◌∷◌, Some, codes, decimal, option_and_then, refl, sym, ap, ◌∙◌, arith, append-nil, append_assoc}
-use Rattle.std.specs.Str.{IsUtf8}
-use Rattle.std.proofs.lemmas.Str.{is_utf8-from_IsUtf8}
+use Rattle.std.proofs.Common.{◌≡◌, ℕ, ◌^◌, ◌<◌, ◌≤◌, ◌++◌, List, [], ◌∷◌, Some, codes, decimal, option_and_then, refl, sym, ap, true, ◌∙◌, arith, append-nil, append_assoc}
+use Rattle.std.specs.Str.{IsUtf8, is_utf8, chars}
+use lib.Utf8.{encode}
+use Rattle.std.proofs.lemmas.Fmt.{IsAscii-decimal}
+use Rattle.std.proofs.lemmas.Str.{IsUtf8-append, IsUtf8-from_ascii, IsUtf8-from_is_utf8, is_utf8-from_IsUtf8}
 use Rattle.json.specs.Json as json
 use Rattle.json.specs.Print.{print, print_from, escape_byte, escape}
 use Rattle.json.specs.Tree.{json_tokens, depth, HasNumbers}
@@ -17,7 +19,7 @@ use Rattle.js_table.specs.declared.event.EventKind.TheVariants as what
 use Rattle.js_tool.specs.Members.{only, line_as}
 use Rattle.js_tool.specs.Messages.{message_fields}
 use Rattle.js_tool.specs.Events.{arrival_fields, with_key, what_fields, event_fields}
-use Rattle.js_tool.specs.Compact.{Says, plain_message, tick_text, arrival_text}
+use Rattle.js_tool.specs.Compact.{IsPlain, Says, plain_message, tick_text, arrival_rest, arrival_text}
 
 -- a printed value reads as what it was printed from
 read_printed : (j : json.Json) → HasNumbers j → depth j ≤ 127 → read (print (json_tokens j)) ≡ of_json j
@@ -25,6 +27,14 @@ read_printed j numbers shallow =
     ap (λ r. option_and_then of_json (option_and_then (λ p. json.if_last p.0 p.1) r))
     (ap (json.value 127) (tokens-print (json_tokens j) (ArePrintable-json_tokens j numbers) ∙ sym (append-nil (json_tokens j)))
     ∙ value-json_tokens j 127 [] shallow)
+
+-- ---- UTF-8
+
+utf8 : (text : List ℕ) → is_utf8 text ≡ true → IsUtf8 text
+utf8 text is = IsUtf8-from_is_utf8 text is
+
+number_utf8 : (n : ℕ) → n < 2 ^ 64 → IsUtf8 (decimal n)
+number_utf8 n small = IsUtf8-from_ascii (decimal n) (IsAscii-decimal n small)
 
 -- ---- a bare tick
 
@@ -43,9 +53,19 @@ tick_read at small =
     let is : of_json (tick_json at) ≡ Some (tick_data at) = rw (number_of-decimal at small) refl in
     ap read (sym (tick_printed at)) ∙ read_printed (tick_json at) (IsNumber-decimal at small, tt) (omega arith) ∙ is
 
-pub tick_says : (at : ℕ) → at < 2 ^ 64 → IsUtf8 (tick_text at) → Says (tick_text at) at what.Tick
+-- its bytes are ASCII
+tick_utf8 : (at : ℕ) → at < 2 ^ 64 → IsUtf8 (tick_text at)
+unfolding is_utf8 chars encode
+tick_utf8 at small =
+    IsUtf8-append (codes "{\"at\":") (decimal at ++ codes "}") (utf8 (codes "{\"at\":") refl)
+    (IsUtf8-append (decimal at) (codes "}") (number_utf8 at small) (utf8 (codes "}") refl))
+
+tick_said : (at : ℕ) → at < 2 ^ 64 → IsUtf8 (tick_text at) → Says (tick_text at) at what.Tick
 unfolding value_of float_free line_as event_fields what_fields with_key required given natural
-tick_says at small utf8 = rw (is_utf8-from_IsUtf8 (tick_text at) utf8, tick_read at small) refl
+tick_said at small utf8 = rw (is_utf8-from_IsUtf8 (tick_text at) utf8, tick_read at small) refl
+
+tick_says : (at : ℕ) → at < 2 ^ 64 → Says (tick_text at) at what.Tick
+tick_says at small = tick_said at small (tick_utf8 at small)
 
 -- ---- an arrival
 
@@ -75,13 +95,45 @@ arrival_read at inbox reply payload a i r p =
     let is : of_json j ≡ Some (arrival_data at inbox reply payload) = rw (number_of-decimal at a, number_of-decimal inbox i) refl in
     ap read (sym (arrival_printed at inbox reply payload r p)) ∙ read_printed j (IsNumber-decimal at a, ((IsNumber-decimal inbox i, (tt, (tt, tt))), tt)) (omega arith) ∙ is
 
-pub arrival_says : (at inbox : ℕ) (reply payload : List ℕ) → at < 2 ^ 64 → inbox < 2 ^ 64 → escape reply ≡ reply → escape payload ≡ payload → IsUtf8 (arrival_text at inbox reply payload) → Says (arrival_text at inbox reply payload) at (what.Arrival inbox (plain_message reply payload))
+arrival_said : (at inbox : ℕ) (reply payload : List ℕ) → at < 2 ^ 64 → inbox < 2 ^ 64 → escape reply ≡ reply → escape payload ≡ payload → IsUtf8 (arrival_text at inbox reply payload) → Says (arrival_text at inbox reply payload) at (what.Arrival inbox (plain_message reply payload))
 unfolding value_of float_free line_as only event_fields what_fields with_key arrival_fields message_fields required given optional defaulted natural natural_of text
-arrival_says at inbox reply payload a i r p utf8 = rw (is_utf8-from_IsUtf8 (arrival_text at inbox reply payload) utf8, arrival_read at inbox reply payload a i r p) refl
+arrival_said at inbox reply payload a i r p utf8 = rw (is_utf8-from_IsUtf8 (arrival_text at inbox reply payload) utf8, arrival_read at inbox reply payload a i r p) refl
 
--- the parts of an arrival, one after another
-pub arrival_shape : (line a b c d e f g h : List ℕ) (at inbox : ℕ) (reply payload : List ℕ)
-    → line ≡ codes "{\"at\":" ++ a → a ≡ decimal at ++ b → b ≡ codes ",\"arrival\":{\"inbox\":" ++ c → c ≡ decimal inbox ++ d
-    → d ≡ codes ",\"reply\":\"" ++ e → e ≡ reply ++ 34 ∷ f → f ≡ codes ",\"payload\":\"" ++ g → g ≡ payload ++ 34 ∷ h → h ≡ codes "}}"
-    → line ≡ arrival_text at inbox reply payload
-arrival_shape line a b c d e f g h at inbox reply payload p1 p2 p3 p4 p5 p6 p7 p8 p9 = rw (p1, p2, p3, p4, p5, p6, p7, p8, p9) refl
+-- an arrival is UTF-8 where its texts are
+quoted_utf8 : (text rest : List ℕ) → IsUtf8 text → IsUtf8 rest → IsUtf8 (text ++ 34 ∷ rest)
+unfolding is_utf8 chars encode
+quoted_utf8 text rest t r = IsUtf8-append text (34 ∷ rest) t (IsUtf8-append (34 ∷ []) rest (utf8 (34 ∷ []) refl) r)
+
+arrival_utf8 : (at inbox : ℕ) (reply payload : List ℕ) → at < 2 ^ 64 → inbox < 2 ^ 64 → IsUtf8 reply → IsUtf8 payload → IsUtf8 (arrival_text at inbox reply payload)
+unfolding is_utf8 chars encode
+arrival_utf8 at inbox reply payload a i r p =
+    let e : List ℕ = payload ++ 34 ∷ codes "}}" in
+    let d : List ℕ = reply ++ 34 ∷ (codes ",\"payload\":\"" ++ e) in
+    let c : List ℕ = decimal inbox ++ (codes ",\"reply\":\"" ++ d) in
+    let eu : IsUtf8 e = quoted_utf8 payload (codes "}}") p (utf8 (codes "}}") refl) in
+    let du : IsUtf8 d = quoted_utf8 reply (codes ",\"payload\":\"" ++ e) r (IsUtf8-append (codes ",\"payload\":\"") e (utf8 (codes ",\"payload\":\"") refl) eu) in
+    let cu : IsUtf8 c = IsUtf8-append (decimal inbox) (codes ",\"reply\":\"" ++ d) (number_utf8 inbox i) (IsUtf8-append (codes ",\"reply\":\"") d (utf8 (codes ",\"reply\":\"") refl) du) in
+    IsUtf8-append (codes "{\"at\":") (decimal at ++ arrival_rest inbox reply payload) (utf8 (codes "{\"at\":") refl)
+    (IsUtf8-append (decimal at) (arrival_rest inbox reply payload) (number_utf8 at a)
+    (IsUtf8-append (codes ",\"arrival\":{\"inbox\":") c (utf8 (codes ",\"arrival\":{\"inbox\":") refl) cu))
+
+arrival_says : (at inbox : ℕ) (reply payload : List ℕ) → at < 2 ^ 64 → inbox < 2 ^ 64 → IsPlain reply payload → IsUtf8 reply → IsUtf8 payload
+    → Says (arrival_text at inbox reply payload) at (what.Arrival inbox (plain_message reply payload))
+arrival_says at inbox reply payload a i plain r p = arrival_said at inbox reply payload a i plain.0 plain.1 (arrival_utf8 at inbox reply payload a i r p)
+
+-- the parts of what follows the moment, one after another
+pub rest_shape : (rest b c d e f g : List ℕ) (inbox : ℕ) (reply payload : List ℕ)
+    → rest ≡ codes ",\"arrival\":{\"inbox\":" ++ b → b ≡ decimal inbox ++ c → c ≡ codes ",\"reply\":\"" ++ d → d ≡ reply ++ 34 ∷ e
+    → e ≡ codes ",\"payload\":\"" ++ f → f ≡ payload ++ 34 ∷ g → g ≡ codes "}}"
+    → rest ≡ arrival_rest inbox reply payload
+rest_shape rest b c d e f g inbox reply payload p1 p2 p3 p4 p5 p6 p7 = rw (p1, p2, p3, p4, p5, p6, p7) refl
+
+-- ---- lines from their parts
+
+pub tick_line : (line rest end : List ℕ) (at : ℕ) → at < 2 ^ 64 → line ≡ codes "{\"at\":" ++ rest → rest ≡ decimal at ++ end → end ≡ codes "}" → Says line at what.Tick
+tick_line line rest end at small front digits last = rw (front, digits, last) (tick_says at small)
+
+pub arrival_line : (line rest end : List ℕ) (at inbox : ℕ) (reply payload : List ℕ) → at < 2 ^ 64 → inbox < 2 ^ 64
+    → line ≡ codes "{\"at\":" ++ rest → rest ≡ decimal at ++ end → end ≡ arrival_rest inbox reply payload → IsPlain reply payload → IsUtf8 reply → IsUtf8 payload
+    → Says line at (what.Arrival inbox (plain_message reply payload))
+arrival_line line rest end at inbox reply payload a i front digits last plain r p = rw (front, digits, last) (arrival_says at inbox reply payload a i plain r p)

@@ -1,11 +1,13 @@
 //! The text of a run: a line for each output, in order, and a last one.
 
 ghost use Rattle.std.specs.Prelude.{◌≡◌, ◌++◌, [], ◌∷◌, length, flat_map, OnOk, IfOk};
+ghost use Rattle.js_table.specs.declared.run.Output.TheVariants as output;
 ghost use Rattle.js_tool.specs.Texts.{cell_data, start_data, kind_name, field_name, text_or_null, unless_empty, output_text, last_line, refusal_text};
 
 mod line;
 mod quoted;
 
+use bytes::Bytes;
 use js_base::Subject;
 use js_ordered::{Field, ItemKind, Output, ReplayError, Start};
 pub use line::{Cell, push_line};
@@ -32,20 +34,14 @@ fn push_output(out: &mut Vec<u8>, step: u64, output: &Output) -> Result<(), Allo
             consumer_sequence,
             subject,
             payload,
-        } => {
-            let cells = [
-                Cell::Number(step),
-                Cell::Text(b"yield"),
-                Cell::Number(*stream_sequence),
-                Cell::Number(*consumer_sequence),
-                Cell::Text(payload.as_slice()),
-                Cell::Text(subject.as_str().as_bytes()),
-            ];
-            if subject.as_str().is_empty() {
-                return push_line(out, &cells[..5]);
-            }
-            push_line(out, &cells)
-        }
+        } => push_yield(
+            out,
+            step,
+            *stream_sequence,
+            *consumer_sequence,
+            subject,
+            payload,
+        ),
         Output::Item { kind } => push_line(
             out,
             &[
@@ -57,53 +53,123 @@ fn push_output(out: &mut Vec<u8>, step: u64, output: &Output) -> Result<(), Allo
         Output::Recreate {
             recreation_count,
             start,
-        } => push_line(
-            out,
-            &[
-                Cell::Number(step),
-                Cell::Text(b"recreate"),
-                Cell::Number(*recreation_count),
-                start_cell(*start),
-            ],
-        ),
+        } => push_recreation(out, step, *recreation_count, *start),
         Output::Request {
             number,
             subject,
             payload,
-        } => push_line(
-            out,
-            &[
-                Cell::Number(step),
-                Cell::Text(b"request"),
-                Cell::Number(*number),
-                Cell::Text(subject.as_str().as_bytes()),
-                Cell::Text(payload.as_slice()),
-            ],
-        ),
+        } => push_request(out, step, *number, subject, payload),
         Output::Publish {
             subject,
             reply,
             payload,
-        } => push_line(
-            out,
-            &[
-                Cell::Number(step),
-                Cell::Text(b"publish"),
-                Cell::Text(subject.as_str().as_bytes()),
-                reply_cell(reply),
-                Cell::Text(payload.as_slice()),
-            ],
-        ),
-        Output::Subscribe { inbox, subject } => push_line(
-            out,
-            &[
-                Cell::Number(step),
-                Cell::Text(b"subscribe"),
-                Cell::Number(*inbox),
-                Cell::Text(subject.as_str().as_bytes()),
-            ],
-        ),
+        } => push_publish(out, step, subject, reply, payload),
+        Output::Subscribe { inbox, subject } => push_subscription(out, step, *inbox, subject),
     }
+}
+
+fn push_yield<'a>(
+    out: &mut Vec<u8>,
+    step: u64,
+    stream_sequence: u64,
+    consumer_sequence: u64,
+    subject: &'a Subject,
+    payload: &'a Bytes,
+) -> Result<(), AllocError>
+    ensures { OnOk result (out.new.items ≡ out.old.items ++ output_text step (output.Yield stream_sequence consumer_sequence subject.now payload.now)) }
+{
+    let cells = [
+        Cell::Number(step),
+        Cell::Text(b"yield"),
+        Cell::Number(stream_sequence),
+        Cell::Number(consumer_sequence),
+        Cell::Text(payload.as_slice()),
+        Cell::Text(subject.as_str().as_bytes()),
+    ];
+    if subject.as_str().is_empty() {
+        return push_line(out, &cells[..5]);
+    }
+    push_line(out, &cells)
+}
+
+fn push_recreation(
+    out: &mut Vec<u8>,
+    step: u64,
+    recreation_count: u64,
+    start: Start,
+) -> Result<(), AllocError>
+    ensures { OnOk result (out.new.items ≡ out.old.items ++ output_text step (output.Recreate recreation_count start)) }
+{
+    push_line(
+        out,
+        &[
+            Cell::Number(step),
+            Cell::Text(b"recreate"),
+            Cell::Number(recreation_count),
+            start_cell(start),
+        ],
+    )
+}
+
+fn push_request<'a>(
+    out: &mut Vec<u8>,
+    step: u64,
+    number: u64,
+    subject: &'a Subject,
+    payload: &'a Bytes,
+) -> Result<(), AllocError>
+    ensures { OnOk result (out.new.items ≡ out.old.items ++ output_text step (output.Request number subject.now payload.now)) }
+{
+    push_line(
+        out,
+        &[
+            Cell::Number(step),
+            Cell::Text(b"request"),
+            Cell::Number(number),
+            Cell::Text(subject.as_str().as_bytes()),
+            Cell::Text(payload.as_slice()),
+        ],
+    )
+}
+
+fn push_publish<'a>(
+    out: &mut Vec<u8>,
+    step: u64,
+    subject: &'a Subject,
+    reply: &'a Option<Subject>,
+    payload: &'a Bytes,
+) -> Result<(), AllocError>
+    ensures { OnOk result (out.new.items ≡ out.old.items ++ output_text step (output.Publish subject.now reply.now payload.now)) }
+{
+    push_line(
+        out,
+        &[
+            Cell::Number(step),
+            Cell::Text(b"publish"),
+            Cell::Text(subject.as_str().as_bytes()),
+            reply_cell(reply),
+            Cell::Text(payload.as_slice()),
+        ],
+    )
+}
+
+fn push_subscription(
+    out: &mut Vec<u8>,
+    step: u64,
+    inbox: u64,
+    subject: &Subject,
+) -> Result<(), AllocError>
+    ensures { OnOk result (out.new.items ≡ out.old.items ++ output_text step (output.Subscribe inbox subject.now)) }
+{
+    push_line(
+        out,
+        &[
+            Cell::Number(step),
+            Cell::Text(b"subscribe"),
+            Cell::Number(inbox),
+            Cell::Text(subject.as_str().as_bytes()),
+        ],
+    )
 }
 
 fn item_name(kind: ItemKind) -> &'static [u8]

@@ -1,44 +1,57 @@
 //! Lines in their shortest form, which most lines of a long transcript are. They are read with no JSON value between.
 
-ghost use Rattle.std.specs.Prelude.{◌≡◌, ◌≤◌, ◌++◌, ◌∷◌, length, decimal, IfSome};
+ghost use Rattle.std.specs.Prelude.{◌≡◌, ◌≤◌, ◌<◌, ◌^◌, ◌++◌, ◌∷◌, length, decimal, codes, IfSome};
 ghost use Rattle.json.specs.Print.{escape};
-ghost use Rattle.js_table.specs.declared.event.EventKind.TheVariants.{Tick, Arrival};
-ghost use Rattle.js_tool.specs.Compact.{Says, plain_message, tick_text, arrival_text};
+ghost use Rattle.js_tool.specs.Compact.{IsPlain, SaysCompact, arrival_rest};
 
 use crate::text::plain_front;
 use itoa::Buffer;
 use std::str::from_utf8;
 
-/// What a line of the form `{"at":1,"arrival":{"inbox":0,"reply":"r","payload":"p"}}` says.
+/// What a line in its shortest form says.
 #[derive(Clone, Copy)]
-pub(crate) struct PlainArrival<'l> {
-    pub(crate) at: u64,
-    pub(crate) inbox: u64,
-    pub(crate) reply: &'l str,
-    pub(crate) payload: &'l [u8],
+pub(crate) enum CompactLine<'l> {
+    /// `{"at":1}`
+    Tick { at: u64 },
+    /// `{"at":1,"arrival":{"inbox":0,"reply":"r","payload":"p"}}`
+    Arrival { at: u64, arrival: PlainArrival<'l> },
 }
 
-/// The moment of a line of the form `{"at":1}`.
-pub(crate) fn tick(line: &[u8]) -> Option<u64>
-    ensures { IfSome result (λ at. Says line.now at Tick) }
+/// What an arrival says that has these keys in this order, and no escape in its texts.
+#[derive(Clone, Copy)]
+pub(crate) struct PlainArrival<'l> {
+    pub(crate) inbox: u64,
+    pub(crate) reply: &'l str,
+    pub(crate) payload: &'l str,
+}
+
+/// What a line says that is a bare tick, or an arrival with a reply and a payload alone. Its front is read once, and its texts are found to be UTF-8 once.
+pub(crate) fn compact_line(line: &[u8]) -> Option<CompactLine<'_>>
+    ensures { IfSome result (SaysCompact line.now) }
 {
     let (at, rest) = number(after(line, b"{\"at\":")?)?;
     if rest == b"}".as_slice() {
-        return tick_if_utf8(line, at);
+        return Some(CompactLine::Tick { at });
     }
-    None
+    let arrival = plain_arrival(rest)?;
+    Some(CompactLine::Arrival { at, arrival })
 }
 
-/// What a line says that has these four keys in this order, and no escape in its texts.
-pub(crate) fn plain_arrival<'l>(line: &'l [u8]) -> Option<PlainArrival<'l>>
-    ensures { IfSome result (λ a. Says line.now a.at (Arrival a.inbox (plain_message a.reply.now a.payload.now))) }
+// What follows the moment of an arrival.
+fn plain_arrival(rest: &[u8]) -> Option<PlainArrival<'_>>
+    ensures rest { IfSome result (λ a. rest.now ≡ arrival_rest a.inbox a.reply.now a.payload.now) }
+    ensures plain { IfSome result (λ a. IsPlain a.reply.now a.payload.now) }
+    ensures small { IfSome result (λ a. a.inbox < 2 ^ 64) }
 {
-    let (at, rest) = number(after(line, b"{\"at\":")?)?;
     let (inbox, rest) = number(after(rest, b",\"arrival\":{\"inbox\":")?)?;
     let (reply, rest) = plain_text(after(rest, b",\"reply\":\"")?)?;
     let (payload, rest) = plain_text(after(rest, b",\"payload\":\"")?)?;
     if rest == b"}}".as_slice() {
-        return plain_if_utf8(line, at, inbox, reply, payload);
+        return Some(PlainArrival {
+            inbox,
+            reply,
+            payload,
+        });
     }
     None
 }
@@ -59,7 +72,8 @@ fn after<'l>(text: &'l [u8], word: &[u8]) -> Option<&'l [u8]>
 
 // A number in its shortest form, and what follows it.
 fn number(text: &[u8]) -> Option<(u64, &[u8])>
-    ensures { IfSome result (λ p. text.now ≡ decimal p.0 ++ p.1.now) }
+    ensures text { IfSome result (λ p. text.now ≡ decimal p.0 ++ p.1.now) }
+    ensures small { IfSome result (λ p. p.0 < 2 ^ 64) }
 {
     let (number, end) = digits_front(text);
     let (digits, rest) = text.split_at(end);
@@ -88,48 +102,15 @@ fn digits_front(text: &[u8]) -> (u64, usize)
 }
 
 // A text without escapes, and what follows its quote.
-fn plain_text(text: &[u8]) -> Option<(&[u8], &[u8])>
+fn plain_text(text: &[u8]) -> Option<(&str, &[u8])>
     ensures { IfSome result (λ p. (text.now ≡ p.0.now ++ 34 ∷ p.1.now) × (escape p.0.now ≡ p.0.now)) }
 {
     let end = plain_front(text);
     if end < text.len() && text[end] == b'"' {
-        return Some((&text[..end], &text[end + 1..]));
+        return match from_utf8(&text[..end]) {
+            Ok(plain) => Some((plain, &text[end + 1..])),
+            Err(_) => None,
+        };
     }
     None
-}
-
-// The line says so if it is UTF-8.
-fn tick_if_utf8(line: &[u8], at: u64) -> Option<u64>
-    requires { line.now ≡ tick_text at }
-    ensures { IfSome result (λ at. Says line.now at Tick) }
-{
-    match from_utf8(line) {
-        Ok(_) => Some(at),
-        Err(_) => None,
-    }
-}
-
-// The line says so if it is UTF-8.
-fn plain_if_utf8<'l>(
-    line: &'l [u8],
-    at: u64,
-    inbox: u64,
-    reply: &'l [u8],
-    payload: &'l [u8],
-) -> Option<PlainArrival<'l>>
-    requires { (line.now ≡ arrival_text at inbox reply.now payload.now) × (escape reply.now ≡ reply.now) × (escape payload.now ≡ payload.now) }
-    ensures { IfSome result (λ a. Says line.now a.at (Arrival a.inbox (plain_message a.reply.now a.payload.now))) }
-{
-    let Ok(_) = from_utf8(line) else {
-        return None;
-    };
-    match from_utf8(reply) {
-        Ok(reply) => Some(PlainArrival {
-            at,
-            inbox,
-            reply,
-            payload,
-        }),
-        Err(_) => None,
-    }
 }

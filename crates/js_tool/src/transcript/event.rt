@@ -9,7 +9,7 @@ ghost use Rattle.js_table.specs.declared.event.EventKind.TheVariants.{Arrival};
 ghost use Rattle.js_tool.specs.Compact.{plain_message};
 ghost use Rattle.js_tool.specs.Events.{arrival_fields as arrival_fields_in, arrival as arrival_in, reply_fields as reply_fields_in, gone_fields as gone_fields_in, answer as answer_in, link_named, connection_named, watcher_named, alone as alone_in, with_key, what_fields as what_in, event_fields as event_in, event_line as line_in};
 
-use super::compact::{PlainArrival, plain_arrival, tick};
+use super::compact::{CompactLine, PlainArrival, compact_line};
 use super::members::text_of;
 use super::message::message_fields;
 use super::payloads::Payloads;
@@ -273,32 +273,35 @@ fn event_fields(alloc: Global, payloads: &mut Payloads, object: &Value) -> Resul
 pub fn event_line(alloc: Global, payloads: &mut Payloads, line: &[u8]) -> Result<Event, ReadError>
     ensures { Gives result (line_in line.now) }
 {
-    if let Some(at) = tick(line) {
-        return Ok(Event {
+    match compact_line(line) {
+        Some(CompactLine::Tick { at }) => Ok(Event {
             at,
             what: EventKind::Tick,
-        });
+        }),
+        Some(CompactLine::Arrival { at, arrival }) => arrived(alloc, payloads, at, arrival),
+        None => any_line(alloc, payloads, line),
     }
-    if let Some(found) = plain_arrival(line) {
-        return arrived(alloc, payloads, found);
-    }
-    any_line(alloc, payloads, line)
 }
 
-fn arrived(alloc: Global, payloads: &mut Payloads, found: PlainArrival) -> Result<Event, ReadError>
-    ensures { Gives result (Ok (record { at = found.entry.at; what = Arrival found.entry.inbox (plain_message found.entry.reply.now found.entry.payload.now) })) }
+fn arrived(
+    alloc: Global,
+    payloads: &mut Payloads,
+    at: u64,
+    found: PlainArrival,
+) -> Result<Event, ReadError>
+    ensures { Gives result (Ok (record { at = at; what = Arrival found.entry.inbox (plain_message found.entry.reply.now found.entry.payload.now) })) }
 {
     let message = Message {
         subject: Subject::from(String::new(alloc)),
         reply: Some(Subject::new(alloc, found.reply)?),
-        payload: payloads.keep(alloc, found.payload)?,
+        payload: payloads.keep(alloc, found.payload.as_bytes())?,
         headers: None,
         status: None,
         description: None,
         length: found.payload.len() as u64,
     };
     Ok(Event {
-        at: found.at,
+        at,
         what: EventKind::Arrival {
             inbox: found.inbox,
             message: Boxed::new(alloc, message)?,

@@ -1,0 +1,55 @@
+//! What a call on a bucket sends.
+
+use bytes::Bytes;
+use js_base::{Message, OutOfMemory, Subject};
+use js_call::State;
+use js_link::{MemoryLink, ScriptedServer, Sent};
+use std::alloc::Global;
+
+/// A line, or want of memory.
+pub type Line = Result<String, OutOfMemory>;
+
+/// An account of a server whose API is of level 1, so that markers are asked for.
+const ACCOUNT: &str =
+    r#"{"memory":0,"storage":0,"reserved_memory":0,"reserved_storage":0,"streams":0,"consumers":0,"limits":{"max_memory":-1,"max_storage":-1,"max_streams":-1,"max_consumers":-1,"max_ack_pending":-1,"memory_max_stream_bytes":-1,"storage_max_stream_bytes":-1,"max_bytes_required":false},"api":{"level":1,"total":0,"errors":0}}"#;
+
+fn account(alloc: Global) -> Result<Message, OutOfMemory> {
+    Ok(Message {
+        subject: Subject::new(alloc, "_INBOX.t.0")?,
+        reply: None,
+        payload: Bytes::copy_from_slice(alloc, ACCOUNT.as_bytes())?,
+        headers: None,
+        status: None,
+        description: None,
+        length: 0,
+    })
+}
+
+fn server(alloc: Global) -> Result<ScriptedServer, OutOfMemory> {
+    let mut server = ScriptedServer::new(alloc, MemoryLink::new(alloc, "_INBOX.t")?);
+    server.script(alloc, "$JS.API.INFO", account(alloc)?)?;
+    Ok(server)
+}
+
+fn line(alloc: Global, sent: Option<&Sent>) -> Line {
+    match sent {
+        Some(
+            Sent::Request {
+                subject,
+                payload,
+                ..
+            },
+        ) => {
+            let body = String::from_utf8_lossy(alloc, payload.as_slice())?;
+            Ok(format!(in alloc; "{subject} {body}")?)
+        }
+        _ => Ok(String::from_str(alloc, "nothing")?),
+    }
+}
+
+/// The last request that the first poll of a call sends, where the server tells its account.
+pub fn asked<S: State>(alloc: Global, call: Result<S, OutOfMemory>) -> Line {
+    let mut server = server(alloc)?;
+    let _turn = call?.poll(alloc, &mut server, 0);
+    line(alloc, server.link().sent().last())
+}
