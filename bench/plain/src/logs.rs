@@ -1,4 +1,4 @@
-//! `project FILTER` and `mirror`: the table and the mirror of what a run yields.
+//! `project FILTER`, `mirror` and `relay STREAM NAME`: the table, the mirror and the transcript of what a run yields.
 
 use std::collections::BTreeMap;
 use std::io::{self, BufWriter, Write};
@@ -84,6 +84,34 @@ pub fn write_mirror(output: &mut impl Write, entries: &[Entry], start: u64) -> i
         writer.write_all(b"]\n")?;
     }
     writeln!(writer, "[\"mirror\",{start},{},{},{holes}]", next.wrapping_sub(1), entries.len())?;
+    writer.flush()
+}
+
+/// The transcript of a consumer that is sent the entries.
+pub fn write_relay(output: &mut impl Write, setup: &Setup, entries: &[Entry], start: u64, stream: &str, name: &str) -> io::Result<()> {
+    let mut writer = BufWriter::new(output);
+    let mut config = json!({"deliver_policy": "by_start_sequence", "opt_start_seq": start});
+    if !setup.config.filter_subject.is_empty() {
+        config["filter_subject"] = json!(setup.config.filter_subject);
+    }
+    if !setup.config.filter_subjects.is_empty() {
+        config["filter_subjects"] = json!(setup.config.filter_subjects);
+    }
+    let nowhere = json!({"consumer_seq": 0, "stream_seq": 0});
+    let info = json!({
+        "ack_floor": nowhere, "config": config, "created": "2026-01-01T00:00:00Z", "delivered": nowhere, "name": name, "num_ack_pending": 0,
+        "num_pending": 0, "num_redelivered": 0, "num_waiting": 0, "stream_name": stream,
+    });
+    writeln!(writer, "{}", json!({"config": config, "info": info, "mode": "pull", "settings": {}, "start": 0}))?;
+    for (place, entry) in entries.iter().enumerate() {
+        writer.write_all(b"{\"arrival\":{\"inbox\":0,\"payload\":")?;
+        write_text(&mut writer, entry.payload)?;
+        writer.write_all(b",\"reply\":")?;
+        write_text(&mut writer, &format!("$JS.ACK.{stream}.{name}.1.{}.{}.0.0", entry.sequence, place + 1))?;
+        writer.write_all(b",\"subject\":")?;
+        write_text(&mut writer, entry.subject)?;
+        writeln!(writer, "}},\"at\":{}}}", place + 1)?;
+    }
     writer.flush()
 }
 

@@ -1,4 +1,4 @@
-//! `replay`, `project FILTER` and `mirror` in plain Rust: each reads a transcript from standard input and writes its text. `info CALLS SUBJECT` reads
+//! `replay`, `project FILTER`, `mirror` and `relay STREAM NAME` in plain Rust: each reads a transcript from standard input and writes its text. `info CALLS SUBJECT` reads
 //! an acknowledgement subject so many times, and prints whether it reads.
 //!
 //! It is written from the repository's documents alone, with one `serde_json::Value` a line, and shares no line with the
@@ -19,10 +19,11 @@ mod text;
 mod transcript;
 
 use logs::{Entry, NoLog};
+use names::is_valid_name;
 use std::hint::black_box;
 use std::io::{self, Read, Write};
 use std::process::ExitCode;
-use transcript::Transcript;
+use transcript::{Setup, Transcript};
 
 /// The most bytes that a transcript may have.
 const LIMIT: usize = 67_108_864;
@@ -71,6 +72,9 @@ fn main() -> ExitCode {
         [command] if command == "replay" => replay(&mut io::stdin().lock(), &mut io::stdout().lock()),
         [command, filter] if command == "project" => project(filter, &mut io::stdin().lock(), &mut io::stdout().lock()),
         [command] if command == "mirror" => mirror(&mut io::stdin().lock(), &mut io::stdout().lock()),
+        [command, stream, name] if command == "relay" && is_valid_name(stream) && is_valid_name(name) => {
+            relay(stream, name, &mut io::stdin().lock(), &mut io::stdout().lock())
+        }
         [command, calls, subject] if command == "info" => info(calls, subject),
         _ => Status::Usage,
     };
@@ -127,15 +131,20 @@ fn replay(input: &mut impl Read, output: &mut impl Write) -> Status {
 
 /// Replays the input, and writes the table of its yields.
 fn project(filter: &str, input: &mut impl Read, output: &mut impl Write) -> Status {
-    on_log(input, output, |output, entries, _| logs::write_table(output, entries, filter))
+    on_log(input, output, |output, _, entries, _| logs::write_table(output, entries, filter))
 }
 
 /// Replays the input, and writes its yields with the holes between them.
 fn mirror(input: &mut impl Read, output: &mut impl Write) -> Status {
-    on_log(input, output, |output, entries, start| logs::write_mirror(output, entries, start))
+    on_log(input, output, |output, _, entries, start| logs::write_mirror(output, entries, start))
 }
 
-fn on_log<W: Write>(input: &mut impl Read, output: &mut W, write: impl Fn(&mut W, &[Entry], u64) -> io::Result<()>) -> Status {
+/// Replays the input, and writes the transcript of a consumer that is sent its yields.
+fn relay(stream: &str, name: &str, input: &mut impl Read, output: &mut impl Write) -> Status {
+    on_log(input, output, |output, setup, entries, start| logs::write_relay(output, setup, entries, start, stream, name))
+}
+
+fn on_log<W: Write>(input: &mut impl Read, output: &mut W, write: impl Fn(&mut W, &Setup, &[Entry], u64) -> io::Result<()>) -> Status {
     let transcript = match read(input) {
         Ok(transcript) => transcript,
         Err(status) => return status,
@@ -152,7 +161,7 @@ fn on_log<W: Write>(input: &mut impl Read, output: &mut W, write: impl Fn(&mut W
         }
     };
     match logs::entries(&run, start) {
-        Ok(entries) => written(write(output, &entries, start)),
+        Ok(entries) => written(write(output, &transcript.setup, &entries, start)),
         Err(refusal) => no_log(output, &refusal),
     }
 }

@@ -1,5 +1,5 @@
 -- Entries applied one after another.
-use Rattle.std.proofs.Common.{◌≡◌, ◌<◌, ◌≤◌, ℕ, List, [], ◌∷◌, ◌++◌, fold, length, nat_lt, true, false, refl, sym, ap, ◌∙◌, append_assoc, append-nil, arith, Option, Some, None}
+use Rattle.std.proofs.Common.{◌≡◌, ◌<◌, ◌≤◌, ℕ, List, [], ◌∷◌, ◌++◌, fold, length, nat_lt, true, false, refl, sym, ap, ◌∙◌, arith, Some}
 use Rattle.std.proofs.lemmas.Bool.Decides.{nat_tests}
 use Rattle.js_base.specs.declared.message.Entry.{Entry}
 use Rattle.js_project.specs.Table.{last_sequence}
@@ -15,7 +15,7 @@ pub last_on : (low : ℕ) (entries : List Entry) (entry : Entry) → fold (λ _ 
 last_on low [] entry = refl
 last_on low (first ∷ entries) entry = last_on first.sequence entries entry
 
-above : (low sequence : ℕ) → low < sequence → nat_lt low sequence ≡ true
+pub above : (low sequence : ℕ) → low < sequence → nat_lt low sequence ≡ true
 above low sequence rises = grind (arith, nat_tests)
 
 not_above : (low sequence : ℕ) → sequence ≤ low → nat_lt low sequence ≡ false

@@ -1,5 +1,5 @@
 -- What the written texts say of an honest server's log.
-use Rattle.std.proofs.Common.{◌≡◌, ℕ, suc, zero, ◌+◌, ◌-◌, ◌<◌, ◌≤◌, ◌==◌, nat_lt, Bool, true, false, cond, List, [], ◌∷◌, map, Option, Some, None, IfSome, refl, subst, sym, ap, ◌∙◌, arith}
+use Rattle.std.proofs.Common.{◌≡◌, ℕ, ◌+◌, ◌-◌, ◌<◌, ◌≤◌, ◌==◌, nat_lt, Bool, true, false, cond, List, [], ◌∷◌, map, Option, Some, None, IfSome, refl, subst, sym, ap, ◌∙◌, arith}
 use Rattle.std.proofs.lemmas.Bool.Decides.{nat_tests}
 use Rattle.std.specs.Io.KnownBytes.{Appends}
 use Rattle.js_base.specs.declared.message.Entry.{Entry}
@@ -10,7 +10,7 @@ use Rattle.js_log_table.specs.Kept.{HasTableOf}
 use Rattle.js_log_table.specs.Yielded.{as_entry, not_rising}
 use Rattle.js_log_table.proofs.OnHonestLog.{run_has_table}
 use Rattle.js_mirror.specs.Mirrored.{IsMirror, RisesFrom}
-use Rattle.js_project.specs.Table.{last_sequence, table, matched}
+use Rattle.js_project.specs.Table.{last_sequence}
 use Rattle.js_relay.specs.Copied.{IsCopy}
 use Rattle.js_relay.specs.Handed.{handed}
 use Rattle.js_relay.proofs.Shown.{shows_each_log}
@@ -24,14 +24,15 @@ use Rattle.js_tool.specs.declared.status.Status.{Status}
 use Rattle.js_tool.specs.declared.status.Status.TheVariants as status
 use Rattle.js_tool.specs.declared.transcript.Transcript.{Transcript}
 use Rattle.js_tool.specs.Program.{given}
-use Rattle.js_words.specs.Commands.{Wanted, Project, Mirror}
+use Rattle.js_words.specs.Commands.{Wanted, Project, Mirror, Relay}
 use Rattle.js_words.specs.declared.report.Report.{Report}
 use Rattle.js_words.specs.declared.report.Report.TheVariants as report
 use Rattle.js_words.specs.Gathered.{ends}
-use Rattle.js_words.specs.LogTexts.{rows_text, table_text, mirror_text}
-use Rattle.js_words.specs.OnLogs.{run_of, yields_of, mirror_of, WritesLogsTable, WritesLogsMirror}
+use Rattle.js_words.specs.LogTexts.{rows_text, table_text, mirror_text, served_text}
+use Rattle.js_words.specs.OnLogs.{run_of, yields_of, mirror_of, WritesLogsTable, WritesLogsMirror, WritesLogsRelay}
 use Rattle.js_words.specs.Reports.{unless_falling, log_report, report_from, report_of}
-use Rattle.js_words.specs.Told.{Reads, AnswersBytes, AnswersLog}
+use Rattle.js_words.specs.Served.{HasTexts, IsServed, Serves, ServesFrom, ServesOf}
+use Rattle.js_words.specs.Told.{Reads, AnswersLog}
 
 -- ---- a text that was made
 
@@ -40,13 +41,13 @@ record IsMade (wanted : Wanted) (t : Transcript) (text : List ℕ) : Type 0 wher
   start : ℕ
   configured : configured_start t.setup.setup ≡ Some start
   accepted : refuse (given t.setup) t.setup.start t.events ≡ None
-  says : log_report wanted start (yields_of t) ≡ report.Done text
+  says : log_report wanted t.setup.setup start (yields_of t) ≡ report.Done text
 
 made_of : (wanted : Wanted) (t : Transcript) (text : List ℕ) → report_of wanted t ≡ report.Done text → IsMade wanted t text
 made_of wanted t text is = by_cases (configured_start t.setup.setup) refl (refuse (given t.setup) t.setup.start t.events) refl is
   where
     by_cases : (start : Option ℕ) → configured_start t.setup.setup ≡ start → (refusal : Option ReplayError) → refuse (given t.setup) t.setup.start t.events ≡ refusal
-        → report_from wanted start (ends refusal (yields_of t)) ≡ report.Done text → IsMade wanted t text
+        → report_from wanted t.setup.setup start (ends refusal (yields_of t)) ≡ report.Done text → IsMade wanted t text
     by_cases None configured refusal refuses is = absurd (cc)
     by_cases (Some start) configured (Some refusal) refuses is = absurd (cc)
     by_cases (Some start) configured None accepted is = record { start = start; configured = configured; accepted = accepted; says = is }
@@ -77,11 +78,11 @@ table_on_log filter bytes taken taken_after t text reads is appends =
     }
 
 pub table_told : (filter : List ℕ) (left left_after taken taken_after : Option (List ℕ)) (faults faults_after : ℕ) (s : Status)
-    → AnswersLog (report_of (Project filter None)) left left_after taken taken_after faults faults_after s → s ≡ status.Done
+    → AnswersLog (Project filter None) left left_after taken taken_after faults faults_after s → s ≡ status.Done
     → IfSome left (λ bytes. WritesLogsTable filter bytes taken taken_after)
 table_told filter None left_after taken taken_after faults faults_after s answers done = tt
 table_told filter (Some bytes) left_after taken taken_after faults faults_after s answers done =
-    let (t, text, reads, is, appends) = answers.told.done done in
+    let (t, text, reads, is, appends, more) = answers.told.done done in
     table_on_log filter bytes taken taken_after t text reads is appends
 
 -- ---- the mirror
@@ -97,7 +98,7 @@ rises_from last (entry ∷ entries) risen = by_test (nat_lt last entry.sequence)
     by_test false above rest risen = absurd (cc)
 
 -- a configured start is above 0
-start_above : (p : DeliverPolicy) (start : ℕ) → start_of_policy p ≡ Some start → 0 < start
+pub start_above : (p : DeliverPolicy) (start : ℕ) → start_of_policy p ≡ Some start → 0 < start
 start_above (policy.ByStartSequence sequence) start is = by_test (sequence == 0) refl is
   where
     injected : (x y : ℕ) → Some x ≡ Some y → x ≡ y
@@ -114,19 +115,27 @@ start_above policy.New start is = absurd (cc)
 start_above (policy.ByStartTime time) start is = absurd (cc)
 start_above policy.LastPerSubject start is = absurd (cc)
 
+-- so entries that rise from a configured start are a mirror's
+is_mirror : (t : Transcript) (start : ℕ) → configured_start t.setup.setup ≡ Some start → not_rising (start - 1) (yields_of t) ≡ None → IsMirror (mirror_of start t)
+is_mirror t start configured risen =
+    let above : 0 < start = start_above (config_of t.setup.setup).deliver_policy start configured in
+    let from : start - 1 + 1 ≡ start = omega (arith, above) in
+    (above, subst (λ (n : ℕ). RisesFrom n (yields_of t)) from (rises_from (start - 1) (yields_of t) risen))
+
 handed_yields : (ys : List gapless.Entry) → map handed (map as_entry ys) ≡ ys
 handed_yields [] = refl
 handed_yields (y ∷ ys) = ap (λ (rest : List gapless.Entry). y ∷ rest) (handed_yields ys)
+
+is_copy : (t : Transcript) (start : ℕ) → configured_start t.setup.setup ≡ Some start → IsCopy t.setup.setup (run_of t) (mirror_of start t)
+is_copy t start configured = record { start = configured; entries = handed_yields (yields (all_outputs (run_of t))) }
 
 mirror_on_log : (bytes : List ℕ) (taken taken_after : Option (List ℕ)) (t : Transcript) (text : List ℕ) → Reads bytes t → report_of Mirror t ≡ report.Done text
     → Appends taken taken_after text → WritesLogsMirror bytes taken taken_after
 mirror_on_log bytes taken taken_after t text reads is appends =
     let made : IsMade Mirror t text = made_of Mirror t text is in
     let rose = risen (not_rising (made.start - 1) (yields_of t)) (mirror_text made.start (yields_of t)) text made.says in
-    let above : 0 < made.start = start_above (config_of t.setup.setup).deliver_policy made.start made.configured in
-    let from : made.start - 1 + 1 ≡ made.start = omega (arith, above) in
-    let mirror : IsMirror (mirror_of made.start t) = (above, subst (λ (n : ℕ). RisesFrom n (yields_of t)) from (rises_from (made.start - 1) (yields_of t) rose.0)) in
-    let copy : IsCopy t.setup.setup (run_of t) (mirror_of made.start t) = record { start = made.configured; entries = handed_yields (yields (all_outputs (run_of t))) } in
+    let mirror : IsMirror (mirror_of made.start t) = is_mirror t made.start made.configured rose.0 in
+    let copy : IsCopy t.setup.setup (run_of t) (mirror_of made.start t) = is_copy t made.start made.configured in
     record {
       transcript = t;
       start = made.start;
@@ -140,9 +149,57 @@ mirror_on_log bytes taken taken_after t text reads is appends =
     }
 
 pub mirror_told : (left left_after taken taken_after : Option (List ℕ)) (faults faults_after : ℕ) (s : Status)
-    → AnswersLog (report_of Mirror) left left_after taken taken_after faults faults_after s → s ≡ status.Done
+    → AnswersLog Mirror left left_after taken taken_after faults faults_after s → s ≡ status.Done
     → IfSome left (λ bytes. WritesLogsMirror bytes taken taken_after)
 mirror_told None left_after taken taken_after faults faults_after s answers done = tt
 mirror_told (Some bytes) left_after taken taken_after faults faults_after s answers done =
-    let (t, text, reads, is, appends) = answers.told.done done in
+    let (t, text, reads, is, appends, more) = answers.told.done done in
     mirror_on_log bytes taken taken_after t text reads is appends
+
+-- ---- the transcript
+
+-- what is promised of a text that was made
+serves_made : (wanted : Wanted) (t : Transcript) (start : ℕ) (made : Report) → configured_start t.setup.setup ≡ Some start → refuse (given t.setup) t.setup.start t.events ≡ None → ServesOf wanted t made
+    → Serves wanted t.setup.setup start (yields_of t) made
+serves_made wanted t start made configured accepted more =
+    by_cases (configured_start t.setup.setup) configured (refuse (given t.setup) t.setup.start t.events) accepted more
+  where
+    injected : (x y : ℕ) → Some x ≡ Some y → x ≡ y
+    injected x y same = cc
+
+    by_cases : (found : Option ℕ) → found ≡ Some start → (refusal : Option ReplayError) → refusal ≡ None → ServesFrom wanted t.setup.setup found (ends refusal (yields_of t)) made
+        → Serves wanted t.setup.setup start (yields_of t) made
+    by_cases None configured refusal accepted more = absurd (cc)
+    by_cases (Some found) configured (Some refusal) accepted more = absurd (cc)
+    by_cases (Some found) configured None accepted more =
+        let same : found ≡ start = injected found start configured in
+        subst (λ (n : ℕ). Serves wanted t.setup.setup n (yields_of t) made) same more
+
+relay_on_log : (stream name bytes : List ℕ) (taken taken_after : Option (List ℕ)) (t : Transcript) (text : List ℕ) → Reads bytes t → report_of (Relay stream name) t ≡ report.Done text
+    → Appends taken taken_after text → ServesOf (Relay stream name) t (report.Done text) → WritesLogsRelay stream name bytes taken taken_after
+relay_on_log stream name bytes taken taken_after t text reads is appends more =
+    let made : IsMade (Relay stream name) t text = made_of (Relay stream name) t text is in
+    let rose = risen (not_rising (made.start - 1) (yields_of t)) (served_text stream name t.setup.setup made.start (yields_of t)) text made.says in
+    let serves : HasTexts t.setup.setup (yields_of t) → IsServed stream name t.setup.setup (mirror_of made.start t) text =
+    serves_made (Relay stream name) t made.start (report.Done text) made.configured made.accepted more in
+    record {
+      transcript = t;
+      start = made.start;
+      text = text;
+      reads = reads;
+      configured = made.configured;
+      mirror = is_mirror t made.start made.configured rose.0;
+      written = appends;
+      served = serves;
+      honest = λ texts s honest run replay.
+          (serves texts).honest s (given t.setup) t.setup.start t.events (run_of t) refl (fold_replays (given t.setup) t.setup.start t.events (run_of t) made.accepted refl) honest
+          (is_copy t made.start made.configured) run replay;
+    }
+
+pub relay_told : (stream name : List ℕ) (left left_after taken taken_after : Option (List ℕ)) (faults faults_after : ℕ) (s : Status)
+    → AnswersLog (Relay stream name) left left_after taken taken_after faults faults_after s → s ≡ status.Done
+    → IfSome left (λ bytes. WritesLogsRelay stream name bytes taken taken_after)
+relay_told stream name None left_after taken taken_after faults faults_after s answers done = tt
+relay_told stream name (Some bytes) left_after taken taken_after faults faults_after s answers done =
+    let (t, text, reads, is, appends, more) = answers.told.done done in
+    relay_on_log stream name bytes taken taken_after t text reads is appends more

@@ -1,5 +1,5 @@
 -- Line after line: what was passed, what it yields, and what the lines that are left say.
-use Rattle.std.proofs.Common.{◌≡◌, ℕ, ◌+◌, List, [], ◌∷◌, ◌++◌, length, flat_map, refl, sym, ap, subst, ◌∙◌, append_assoc, append-nil, length-append, arith}
+use Rattle.std.proofs.Common.{◌≡◌, ℕ, ◌+◌, List, [], ◌∷◌, ◌++◌, length, refl, sym, ap, subst, ◌∙◌, append_assoc, append-nil, length-append, arith}
 use Rattle.std.specs.Prelude.{Result, Ok, Err}
 use Rattle.js_base.specs.declared.message.Entry.{Entry}
 use Rattle.js_lines.specs.Lines.{lines_of}
@@ -12,7 +12,6 @@ use Rattle.js_table.specs.Gapless.{joined, all_outputs}
 use Rattle.js_ordered.specs.declared.incremental_replay.IncrementalReplay.{IncrementalReplay}
 use Rattle.js_ordered.specs.IncrementalReplay.{HasCome, last}
 use Rattle.js_ordered.proofs.Coursing.{no_steps, steps_on, opening_is}
-use Rattle.js_tool.specs.declared.transcript.Transcript.{Transcript}
 use Rattle.js_tool.specs.declared.transcript.setup.Setup.{Setup}
 use Rattle.js_tool.specs.declared.transcript.Unread.{Unread}
 use Rattle.js_tool.specs.declared.transcript.Unread.TheVariants as unread

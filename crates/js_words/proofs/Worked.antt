@@ -2,7 +2,8 @@
 use Rattle.std.specs.Prelude.{◌≡◌, ℕ, List, [], ◌∷◌, Some, None, refl, codes}
 use Rattle.js_base.specs.declared.message.Entry.{Entry}
 use Rattle.js_table.specs.declared.run.ReplayError.TheVariants.{BadEvent}
-use Rattle.js_words.specs.Commands.{Wanted, Project, Mirror, wanted_of, project_of, project_up_to, with_two}
+use Rattle.js_table.specs.declared.setup.OrderedSetup.{OrderedSetup}
+use Rattle.js_words.specs.Commands.{Project, Mirror, Relay, wanted_of, project_of, project_up_to, relay_of, with_two}
 use Rattle.js_words.specs.declared.gathering.Ending.TheVariants as ending
 use Rattle.js_words.specs.declared.report.Report.TheVariants as report
 use Rattle.js_words.specs.LogTexts.{no_start_text, not_rising_text, hole_text}
@@ -26,19 +27,32 @@ up_to_two : wanted_of (codes "project" ∷ codes ">" ∷ codes "02" ∷ []) ≡ 
 unfolding project_of project_up_to with_two
 up_to_two = refl
 
+two_names : wanted_of (codes "relay" ∷ codes "events" ∷ codes "c1" ∷ []) ≡ Some (Relay (codes "events") (codes "c1"))
+unfolding relay_of with_two
+two_names = refl
+
+-- a body that takes any words for names answers a command here
+no_name : wanted_of (codes "relay" ∷ codes "events" ∷ codes "c.1" ∷ []) ≡ None
+unfolding relay_of with_two
+no_name = refl
+
 -- ---- refusals
 
 -- a body that tells of the replay's refusal first answers another line
-no_start_first : report_from Mirror None (ending.Refused (BadEvent 3)) ≡ report.Refused no_start_text
-no_start_first = refl
+no_start_first : (setup : OrderedSetup) → report_from Mirror setup None (ending.Refused (BadEvent 3)) ≡ report.Refused no_start_text
+no_start_first setup = refl
 
 -- a body that lets an equal sequence pass answers a text
-equal : log_report (Project (codes ">") None) 1 (entry 5 [] [] ∷ entry 5 [] [] ∷ []) ≡ report.Refused (not_rising_text 5)
-equal = refl
+equal : (setup : OrderedSetup) → log_report (Project (codes ">") None) setup 1 (entry 5 [] [] ∷ entry 5 [] [] ∷ []) ≡ report.Refused (not_rising_text 5)
+equal setup = refl
 
 -- a mirror's first sequence is at its start or past it: a body that lets any first one pass answers a text
-below : log_report Mirror 5 (entry 3 [] [] ∷ entry 5 [] [] ∷ []) ≡ report.Refused (not_rising_text 4)
-below = refl
+below : (setup : OrderedSetup) → log_report Mirror setup 5 (entry 3 [] [] ∷ entry 5 [] [] ∷ []) ≡ report.Refused (not_rising_text 4)
+below setup = refl
+
+-- and a transcript begins there too
+below_relayed : (setup : OrderedSetup) → log_report (Relay (codes "events") (codes "c1")) setup 5 (entry 3 [] [] ∷ entry 5 [] [] ∷ []) ≡ report.Refused (not_rising_text 4)
+below_relayed setup = refl
 
 -- ---- holes
 

@@ -1,8 +1,11 @@
--- The lines that are written of a log: its table, its messages and holes, and why there are none.
+-- The lines that are written of a log: its table, its messages and holes, its transcript, and why there are none.
 use Rattle.std.specs.Prelude.{ℕ, ◌+◌, ◌-◌, nat_lt, List, [], ◌∷◌, ◌++◌, codes, length, fold, flat_map, Option, Some, None, if◌then◌else◌}
-use Rattle.serde_json.specs.Data.{Data, string}
+use Rattle.serde_json.specs.Data.{string}
 use Rattle.js_base.specs.declared.message.Entry.{Entry}
 use Rattle.js_project.specs.Table.{up_to, last_sequence, table, matched}
+use Rattle.js_relay_text.specs.RelayText.{relay_text}
+use Rattle.js_table.specs.declared.setup.OrderedSetup.{OrderedSetup}
+use Rattle.js_table.specs.Texts.{config_of}
 use Rattle.js_tool.specs.Texts.{line_text, count}
 
 -- ---- refusals
@@ -59,3 +62,9 @@ counts_text start last messages = line_text (
 
 abbrev pub mirror_text : ℕ → List Entry → List ℕ
 mirror_text start entries = slots_text (start - 1) entries ++ counts_text start (last_after (start - 1) entries) (length entries)
+
+-- ---- the transcript
+
+-- of a consumer that is sent the entries from a start on, with the filters of a setup
+abbrev pub served_text : List ℕ → List ℕ → OrderedSetup → ℕ → List Entry → List ℕ
+served_text stream name setup start entries = relay_text stream name (config_of setup).filter_subject (config_of setup).filter_subjects start entries

@@ -6,15 +6,17 @@ use Rattle.js_log_table.specs.Honest.{matching_between, AreOvertaken}
 use Rattle.js_log_table.specs.Yielded.{yielded}
 use Rattle.js_mirror.specs.Mirrored.{Mirrored, IsMirror}
 use Rattle.js_project.specs.Table.{last_sequence, table, matched}
-use Rattle.js_relay.specs.Copied.{ShowsLog}
+use Rattle.js_relay.specs.Copied.{ShowsLog, server_of}
+use Rattle.js_relay_text.specs.ReadsBack.{ReadsAs}
 use Rattle.js_table.specs.declared.run.Run.{Run}
 use Rattle.js_table.specs.declared.setup.OrderedSetup.{OrderedSetup}
 use Rattle.js_table.specs.Fold.{fold}
 use Rattle.js_table.specs.Gapless.{Logged, Server, IsHonest, all_outputs}
-use Rattle.js_table.specs.Texts.{configured_start}
+use Rattle.js_table.specs.Texts.{configured_start, filters}
 use Rattle.js_tool.specs.declared.transcript.Transcript.{Transcript}
-use Rattle.js_tool.specs.Program.{given}
+use Rattle.js_tool.specs.Program.{given, Replays}
 use Rattle.js_words.specs.LogTexts.{rows_text, mirror_text}
+use Rattle.js_words.specs.Served.{HasTexts, IsServed}
 use Rattle.js_words.specs.Told.{Reads}
 
 -- the run of a transcript
@@ -58,3 +60,22 @@ pub record WritesLogsMirror (bytes : List ℕ) (taken taken_after : Option (List
   pub mirror : IsMirror (mirror_of start transcript)
   pub written : Appends taken taken_after (mirror_text start (yields_of transcript))
   pub shows : (s : Server) → IsHonestIn s transcript → ShowsLog s transcript.setup.setup (mirror_of start transcript)
+
+-- ---- the transcript
+
+-- each replay of a text has the filters of a transcript, and the server of a mirror is honest in it, for the same log and the same removed ones
+abbrev pub KeepsHonest : Server → Transcript → Mirrored → List ℕ → Type 0
+KeepsHonest s t mirror text =
+    (run : Run) → Replays text run → (again : Transcript) × ReadsAs text again × (filters again.setup.setup ≡ filters t.setup.setup) × IsHonest (server_of s mirror) again.setup.setup again.events run
+
+-- What was written is the transcript of a consumer with these names that reads the mirror which starts at the configured start and has what was yielded. It is read as that, and each replay of it hands out the mirror's entries; where a server is honest in the run, that of the mirror is honest in each replay.
+pub record WritesLogsRelay (stream name bytes : List ℕ) (taken taken_after : Option (List ℕ)) : Type 0 where
+  pub transcript : Transcript
+  pub start : ℕ
+  pub text : List ℕ
+  pub reads : Reads bytes transcript
+  pub configured : configured_start transcript.setup.setup ≡ Some start
+  pub mirror : IsMirror (mirror_of start transcript)
+  pub written : Appends taken taken_after text
+  pub served : HasTexts transcript.setup.setup (yields_of transcript) → IsServed stream name transcript.setup.setup (mirror_of start transcript) text
+  pub honest : HasTexts transcript.setup.setup (yields_of transcript) → (s : Server) → IsHonestIn s transcript → KeepsHonest s transcript (mirror_of start transcript) text

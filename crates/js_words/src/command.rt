@@ -3,9 +3,10 @@
 ghost use Rattle.std.specs.Prelude.{◌≡◌, ◌∷◌, [], map, codes, false, option_map, string_bytes, None, IfSome};
 ghost use Rattle.std.specs.Str.{bytes_eq};
 ghost use Rattle.js_tool.specs.Commands.{command_of as command_in};
-ghost use Rattle.js_words.specs.Commands.{wanted, wanted_of, project_of as project_in, project_up_to as project_up_to_in, with_two as with_two_in};
+ghost use Rattle.js_words.specs.Commands.{wanted, wanted_of, project_of as project_in, project_up_to as project_up_to_in, relay_of as relay_in, with_two as with_two_in};
 
 use js_base::is_valid_subject;
+use js_codes::is_valid_name;
 use js_tool::read_number;
 
 /// What the program is asked to do with the yields of a transcript's replay. It is borrowed from the words.
@@ -18,6 +19,11 @@ pub enum LogCommand<'a> {
     },
     /// To write all yields, and the holes between them.
     Mirror,
+    /// To write the transcript of a consumer that is sent all yields. Both are valid names.
+    Relay {
+        stream: &'a str,
+        name: &'a str,
+    },
 }
 
 /// The command over a log that the words name, if they are in one of its forms. Then they are no other command.
@@ -73,6 +79,17 @@ fn project_up_to<'a>(filter: &'a str, sequence: &str) -> Option<LogCommand<'a>>
     project_of(filter, Some(sequence))
 }
 
+#[tactic(auto, unfolding(crate::specs::Commands::relay_of))]
+fn relay_of<'a>(stream: &'a str, name: &'a str) -> Option<LogCommand<'a>>
+    ensures { option_map wanted result ≡ relay_in stream.now name.now }
+{
+    if is_valid_name(stream) && is_valid_name(name) {
+        Some(LogCommand::Relay { stream, name })
+    } else {
+        None
+    }
+}
+
 #[tactic(auto, unfolding(crate::specs::Commands::with_two))]
 fn with_two<'a>(name: &str, first: &'a str, second: &'a str) -> Option<LogCommand<'a>>
     ensures form { option_map wanted result ≡ with_two_in name.now first.now second.now }
@@ -80,6 +97,7 @@ fn with_two<'a>(name: &str, first: &'a str, second: &'a str) -> Option<LogComman
 {
     match name {
         "project" => project_up_to(first, second),
+        "relay" => relay_of(first, second),
         _ => None,
     }
 }

@@ -1,4 +1,5 @@
-//! The words over logs: what a transcript's replay yields, as a table or as a mirror. All other words are those of js_tool.
+//! The words over logs: what a transcript's replay yields, as a table, as a mirror, or as a transcript again. All other words are
+//! those of js_tool.
 #![tactic(auto)]
 
 mod command;
@@ -6,6 +7,7 @@ mod gathering;
 mod mirror;
 mod program;
 mod project;
+mod relay;
 mod report;
 mod telling;
 

@@ -5,9 +5,8 @@ ghost use Rattle.std.specs.Io.KnownBytes.{Keeps};
 ghost use Rattle.js_io.specs.Causes.{Rose};
 ghost use Rattle.js_tool.specs.Commands.{Replay, Generate, Info, Window, command_of as command_in};
 ghost use Rattle.js_tool.specs.Program.{AnswersReplay, AnswersGenerate, AnswersInfo, AnswersWindow, FirstUnread, SaysNothing, without_threads};
-ghost use Rattle.js_words.specs.Commands.{Wanted, Project, Mirror, wanted_of};
-ghost use Rattle.js_words.specs.OnLogs.{WritesLogsTable, WritesLogsMirror};
-ghost use Rattle.js_words.specs.Reports.{report_of};
+ghost use Rattle.js_words.specs.Commands.{Wanted, Project, Mirror, Relay, wanted_of};
+ghost use Rattle.js_words.specs.OnLogs.{WritesLogsTable, WritesLogsMirror, WritesLogsRelay};
 ghost use Rattle.js_words.specs.Told.{AnswersLog};
 
 use crate::command::log_command_of;
@@ -22,8 +21,8 @@ use std::thread::Threads;
 /// [`run_plain`] promises.
 ///
 /// `project` reads a transcript to its end, replays it, and writes the last entry of each subject that a filter matches.
-/// `mirror` writes all that the replay yields, with the holes between. All other words are those of [`js_tool::run`]. It may
-/// wait in `window` alone.
+/// `mirror` writes all that the replay yields, with the holes between, and `relay` the transcript of another consumer that is
+/// sent all of it. All other words are those of [`js_tool::run`]. It may wait in `window` alone.
 pub fn run<R: Threads + Wait + Sync, S: Source, K: Sink>(
     rt: &R,
     alloc: Global,
@@ -47,7 +46,7 @@ pub fn run<R: Threads + Wait + Sync, S: Source, K: Sink>(
         → command_in (map string_bytes words.now) ≡ Some (Window capacity threads calls)
         → AnswersWindow capacity threads calls (K.taken output.old) (K.taken output.new) result }
     ensures logs { (command : Wanted) → wanted_of (map string_bytes words.now) ≡ Some command
-        → AnswersLog (report_of command) (S.left input.old) (S.left input.new)
+        → AnswersLog command (S.left input.old) (S.left input.new)
         (K.taken output.old) (K.taken output.new) (K.faults output.old) (K.faults output.new) result }
     // Where the server was honest, the table is that of the log, and the mirror shows it.
     ensures logs_table { (filter : List ℕ) → wanted_of (map string_bytes words.now) ≡ Some (Project filter None)
@@ -55,6 +54,10 @@ pub fn run<R: Threads + Wait + Sync, S: Source, K: Sink>(
         → IfSome (S.left input.old) (λ bytes. WritesLogsTable filter bytes (K.taken output.old) (K.taken output.new)) }
     ensures logs_mirror { wanted_of (map string_bytes words.now) ≡ Some Mirror → result ≡ Status.Done
         → IfSome (S.left input.old) (λ bytes. WritesLogsMirror bytes (K.taken output.old) (K.taken output.new)) }
+    // What is written of the mirror is read as its transcript, replays to it, and is honest where the server was.
+    ensures logs_relay { (stream name : List ℕ) → wanted_of (map string_bytes words.now) ≡ Some (Relay stream name)
+        → result ≡ Status.Done
+        → IfSome (S.left input.old) (λ bytes. WritesLogsRelay stream name bytes (K.taken output.old) (K.taken output.new)) }
 
     // What else a status tells.
     ensures write_fault { result ≡ Status.WriteFault → Rose (K.faults output.old) (K.faults output.new) }
@@ -94,7 +97,7 @@ pub fn run_plain<S: Source, K: Sink>(
     ensures info { (subject : List ℕ) → command_in (map string_bytes words.now) ≡ Some (Info subject)
         → AnswersInfo subject (K.taken output.old) (K.taken output.new) (K.faults output.old) (K.faults output.new) result }
     ensures logs { (command : Wanted) → wanted_of (map string_bytes words.now) ≡ Some command
-        → AnswersLog (report_of command) (S.left input.old) (S.left input.new)
+        → AnswersLog command (S.left input.old) (S.left input.new)
         (K.taken output.old) (K.taken output.new) (K.faults output.old) (K.faults output.new) result }
     // Where the server was honest, the table is that of the log, and the mirror shows it.
     ensures logs_table { (filter : List ℕ) → wanted_of (map string_bytes words.now) ≡ Some (Project filter None)
@@ -102,6 +105,10 @@ pub fn run_plain<S: Source, K: Sink>(
         → IfSome (S.left input.old) (λ bytes. WritesLogsTable filter bytes (K.taken output.old) (K.taken output.new)) }
     ensures logs_mirror { wanted_of (map string_bytes words.now) ≡ Some Mirror → result ≡ Status.Done
         → IfSome (S.left input.old) (λ bytes. WritesLogsMirror bytes (K.taken output.old) (K.taken output.new)) }
+    // What is written of the mirror is read as its transcript, replays to it, and is honest where the server was.
+    ensures logs_relay { (stream name : List ℕ) → wanted_of (map string_bytes words.now) ≡ Some (Relay stream name)
+        → result ≡ Status.Done
+        → IfSome (S.left input.old) (λ bytes. WritesLogsRelay stream name bytes (K.taken output.old) (K.taken output.new)) }
 
     // What else a status tells.
     ensures write_fault { result ≡ Status.WriteFault → Rose (K.faults output.old) (K.faults output.new) }

@@ -1,17 +1,19 @@
 //! What a command over a log makes of a transcript.
 
-ghost use Rattle.std.specs.Prelude.{◌≡◌, ◌≤◌, length, IfOk};
+ghost use Rattle.std.specs.Prelude.{◌≡◌, ◌≤◌, ◌<◌, length, IfOk};
 ghost use Rattle.js_tool.specs.Transcripts.{transcript};
-ghost use Rattle.js_words.specs.Commands.{wanted};
+ghost use Rattle.js_words.specs.Commands.{HasNames, wanted};
 ghost use Rattle.js_words.specs.LogTexts.{no_start_text, not_rising_text};
 ghost use Rattle.js_table.specs.Texts.{configured_start};
 ghost use Rattle.js_words.specs.Reports.{Reports, log_report as log_report_in, report_from, report_of};
+ghost use Rattle.js_words.specs.Served.{Serves, ServesFrom, ServesOf};
 ghost use Rattle.js_words.specs.declared.report.Report.TheVariants.{Done, Refused};
 
 use crate::command::LogCommand;
 use crate::gathering::{Ending, gather};
 use crate::mirror::mirror;
 use crate::project::project;
+use crate::relay::relay;
 use js_base::{Entry, Items, OutOfMemory};
 use js_io::Pieces;
 use js_lines::Lines;
@@ -81,33 +83,42 @@ fn no_start_line(alloc: Global) -> Result<Vec<u8>, AllocError>
     Ok(out)
 }
 
+#[tactic(auto, using(std::proofs::lemmas::Grind::common_steps, crate::proofs::Serving::all_ok))]
 fn log_report(
     alloc: Global,
     command: LogCommand<'_>,
+    setup: &OrderedSetup,
     start: u64,
     entries: Items<Entry>,
 ) -> Result<Report, OutOfMemory>
-    ensures { IfOk result (λ r. r ≡ log_report_in (wanted command.entry) start entries) }
+    requires above { 0 < start }
+    requires names { HasNames (wanted command) }
+    ensures report { IfOk result (λ r. r ≡ log_report_in (wanted command.entry) setup.now start entries) }
+    ensures serves { IfOk result (λ r. Serves (wanted command.entry) setup.now start entries r) }
 {
     match command {
         LogCommand::Project { filter, sequence } => project(alloc, filter, sequence, entries),
         LogCommand::Mirror => mirror(alloc, start, entries),
+        LogCommand::Relay { stream, name } => relay(alloc, stream, name, setup, start, entries),
     }
 }
 
+#[tactic(auto, using(std::proofs::lemmas::Grind::common_steps, crate::proofs::Serving::serves_none, crate::proofs::Serving::serves_refused, crate::proofs::Serving::serves_yields))]
 fn report_ending(
     alloc: Global,
     command: LogCommand<'_>,
     setup: &OrderedSetup,
     ending: Ending,
 ) -> Result<Report, OutOfMemory>
-    ensures { IfOk result (λ r. r ≡ report_from (wanted command.entry) (configured_start setup.now) ending) }
+    requires { HasNames (wanted command) }
+    ensures report { IfOk result (λ r. r ≡ report_from (wanted command.entry) setup.now (configured_start setup.now) ending) }
+    ensures serves { IfOk result (λ r. ServesFrom (wanted command.entry) setup.now (configured_start setup.now) ending r) }
 {
     let Some(start) = setup.configured_start() else {
         return no_start(alloc);
     };
     match ending {
-        Ending::Yields(entries) => log_report(alloc, command, start, entries),
+        Ending::Yields(entries) => log_report(alloc, command, setup, start, entries),
         Ending::Refused(refusal) => {
             let line = refusal_line(alloc, refusal)?;
             Ok(refused(line))
@@ -121,8 +132,9 @@ pub(crate) fn report_on(
     command: LogCommand<'_>,
     bytes: Pieces,
 ) -> Result<Report, Unread>
-    requires { length bytes ≤ 67_108_864 }
-    ensures { Reports (report_of (wanted command.entry)) (transcript bytes) result }
+    requires within { length bytes ≤ 67_108_864 }
+    requires names { HasNames (wanted command) }
+    ensures { Reports (report_of (wanted command.entry)) (ServesOf (wanted command.entry)) (transcript bytes) result }
 {
     let mut lines = Lines::new(alloc, bytes);
     if !lines.read(alloc) {

@@ -4,8 +4,10 @@ ghost use Rattle.std.specs.Prelude.{◌≡◌, ◌≤◌, ◌<◌, ℕ, length, 
 ghost use Rattle.std.specs.Io.KnownBytes.{Keeps};
 ghost use Rattle.js_io.specs.Causes.{Rose};
 ghost use Rattle.js_tool.specs.Program.{FirstUnread, SaysNothing};
-ghost use Rattle.js_words.specs.Commands.{wanted};
+ghost use Rattle.js_tool.specs.Transcripts.{transcript};
+ghost use Rattle.js_words.specs.Commands.{HasNames, wanted};
 ghost use Rattle.js_words.specs.Reports.{report_of};
+ghost use Rattle.js_words.specs.Served.{ServesOf};
 ghost use Rattle.js_words.specs.Told.{AnswersBytes, AnswersLog};
 
 use crate::command::LogCommand;
@@ -21,8 +23,9 @@ pub(crate) fn tell<S: Source, K: Sink>(
     input: &mut S,
     output: &mut K,
 ) -> Status
+    requires { HasNames (wanted command) }
     ensures not_usage { result ≡ Status.Usage → ⊥ }
-    ensures answers { AnswersLog (report_of (wanted command.entry)) (S.left input.old) (S.left input.new)
+    ensures answers { AnswersLog (wanted command.entry) (S.left input.old) (S.left input.new)
         (K.taken output.old) (K.taken output.new) (K.faults output.old) (K.faults output.new) result }
     ensures write_fault { result ≡ Status.WriteFault → Rose (K.faults output.old) (K.faults output.new) }
     ensures silent { SaysNothing result → Keeps (K.taken output.old) (K.taken output.new) }
@@ -42,11 +45,12 @@ pub(crate) fn tell<S: Source, K: Sink>(
 
 // Writes what the command makes of the bytes.
 fn answer<K: Sink>(alloc: Global, command: LogCommand<'_>, bytes: Pieces, output: &mut K) -> Status
-    requires { length bytes ≤ 67_108_864 }
+    requires within { length bytes ≤ 67_108_864 }
+    requires names { HasNames (wanted command) }
     ensures not_usage { result ≡ Status.Usage → ⊥ }
     ensures not_read_fault { result ≡ Status.ReadFault → ⊥ }
     ensures not_too_long { result ≡ Status.TooLong → ⊥ }
-    ensures answers { AnswersBytes (report_of (wanted command.entry)) bytes
+    ensures answers { AnswersBytes transcript (report_of (wanted command.entry)) (ServesOf (wanted command.entry)) bytes
         (K.taken output.old) (K.taken output.new) (K.faults output.old) (K.faults output.new) result }
     ensures write_fault { result ≡ Status.WriteFault → Rose (K.faults output.old) (K.faults output.new) }
     ensures silent { SaysNothing result → Keeps (K.taken output.old) (K.taken output.new) }

@@ -15,6 +15,9 @@ wilfjodi: JetStream consumers, replayed
                           reads a transcript that has a configured start, and writes the last entry of each subject that
                           FILTER matches, of all that was handed out or of what was up to SEQUENCE; empty payloads delete
   wilfjodi mirror         reads the same, and writes all that was handed out, with the holes between
+  wilfjodi relay STREAM NAME
+                          reads the same, and writes the transcript of a consumer NAME of a stream STREAM that is sent
+                          all that was handed out
   wilfjodi generate SEED EVENTS
                           replays the first EVENTS events (at most 200000) of the transcript that the number SEED gives,
                           and writes how much its run puts out

@@ -1,9 +1,13 @@
 use Rattle.std.proofs.Common.{None, map}
 use Rattle.std.specs.Prelude.{string_bytes}
-use Rattle.js_words.specs.Commands.{Project, Mirror, wanted, wanted_of}
+use Rattle.js_words.specs.Commands.{Project, Mirror, Relay, wanted, wanted_of}
 use Rattle.js_words.proofs.Answered.{answers_asked}
-use Rattle.js_words.proofs.LogsShown.{table_told, mirror_told}
+use Rattle.js_words.proofs.Named.{names_of}
+use Rattle.js_words.proofs.LogsShown.{table_told, mirror_told, relay_told}
 use Rattle.js_words.proofs.program.run_plain.Goals as goal
+
+pub tell-requires : goal.tell-requires
+tell-requires g c = names_of (map string_bytes c.args.words.now) (wanted c.in-Some.command) c.in-Some.ensures.form
 
 pub returns-in-Some-clause-logs : goal.returns-in-Some-clause-logs
 returns-in-Some-clause-logs g c = λ command named.
@@ -18,3 +22,8 @@ pub returns-in-Some-clause-logs_mirror : goal.returns-in-Some-clause-logs_mirror
 returns-in-Some-clause-logs_mirror g c = λ named done.
     mirror_told (g.S.Source.left c.args.input.now) _ _ _ _ _ c.tell.result
     (answers_asked _ _ _ _ _ _ c.tell.result (wanted c.in-Some.command) Mirror (wanted_of (map string_bytes c.args.words.now)) c.in-Some.ensures.form c.tell.ensures.answers named) done
+
+pub returns-in-Some-clause-logs_relay : goal.returns-in-Some-clause-logs_relay
+returns-in-Some-clause-logs_relay g c = λ stream name named done.
+    relay_told stream name (g.S.Source.left c.args.input.now) _ _ _ _ _ c.tell.result
+    (answers_asked _ _ _ _ _ _ c.tell.result (wanted c.in-Some.command) (Relay stream name) (wanted_of (map string_bytes c.args.words.now)) c.in-Some.ensures.form c.tell.ensures.answers named) done

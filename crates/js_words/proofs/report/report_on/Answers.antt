@@ -6,7 +6,9 @@ use Rattle.js_tool.specs.declared.transcript.Transcript.{Transcript}
 use Rattle.js_tool.specs.Transcripts.{StopsAt, transcript, with_lines}
 use Rattle.js_tool.proofs.Passing.{with_setup}
 use Rattle.js_words.specs.Commands.{wanted}
+use Rattle.js_words.specs.declared.gathering.Ending.{Ending}
 use Rattle.js_words.specs.Reports.{report_from}
+use Rattle.js_words.specs.Served.{ServesFrom}
 use Rattle.js_words.proofs.Passing.{no_line, first_stops}
 use Rattle.js_words.proofs.report.report_on.Goals as goal
 
@@ -35,4 +37,10 @@ returns-in-Ok-report_ending c =
     sym c.new-lines.ensures.lines ∙ c.if-not-read.ensures ∙ ap (λ (line : List ℕ). line ∷ left) (sym c.line.ensures) in
     let read : transcript c.args.bytes ≡ with_lines c.in-Ok.setup left = with_setup c.args.bytes c.line.result.now left c.in-Ok.setup cut c.in-Ok.ensures in
     let gathered = c.in-Ok-gather.ensures in
-    (_, read ∙ gathered.1, c.in-Ok-report_ending.ensures ∙ ap (report_from (wanted c.args.command) (configured_start c.in-Ok.setup.setup)) gathered.2)
+    let start = configured_start c.in-Ok.setup.setup in
+    let made = c.in-Ok-report_ending.ensures in (
+      _,
+      read ∙ gathered.1,
+      made.report ∙ ap (report_from (wanted c.args.command) c.in-Ok.setup.setup start) gathered.2,
+      subst (λ (end : Ending). ServesFrom (wanted c.args.command) c.in-Ok.setup.setup start end c.in-Ok-report_ending.report) gathered.2 made.serves,
+    )

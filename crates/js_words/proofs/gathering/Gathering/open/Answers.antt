@@ -1,4 +1,3 @@
-use Rattle.std.proofs.Common.{refl}
 use Rattle.js_words.proofs.Passing.{yields_open}
 use Rattle.js_words.proofs.gathering.Gathering.open.Goals as goal
 

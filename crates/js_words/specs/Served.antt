@@ -1,0 +1,40 @@
+-- What is promised of the transcript that is written of a mirror.
+use Rattle.std.specs.Prelude.{ℕ, List, ⊤, Option, Some}
+use Rattle.js_base.specs.declared.message.Entry.{Entry}
+use Rattle.js_mirror.specs.Mirrored.{Mirrored}
+use Rattle.js_relay_text.specs.ReadsBack.{AreTexts, ReadsAs, ReplaysTo, StaysHonestIn, relay_transcript}
+use Rattle.js_table.specs.declared.setup.OrderedSetup.{OrderedSetup}
+use Rattle.js_table.specs.Texts.{config_of, configured_start}
+use Rattle.js_tool.specs.declared.transcript.Transcript.{Transcript}
+use Rattle.js_tool.specs.Program.{given}
+use Rattle.js_words.specs.declared.gathering.Ending.{Ending}
+use Rattle.js_words.specs.declared.gathering.Ending.TheVariants as ending
+use Rattle.js_words.specs.declared.report.Report.{Report}
+use Rattle.js_words.specs.declared.report.Report.TheVariants as report
+use Rattle.js_words.specs.Commands.{Wanted, Relay}
+use Rattle.js_words.specs.Gathered.{ending_of}
+
+-- It is read as the transcript of a consumer that reads the mirror. Each replay of it hands out the mirror's entries, and a server that was honest in the mirror's run is honest in it.
+pub record IsServed (stream name : List ℕ) (setup : OrderedSetup) (mirror : Mirrored) (text : List ℕ) : Type 0 where
+  pub reads : ReadsAs text (relay_transcript stream name (config_of setup).filter_subject (config_of setup).filter_subjects mirror)
+  pub replays : ReplaysTo mirror.entries text
+  pub honest : StaysHonestIn mirror setup text
+
+-- a setup's filters, and the subjects and the payloads of entries, are UTF-8
+abbrev pub HasTexts : OrderedSetup → List Entry → Type 0
+HasTexts setup entries = AreTexts (config_of setup).filter_subject (config_of setup).filter_subjects entries
+
+-- the text that is made of entries from a start on, where a transcript is asked for
+abbrev pub Serves : Wanted → OrderedSetup → ℕ → List Entry → Report → Type 0
+Serves (Relay stream name) setup start entries (report.Done text) =
+    HasTexts setup entries → IsServed stream name setup (record { start = start; entries = entries }) text
+Serves wanted setup start entries made = ⊤
+
+-- the text that is made of what a replay comes to
+abbrev pub ServesFrom : Wanted → OrderedSetup → Option ℕ → Ending → Report → Type 0
+ServesFrom wanted setup (Some start) (ending.Yields entries) made = Serves wanted setup start entries made
+ServesFrom wanted setup start end made = ⊤
+
+-- the text that is made of a transcript
+abbrev pub ServesOf : Wanted → Transcript → Report → Type 0
+ServesOf wanted t made = ServesFrom wanted t.setup.setup (configured_start t.setup.setup) (ending_of (given t.setup) t.setup.start t.events) made
