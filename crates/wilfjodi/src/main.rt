@@ -1,6 +1,7 @@
 //! `wilfjodi`: JetStream consumers replayed from transcripts and from numbers, tables and mirrors of their logs, acknowledgement subjects and publish windows, on a command line.
 #![tactic(auto)]
 
+use js_follow::follow;
 use js_words::{ReadSource, Status, WriteSink, run};
 use std::process::ExitCode;
 use std::{env, io};
@@ -11,6 +12,7 @@ const HELP: &str = "\
 wilfjodi: JetStream consumers, replayed
 
   wilfjodi replay         reads a transcript from standard input, and writes the text of its run to standard output
+  wilfjodi follow         reads the same line by line, however long, and writes the text of each step before it reads on
   wilfjodi project FILTER [SEQUENCE]
                           reads a transcript that has a configured start, and writes the last entry of each subject that
                           FILTER matches, of all that was handed out or of what was up to SEQUENCE; empty payloads delete
@@ -45,6 +47,11 @@ fn main(rt: HostRuntime) -> ExitCode {
         Ok(words) => match words.as_slice() {
             [word] if word.as_str() == "--help" => tell(&rt, HELP),
             [word] if word.as_str() == "--version" => tell(&rt, VERSION),
+            [word] if word.as_str() == "follow" => {
+                let mut input = ReadSource::new(rt.reader());
+                let mut output = WriteSink::new(io::writer(&rt));
+                follow(rt.alloc(), &mut input, &mut output)
+            }
             words => {
                 let mut input = ReadSource::new(rt.reader());
                 let mut output = WriteSink::new(io::writer(&rt));
