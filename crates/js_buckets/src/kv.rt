@@ -183,39 +183,28 @@ impl Config {
     pub fn into_stream_config(self, alloc: Global) -> Result<stream::Config, OutOfMemory>
         ensures { IfOk result (λ stream. stream ≡ stream_config self) }
     {
-        let Config {
-            bucket,
-            description,
-            max_value_size,
-            history,
-            max_age,
-            max_bytes,
-            storage,
-            num_replicas,
-            republish,
-            mirror,
-            sources,
-            mirror_direct,
-            compression,
-            placement,
-            limit_markers,
-        } = self;
-        let name = stream_name(alloc, bucket.as_str())?;
-        let origins = origins_of(alloc, bucket.as_str(), mirror, sources, mirror_direct)?;
+        let name = stream_name(alloc, self.bucket.as_str())?;
+        let origins = origins_of(
+            alloc,
+            self.bucket.as_str(),
+            self.mirror,
+            self.sources,
+            self.mirror_direct,
+        )?;
         Ok(stream::Config {
             name,
             retention: RetentionPolicy::Limits,
-            storage,
+            storage: self.storage,
             discard: DiscardPolicy::New,
-            description: Some(description),
+            description: Some(self.description),
             subjects: origins.subjects,
             max_messages: 0,
-            max_messages_per_subject: history_of(history),
-            max_bytes,
-            max_message_size: max_value_size,
-            max_age,
-            num_replicas: replicas_of(num_replicas),
-            republish,
+            max_messages_per_subject: history_of(self.history),
+            max_bytes: self.max_bytes,
+            max_message_size: self.max_value_size,
+            max_age: self.max_age,
+            num_replicas: replicas_of(self.num_replicas),
+            republish: self.republish,
             allow_rollup: true,
             deny_delete: true,
             deny_purge: false,
@@ -223,10 +212,10 @@ impl Config {
             mirror_direct: origins.mirror_direct,
             mirror: origins.mirror,
             sources: origins.sources,
-            compression: compression_of(compression),
-            placement,
-            allow_message_ttl: limit_markers.is_some(),
-            subject_delete_marker_ttl: limit_markers,
+            compression: compression_of(self.compression),
+            placement: self.placement,
+            allow_message_ttl: self.limit_markers.is_some(),
+            subject_delete_marker_ttl: self.limit_markers,
         })
     }
 }
