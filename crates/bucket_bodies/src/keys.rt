@@ -44,6 +44,7 @@ const PLAIN: Keys = Keys {
     extra: Extra::Nothing,
 };
 
+/// The buckets whose requests are printed: a plain one, and others that have something beside it.
 pub const KEYS: [Keys; 12] = [
     PLAIN,
     Keys {
@@ -184,6 +185,7 @@ fn config(alloc: Global, keys: Keys, description: &str) -> Result<kv::Config, Ou
     Ok(config)
 }
 
+/// The last request of the call that makes the bucket.
 pub fn create(alloc: Global, context: &Context, keys: Keys) -> Line {
     let config = config(alloc, keys, "a bucket")?;
     asked(alloc, context.create_key_value(alloc, config))
@@ -195,10 +197,12 @@ pub fn update(alloc: Global, context: &Context, keys: Keys) -> Line {
     asked(alloc, context.update_key_value(alloc, config))
 }
 
+/// The last request of the call that gets the bucket.
 pub fn get(alloc: Global, context: &Context, keys: Keys) -> Line {
     asked(alloc, context.get_key_value(alloc, keys.bucket))
 }
 
+/// The last request of the call that deletes the bucket.
 pub fn delete(alloc: Global, context: &Context, keys: Keys) -> Line {
     asked(alloc, context.delete_key_value(alloc, keys.bucket))
 }

@@ -20,6 +20,7 @@ pub enum Trait {
     Compression,
 }
 
+/// The buckets whose requests are printed, one for each trait.
 pub const OBJECTS: [Objects; 5] = [
     ("files", Trait::Nothing),
     ("aged", Trait::MaxAge(3_600_000_000_000)),
@@ -56,15 +57,18 @@ fn with(config: object_store::Config, has: Trait) -> object_store::Config {
     }
 }
 
+/// The last request of the call that makes the bucket.
 pub fn create(alloc: Global, context: &Context, objects: Objects) -> Line {
     let config = with(plain(alloc, objects.0)?, objects.1);
     asked(alloc, context.create_object_store(alloc, config))
 }
 
+/// The last request of the call that gets the bucket.
 pub fn get(alloc: Global, context: &Context, objects: Objects) -> Line {
     asked(alloc, context.get_object_store(alloc, objects.0))
 }
 
+/// The last request of the call that deletes the bucket.
 pub fn delete(alloc: Global, context: &Context, objects: Objects) -> Line {
     asked(alloc, context.delete_object_store(alloc, objects.0))
 }

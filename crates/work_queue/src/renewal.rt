@@ -35,10 +35,12 @@ fn ready_text<E: fmt::Display + Drop>(
 }
 
 impl Renewal {
+    /// Begins to ask the server what it knows of the consumer.
     pub fn info(alloc: Global) -> Result<Renewal, OutOfMemory> {
         Ok(Renewal::Asking(consumer(alloc)?.info(alloc)?))
     }
 
+    /// Begins a reset of the consumer, to the sequence where one is named.
     pub fn reset(alloc: Global, seq: Option<u64>) -> Result<Renewal, OutOfMemory> {
         Ok(Renewal::Resetting(consumer(alloc)?.reset(alloc, seq)?))
     }

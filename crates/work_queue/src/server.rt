@@ -14,6 +14,7 @@ use std::alloc::Global;
 const INFO: &str =
     "{\"stream_name\":\"jobs\",\"name\":\"c1\",\"created\":\"2026-01-01T00:00:00Z\",\"config\":{\"deliver_policy\":\"all\",\"max_batch\":100},\"delivered\":{\"consumer_seq\":0,\"stream_seq\":0},\"ack_floor\":{\"consumer_seq\":0,\"stream_seq\":0},\"num_ack_pending\":0,\"num_redelivered\":0,\"num_waiting\":0,\"num_pending\":7}";
 
+/// What the server tells of the consumer, read from the bytes of its answer.
 pub fn info(alloc: Global) -> Result<Info, OutOfMemory> {
     match response_as::<Info>(alloc, INFO.as_bytes()) {
         Ok(Response::Ok(info)) => Ok(info),

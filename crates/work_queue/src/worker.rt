@@ -80,6 +80,7 @@ fn item<E: fmt::Display + Drop>(
 }
 
 impl Worker {
+    /// A worker that reads by nothing yet, over a link on which nothing was sent.
     pub fn new(alloc: Global) -> Result<Worker, OutOfMemory> {
         Ok(Worker {
             link: MemoryLink::new(alloc, "_INBOX.t")?,
@@ -101,6 +102,7 @@ impl Worker {
         }
     }
 
+    /// From here on only what is sent later counts as newly sent.
     pub fn note_sent(&mut self) {
         self.shown = self.link.sent().len();
     }
