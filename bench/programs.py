@@ -9,6 +9,7 @@ HERE = os.path.dirname(os.path.abspath(__file__))
 TOP = os.path.dirname(HERE)
 PROVED = os.path.join(TOP, "crates", "wilfjodi", "out", "wilfjodi")
 INFO = os.path.join(TOP, "crates", "info_bench", "out", "info_bench")
+PUBLISH_MANY = os.path.join(TOP, "crates", "publish_many", "out", "publish_many")
 PLAIN = os.path.join(HERE, "plain", "target", "release", "plain")
 PERMITS = os.path.join(HERE, "permits", "target", "release", "permits")
 # Where Debian's packages of Rust crates lie (librust-serde-json-dev).
@@ -38,6 +39,16 @@ def info(path):
     folder = os.path.join(TOP, "crates", "info_bench")
     subprocess.run(["rt", "run", "--", "0", "none"], check=True, cwd=folder, stdout=subprocess.DEVNULL)
     return INFO
+
+
+def publish_many(path):
+    """The path of the program that publishes many messages, which is built here where no other was given."""
+    if path:
+        return os.path.abspath(path)
+    say("building the program that publishes many messages")
+    folder = os.path.join(TOP, "crates", "publish_many")
+    subprocess.run(["rt", "run", "--", "1", "1"], check=True, cwd=folder, stdout=subprocess.DEVNULL)
+    return PUBLISH_MANY
 
 
 def plain():

@@ -1,0 +1,98 @@
+//! `publish_many MESSAGES AT_ONCE` publishes so many messages over an `OutboxLink`, of which so many are pushed at once, and prints how many were stored and
+//! how many were in flight at most: `bench/publish` measures it.
+#![tactic(auto)]
+
+use jetstream::link::{OutboxLink, Outgoing, received};
+use jetstream::{AnyError, Context, Next, PublishQueue};
+use std::sync::Wait;
+use std::{cmp, env, io};
+
+/// What became of the messages so far.
+#[derive(Clone, Copy)]
+struct Tally {
+    stored: u64,
+    most_in_flight: usize,
+}
+
+/// The server stores all that was sent, and answers.
+fn store(rt: &impl AllocGlobal, link: &mut OutboxLink, tally: &Tally) -> Result<(), AnyError> {
+    let mut sequence = tally.stored;
+    for _ in 0..link.outgoing_len() {
+        if let Some(
+            Outgoing::Publish {
+                reply: Some(reply),
+                ..
+            },
+        ) = link.next_outgoing()
+        {
+            sequence = sequence.saturating_add(1);
+            let ack = format!(in rt.alloc(); r#"{{"stream":"log","seq":{sequence}}}"#)?;
+            link.deliver(0, received(rt.alloc(), reply.as_str(), ack.as_bytes())?)?;
+        }
+    }
+    Ok(())
+}
+
+/// Publishes this many messages, and awaits what becomes of each.
+fn publish(
+    rt: &(impl AllocGlobal + Wait),
+    queue: &mut PublishQueue,
+    link: &mut OutboxLink,
+    messages: u64,
+    tally: &mut Tally,
+) -> Result<(), AnyError> {
+    for _ in 0..messages {
+        queue.publish(rt.alloc(), "log.line", b"0123456789abcdef", 0)?;
+    }
+    for _ in 0..u64::MAX {
+        match queue.poll_next(rt, rt.alloc(), link, 0) {
+            Next::Item(published) => {
+                published.outcome?;
+                tally.stored = tally.stored.saturating_add(1);
+            }
+            Next::Pending => {
+                tally.most_in_flight = cmp::max(tally.most_in_flight, queue.in_flight());
+                store(rt, link, tally)?;
+            }
+            Next::OutOfMemory => return Err(io::Error::from(io::ErrorKind::OutOfMemory).into()),
+            Next::End => break,
+        }
+    }
+    Ok(())
+}
+
+/// The two numbers of the command line. A word that is none counts as 0.
+fn numbers(rt: &HostRuntime) -> Result<(u64, u64), AnyError> {
+    let mut numbers = (0, 0);
+    for (index, word) in env::args(rt)?.skip(1).enumerate() {
+        match index {
+            0 => numbers.0 = word.parse().unwrap_or(0),
+            _ => numbers.1 = word.parse().unwrap_or(0),
+        }
+    }
+    Ok(numbers)
+}
+
+fn main(rt: HostRuntime) -> Result<(), AnyError> {
+    let (messages, at_once) = numbers(&rt)?;
+    let mut link = OutboxLink::new(rt.alloc(), "_INBOX", "c1")?;
+    let mut queue = PublishQueue::new(rt.alloc(), Context::new(&rt, rt.alloc())?, 5_000_000_000);
+    let mut tally = Tally {
+        stored: 0,
+        most_in_flight: 0,
+    };
+    let mut left = messages;
+    for _ in 0..messages {
+        let batch = cmp::min(left, at_once);
+        if batch == 0 {
+            break;
+        }
+        left -= batch;
+        publish(&rt, &mut queue, &mut link, batch, &mut tally)?;
+    }
+    println!(rt;
+        "{} stored, {} in flight at most",
+        tally.stored, tally.most_in_flight
+    )?;
+    Ok(())
+}
