@@ -39,74 +39,11 @@ use Rattle.js_table.specs.declared.replay_state.ReplayState.{ReplayState}
 use Rattle.js_table.specs.State.{Matter}
 use Rattle.js_table.specs.Reading.{read_row}
 use Rattle.js_table.specs.Fold.{Ran, after, stays, and_then, pass_each, pass_to, rank, tick, opening, matter_of, event}
-use Rattle.js_generate.proofs.Lists.{if_both}
+use Rattle.js_table.proofs.PullStates.{IsOn, Progress, Requests, new, reader, recounted, same_counts, state_at}
+use Rattle.js_table.proofs.Rewritten.{if_both}
 use Rattle.js_generate.proofs.Follows.{Follows, follows_append}
 
 -- ---- states
-
--- what a reader keeps of its requests and of the time
-pub record Ledger : Type 0 where
-  pub pending : ℕ
-  pub pending_bytes : ℕ
-  pub waiting : Bool
-  pub unreset_requests : ℕ
-  pub pin : Option (List ℕ)
-  pub expiry : Option Timer
-  pub heartbeat_timer : Option Timer
-
-abbrev pub reader : Source → Ledger → Reader
-reader source l = record {
-  source = source;
-  pending = l.pending;
-  pending_bytes = l.pending_bytes;
-  waiting = l.waiting;
-  unreset_requests = l.unreset_requests;
-  pin = l.pin;
-  expiry = l.expiry;
-  heartbeat_timer = l.heartbeat_timer;
-  inquiry = NoInfoRequest;
-  ended = false;
-}
-
--- what a consumer keeps of what it heard
-pub record Course : Type 0 where
-  pub consumer_sequence : ℕ
-  pub stream_sequence : ℕ
-  pub recreation_count : ℕ
-  pub name : List ℕ
-  pub missed : Bool
-  pub limited : Bool
-  pub connection : State
-
-abbrev pub state_at : Phase → Course → ℕ → ℕ → ReplayState
-state_at phase c requests_sent inboxes_opened = record {
-  consumer = record {
-    phase = phase;
-    consumer_sequence = c.consumer_sequence;
-    stream_sequence = c.stream_sequence;
-    recreation_count = c.recreation_count;
-    name = c.name;
-    missed = c.missed;
-    limited = c.limited;
-    connection = c.connection;
-  };
-  link_up = true;
-  requests_sent = requests_sent;
-  inboxes_opened = inboxes_opened;
-}
-
-same_counts : (phase : Phase) (c : Course) (requests_sent inboxes_opened asked_now made_now : ℕ) → requests_sent ≡ asked_now → inboxes_opened ≡ made_now
-    → state_at phase c requests_sent inboxes_opened ≡ state_at phase c asked_now made_now
-same_counts phase c requests_sent inboxes_opened asked_now made_now a m = ap₂ (λ (requests_sent inboxes_opened : ℕ). state_at phase c requests_sent inboxes_opened) a m
-
--- the reader reads
-abbrev pub IsOn : Source → Course → ℕ → ℕ → ReplayState → Type 0
-IsOn source c requests_sent inboxes_opened w = (l : Ledger) × (w ≡ state_at (Pulls (reader source l)) c requests_sent inboxes_opened)
-
-recounted : (source : Source) (c : Course) (requests_sent inboxes_opened asked_now made_now : ℕ) → requests_sent ≡ asked_now → inboxes_opened ≡ made_now
-    → (w : ReplayState) → IsOn source c requests_sent inboxes_opened w → IsOn source c asked_now made_now w
-recounted source c requests_sent inboxes_opened asked_now made_now a m w on =
-    (on.0, on.1 ∙ same_counts (Pulls (reader source on.0)) c requests_sent inboxes_opened asked_now made_now a m)
 
 -- a recreation waits for the answer to a request
 pub record IsRecreating (stage : ℕ → Timer → Stage) (request last inboxes_opened : ℕ) (w : ReplayState) : Type 0 where
@@ -135,7 +72,7 @@ pub record IsRecreating (stage : ℕ → Timer → Stage) (request last inboxes_
 -- a new inbox is read
 pub record IsOpened (request last inboxes_opened : ℕ) (w : ReplayState) : Type 0 where
   pub source : Source
-  pub c : Course
+  pub c : Progress
   pub requests_sent : ℕ
   pub made_now : ℕ
   pub on : IsOn source c requests_sent made_now w
@@ -145,10 +82,6 @@ pub record IsOpened (request last inboxes_opened : ℕ) (w : ReplayState) : Type
   pub missed_is : c.missed ≡ false
   pub asked_is : requests_sent ≡ request
   pub made_is : made_now ≡ inboxes_opened + 1
-
--- a reader that has asked for nothing yet
-abbrev new : Ledger
-new = record { pending = 0; pending_bytes = 0; waiting = false; unreset_requests = 0; pin = None; expiry = None; heartbeat_timer = None }
 
 four_nils : (o : List Output) → (((o ++ []) ++ []) ++ []) ++ [] ≡ o
 four_nils o = append-nil (((o ++ []) ++ []) ++ []) ∙ append-nil ((o ++ []) ++ []) ∙ append-nil (o ++ []) ∙ append-nil o
@@ -196,8 +129,8 @@ module _ (settings : Settings) (config : OrderedConfig) (first : Info) (starts :
       let row = read_row passed w.consumer in
       and_then row.outputs (pass_each (pass_to given now m depth) row.next (after w row))
 
-  module _ (now : ℕ) (m : Matter) (last from : ℕ) (source : Source) (c : Course) (requests_sent inboxes_opened : ℕ) where
-    asks : (depth : ℕ) (l : Ledger) (reason : Reason)
+  module _ (now : ℕ) (m : Matter) (last from : ℕ) (source : Source) (c : Progress) (requests_sent inboxes_opened : ℕ) where
+    asks : (depth : ℕ) (l : Requests) (reason : Reason)
         → Leads starts last from (IsOn source c requests_sent inboxes_opened) last from (pass_to given now m (suc depth) (Read (read.Ask reason)) (state_at (Pulls (reader source l)) c requests_sent inboxes_opened))
     asks depth l reason = record {
       state = (
@@ -215,33 +148,33 @@ module _ (settings : Settings) (config : OrderedConfig) (first : Info) (starts :
       outputs = (refl, refl);
     }
 
-    stays_on : (l : Ledger) → Leads starts last from (IsOn source c requests_sent inboxes_opened) last from (stays (state_at (Pulls (reader source l)) c requests_sent inboxes_opened))
+    stays_on : (l : Requests) → Leads starts last from (IsOn source c requests_sent inboxes_opened) last from (stays (state_at (Pulls (reader source l)) c requests_sent inboxes_opened))
     stays_on l = record { state = (l, refl); outputs = (refl, refl) }
 
-    arms : (depth : ℕ) (l : Ledger)
+    arms : (depth : ℕ) (l : Requests)
         → Leads starts last from (IsOn source c requests_sent inboxes_opened) last from (pass_to given now m (suc depth) (Read read.Arm) (state_at (Pulls (reader source l)) c requests_sent inboxes_opened))
     arms depth l = record {
       state = (record l { heartbeat_timer = pull.armed_silence now source.config.idle_heartbeat }, same_counts _ _ _ _ _ _ (omega arith) (omega arith));
       outputs = (refl, refl);
     }
 
-    asks_if : (depth : ℕ) (l : Ledger) (reason : Reason) (b : Bool)
+    asks_if : (depth : ℕ) (l : Requests) (reason : Reason) (b : Bool)
         → Leads starts last from (IsOn source c requests_sent inboxes_opened) last from (pass_each (pass_to given now m (suc depth)) (map Read (if b then read.Ask reason ∷ [] else [])) (state_at (Pulls (reader source l)) c requests_sent inboxes_opened))
     asks_if depth l reason true =
         leads_alone starts last from last from (IsOn source c requests_sent inboxes_opened)
         (pass_to given now m (suc depth) (Read (read.Ask reason)) (state_at (Pulls (reader source l)) c requests_sent inboxes_opened)) (asks depth l reason)
     asks_if depth l reason false = stays_on l
 
-  module _ (now : ℕ) (m : Matter) (last from : ℕ) (source : Source) (c : Course) (requests_sent inboxes_opened : ℕ) where
+  module _ (now : ℕ) (m : Matter) (last from : ℕ) (source : Source) (c : Progress) (requests_sent inboxes_opened : ℕ) where
     again : (ran : Ran) → Leads starts last from (IsOn source c (requests_sent + 0) (inboxes_opened + 0)) last from ran → Leads starts last from (IsOn source c requests_sent inboxes_opened) last from ran
     again ran = leads_weaker starts last from last from (IsOn source c (requests_sent + 0) (inboxes_opened + 0)) (IsOn source c requests_sent inboxes_opened) ran
         (recounted source c (requests_sent + 0) (inboxes_opened + 0) requests_sent inboxes_opened (omega arith) (omega arith))
 
-    expires : (depth : ℕ) (l : Ledger)
+    expires : (depth : ℕ) (l : Requests)
         → Leads starts last from (IsOn source c requests_sent inboxes_opened) last from (pass_to given now m (suc (suc depth)) (Read read.CheckExpiry) (state_at (Pulls (reader source l)) c requests_sent inboxes_opened))
     expires depth l = again _ (asks_if now m last from source c (requests_sent + 0) (inboxes_opened + 0) depth l Expired (is_any_due l.expiry now))
 
-    refills : (depth : ℕ) (l : Ledger)
+    refills : (depth : ℕ) (l : Requests)
         → Leads starts last from (IsOn source c requests_sent inboxes_opened) last from (pass_to given now m (suc (suc depth)) (Read read.Threshold) (state_at (Pulls (reader source l)) c requests_sent inboxes_opened))
     refills depth l =
         if_both (λ (passed : pull.Passed). Leads starts last from (IsOn source c requests_sent inboxes_opened) last from (done now m (suc depth) (state_at (Pulls (reader source l)) c requests_sent inboxes_opened) passed))
@@ -256,19 +189,19 @@ module _ (settings : Settings) (config : OrderedConfig) (first : Info) (starts :
   abbrev message : List ℕ → List ℕ → Message
   message reply payload = record { subject = []; reply = Some reply; payload = payload; headers = None; status = None; description = None; length = length payload }
 
-  -- the course after a yield
-  abbrev pub accepted : Place → Course → Course
+  -- what is kept after a yield
+  abbrev pub accepted : Place → Progress → Progress
   accepted place c = record c { consumer_sequence = place.number; stream_sequence = place.sequence; missed = false; limited = false }
 
-  module _ (now last from : ℕ) (source : Source) (c : Course) (requests_sent inboxes_opened inbox : ℕ) (reply payload : List ℕ) (place : Place) where
+  module _ (now last from : ℕ) (source : Source) (c : Progress) (requests_sent inboxes_opened inbox : ℕ) (reply payload : List ℕ) (place : Place) where
     abbrev arrives : Matter
     arrives = matter_of (what.Arrival inbox (message reply payload))
 
-    abbrev heard_state : ℕ → ℕ → Ledger → ReplayState
+    abbrev heard_state : ℕ → ℕ → Requests → ReplayState
     heard_state a m l = state_at (Pulls (reader source l)) (accepted place c) a m
 
     -- after the message the reader has this
-    abbrev kept : Ledger → Ledger
+    abbrev kept : Requests → Requests
     kept l = record {
       pending = l.pending - 1;
       pending_bytes = l.pending_bytes - length payload;
@@ -279,7 +212,7 @@ module _ (settings : Settings) (config : OrderedConfig) (first : Info) (starts :
       heartbeat_timer = pull.armed_silence now source.config.idle_heartbeat;
     }
 
-    goes_on : (depth : ℕ) (l : Ledger) → Leads starts place.sequence from (IsOn source (accepted place c) requests_sent inboxes_opened) place.sequence from
+    goes_on : (depth : ℕ) (l : Requests) → Leads starts place.sequence from (IsOn source (accepted place c) requests_sent inboxes_opened) place.sequence from
         (pass_each (pass_to given now arrives (suc (suc depth))) (Read read.Threshold ∷ []) (heard_state (requests_sent + 0) (inboxes_opened + 0) (kept l)))
     goes_on depth l =
         again now arrives place.sequence from source (accepted place c) requests_sent inboxes_opened _
@@ -288,14 +221,14 @@ module _ (settings : Settings) (config : OrderedConfig) (first : Info) (starts :
         (refills now arrives place.sequence from source (accepted place c) (requests_sent + 0) (inboxes_opened + 0) depth (kept l)))
 
     -- the next message is yielded
-    pub yields : (depth : ℕ) (l : Ledger) → (source.inbox == inbox) ≡ true → readable_as (Some reply) ≡ Some place → (place.number == c.consumer_sequence + 1) ≡ true → place.sequence ≡ last + 1
+    pub yields : (depth : ℕ) (l : Requests) → (source.inbox == inbox) ≡ true → readable_as (Some reply) ≡ Some place → (place.number == c.consumer_sequence + 1) ≡ true → place.sequence ≡ last + 1
         → Leads starts last from (IsOn source (accepted place c) requests_sent inboxes_opened) place.sequence from
         (pass_to given now arrives (suc (suc (suc depth))) (Read read.CheckArrival) (state_at (Pulls (reader source l)) c requests_sent inboxes_opened))
     yields depth l here reads next rises =
         rw (here, reads, next) (record { state = (goes_on depth l).state; outputs = (rises, (goes_on depth l).outputs) })
 
     -- another one begins a recreation
-    pub restarts : (depth : ℕ) (l : Ledger) → (source.inbox == inbox) ≡ true → readable_as (Some reply) ≡ Some place → (place.number == c.consumer_sequence + 1) ≡ false
+    pub restarts : (depth : ℕ) (l : Requests) → (source.inbox == inbox) ≡ true → readable_as (Some reply) ≡ Some place → (place.number == c.consumer_sequence + 1) ≡ false
         → (c.stream_sequence == pull.u64_max) ≡ false → (c.stream_sequence == 0) ≡ false → c.stream_sequence ≡ last
         → Leads starts last from (IsRecreating Deleting (requests_sent + 1) last inboxes_opened) last (last + 1)
         (pass_to given now arrives (suc (suc (suc depth))) (Read read.CheckArrival) (state_at (Pulls (reader source l)) c requests_sent inboxes_opened))
@@ -325,7 +258,7 @@ module _ (settings : Settings) (config : OrderedConfig) (first : Info) (starts :
         })
 
     -- one on another inbox does nothing
-    pub passes_over : (depth : ℕ) (l : Ledger) → (source.inbox == inbox) ≡ false → c.missed ≡ false
+    pub passes_over : (depth : ℕ) (l : Requests) → (source.inbox == inbox) ≡ false → c.missed ≡ false
         → Leads starts last from (λ w. (missed : Bool) × IsOn source (record c { missed = missed }) requests_sent inboxes_opened w) last from
         (pass_to given now arrives (suc (suc depth)) (Read read.CheckArrival) (state_at (Pulls (reader source l)) c requests_sent inboxes_opened))
     passes_over depth l other found =
@@ -341,16 +274,16 @@ module _ (settings : Settings) (config : OrderedConfig) (first : Info) (starts :
 
   -- ---- the whole event of an arrival
 
-  module _ (now last from : ℕ) (source : Source) (c : Course) (requests_sent inboxes_opened inbox : ℕ) (reply payload : List ℕ) (last_now from_now : ℕ) (next : ReplayState → Type 0) where
+  module _ (now last from : ℕ) (source : Source) (c : Progress) (requests_sent inboxes_opened inbox : ℕ) (reply payload : List ℕ) (last_now from_now : ℕ) (next : ReplayState → Type 0) where
     abbrev comes : Matter
     comes = matter_of (what.Arrival inbox (message reply payload))
 
-    heard_then : ((l : Ledger) → Leads starts last from next last_now from_now (pass_to given now comes 9 (Read read.CheckArrival) (state_at (Pulls (reader source l)) c (requests_sent + 0) (inboxes_opened + 0))))
+    heard_then : ((l : Requests) → Leads starts last from next last_now from_now (pass_to given now comes 9 (Read read.CheckArrival) (state_at (Pulls (reader source l)) c (requests_sent + 0) (inboxes_opened + 0))))
         → (w : ReplayState) → IsOn source c (requests_sent + 0) (inboxes_opened + 0) w → Leads starts last from next last_now from_now (pass_each (pass_to given now comes 9) (Read read.CheckArrival ∷ []) w)
     heard_then row w on = subst (λ (w : ReplayState). Leads starts last from next last_now from_now (pass_each (pass_to given now comes 9) (Read read.CheckArrival ∷ []) w)) (sym on.1)
         (leads_alone starts last from last_now from_now next (pass_to given now comes 9 (Read read.CheckArrival) (state_at (Pulls (reader source on.0)) c (requests_sent + 0) (inboxes_opened + 0))) (row on.0))
 
-    pub heard : ((l : Ledger) → Leads starts last from next last_now from_now (pass_to given now comes 9 (Read read.CheckArrival) (state_at (Pulls (reader source l)) c (requests_sent + 0) (inboxes_opened + 0))))
+    pub heard : ((l : Requests) → Leads starts last from next last_now from_now (pass_to given now comes 9 (Read read.CheckArrival) (state_at (Pulls (reader source l)) c (requests_sent + 0) (inboxes_opened + 0))))
         → (w : ReplayState) → IsOn source c requests_sent inboxes_opened w → Leads starts last from next last_now from_now (event given (record { at = now; what = what.Arrival inbox (message reply payload) }) w)
     unfolding event
     heard row w on = subst (λ (w : ReplayState). Leads starts last from next last_now from_now (event given (record { at = now; what = what.Arrival inbox (message reply payload) }) w)) (sym on.1)
@@ -400,13 +333,13 @@ module _ (settings : Settings) (config : OrderedConfig) (first : Info) (starts :
           outputs = (refl, refl);
         }))
 
-    arms_then : (source : Source) (c : Course) (requests_sent inboxes_opened : ℕ) (w : ReplayState) → IsOn source c requests_sent inboxes_opened w
+    arms_then : (source : Source) (c : Progress) (requests_sent inboxes_opened : ℕ) (w : ReplayState) → IsOn source c requests_sent inboxes_opened w
         → Leads starts last from (IsOn source c requests_sent inboxes_opened) last from (pass_each (pass_to given now says 6) (Read read.Arm ∷ []) w)
     arms_then source c requests_sent inboxes_opened w on = subst (λ (w : ReplayState). Leads starts last from (IsOn source c requests_sent inboxes_opened) last from (pass_each (pass_to given now says 6) (Read read.Arm ∷ []) w)) (sym on.1)
         (leads_alone starts last from last from (IsOn source c requests_sent inboxes_opened) (pass_to given now says 6 (Read read.Arm) (state_at (Pulls (reader source on.0)) c requests_sent inboxes_opened)) (arms now says last from source c requests_sent inboxes_opened 5 on.0))
 
     -- a new reader asks for messages and listens
-    opens : (source : Source) (c : Course) (requests_sent inboxes_opened : ℕ) (l : Ledger)
+    opens : (source : Source) (c : Progress) (requests_sent inboxes_opened : ℕ) (l : Requests)
         → Leads starts last from (IsOn source c requests_sent inboxes_opened) last from (pass_each (pass_to given now says 6) (Read read.Threshold ∷ Read read.Arm ∷ []) (state_at (Pulls (reader source l)) c requests_sent inboxes_opened))
     opens source c requests_sent inboxes_opened l =
         leads_then starts last from last from last from (IsOn source c requests_sent inboxes_opened) (IsOn source c requests_sent inboxes_opened)
@@ -423,7 +356,7 @@ module _ (settings : Settings) (config : OrderedConfig) (first : Info) (starts :
         let here : (at.request_now == answered) ≡ true = equal at.request_now answered (at.request_is ∙ same) in
         let inbox : ℕ = at.made_now + 0 + 0 + 0 in
         let source : Source = source_of given at.recreation_count inbox (inbox_subject given inbox) info in
-        let c : Course = record { consumer_sequence = 0; stream_sequence = at.last_now; recreation_count = at.recreation_count; name = at.name; missed = false; limited = at.limited; connection = at.connection } in
+        let c : Progress = record { consumer_sequence = 0; stream_sequence = at.last_now; recreation_count = at.recreation_count; name = at.name; missed = false; limited = at.limited; connection = at.connection } in
         let requests_sent : ℕ = at.requests_sent + 0 + 0 + 0 + 0 in
         let rest : Leads starts last from (IsOn source c requests_sent (inbox + 1)) last from
         (pass_each (pass_to given now says 6) (Read read.Threshold ∷ Read read.Arm ∷ []) (state_at (Pulls (reader source new)) c requests_sent (inbox + 1))) =
@@ -452,7 +385,7 @@ module _ (settings : Settings) (config : OrderedConfig) (first : Info) (starts :
   unfolding opening
   opened start =
       let source : Source = source_of given 0 0 (inbox_subject given 0) first in
-      let c : Course = record { consumer_sequence = 0; stream_sequence = 0; recreation_count = 0; name = first.name; missed = false; limited = false; connection = Connected } in
+      let c : Progress = record { consumer_sequence = 0; stream_sequence = 0; recreation_count = 0; name = first.name; missed = false; limited = false; connection = Connected } in
       leads_then starts 0 0 0 0 0 0 (IsOn source c 0 1) (IsOn source c 0 1)
       (pass_to given start tick 2 (Read read.Threshold) (state_at (Pulls (reader source new)) c 0 1))
       (λ (w : ReplayState). pass_each (λ row. pass_to given start tick (suc (rank row)) row) (Read read.Arm ∷ []) w)

@@ -13,7 +13,8 @@ use Rattle.js_table.specs.Valid.{IsEventBelowEnd}
 use Rattle.js_generate.specs.Episodes.{delivered, before, reply, plain, delivery, deliveries, answer, recovery, happens, episodes}
 use Rattle.js_generate.specs.Transcript.{given, at_places, generated}
 use Rattle.js_generate.specs.Honesty.{upwards, log, server}
-use Rattle.js_generate.proofs.Lists.{all_append, all_take, length_upwards, index_upwards, map_upwards}
+use Rattle.js_table.proofs.Rewritten.{all_append}
+use Rattle.js_generate.proofs.Lists.{all_take, length_upwards, index_upwards, map_upwards}
 use Rattle.js_generate.proofs.Replies.{reply_reads}
 use Rattle.js_generate.proofs.Numbers.{before_rises}
 

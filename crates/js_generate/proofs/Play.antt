@@ -19,7 +19,8 @@ use Rattle.js_generate.proofs.Replies.{reply_reads}
 use Rattle.js_generate.proofs.Infos.{info_reads, name_plain, name_utf8}
 use Rattle.js_generate.proofs.Follows.{Follows, follows_append}
 use Rattle.js_generate.proofs.Events as at
-use Rattle.js_generate.proofs.Events.{Course, IsOn, IsRecreating, IsOpened, Leads, leads_then, leads_alone, leads_weaker}
+use Rattle.js_table.proofs.PullStates.{IsOn, Progress}
+use Rattle.js_generate.proofs.Events.{IsRecreating, IsOpened, Leads, leads_then, leads_alone, leads_weaker}
 use Rattle.js_generate.proofs.Runs.{plays, plays_append}
 
 -- ---- the numbers
@@ -32,7 +33,7 @@ not_equal a b h = grind (arith, nat_tests)
 -- an inbox is read up to a number
 pub record IsReading (inbox number before : ℕ) (w : ReplayState) : Type 0 where
   pub source : Source
-  pub c : Course
+  pub c : Progress
   pub requests_sent : ℕ
   pub inboxes_opened : ℕ
   pub on : IsOn source c requests_sent inboxes_opened w

@@ -24,7 +24,8 @@ use Rattle.js_relay.specs.Handed.{handed}
 use Rattle.js_relay.proofs.Gives.{Gives, gives_append}
 use Rattle.js_relay.proofs.Replies.{reply_reads}
 use Rattle.js_relay.proofs.Steps as at
-use Rattle.js_relay.proofs.Steps.{Course, IsOn, Leads, leads_then, leads_weaker}
+use Rattle.js_table.proofs.PullStates.{IsOn, Progress}
+use Rattle.js_relay.proofs.Steps.{Leads, leads_then, leads_weaker}
 
 -- ---- lists of events
 
@@ -50,7 +51,7 @@ Fit entries = AllByRecursion (λ (e : base.Entry). e.sequence < 2 ^ 64) entries
 -- the first inbox is read up to a number
 pub record IsReading (number : ℕ) (w : ReplayState) : Type 0 where
   pub source : Source
-  pub c : Course
+  pub c : Progress
   pub requests_sent : ℕ
   pub inboxes_opened : ℕ
   pub on : IsOn source c requests_sent inboxes_opened w

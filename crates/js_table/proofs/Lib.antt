@@ -13,3 +13,4 @@ pub mod Rows
 pub mod Honest
 pub mod Numbers
 pub mod Promises
+pub mod PullStates
