@@ -162,7 +162,7 @@ fn armed_expiry(now: Moment, expires: Option<Nanos>) -> Option<Timer>
 }
 
 /// Twice the heartbeat, where that is above 0.
-fn armed_silence(now: Moment, heartbeat: Nanos) -> Option<Timer>
+pub fn armed_silence(now: Moment, heartbeat: Nanos) -> Option<Timer>
     ensures { result ≡ rows.armed_silence now heartbeat }
 {
     if heartbeat == 0 {

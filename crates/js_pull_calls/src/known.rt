@@ -17,7 +17,7 @@ pub(crate) fn is_pinned(policy: PriorityPolicy) -> bool
 }
 
 /// How long a double ack of a message waits, in nanoseconds: the scope's timeout, or else five seconds.
-pub(crate) fn message_timeout(scope: &ApiScope) -> Nanos
+pub fn message_timeout(scope: &ApiScope) -> Nanos
     ensures { result ≡ message_timeout scope.now.timeout }
 {
     scope.timeout.unwrap_or(5_000_000_000)

@@ -24,7 +24,8 @@ pub struct Stream {
     timeout: Nanos,
 }
 
-fn stream_refusal(error: LinkError) -> StreamErrorKind
+/// Why no stream was opened, where the link refused its subscription.
+pub fn stream_refusal(error: LinkError) -> StreamErrorKind
     ensures { result ≡ stream_refusal error }
 {
     match error {

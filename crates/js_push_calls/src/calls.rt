@@ -3,14 +3,13 @@ ghost use Rattle.std.specs.Prelude.{◌≡◌};
 ghost use Rattle.std.specs.Option.{option_copied};
 ghost use Rattle.js_json.specs.declared.push.Config as push;
 ghost use Rattle.js_consumer_calls.specs.declared.consumer.Consumer.{Consumer};
-ghost use Rattle.js_pull_calls.specs.Streams.{stream_refusal};
 ghost use Rattle.js_push_calls.specs.Opening.{OpensMessages};
 
 use crate::messages::Messages;
 use js_base::{Error, Text};
 use js_consumer_calls::PushConsumer;
-use js_link::{Link, LinkError};
-use js_pull_calls::{StreamError, StreamErrorKind};
+use js_link::Link;
+use js_pull_calls::{StreamError, StreamErrorKind, message_timeout, stream_refusal};
 use std::alloc::Global;
 
 /// The calls of a push consumer that read it.
@@ -24,15 +23,6 @@ pub trait PushCalls: Drop {
     /// `Other` comes where the info has no such subject, or where the link failed, and `OutOfMemory` where memory ran out. Nothing was sent then.
     fn messages<L: Link>(self, alloc: Global, link: &mut L) -> Result<Messages, StreamError>
         ensures { OpensMessages result (pushes self) (L.view link.old) (L.view link.new) };
-}
-
-fn stream_refusal(error: LinkError) -> StreamErrorKind
-    ensures { result ≡ stream_refusal error }
-{
-    match error {
-        LinkError::Failed => StreamErrorKind::Other,
-        LinkError::OutOfMemory => StreamErrorKind::OutOfMemory,
-    }
 }
 
 /// Opens the reader of a consumer.
@@ -49,7 +39,7 @@ fn open<L: Link>(
     let group = text_of(&consumer.info.config.deliver_group);
     match link.subscribe(alloc, subject.as_str(), group) {
         Ok(inbox) => {
-            let timeout = consumer.scope.timeout.unwrap_or(5_000_000_000);
+            let timeout = message_timeout(&consumer.scope);
             Ok(Messages::new(inbox.0, consumer.config.idle_heartbeat, timeout))
         }
         Err(error) => Err(Error::new(stream_refusal(error))),

@@ -1,6 +1,5 @@
 //! The reader of a push consumer.
 ghost use Rattle.std.specs.Prelude.{◌≡◌, ◌<◌, ◌^◌, ℕ};
-ghost use Rattle.js_pull.specs.Reader.{armed_silence};
 ghost use Rattle.js_pull_stream.specs.Wakes.{has_come};
 ghost use Rattle.js_base.specs.Errors.{plain};
 ghost use Rattle.js_push_calls.specs.Rows.{arrival_row, armed, hear, new_messages, next_row, pass, silence_row};
@@ -11,6 +10,7 @@ use crate::row::{Row, Told, answer};
 use js_base::{Error, Moment, Nanos, Next, OutOfMemory, StatusCode, Timer, is_any_due};
 use js_link::{InboxId, Link, Taken};
 use js_message::Message;
+use js_pull::armed_silence;
 use std::alloc::Global;
 
 /// The messages of a push consumer, in the order in which they come.
@@ -26,19 +26,6 @@ pub struct Messages {
     next: Row,
     /// How long a double ack of its messages waits, in nanoseconds.
     timeout: Nanos,
-}
-
-/// Twice the heartbeat, where that is above 0.
-fn armed_silence(now: Moment, heartbeat: Nanos) -> Option<Timer>
-    ensures { result ≡ armed_silence now heartbeat }
-{
-    if heartbeat == 0 {
-        return None;
-    }
-    match heartbeat.checked_mul(2) {
-        Some(wait) => Some(Timer { set: now, wait }),
-        None => None,
-    }
 }
 
 fn missing_heartbeat() -> MessagesError
