@@ -7,3 +7,4 @@ pub mod Calls
 pub mod ApiRequests
 pub mod Sending
 pub mod Thens
+pub mod Wakes

@@ -3,10 +3,12 @@ ghost use Rattle.std.specs.Prelude.{◌≡◌, Result};
 ghost use Rattle.js_base.specs.declared.error.Error.{Error};
 ghost use Rattle.js_base.specs.declared.turn.Turn.{Turn};
 ghost use Rattle.js_call.specs.Calls.{calling, Fails, Polled, Reads, Turns};
+ghost use Rattle.js_call.specs.Wakes.{call_waits_for, stage_waits_for};
 
 use crate::api_call::ApiCall;
 use crate::error::RequestError;
 use crate::failure::Failure;
+use crate::open_request::OpenRequest;
 use crate::raw_call::RawCall;
 use crate::state::State;
 use js_base::{Message, Moment, OutOfMemory, Turn};
@@ -32,6 +34,19 @@ pub(crate) enum Stage {
     Answered(Message),
     /// It has failed, and that is not told yet.
     Failed(Failure),
+}
+
+impl Stage {
+    /// The request whose answer it waits for.
+    fn waits_for(&self) -> Option<OpenRequest>
+        ensures { result ≡ stage_waits_for self.now }
+    {
+        match self {
+            Stage::Asking(asked) => asked.waits_for(),
+            Stage::Answered(_) => None,
+            Stage::Failed(_) => None,
+        }
+    }
 }
 
 impl<M: ApiCall> Call<M> {
@@ -96,6 +111,15 @@ impl<M: ApiCall> State for Call<M> {
     type Answer = M::Answer;
 
     ghost polled = { Polled M.table };
+
+    ghost waits_for = { call_waits_for M.table };
+
+    fn waits_for(&self) -> Option<OpenRequest> {
+        match self.api_call.refusal() {
+            Some(_) => None,
+            None => self.stage.waits_for(),
+        }
+    }
 
     fn poll<L: Link>(self, alloc: Global, link: &mut L, now: Moment) -> Turn<Self, Self::Answer> {
         if let Some(answer) = self.api_call.refusal() {

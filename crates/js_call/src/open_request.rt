@@ -1,7 +1,8 @@
 //! A request that was sent, and what a look at it shows.
-ghost use Rattle.std.specs.Prelude.{◌≡◌};
+ghost use Rattle.std.specs.Prelude.{◌≡◌, ◌<◌, ◌^◌, ℕ};
 ghost use Rattle.js_link.specs.LinkView.{LinkView};
 ghost use Rattle.js_call.specs.Raw.{Shows, times_out};
+ghost use Rattle.js_call.specs.Wakes.{has_come};
 
 use js_base::{Message, Moment, Nanos, due};
 use js_link::{Answer, Link, RequestId};
@@ -45,6 +46,16 @@ impl OpenRequest {
                     Shown::Still
                 }
             }
+        }
+    }
+
+    /// The moment from which on its time is over. None where it is waited for without end.
+    pub fn ends_at(&self) -> Option<Moment>
+        ensures { (now : ℕ) → now < 2 ^ 64 → has_come result now ≡ times_out self.now.timeout self.now.since now }
+    {
+        match self.timeout {
+            None => None,
+            Some(wait) => self.since.checked_add(wait),
         }
     }
 

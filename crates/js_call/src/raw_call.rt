@@ -166,6 +166,12 @@ impl State for RawCall {
 
     ghost polled = { RawPolled };
 
+    ghost waits_for = { λ call. call.sent };
+
+    fn waits_for(&self) -> Option<OpenRequest> {
+        self.sent
+    }
+
     fn poll<L: Link>(self, alloc: Global, link: &mut L, now: Moment) -> Turn<Self, Self::Answer> {
         let met = self.pass(alloc, link, now);
         self.turn(met)

@@ -3,7 +3,10 @@ ghost use Rattle.std.specs.Prelude.{◌≡◌, Option};
 ghost use Rattle.js_link.specs.LinkView.{LinkView};
 ghost use Rattle.js_base.specs.declared.turn.Turn.{Turn};
 ghost use Rattle.js_call.specs.Thens.{ThenPolled, SecondPolled, unless_absent};
+ghost use Rattle.js_call.specs.Wakes.{then_waits_for, PendsOn, Sleeps};
+ghost use Rattle.js_call.specs.declared.then.Then.TheVariants.{Second};
 
+use crate::open_request::OpenRequest;
 use crate::state::State;
 use js_base::{Moment, Turn};
 use js_link::Link;
@@ -46,6 +49,15 @@ impl<A: State, B: State, D: Decision<A::Answer, B::Answer>> State for Then<A, B,
 
     ghost polled = { ThenPolled A.polled B.polled D.decides };
 
+    ghost waits_for = { then_waits_for A.waits_for B.waits_for };
+
+    fn waits_for(&self) -> Option<OpenRequest> {
+        match self {
+            Then::First { first, .. } => first.waits_for(),
+            Then::Second(second) => second.waits_for(),
+        }
+    }
+
     fn poll<L: Link>(self, alloc: Global, link: &mut L, now: Moment) -> Turn<Self, Self::Answer> {
         match self {
             Then::First {
@@ -73,13 +85,15 @@ impl<A: State, B: State, D: Decision<A::Answer, B::Answer>> State for Then<A, B,
     }
 }
 
-fn poll_second<A, B: State, D, L: Link>(
+fn poll_second<A: State, B: State, D: Drop, L: Link>(
     second: B,
     alloc: Global,
     link: &mut L,
     now: Moment,
 ) -> Turn<Then<A, B, D>, B::Answer>
-    ensures { SecondPolled B.polled second now result (L.view link.old) (L.view link.new) }
+    ensures polled { SecondPolled B.polled second now result (L.view link.old) (L.view link.new) }
+    ensures sleeps { Sleeps (B.waits_for second) now (Second second) result (L.view link.old) (L.view link.new) }
+    ensures pends { PendsOn (then_waits_for A.waits_for B.waits_for) result }
 {
     match second.poll(alloc, link, now) {
         Turn::Pending(second) => Turn::Pending(Then::Second(second)),
