@@ -5,6 +5,7 @@ use Rattle.js_base.specs.declared.clock.Timer.{Timer}
 use Rattle.js_base.specs.Clock.{is_any_due}
 use Rattle.js_base.specs.declared.message.Message.{Message}
 use Rattle.js_json.specs.declared.consumer.info.Info.{Info}
+use Rattle.js_link.specs.Met.{Met, Empty, Took, Got, Gone}
 use Rattle.js_link.specs.Passing.{Passing}
 use Rattle.js_pull.specs.declared.rows.Due.{Due}
 use Rattle.js_pull.specs.declared.rows.Due.TheVariants as due
@@ -12,6 +13,7 @@ use Rattle.js_pull.specs.declared.rows.Notice.TheVariants as notice
 use Rattle.js_pull.specs.declared.rows.Step.{Step as Read}
 use Rattle.js_ordered_rows.specs.Readings.{IsInquired, ReadsTo, brought}
 use Rattle.js_pull.specs.Steps.{row_list, told_shown}
+use Rattle.js_pull.specs.Steps.{StepsTo as PullStepsTo, informed_by as pull_informed, requesting as pull_requesting}
 use Rattle.js_pull.specs.declared.reader.InfoRequest.{InfoRequest}
 use Rattle.js_pull.specs.declared.reader.InfoRequest.TheVariants.{NoInfoRequest, Asked, Resting}
 use Rattle.js_pull.specs.declared.kind.Kind.{Kind}
@@ -21,19 +23,17 @@ use Rattle.js_pull.specs.declared.reader.Reason.{Reason}
 use Rattle.js_pull.specs.declared.reader.Reason.TheVariants.{Low, Informed}
 use Rattle.js_pull.specs.declared.reader.Row.{Row}
 use Rattle.js_pull.specs.declared.reader.Row.TheVariants as read
-use Rattle.js_pull.specs.Passes.{asks_if}
 use Rattle.js_pull.specs.Reader as pull
 use Rattle.js_pull.specs.Reader.{Answer, reply_to}
 use Rattle.js_link.specs.declared.sent.Sent.{Sent}
 use Rattle.js_ordered_rows.specs.declared.task.NextTasks.{NextTasks}
-use Rattle.js_ordered_rows.specs.Tasks.{StepsTo, reader_rows}
+use Rattle.js_ordered_rows.specs.Tasks.{StepsTo, reader_rows, requesting}
 use Rattle.js_pull.specs.declared.reader.ReaderOutput.{ReaderOutput}
 use Rattle.js_table.specs.declared.consumer.Consumer.{Consumer}
 use Rattle.js_table.specs.declared.consumer.Phase.TheVariants.{Pulls}
 use Rattle.js_table.specs.declared.row.Row.{Row as TableRow}
 use Rattle.js_table.specs.declared.row.Row.TheVariants as row
 use Rattle.js_table.specs.declared.run.Output.{Output}
-use Rattle.js_table.specs.Passes.{informed_by}
 use Rattle.js_table.specs.Reading.{read_row, told, with_sent}
 use Rattle.js_table.specs.State.{Matter, Passed as TablePassed, at_phase, output_of}
 
@@ -47,45 +47,34 @@ threshold_is r false asking = refl
 threshold_quiet : (r : Reader) → pull.threshold r ≡ pull.quietly (pull.threshold r).reader (pull.threshold r).next
 threshold_quiet r = threshold_is r (pull.is_low r && not r.waiting) (pull.is_asking r.inquiry)
 
-reads_quietly : (reply message : Option Message) (passed : pull.Passed) (s : Reader) (next : Option Due) (step : Read) → passed ≡ pull.quietly passed.reader passed.next → s ≡ passed.reader → row_list reply next ≡ passed.next
-    → step ≡ record { told = notice.Nothing; next = next } → ReadsTo reply message passed s step
-reads_quietly reply message passed s next step is reader rows to =
-    subst (λ (x : Read). ReadsTo reply message passed s x) (sym to) (record { reader = reader; told = sym (ap (λ (p : pull.Passed). p.told) is); next = rows })
+-- ---- a row of js_pull
 
-pub threshold_asks : (reply message : Option Message) (r s : Reader) (step : Read) → s ≡ (pull.threshold r).reader → asks_if true ≡ (pull.threshold r).next
-    → step ≡ record { told = notice.Nothing; next = Some (due.Ask Low) } → ReadsTo reply message (pull.threshold r) s step
-threshold_asks reply message r s step reader rows to = reads_quietly reply message (pull.threshold r) s (Some (due.Ask Low)) step (threshold_quiet r) reader rows to
+-- what holds of a row whatever was met holds whatever it reads
+pub steps_read : (passed : pull.Passed) (step : Read) (s : Reader) → ((met : Met) → PullStepsTo passed met step s) → (reply message : Option Message) → ReadsTo reply message passed s step
+steps_read passed step s steps reply message = record { reader = (steps Empty).reader; told = told_at message; next = next_at reply }
+  where
+    told_at : (message : Option Message) → told_shown step.told message ≡ passed.told
+    told_at None = (steps Empty).told
+    told_at (Some message) = (steps (Took message)).told
 
-pub threshold_rests : (reply message : Option Message) (r s : Reader) (step : Read) → s ≡ (pull.threshold r).reader → asks_if false ≡ (pull.threshold r).next
-    → step ≡ record { told = notice.Nothing; next = None } → ReadsTo reply message (pull.threshold r) s step
-threshold_rests reply message r s step reader rows to = reads_quietly reply message (pull.threshold r) s None step (threshold_quiet r) reader rows to
+    next_at : (reply : Option Message) → row_list reply step.next ≡ passed.next
+    next_at None = (steps Gone).next
+    next_at (Some reply) = (steps (Got reply)).next
+
+-- an info request that went out, or was refused
+pub inquired : (now : ℕ) (request : Option ℕ) (failures : ℕ) (r s : Reader) (step : Read) → ((met : Met) → PullStepsTo (pull.inquire (pull_requesting now request) failures r) met step s)
+    → (p : Passing) (reply message : Option Message) → ReadsTo reply message (pull.inquire (requesting now request p) failures r) s step
+inquired now None failures r s step steps p reply message = steps_read (pull.quietly r (read.FailInfoRequest failures ∷ [])) step s steps reply message
+inquired now (Some request) failures r s step steps p reply message =
+    let read : ReadsTo reply message (pull.inquire (pull_requesting now (Some request)) failures r) s step = steps_read (pull.inquire (pull_requesting now (Some request)) failures r) step s steps reply message in
+    record { reader = read.reader; told = read.told; next = read.next }
+
+-- both readings of an info give the same reason
+pub same_reason : (info : Option Info) → option_map (λ (i : Info). Informed (i.num_waiting == 0)) info ≡ pull_informed info
+same_reason None = refl
+same_reason (Some info) = refl
 
 -- ---- the consumer's info
-
-answered_badly : (failures : ℕ) (info : Option Info) (r : Reader) → option_map (λ (i : Info). Informed (i.num_waiting == 0)) info ≡ None → pull.answered failures info r ≡ pull.quietly r (read.FailInfoRequest failures ∷ [])
-answered_badly failures None r none = refl
-answered_badly failures (Some info) r none = cc
-
-answered_well : (failures : ℕ) (info : Option Info) (reason : Reason) (r : Reader) → option_map (λ (i : Info). Informed (i.num_waiting == 0)) info ≡ Some reason → pull.answered failures info r ≡ pull.quietly (record r { inquiry = NoInfoRequest }) (read.Ask reason ∷ [])
-answered_well failures None reason r some = cc
-answered_well failures (Some info) reason r some =
-    let same : Informed (info.num_waiting == 0) ≡ reason = cc in
-    ap (λ (reason : Reason). pull.quietly (record r { inquiry = NoInfoRequest }) (read.Ask reason ∷ [])) same
-
--- an answer that is bad
-pub info_bad : (reply message : Option Message) (failures : ℕ) (r : Reader) (step : Read) → informed_by reply ≡ None → step ≡ record { told = notice.Nothing; next = Some (due.FailInfoRequest failures) }
-    → ReadsTo reply message (pull.answered failures (pull.info_of_reply reply) r) r step
-info_bad reply message failures r step none to =
-    subst (λ (p : pull.Passed). ReadsTo reply message p r step) (sym (answered_badly failures (pull.info_of_reply reply) r none))
-    (subst (λ (x : Read). ReadsTo reply message (pull.quietly r (read.FailInfoRequest failures ∷ [])) r x) (sym to) (record { reader = refl; told = refl; next = refl }))
-
--- an answer that is good
-pub info_good : (reply message : Option Message) (failures : ℕ) (reason : Reason) (r s : Reader) (step : Read) → informed_by reply ≡ Some reason → s ≡ record r { inquiry = NoInfoRequest }
-    → step ≡ record { told = notice.Nothing; next = Some (due.Ask reason) }
-    → ReadsTo reply message (pull.answered failures (pull.info_of_reply reply) r) s step
-info_good reply message failures reason r s step some reader to =
-    subst (λ (p : pull.Passed). ReadsTo reply message p s step) (sym (answered_well failures (pull.info_of_reply reply) reason r some))
-    (subst (λ (x : Read). ReadsTo reply message (pull.quietly (record r { inquiry = NoInfoRequest }) (read.Ask reason ∷ [])) s x) (sym to) (record { reader = reader; told = refl; next = refl }))
 
 -- the reply is there
 pub reply_there : (p : Passing) (answer : Option Answer) (request : ℕ) (timeout : Option Timer) (failures : ℕ) (r : Reader) → true ≡ is_some (reply_to request answer)

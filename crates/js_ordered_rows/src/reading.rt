@@ -22,7 +22,7 @@ use crate::task::{Heard, NextTasks, RowOutput, Step, Task};
 use js_base::{Message, Moment, State, Timer};
 use js_pull::{
     Due, InfoRequest, Kind, MessagesErrorKind, Notice, Reader, Reason, Step as Read, is_any_due,
-    is_asking, pull_kind, retry_wait, timeout_from,
+    is_asking, pull_kind,
 };
 use js_table::{Consumer, ItemKind, Phase};
 
@@ -96,27 +96,14 @@ pub fn ask(reader: &mut Reader, now: Moment, reason: Reason, goes_out: bool) -> 
     ensures { (p : Passing) → (reply : Option SpecMessage) → (message : Option SpecMessage)
         → ReadsTo reply message (reads.ask (record p { now = now; up = goes_out }) reason reader.old) reader.new result }
 {
-    reader.arm_expiry(now);
-    if goes_out {
-        reader.count_request(reason);
-        quietly(None)
-    } else {
-        tells(MessagesErrorKind::Pull, None)
-    }
+    reader.pass_ask(now, reason, goes_out)
 }
 
 /// Where little is pending a request follows.
-#[tactic(auto, using(std::proofs::lemmas::Grind::common_steps, crate::proofs::ReaderSteps::threshold_asks, crate::proofs::ReaderSteps::threshold_rests))]
 pub fn threshold(reader: &mut Reader) -> Read
     ensures { (reply : Option SpecMessage) → (message : Option SpecMessage) → ReadsTo reply message (reads.threshold reader.old) reader.new result }
 {
-    if reader.threshold() {
-        quietly(Some(Due::Ask {
-            reason: Reason::Low,
-        }))
-    } else {
-        quietly(None)
-    }
+    reader.pass_threshold()
 }
 
 /// The info was asked for, under this number, or the request was refused.
@@ -124,17 +111,7 @@ pub fn inquire(reader: &mut Reader, now: Moment, failures: u64, request: Option<
     ensures { (p : Passing) → (reply : Option SpecMessage) → (message : Option SpecMessage)
         → ReadsTo reply message (reads.inquire (requesting now request p) failures reader.old) reader.new result }
 {
-    match request {
-        None => quietly(Some(Due::FailInfoRequest { failures })),
-        Some(request) => {
-            reader.inquiry = InfoRequest::Asked {
-                request,
-                timeout: timeout_from(now, reader.source.info_timeout),
-                failures,
-            };
-            quietly(None)
-        }
-    }
+    reader.pass_inquire(now, failures, request)
 }
 
 /// A try failed: the next one waits, and after the sixth the user is told.
@@ -142,38 +119,15 @@ pub fn fail_inquiry(reader: &mut Reader, now: Moment, failures: u64) -> Read
     ensures { (p : Passing) → (reply : Option SpecMessage) → (message : Option SpecMessage)
         → ReadsTo reply message (reads.fail_inquiry (at_moment now p) failures reader.old) reader.new result }
 {
-    if failures >= 5 {
-        reader.inquiry = InfoRequest::NoInfoRequest;
-        return tells(
-            MessagesErrorKind::Pull,
-            Some(Due::Ask {
-                reason: Reason::Informed { reset: false },
-            }),
-        );
-    }
-    reader.inquiry = InfoRequest::Resting {
-        wait: Timer {
-            set: now,
-            wait: retry_wait(failures + 1),
-        },
-        failures: failures + 1,
-    };
-    quietly(None)
+    reader.pass_fail_inquiry(now, failures)
 }
 
 /// The answer was read.
-#[tactic(auto, using(std::proofs::lemmas::Grind::common_steps, crate::proofs::ReaderSteps::info_bad, crate::proofs::ReaderSteps::info_good))]
 pub fn answered(reader: &mut Reader, failures: u64, informed: Option<Reason>) -> Read
     ensures { (reply : Option SpecMessage) → (message : Option SpecMessage) → informed ≡ informed_by reply
         → ReadsTo reply message (reads.answered failures (reads.info_of_reply reply) reader.old) reader.new result }
 {
-    match informed {
-        None => quietly(Some(Due::FailInfoRequest { failures })),
-        Some(reason) => {
-            reader.inquiry = InfoRequest::NoInfoRequest;
-            quietly(Some(Due::Ask { reason }))
-        }
-    }
+    reader.pass_answered(failures, informed)
 }
 
 fn failed_if(is_due: bool, failures: u64) -> Option<Due>
@@ -251,12 +205,7 @@ pub fn check_silence(reader: &mut Reader, now: Moment) -> Read
     ensures { (p : Passing) → (reply : Option SpecMessage) → (message : Option SpecMessage)
         → ReadsTo reply message (reads.check_silence (at_moment now p) reader.old) reader.new result }
 {
-    if is_any_due(&reader.heartbeat_timer, now) {
-        reader.arm_silence(now);
-        tells(MessagesErrorKind::MissingHeartbeat, None)
-    } else {
-        quietly(None)
-    }
+    reader.pass_check_silence(now)
 }
 
 /// An error ends the reader: no row follows.
