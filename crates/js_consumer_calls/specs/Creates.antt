@@ -1,5 +1,5 @@
 -- Making and changing consumers: a row of the table of calls for each of the calls.
-use Rattle.std.specs.Prelude.{ℕ, ◌≡◌, None, List, codes, Result, Ok, Err, refl}
+use Rattle.std.specs.Prelude.{ℕ, ◌≡◌, Option, None, List, codes, Result, Ok, Err, refl}
 use Rattle.js_base.specs.Errors.{caused}
 use Rattle.js_base.specs.declared.error.Source.TheVariants.{Text}
 use Rattle.js_fields.specs.declared.key.Key.TheVariants.{OptStartTime}
@@ -21,6 +21,7 @@ use Rattle.js_json.specs.declared.response.Response.{Response}
 use Rattle.js_json.specs.declared.response.Response.TheVariants as response
 use Rattle.js_call.specs.declared.call.Call.{Call}
 use Rattle.js_call.specs.declared.failure.Failure.TheVariants.{Read}
+use Rattle.js_call.specs.declared.open_request.OpenRequest.{OpenRequest}
 use Rattle.js_call.specs.declared.scope.ApiScope.{ApiScope}
 use Rattle.js_call.specs.Calls.{calling}
 use Rattle.js_call.specs.Failures.{told_by}
@@ -86,3 +87,8 @@ CreatePolled polls (Asking call) now (OutOfMemory (Asking next)) old new = polls
 CreatePolled polls (Asking call) now (Ready answer) old new = polls call now (Ready answer) old new
 CreatePolled polls (Asking call) now (Pending (Refused error)) old new = ⊥
 CreatePolled polls (Asking call) now (OutOfMemory (Refused error)) old new = ⊥
+
+-- what it waits for: a refusal for nothing, and else what its call does
+abbrev pub create_waits_for : {C K : Type 0} → (Call (CreatingConsumer C K) → Option OpenRequest) → CreateCall C K → Option OpenRequest
+create_waits_for call_waits_for (Refused error) = None
+create_waits_for call_waits_for (Asking call) = call_waits_for call

@@ -2,7 +2,8 @@
 ghost use Rattle.std.specs.Prelude.{◌≡◌, IfOk};
 ghost use Rattle.js_call.specs.Calls.{Polled};
 ghost use Rattle.js_call.specs.Scopes.{asking};
-ghost use Rattle.js_consumer_calls.specs.Creates.{create_row, creating, unwritten, CreatePolled, Makes, request_of};
+ghost use Rattle.js_call.specs.Wakes.{call_waits_for};
+ghost use Rattle.js_consumer_calls.specs.Creates.{create_row, create_waits_for, creating, unwritten, CreatePolled, Makes, request_of};
 ghost use Rattle.js_consumer_calls.specs.Kinds.{consumer_kinds, strict_kinds, update_kinds};
 ghost use Rattle.js_consumer_calls.specs.Subjects.{create_subject};
 
@@ -13,7 +14,7 @@ use crate::create_subject::create_subject;
 use crate::error::{ConsumerCreateStrictErrorKind, ConsumerErrorKind, ConsumerUpdateErrorKind};
 use bytes::Bytes;
 use js_base::{Error, Moment, OutOfMemory, Text, TryClone, Turn};
-use js_call::{ApiScope, Call, Failure, RawCall, State};
+use js_call::{ApiScope, Call, Failure, OpenRequest, RawCall, State};
 use js_fields::{ReadError, ToValue};
 use js_json::consumer::{Action, CreateRequest, FromConsumer};
 use js_link::Link;
@@ -41,6 +42,15 @@ impl<C: FromConsumer, K: CreateKind> State for CreateCall<C, K> {
     type Answer = Result<Consumer<C>, Error<K>>;
 
     ghost polled = { CreatePolled (Polled (create_row C.of_config K.kinds)) };
+
+    ghost waits_for = { create_waits_for (call_waits_for (create_row C.of_config K.kinds)) };
+
+    fn waits_for(&self) -> Option<OpenRequest> {
+        match self {
+            CreateCall::Refused(_) => None,
+            CreateCall::Asking(call) => call.waits_for(),
+        }
+    }
 
     fn poll<L: Link>(self, alloc: Global, link: &mut L, now: Moment) -> Turn<Self, Self::Answer> {
         match self {
