@@ -1,44 +1,17 @@
 -- A row where it does not belong does nothing.
-use Rattle.std.proofs.Common.{◌≡◌, ℕ, suc, ◌+◌, ◌<◌, Bool, true, false, List, [], ◌∷◌, ◌++◌, map, drop, length, Option, Some, None, refl, sym, ap, ◌∙◌, subst, arith, append_assoc, append-nil, count_by, get_or}
-use Rattle.std.proofs.lemmas.Bool.Decides.{nat_tests}
-use Rattle.std.proofs.lemmas.List.{drop_more, drop_all}
-use Rattle.std.specs.Prelude.{⊤, not, ◌==◌, ◌≤◌, ◌≢◌, codes, option_map, option_to_list, Result, Ok, Err, IfOk, OnOk, if◌then◌else◌}
+use Rattle.std.proofs.Common.{◌≡◌, ℕ, List, [], ◌∷◌, Option, Some, None, refl, sym, ap, ◌∙◌, subst}
+use Rattle.std.specs.Prelude.{⊤, Result}
 use Rattle.js_base.specs.declared.message.Message.{Message}
 use Rattle.js_json.specs.declared.consumer.info.Info.{Info}
 use Rattle.js_link.specs.Passing.{Passing}
-use Rattle.js_ordered_rows.specs.declared.task.Heard.{Heard}
-use Rattle.js_ordered_rows.specs.declared.task.Heard.TheVariants as hears
-use Rattle.js_ordered_rows.specs.declared.task.Held.{Held}
-use Rattle.js_ordered_rows.specs.declared.task.Inbox.{Inbox}
 use Rattle.js_ordered_rows.specs.declared.task.NextTasks.{NextTasks}
-use Rattle.js_ordered_rows.specs.declared.task.NextTasks.TheVariants as next
 use Rattle.js_ordered_rows.specs.declared.task.Task.{Task}
 use Rattle.js_ordered_rows.specs.declared.task.Task.TheVariants as task
-use Rattle.js_ordered_rows.specs.declared.task.RowOutput.{RowOutput}
-use Rattle.js_ordered_rows.specs.declared.task.RowOutput.TheVariants as tells
-use Rattle.js_ordered.specs.Driven.{Finishes, IsLeft, IsTry, Leads, LeadsOn, PassesTo, counted, first_held, heard_first, left_rows}
-use Rattle.js_ordered.specs.Giving.{IsInbox, IsNumber, Sends, Subscribes}
-use Rattle.js_ordered_rows.specs.Tasks.{IsHeard, IsHeardFrom, IsOfStream, StepsTo, answered_rows, create_outputs, heard_outputs, heard_row, heard_rows, next_rows, opening_to, reader_rows, requested, requesting, rows_of, subscribed, told_outputs}
-use Rattle.js_link.specs.declared.sent.Sent.{Sent}
-use Rattle.js_pull.specs.declared.rows.Due.{Due}
-use Rattle.js_pull.specs.declared.rows.Due.TheVariants as due
-use Rattle.js_pull.specs.declared.rows.Notice.{Notice}
-use Rattle.js_pull.specs.declared.rows.Notice.TheVariants as notice
-use Rattle.js_pull.specs.declared.kind.Kind.{Kind}
-use Rattle.js_pull.specs.declared.kind.Kind.TheVariants as pulls
-use Rattle.js_pull.specs.declared.reader.Reason.{Reason}
-use Rattle.js_pull.specs.declared.reader.Row.TheVariants as read
-use Rattle.js_pull.specs.declared.reader.ReaderOutput.TheVariants as telling
-use Rattle.js_pull.specs.Kind.{pull_kind}
-use Rattle.js_pull.specs.Limits.{pull_body}
-use Rattle.js_table.specs.declared.run.Output.TheVariants as out
-use Rattle.js_pull.specs.declared.rows.Step.{Step as Read}
-use Rattle.js_ordered_rows.specs.Readings.{ReadsTo, brought}
-use Rattle.js_pull.specs.Steps.{row_of, told_shown}
+use Rattle.js_ordered.specs.Driven.{IsTry, Leads, PassesTo}
+use Rattle.js_ordered_rows.specs.Tasks.{answered_rows, rows_of}
 use Rattle.js_pull.specs.declared.reader.Reader.{Reader}
 use Rattle.js_pull.specs.declared.reader.Row.{Row as PullRow}
-use Rattle.js_pull.specs.Reader as pull
-use Rattle.js_pull.specs.Reader.{info_of_reply, reply_to}
+use Rattle.js_pull.specs.Reader.{reply_to}
 use Rattle.js_table.specs.declared.consumer.Consumer.{Consumer}
 use Rattle.js_table.specs.declared.consumer.ReplayInput.{ReplayInput}
 use Rattle.js_table.specs.declared.consumer.Phase.{Phase}
@@ -47,21 +20,12 @@ use Rattle.js_table.specs.declared.consumer.Recreation.{Recreation}
 use Rattle.js_table.specs.declared.row.Row.{Row}
 use Rattle.js_table.specs.declared.row.Row.TheVariants as row
 use Rattle.js_table.specs.declared.run.Output.{Output}
-use Rattle.js_table.specs.declared.setup.OrderedSetup.{OrderedSetup}
-use Rattle.js_table.specs.declared.setup.OrderedSetup.TheVariants.{Pull, Push}
 use Rattle.js_table.specs.declared.event_context.EventContext.{EventContext}
 use Rattle.js_table.specs.declared.replay_state.ReplayState.{ReplayState}
-use Rattle.js_table.specs.Fold.{Ran, after, and_then, is_over, is_request, is_subscribe, pass_each, passing, stays}
-use Rattle.js_table.specs.Kept.{IsPull, IsPush}
-use Rattle.js_table.specs.Passes.{at, from, heard, hearings, holding, listens_to, matter_now, ran}
-use Rattle.js_table.specs.Reading.{armed, beat_answer, push_kind, read_row, told, with_sent}
-use Rattle.js_table.specs.Recreation.{answered, message_on, create_row, start_row, succeed_pull, succeed_push, succeed_row}
-use Rattle.js_table.specs.State.{Matter, Passed, output_of, quietly, at_phase}
-use Rattle.js_table.specs.Texts.{inbox_subject}
-use Rattle.js_table.specs.Turn.{event_row, pass, row_at}
-use Rattle.js_ordered_rows.proofs.ReaderSteps.{hear_sends, reads_row}
-use Rattle.js_ordered.proofs.Rans.{no_more, ran_from, from_rest}
-use Rattle.js_ordered_rows.proofs.Stepping.{from_stream, hears_as, hears_here, hears_nowhere}
+use Rattle.js_table.specs.Fold.{after, and_then, passing, stays}
+use Rattle.js_table.specs.Passes.{at, matter_now}
+use Rattle.js_table.specs.State.{Matter, quietly}
+use Rattle.js_table.specs.Turn.{row_at}
 use Rattle.js_ordered.proofs.Driving.{idle_row}
 
 -- ---- a row where it does not belong
@@ -161,26 +125,24 @@ pub tries_here : {E : Type 0} (context : EventContext) (one : Task) (r : Recreat
 tries_here context one r w u before after result is passes =
     subst (λ (q : Phase). PassesTo context (rows_of (matter_now context) one) (at q w) u before after result) (sym is) passes
 
--- ---- a reader's row where none reads
+-- ---- a reader's row
 
-abbrev pub IsOther : Phase → Type 0
-IsOther (Pulls reader) = ⊥
-IsOther phase = ⊤
-
-reads_none : (g : ReplayInput) (p : Passing) (m : Matter) (one : PullRow) (phase : Phase) (c : Consumer) → IsOther phase → row_at g p m (row.Read one) phase c ≡ quietly c []
-reads_none g p m one (Pulls reader) c other = absurd other
+reads_none : (g : ReplayInput) (p : Passing) (m : Matter) (one : PullRow) (phase : Phase) (c : Consumer) → ((r : Reader) → phase ≡ Pulls r → ⊥) → row_at g p m (row.Read one) phase c ≡ quietly c []
+reads_none g p m one (Pulls reader) c other = absurd (other reader refl)
 reads_none g p m one (Pushes inbox heartbeat_timer) c other = refl
 reads_none g p m one (Recreates r) c other = refl
 reads_none g p m one Idle c other = refl
 reads_none g p m one Ended c other = refl
 reads_none g p m one Exhausted c other = refl
 
-pub reads_nowhere : (g : ReplayInput) (now : ℕ) (m : Matter) (one : PullRow) (w u : ReplayState) (outputs : List Output) (phase : Phase) → IsOther phase → w.consumer.phase ≡ phase → u ≡ at phase w
-    → Leads g now m (row.Read one ∷ []) w outputs [] u outputs
-reads_nowhere g now m one w u outputs phase other is to =
-    idle_row g now m (row.Read one) w u outputs phase is to (reads_none g (passing g now w) m one phase w.consumer other)
+-- where none reads
+pub reads_nowhere : (g : ReplayInput) (now : ℕ) (m : Matter) (one : PullRow) (w : ReplayState) (outputs : List Output) → ((r : Reader) → w.consumer.phase ≡ Pulls r → ⊥)
+    → Leads g now m (row.Read one ∷ []) w outputs [] w outputs
+reads_nowhere g now m one w outputs other =
+    idle_row g now m (row.Read one) w w outputs w.consumer.phase refl refl (reads_none g (passing g now w) m one w.consumer.phase w.consumer other)
 
-pub reads_here : {E : Type 0} (context : EventContext) (rows : List Row) (r : Reader) (w u : ReplayState) (before after : List Output) (result : Result NextTasks E) → w.consumer.phase ≡ Pulls r
-    → PassesTo context rows (at (Pulls r) w) u before after result → PassesTo context rows w u before after result
-reads_here context rows r w u before after result is passes =
-    subst (λ (q : Phase). PassesTo context rows (at q w) u before after result) (sym is) passes
+-- and where one reads
+pub reads_here : (g : ReplayInput) (now : ℕ) (m : Matter) (one : PullRow) (r : Reader) (w u : ReplayState) (earlier later : List Output) (rest : List Row) → w.consumer.phase ≡ Pulls r
+    → Leads g now m (row.Read one ∷ []) (at (Pulls r) w) earlier rest u later → Leads g now m (row.Read one ∷ []) w earlier rest u later
+reads_here g now m one r w u earlier later rest is leads =
+    subst (λ (q : Phase). Leads g now m (row.Read one ∷ []) (at q w) earlier rest u later) (sym is) leads

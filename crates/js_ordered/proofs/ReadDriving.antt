@@ -1,26 +1,16 @@
 -- The rows of a pull reader in a replay.
-use Rattle.std.proofs.Common.{◌≡◌, ℕ, suc, ◌+◌, ◌<◌, Bool, true, false, List, [], ◌∷◌, ◌++◌, map, drop, length, Option, Some, None, refl, sym, ap, ◌∙◌, subst, arith, append_assoc, append-nil, count_by, get_or}
-use Rattle.std.proofs.lemmas.Bool.Decides.{nat_tests}
-use Rattle.std.proofs.lemmas.List.{drop_more, drop_all}
-use Rattle.std.specs.Prelude.{⊤, not, ◌==◌, ◌≤◌, ◌≢◌, codes, option_map, option_to_list, Result, Ok, Err, IfOk, OnOk, if◌then◌else◌}
+use Rattle.std.proofs.Common.{◌≡◌, ℕ, ◌+◌, Bool, true, false, List, [], ◌∷◌, ◌++◌, map, Option, Some, None, refl, sym, ap, ◌∙◌, subst, count_by}
+use Rattle.std.specs.Prelude.{◌≢◌, codes}
 use Rattle.js_base.specs.declared.message.Message.{Message}
-use Rattle.js_json.specs.declared.consumer.info.Info.{Info}
 use Rattle.js_link.specs.Passing.{Passing}
 use Rattle.js_ordered_rows.specs.declared.task.Heard.{Heard}
-use Rattle.js_ordered_rows.specs.declared.task.Heard.TheVariants as hears
-use Rattle.js_ordered_rows.specs.declared.task.Held.{Held}
-use Rattle.js_ordered_rows.specs.declared.task.Inbox.{Inbox}
 use Rattle.js_ordered_rows.specs.declared.task.NextTasks.{NextTasks}
 use Rattle.js_ordered_rows.specs.declared.task.NextTasks.TheVariants as next
-use Rattle.js_ordered_rows.specs.declared.task.Task.{Task}
 use Rattle.js_ordered_rows.specs.declared.task.Task.TheVariants as task
-use Rattle.js_ordered_rows.specs.declared.task.RowOutput.{RowOutput}
-use Rattle.js_ordered_rows.specs.declared.task.RowOutput.TheVariants as tells
-use Rattle.js_ordered.specs.Driven.{Finishes, IsLeft, IsTry, Leads, LeadsOn, PassesTo, counted, first_held, heard_first, left_rows}
-use Rattle.js_ordered.specs.Giving.{IsInbox, IsNumber, Sends, Subscribes}
-use Rattle.js_ordered_rows.specs.Tasks.{IsHeard, IsHeardFrom, IsOfStream, StepsTo, answered_rows, create_outputs, heard_outputs, heard_row, heard_rows, next_rows, opening_to, reader_rows, requested, requesting, rows_of, subscribed, told_outputs}
+use Rattle.js_ordered.specs.Driven.{Finishes, Leads, counted}
+use Rattle.js_ordered.specs.Giving.{Sends}
+use Rattle.js_ordered_rows.specs.Tasks.{IsHeardFrom, StepsTo, heard_outputs, heard_row, next_rows, reader_rows, requested, requesting, told_outputs}
 use Rattle.js_link.specs.declared.sent.Sent.{Sent}
-use Rattle.js_pull.specs.declared.rows.Due.{Due}
 use Rattle.js_pull.specs.declared.rows.Due.TheVariants as due
 use Rattle.js_pull.specs.declared.rows.Notice.{Notice}
 use Rattle.js_pull.specs.declared.rows.Notice.TheVariants as notice
@@ -34,34 +24,24 @@ use Rattle.js_pull.specs.Limits.{pull_body}
 use Rattle.js_table.specs.declared.run.Output.TheVariants as out
 use Rattle.js_pull.specs.declared.rows.Step.{Step as Read}
 use Rattle.js_ordered_rows.specs.Readings.{ReadsTo, brought}
-use Rattle.js_pull.specs.Steps.{row_of, told_shown}
+use Rattle.js_pull.specs.Steps.{told_shown}
 use Rattle.js_pull.specs.declared.reader.Reader.{Reader}
 use Rattle.js_pull.specs.declared.reader.Row.{Row as PullRow}
 use Rattle.js_pull.specs.Reader as pull
 use Rattle.js_pull.specs.Reader.{info_of_reply, reply_to}
 use Rattle.js_table.specs.declared.consumer.Consumer.{Consumer}
 use Rattle.js_table.specs.declared.consumer.ReplayInput.{ReplayInput}
-use Rattle.js_table.specs.declared.consumer.Phase.{Phase}
-use Rattle.js_table.specs.declared.consumer.Phase.TheVariants.{Pulls, Pushes, Recreates, Idle, Ended, Exhausted}
-use Rattle.js_table.specs.declared.consumer.Recreation.{Recreation}
-use Rattle.js_table.specs.declared.row.Row.{Row}
+use Rattle.js_table.specs.declared.consumer.Phase.TheVariants.{Pulls}
 use Rattle.js_table.specs.declared.row.Row.TheVariants as row
 use Rattle.js_table.specs.declared.run.Output.{Output}
-use Rattle.js_table.specs.declared.setup.OrderedSetup.{OrderedSetup}
-use Rattle.js_table.specs.declared.setup.OrderedSetup.TheVariants.{Pull, Push}
-use Rattle.js_table.specs.declared.event_context.EventContext.{EventContext}
 use Rattle.js_table.specs.declared.replay_state.ReplayState.{ReplayState}
-use Rattle.js_table.specs.Fold.{Ran, after, and_then, is_over, is_request, is_subscribe, pass_each, passing, stays}
-use Rattle.js_table.specs.Kept.{IsPull, IsPush}
-use Rattle.js_table.specs.Passes.{at, from, heard, hearings, holding, listens_to, matter_now, ran}
-use Rattle.js_table.specs.Reading.{armed, beat_answer, push_kind, read_row, told, with_sent}
-use Rattle.js_table.specs.Recreation.{answered, message_on, create_row, start_row, succeed_pull, succeed_push, succeed_row}
-use Rattle.js_table.specs.State.{Matter, Passed, output_of, quietly, at_phase}
-use Rattle.js_table.specs.Texts.{inbox_subject}
-use Rattle.js_table.specs.Turn.{event_row, pass, row_at}
+use Rattle.js_table.specs.Fold.{is_request, passing}
+use Rattle.js_table.specs.Passes.{at, heard}
+use Rattle.js_table.specs.Reading.{read_row, told, with_sent}
+use Rattle.js_table.specs.Recreation.{message_on}
+use Rattle.js_table.specs.State.{Matter, Passed, output_of, at_phase}
 use Rattle.js_ordered_rows.proofs.ReaderSteps.{hear_sends, reads_row}
-use Rattle.js_ordered.proofs.Rans.{no_more, ran_from, from_rest}
-use Rattle.js_ordered_rows.proofs.Stepping.{from_stream, hears_as, hears_here, hears_nowhere}
+use Rattle.js_ordered_rows.proofs.Stepping.{from_stream}
 use Rattle.js_ordered.proofs.Driving.{with_request, unnumbered, no_made, told_unnumbered, heard_unnumbered, leads_at, leads_quietly, request_is}
 
 -- ---- rows of a pull reader
@@ -80,7 +60,7 @@ leads_read g now m one r s w u p message step passed sent outputs earlier later 
 -- a row that sends nothing and hears no message
 pub leads_finish : (g : ReplayInput) (now : ℕ) (m : Matter) (one : PullRow) (r s : Reader) (w u : ReplayState) (p : Passing) (step : Read) (passed : pull.Passed) (earlier later : List Output) (rest : NextTasks)
     → passing g now w ≡ p → pull.row p m.answer (message_on r.source.inbox m.arrival) one r ≡ passed → ReadsTo (brought m.answer) None passed s step → passed.sent ≡ []
-    → Finishes m w u s step earlier later rest
+    → Finishes m (at (Pulls s) w) u step earlier later rest
     → Leads g now m (row.Read one ∷ []) (at (Pulls r) w) earlier (next_rows m rest) u later
 leads_finish g now m one r s w u p step passed earlier later rest is row_is reads sends finishes =
     leads_read g now m one r s w u p None step passed [] (told_outputs finishes.told) earlier later finishes.consumer rest is row_is reads sends finishes.steps finishes.outputs
@@ -160,7 +140,7 @@ tells_alone message k r reply s step other reads = record { reader = reads.reade
 pub leads_status : (g : ReplayInput) (now : ℕ) (m : Matter) (message : Message) (r h s : Reader) (w u : ReplayState) (step : Read) (earlier later : List Output) (rest : NextTasks)
     → message_on r.source.inbox m.arrival ≡ Some message → pull_kind message ≢ pulls.Delivered → h ≡ heard now message r
     → ReadsTo (brought m.answer) (Some message) (pull.hear message (pull_kind message) h) s step
-    → Finishes m w u s step earlier later rest
+    → Finishes m (at (Pulls s) w) u step earlier later rest
     → Leads g now m (row.Read read.CheckArrival ∷ []) (at (Pulls r) w) earlier (next_rows m rest) u later
 leads_status g now m message r h s w u step earlier later rest arrives other hears reads finishes =
     let p : Passing = passing g now w in
@@ -183,10 +163,3 @@ pub leads_armed : (g : ReplayInput) (now : ℕ) (m : Matter) (r s : Reader) (w u
 leads_armed g now m r s w u outputs reader to =
     leads_quietly g now m (row.Read read.Arm) (Pulls r) w u outputs (at_phase (Pulls s) w.consumer) next.Nothing
     (record { consumer = ap (λ (x : Reader). at_phase (Pulls x) w.consumer) reader; outputs = refl; next = refl }) to
-
--- a reader's row that is known
-pub due_leads : (g : ReplayInput) (now : ℕ) (m : Matter) (one known : Due) (r : Reader) (w u : ReplayState) (before after : List Output) (rest : List Row) → one ≡ known
-    → Leads g now m (row.Read (row_of (brought m.answer) known) ∷ []) (at (Pulls r) w) before rest u after
-    → Leads g now m (row.Read (row_of (brought m.answer) one) ∷ []) (at (Pulls r) w) before rest u after
-due_leads g now m one known r w u before after rest is leads =
-    subst (λ (d : Due). Leads g now m (row.Read (row_of (brought m.answer) d) ∷ []) (at (Pulls r) w) before rest u after) (sym is) leads

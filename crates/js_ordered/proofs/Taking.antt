@@ -1,67 +1,19 @@
 -- A task is taken, passed or put back.
-use Rattle.std.proofs.Common.{◌≡◌, ℕ, suc, ◌+◌, ◌<◌, Bool, true, false, List, [], ◌∷◌, ◌++◌, map, drop, length, Option, Some, None, refl, sym, ap, ◌∙◌, subst, arith, append_assoc, append-nil, count_by, get_or}
+use Rattle.std.proofs.Common.{◌≡◌, ℕ, suc, true, false, List, [], ◌∷◌, ◌++◌, length, Option, Some, refl, sym, ap, ◌∙◌, subst, arith}
 use Rattle.std.proofs.lemmas.Bool.Decides.{nat_tests}
-use Rattle.std.proofs.lemmas.List.{drop_more, drop_all}
-use Rattle.std.specs.Prelude.{⊤, not, ◌==◌, ◌≤◌, ◌≢◌, codes, option_map, option_to_list, Result, Ok, Err, IfOk, OnOk, if◌then◌else◌}
-use Rattle.js_base.specs.declared.message.Message.{Message}
-use Rattle.js_json.specs.declared.consumer.info.Info.{Info}
-use Rattle.js_link.specs.Passing.{Passing}
-use Rattle.js_ordered_rows.specs.declared.task.Heard.{Heard}
-use Rattle.js_ordered_rows.specs.declared.task.Heard.TheVariants as hears
-use Rattle.js_ordered_rows.specs.declared.task.Held.{Held}
-use Rattle.js_ordered_rows.specs.declared.task.Inbox.{Inbox}
+use Rattle.std.specs.Prelude.{◌==◌, option_to_list, Result, Ok, Err}
 use Rattle.js_ordered_rows.specs.declared.task.NextTasks.{NextTasks}
-use Rattle.js_ordered_rows.specs.declared.task.NextTasks.TheVariants as next
 use Rattle.js_ordered_rows.specs.declared.task.Task.{Task}
-use Rattle.js_ordered_rows.specs.declared.task.Task.TheVariants as task
-use Rattle.js_ordered_rows.specs.declared.task.RowOutput.{RowOutput}
-use Rattle.js_ordered_rows.specs.declared.task.RowOutput.TheVariants as tells
-use Rattle.js_ordered.specs.Driven.{Finishes, IsLeft, IsTry, Leads, LeadsOn, PassesTo, counted, first_held, heard_first, left_rows}
-use Rattle.js_ordered.specs.Giving.{IsInbox, IsNumber, Sends, Subscribes}
-use Rattle.js_ordered_rows.specs.Tasks.{IsHeard, IsHeardFrom, IsOfStream, StepsTo, answered_rows, create_outputs, heard_outputs, heard_row, heard_rows, next_rows, opening_to, reader_rows, requested, requesting, rows_of, subscribed, told_outputs}
-use Rattle.js_link.specs.declared.sent.Sent.{Sent}
-use Rattle.js_pull.specs.declared.rows.Due.{Due}
-use Rattle.js_pull.specs.declared.rows.Due.TheVariants as due
-use Rattle.js_pull.specs.declared.rows.Notice.{Notice}
-use Rattle.js_pull.specs.declared.rows.Notice.TheVariants as notice
-use Rattle.js_pull.specs.declared.kind.Kind.{Kind}
-use Rattle.js_pull.specs.declared.kind.Kind.TheVariants as pulls
-use Rattle.js_pull.specs.declared.reader.Reason.{Reason}
-use Rattle.js_pull.specs.declared.reader.Row.TheVariants as read
-use Rattle.js_pull.specs.declared.reader.ReaderOutput.TheVariants as telling
-use Rattle.js_pull.specs.Kind.{pull_kind}
-use Rattle.js_pull.specs.Limits.{pull_body}
-use Rattle.js_table.specs.declared.run.Output.TheVariants as out
-use Rattle.js_pull.specs.declared.rows.Step.{Step as Read}
-use Rattle.js_ordered_rows.specs.Readings.{ReadsTo, brought}
-use Rattle.js_pull.specs.Steps.{row_of, told_shown}
-use Rattle.js_pull.specs.declared.reader.Reader.{Reader}
-use Rattle.js_pull.specs.declared.reader.Row.{Row as PullRow}
-use Rattle.js_pull.specs.Reader as pull
-use Rattle.js_pull.specs.Reader.{info_of_reply, reply_to}
-use Rattle.js_table.specs.declared.consumer.Consumer.{Consumer}
+use Rattle.js_ordered.specs.Driven.{IsLeft, Leads, LeadsOn, PassesTo, left_rows}
+use Rattle.js_ordered_rows.specs.Tasks.{next_rows}
 use Rattle.js_table.specs.declared.consumer.ReplayInput.{ReplayInput}
-use Rattle.js_table.specs.declared.consumer.Phase.{Phase}
-use Rattle.js_table.specs.declared.consumer.Phase.TheVariants.{Pulls, Pushes, Recreates, Idle, Ended, Exhausted}
-use Rattle.js_table.specs.declared.consumer.Recreation.{Recreation}
 use Rattle.js_table.specs.declared.row.Row.{Row}
-use Rattle.js_table.specs.declared.row.Row.TheVariants as row
 use Rattle.js_table.specs.declared.run.Output.{Output}
-use Rattle.js_table.specs.declared.setup.OrderedSetup.{OrderedSetup}
-use Rattle.js_table.specs.declared.setup.OrderedSetup.TheVariants.{Pull, Push}
 use Rattle.js_table.specs.declared.event_context.EventContext.{EventContext}
 use Rattle.js_table.specs.declared.replay_state.ReplayState.{ReplayState}
-use Rattle.js_table.specs.Fold.{Ran, after, and_then, is_over, is_request, is_subscribe, pass_each, passing, stays}
-use Rattle.js_table.specs.Kept.{IsPull, IsPush}
-use Rattle.js_table.specs.Passes.{at, from, heard, hearings, holding, listens_to, matter_now, ran}
-use Rattle.js_table.specs.Reading.{armed, beat_answer, push_kind, read_row, told, with_sent}
-use Rattle.js_table.specs.Recreation.{answered, message_on, create_row, start_row, succeed_pull, succeed_push, succeed_row}
-use Rattle.js_table.specs.State.{Matter, Passed, output_of, quietly, at_phase}
-use Rattle.js_table.specs.Texts.{inbox_subject}
-use Rattle.js_table.specs.Turn.{event_row, pass, row_at}
-use Rattle.js_ordered_rows.proofs.ReaderSteps.{hear_sends, reads_row}
-use Rattle.js_ordered.proofs.Rans.{no_more, ran_from, from_rest}
-use Rattle.js_ordered_rows.proofs.Stepping.{from_stream, hears_as, hears_here, hears_nowhere}
+use Rattle.js_table.specs.Fold.{after, and_then, pass_each}
+use Rattle.js_table.specs.Passes.{matter_now, ran}
+use Rattle.js_table.specs.State.{Matter}
 use Rattle.js_ordered.proofs.Driving.{}
 
 -- ---- a task that was taken

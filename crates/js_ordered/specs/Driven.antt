@@ -1,5 +1,5 @@
 -- What the code of a replay says that passes the rows of an event.
-use Rattle.std.specs.Prelude.{◌≡◌, ℕ, ◌+◌, List, [], ◌∷◌, ◌++◌, None, Result, Ok, Err, count_by, drop, ⊤}
+use Rattle.std.specs.Prelude.{◌≡◌, ℕ, ◌+◌, List, [], ◌∷◌, ◌++◌, None, Some, Result, Ok, Err, count_by, drop, ⊤}
 use Rattle.js_ordered_rows.specs.declared.task.NextTasks.{NextTasks}
 use Rattle.js_base.specs.declared.message.Message.{Message}
 use Rattle.js_ordered_rows.specs.declared.task.Held.{Held}
@@ -10,9 +10,10 @@ use Rattle.js_ordered_rows.specs.declared.task.Task.TheVariants as task
 use Rattle.js_ordered_rows.specs.Tasks.{StepsTo, next_rows, reader_rows, rows_of, told_outputs}
 use Rattle.js_table.specs.declared.consumer.ReplayInput.{ReplayInput}
 use Rattle.js_pull.specs.Steps.{told_shown}
-use Rattle.js_pull.specs.declared.reader.Reader.{Reader}
 use Rattle.js_table.specs.declared.consumer.Consumer.{Consumer}
+use Rattle.js_table.specs.declared.consumer.Phase.{Phase}
 use Rattle.js_table.specs.declared.consumer.Phase.TheVariants.{Pulls}
+use Rattle.js_table.specs.Recreation.{message_on}
 use Rattle.js_table.specs.Reading.{told as told_by, with_sent}
 use Rattle.js_table.specs.declared.row.Row.{Row}
 use Rattle.js_table.specs.declared.row.Row.TheVariants.{Hear}
@@ -21,7 +22,7 @@ use Rattle.js_table.specs.declared.event_context.EventContext.{EventContext}
 use Rattle.js_table.specs.declared.replay_state.ReplayState.{ReplayState}
 use Rattle.js_table.specs.Fold.{and_then, is_request, is_subscribe, pass_each}
 use Rattle.js_table.specs.Passes.{given_of, matter_now, ran}
-use Rattle.js_table.specs.State.{Matter, at_phase}
+use Rattle.js_table.specs.State.{Matter}
 
 -- passing the rest, after what was put out so far, comes to what passing the whole would have come to
 abbrev pub Leads : ReplayInput → ℕ → Matter → List Row → ReplayState → List Output → List Row → ReplayState → List Output → Type 0
@@ -80,9 +81,14 @@ first_rows m other = rows_of m other
 -- ---- what a reader tells
 
 -- the reader went on, and what it told without a message was put out
-pub record Finishes (m : Matter) (w u : ReplayState) (r : Reader) (step : Read) (earlier later : List Output) (rest : NextTasks) : Type 0 where
+pub record Finishes (m : Matter) (w u : ReplayState) (step : Read) (earlier later : List Output) (rest : NextTasks) : Type 0 where
   pub told : RowOutput
   pub consumer : Consumer
-  pub steps : StepsTo m (with_sent [] (reader_rows m step.next) (told_by (told_shown step.told None) (at_phase (Pulls r) w.consumer))) (told_outputs told) consumer rest
+  pub steps : StepsTo m (with_sent [] (reader_rows m step.next) (told_by (told_shown step.told None) w.consumer)) (told_outputs told) consumer rest
   pub outputs : later ≡ earlier ++ told_outputs told
   pub state : u ≡ record w { consumer = consumer }
+
+-- this arrives on the inbox of the reader, where one reads
+abbrev pub Arrives : Matter → Message → Phase → Type 0
+Arrives m message (Pulls r) = message_on r.source.inbox m.arrival ≡ Some message
+Arrives m message phase = ⊤

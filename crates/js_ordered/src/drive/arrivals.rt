@@ -1,31 +1,21 @@
 //! The arrivals of a pull reader in a replay: the event lends them, and what is put out of one is made before it is heard.
-ghost use Rattle.std.specs.Prelude.{◌≡◌, ◌≢◌, ◌+◌, ◌≤◌, ◌∷◌, ◌↔◌, [], IfOk, OnOk, OnErr, IsTrue, Some, codes, option_to_list, vec_capacity, vec_len};
-ghost use Rattle.std.specs.Option.{option_copied};
-ghost use Rattle.js_ordered.specs.Driven.{Finishes, PassesTo};
-ghost use Rattle.js_ordered.specs.Giving.{IsPublishing, IsSending};
-ghost use Rattle.js_ordered_rows.specs.Readings.{IsInquired, brought};
-ghost use Rattle.js_pull.specs.Steps.{row_of};
+ghost use Rattle.std.specs.Prelude.{◌≡◌, ◌≢◌, ◌+◌, ◌≤◌, ◌∷◌, ◌↔◌, [], IfOk, OnOk, OnErr, IsTrue, option_to_list, vec_capacity, vec_len};
+ghost use Rattle.js_ordered.specs.Driven.{Arrives, PassesTo};
 ghost use Rattle.js_pull.specs.Kind.{pull_kind as kind_of};
-ghost use Rattle.js_pull.specs.Reader.{info_subject};
 ghost use Rattle.js_ordered_rows.specs.Tasks.{IsHeardFrom, heard_outputs};
-ghost use Rattle.js_table.specs.Recreation.{message_on};
 ghost use Rattle.js_pull.specs.declared.reader.Row.TheVariants as read;
-ghost use Rattle.js_table.specs.Fold.{matter_of};
-ghost use Rattle.js_table.specs.Passes.{at, heard, informed_by, matter_now};
-ghost use Rattle.js_table.specs.State.{Matter};
+ghost use Rattle.js_table.specs.Passes.{heard, matter_now};
 ghost use Rattle.js_table.specs.declared.row.Row.TheVariants as row;
 
-use crate::drive::give::{Sending, put, request_for, send, tell};
+use crate::drive::give::put;
 use crate::drive::listening::output_of;
 use crate::drive::reading::finish;
-use bytes::Bytes;
-use js_base::{Message, OutOfMemory, TryClone};
+use js_base::{Message, OutOfMemory};
 use js_ordered_rows::listening::heard_from;
-use js_ordered_rows::{Heard, NextTasks, Step, Task, reading};
-use js_pull::{Due, InfoRequest, Kind, Reader, Reason, Step as Read, info_of_reply, pull_kind};
-use js_table::{EventContext, EventKind, Output, Phase, ReplayState};
+use js_ordered_rows::{Heard, NextTasks, Task, reading};
+use js_pull::{Due, Kind, Reader, pull_kind};
+use js_table::{EventContext, Output, Phase, ReplayState};
 use std::alloc::Global;
-use std::mem;
 
 /// What an arrival needs before it is heard.
 #[derive(Drop)]
@@ -67,26 +57,21 @@ fn hear_message(
     alloc: Global,
     context: &EventContext<'_>,
     state: &mut ReplayState,
-    mut reader: Reader,
     message: &Message,
     ready: Brought,
     outputs: &mut Vec<Output>,
 ) -> Result<NextTasks, OutOfMemory>
-    requires arrives { message_on reader.source.inbox (matter_now context.now).arrival ≡ Some message.now }
+    requires arrives { Arrives (matter_now context.now) message.now state.old.consumer.phase }
     requires kind { kind_of message.now ≡ Kind.Delivered }
     requires heard { IsHeardFrom state.old.consumer.consumer_sequence message.now ready.heard }
     requires output { option_to_list ready.output ≡ heard_outputs state.old.link_up message.now ready.heard }
     requires room { vec_len outputs.old + 1 ≤ vec_capacity outputs.old }
-    ensures { PassesTo context.now (row.Read read.CheckArrival ∷ []) (at (Phase.Pulls reader) state.old) state.new outputs.old.items outputs.new.items result }
+    ensures { PassesTo context.now (row.Read read.CheckArrival ∷ []) state.old state.new outputs.old.items outputs.new.items result }
 {
-    match note(alloc, context, &mut reader, message) {
-        Err(refused) => {
-            state.consumer.phase = Phase::Pulls(reader);
-            Err(refused)
-        }
-        Ok(()) => {
+    match &mut state.consumer.phase {
+        Phase::Pulls(reader) => {
+            note(alloc, context, reader, message)?;
             reader.lower(1, message.length);
-            state.consumer.phase = Phase::Pulls(reader);
             let next = reading::take_message(
                 &mut state.consumer,
                 ready.heard,
@@ -95,6 +80,7 @@ fn hear_message(
             put(ready.output, outputs);
             Ok(next)
         }
+        _ => Ok(NextTasks::Nothing),
     }
 }
 
@@ -103,50 +89,21 @@ fn hear_status(
     alloc: Global,
     context: &EventContext<'_>,
     state: &mut ReplayState,
-    mut reader: Reader,
     message: &Message,
     outputs: &mut Vec<Output>,
 ) -> Result<NextTasks, OutOfMemory>
-    requires arrives { message_on reader.source.inbox (matter_now context.now).arrival ≡ Some message.now }
+    requires arrives { Arrives (matter_now context.now) message.now state.old.consumer.phase }
     requires kind { kind_of message.now ≢ Kind.Delivered }
     requires room { vec_len outputs.old + 1 ≤ vec_capacity outputs.old }
-    ensures { PassesTo context.now (row.Read read.CheckArrival ∷ []) (at (Phase.Pulls reader) state.old) state.new outputs.old.items outputs.new.items result }
+    ensures { PassesTo context.now (row.Read read.CheckArrival ∷ []) state.old state.new outputs.old.items outputs.new.items result }
 {
-    match note(alloc, context, &mut reader, message) {
-        Err(refused) => {
-            state.consumer.phase = Phase::Pulls(reader);
-            Err(refused)
+    match &mut state.consumer.phase {
+        Phase::Pulls(reader) => {
+            note(alloc, context, reader, message)?;
+            let step = reading::hear(reader, message);
+            Ok(finish(state, step, outputs))
         }
-        Ok(()) => {
-            let step = reading::hear(&mut reader, message);
-            Ok(finish(state, reader, step, outputs))
-        }
-    }
-}
-
-/// An arrival on the reader's inbox.
-#[inline]
-fn hear_arrival(
-    alloc: Global,
-    context: &EventContext<'_>,
-    state: &mut ReplayState,
-    reader: Reader,
-    message: &Message,
-    outputs: &mut Vec<Output>,
-) -> Result<NextTasks, OutOfMemory>
-    requires arrives { message_on reader.source.inbox (matter_now context.now).arrival ≡ Some message.now }
-    requires room { vec_len outputs.old + 1 ≤ vec_capacity outputs.old }
-    ensures { PassesTo context.now (row.Read read.CheckArrival ∷ []) (at (Phase.Pulls reader) state.old) state.new outputs.old.items outputs.new.items result }
-{
-    if !is_delivered(message) {
-        return hear_status(alloc, context, state, reader, message, outputs);
-    }
-    match make_ready(state, message) {
-        Err(refused) => {
-            state.consumer.phase = Phase::Pulls(reader);
-            Err(refused)
-        }
-        Ok(ready) => hear_message(alloc, context, state, reader, message, ready, outputs),
+        _ => Ok(NextTasks::Nothing),
     }
 }
 
@@ -166,23 +123,42 @@ fn is_delivered(message: &Message) -> bool
     }
 }
 
+/// An arrival on the reader's inbox.
+#[inline]
+fn hear_arrival(
+    alloc: Global,
+    context: &EventContext<'_>,
+    state: &mut ReplayState,
+    message: &Message,
+    outputs: &mut Vec<Output>,
+) -> Result<NextTasks, OutOfMemory>
+    requires arrives { Arrives (matter_now context.now) message.now state.old.consumer.phase }
+    requires room { vec_len outputs.old + 1 ≤ vec_capacity outputs.old }
+    ensures { PassesTo context.now (row.Read read.CheckArrival ∷ []) state.old state.new outputs.old.items outputs.new.items result }
+{
+    if !is_delivered(message) {
+        return hear_status(alloc, context, state, message, outputs);
+    }
+    let ready = make_ready(state, message)?;
+    hear_message(alloc, context, state, message, ready, outputs)
+}
+
 /// What arrives on the reader's inbox is heard. Where nothing does, the heartbeat is looked at.
 #[inline]
 pub(crate) fn check_arrival(
     alloc: Global,
     context: &EventContext<'_>,
     state: &mut ReplayState,
-    reader: Reader,
     outputs: &mut Vec<Output>,
 ) -> Result<NextTasks, OutOfMemory>
     requires room { vec_len outputs.old + 1 ≤ vec_capacity outputs.old }
-    ensures { PassesTo context.now (row.Read read.CheckArrival ∷ []) (at (Phase.Pulls reader) state.old) state.new outputs.old.items outputs.new.items result }
+    ensures { PassesTo context.now (row.Read read.CheckArrival ∷ []) state.old state.new outputs.old.items outputs.new.items result }
 {
-    match context.what.message_on(reader.source.inbox) {
-        Some(message) => hear_arrival(alloc, context, state, reader, message, outputs),
-        None => {
-            state.consumer.phase = Phase::Pulls(reader);
-            Ok(NextTasks::One(Task::Read(Due::CheckSilence)))
-        }
+    match &state.consumer.phase {
+        Phase::Pulls(reader) => match context.what.message_on(reader.source.inbox) {
+            Some(message) => hear_arrival(alloc, context, state, message, outputs),
+            None => Ok(NextTasks::One(Task::Read(Due::CheckSilence))),
+        },
+        _ => Ok(NextTasks::Nothing),
     }
 }

@@ -1,45 +1,35 @@
 //! The rows of a pull reader in a replay: what it sends and what is put out of an arrival is made first.
-ghost use Rattle.std.specs.Prelude.{◌≡◌, ◌≢◌, ◌+◌, ◌≤◌, ◌∷◌, ◌↔◌, [], IfOk, OnOk, OnErr, IsTrue, Some, codes, option_to_list, vec_capacity, vec_len};
+ghost use Rattle.std.specs.Prelude.{◌≡◌, ◌+◌, ◌≤◌, ◌∷◌, [], IfOk, List, codes, vec_capacity, vec_len};
 ghost use Rattle.std.specs.Option.{option_copied};
-ghost use Rattle.js_ordered.specs.Driven.{Finishes, PassesTo};
+ghost use Rattle.js_ordered.specs.Driven.{Finishes, LeadsOn, PassesTo};
 ghost use Rattle.js_ordered.specs.Giving.{IsPublishing, IsSending};
 ghost use Rattle.js_ordered_rows.specs.Readings.{IsInquired, brought};
+ghost use Rattle.js_ordered_rows.specs.Tasks.{next_rows};
 ghost use Rattle.js_pull.specs.Steps.{row_of};
-ghost use Rattle.js_pull.specs.Kind.{pull_kind as kind_of};
 ghost use Rattle.js_pull.specs.Reader.{info_subject};
-ghost use Rattle.js_ordered_rows.specs.Tasks.{IsHeardFrom, heard_outputs};
-ghost use Rattle.js_table.specs.Recreation.{message_on};
 ghost use Rattle.js_pull.specs.declared.reader.Row.TheVariants as read;
 ghost use Rattle.js_table.specs.Fold.{matter_of};
-ghost use Rattle.js_table.specs.Passes.{at, heard, informed_by, matter_now};
+ghost use Rattle.js_table.specs.Passes.{informed_by, matter_now};
 ghost use Rattle.js_table.specs.State.{Matter};
 ghost use Rattle.js_table.specs.declared.row.Row.TheVariants as row;
+ghost use Rattle.js_table.specs.declared.run.Output.{Output as SpecOutput};
 
 use crate::drive::arrivals::check_arrival;
-use crate::drive::give::{Sending, put, request_for, send, tell};
-use crate::drive::listening::output_of;
+use crate::drive::give::{Sending, request_for, send, tell};
 use crate::drive::recreation::has_reply;
 use bytes::Bytes;
 use js_base::{Message, OutOfMemory, TryClone};
-use js_ordered_rows::listening::heard_from;
-use js_ordered_rows::{Heard, NextTasks, Step, Task, reading};
-use js_pull::{Due, InfoRequest, Kind, Reader, Reason, Step as Read, info_of_reply, pull_kind};
+use js_ordered_rows::{NextTasks, Step, reading};
+use js_pull::{Due, InfoRequest, Reader, Reason, Step as Read, info_of_reply};
 use js_table::{EventContext, EventKind, Output, Phase, ReplayState};
 use std::alloc::Global;
-use std::mem;
 
-/// The reader goes on, and what it tells without a message is put out.
+/// What the reader tells without a message is put out.
 #[inline]
-pub(crate) fn finish(
-    state: &mut ReplayState,
-    reader: Reader,
-    step: Read,
-    outputs: &mut Vec<Output>,
-) -> NextTasks
+pub(crate) fn finish(state: &mut ReplayState, step: Read, outputs: &mut Vec<Output>) -> NextTasks
     requires room { vec_len outputs.old + 1 ≤ vec_capacity outputs.old }
-    ensures { (m : Matter) → Finishes m state.old state.new reader step outputs.old.items outputs.new.items result }
+    ensures { (m : Matter) → Finishes m state.old state.new step outputs.old.items outputs.new.items result }
 {
-    state.consumer.phase = Phase::Pulls(reader);
     let Step { told, next } = reading::take_notice(&mut state.consumer, step.told, step.next);
     tell(told, outputs);
     next
@@ -66,46 +56,42 @@ fn ask(
     alloc: Global,
     context: &EventContext<'_>,
     state: &mut ReplayState,
-    mut reader: Reader,
     reason: Reason,
     outputs: &mut Vec<Output>,
 ) -> Result<NextTasks, OutOfMemory>
     requires room { vec_len outputs.old + 1 ≤ vec_capacity outputs.old }
-    ensures { PassesTo context.now (row.Read (read.Ask reason) ∷ []) (at (Phase.Pulls reader) state.old) state.new outputs.old.items outputs.new.items result }
+    ensures { PassesTo context.now (row.Read (read.Ask reason) ∷ []) state.old state.new outputs.old.items outputs.new.items result }
 {
-    match pull_request(alloc, state.link_up, &reader) {
-        Err(refused) => {
-            state.consumer.phase = Phase::Pulls(reader);
-            Err(refused)
-        }
-        Ok(request) => match request {
+    match &mut state.consumer.phase {
+        Phase::Pulls(reader) => match pull_request(alloc, state.link_up, reader)? {
             None => {
-                let step = reading::ask(&mut reader, context.moment, reason, false);
-                Ok(finish(state, reader, step, outputs))
+                let step = reading::ask(reader, context.moment, reason, false);
+                Ok(finish(state, step, outputs))
             }
             Some(output) => {
-                reading::ask(&mut reader, context.moment, reason, true);
-                state.consumer.phase = Phase::Pulls(reader);
+                reading::ask(reader, context.moment, reason, true);
                 outputs.push_reserved(output);
                 Ok(NextTasks::Nothing)
             }
         },
+        _ => Ok(NextTasks::Nothing),
     }
 }
 
 /// The info request of a reader, where the link is up.
 fn info_request(
     alloc: Global,
-    state: &ReplayState,
+    up: bool,
+    requests_sent: u64,
     reader: &Reader,
 ) -> Result<Option<Sending>, OutOfMemory>
-    ensures { IfOk result (λ request. IsSending state.now.link_up state.now.requests_sent (info_subject reader.now.source) (codes "{}") request) }
+    ensures { IfOk result (λ request. IsSending up requests_sent (info_subject reader.now.source) (codes "{}") request) }
 {
-    if !state.link_up {
+    if !up {
         return Ok(None);
     }
     let subject = reader.source.info_subject(alloc)?;
-    let request = request_for(state.requests_sent, subject, Bytes::from_static(b"{}"))?;
+    let request = request_for(requests_sent, subject, Bytes::from_static(b"{}"))?;
     Ok(Some(request))
 }
 
@@ -114,24 +100,20 @@ fn inquire(
     alloc: Global,
     context: &EventContext<'_>,
     state: &mut ReplayState,
-    mut reader: Reader,
     failures: u64,
     outputs: &mut Vec<Output>,
 ) -> Result<NextTasks, OutOfMemory>
     requires room { vec_len outputs.old + 1 ≤ vec_capacity outputs.old }
-    ensures { PassesTo context.now (row.Read (read.Inquire failures) ∷ []) (at (Phase.Pulls reader) state.old) state.new outputs.old.items outputs.new.items result }
+    ensures { PassesTo context.now (row.Read (read.Inquire failures) ∷ []) state.old state.new outputs.old.items outputs.new.items result }
 {
-    match info_request(alloc, state, &reader) {
-        Err(refused) => {
-            state.consumer.phase = Phase::Pulls(reader);
-            Err(refused)
-        }
-        Ok(request) => {
+    match &mut state.consumer.phase {
+        Phase::Pulls(reader) => {
+            let request = info_request(alloc, state.link_up, state.requests_sent, reader)?;
             let number = send(&mut state.requests_sent, request, outputs);
-            let step = reading::inquire(&mut reader, context.moment, failures, number);
-            state.consumer.phase = Phase::Pulls(reader);
+            let step = reading::inquire(reader, context.moment, failures, number);
             Ok(reading::after(step.next))
         }
+        _ => Ok(NextTasks::Nothing),
     }
 }
 
@@ -171,22 +153,19 @@ fn answered(
     alloc: Global,
     context: &EventContext<'_>,
     state: &mut ReplayState,
-    mut reader: Reader,
     failures: u64,
     outputs: &mut Vec<Output>,
 ) -> Result<NextTasks, OutOfMemory>
     requires room { vec_len outputs.old + 1 ≤ vec_capacity outputs.old }
-    ensures { PassesTo context.now (row.Read (read.Answered (brought (matter_now context.now).answer) failures) ∷ []) (at (Phase.Pulls reader) state.old) state.new outputs.old.items outputs.new.items result }
+    ensures { PassesTo context.now (row.Read (read.Answered (brought (matter_now context.now).answer) failures) ∷ []) state.old state.new outputs.old.items outputs.new.items result }
 {
-    match informed(alloc, context.what) {
-        Err(refused) => {
-            state.consumer.phase = Phase::Pulls(reader);
-            Err(refused)
+    match &mut state.consumer.phase {
+        Phase::Pulls(reader) => {
+            let informed = informed(alloc, context.what)?;
+            let step = reading::answered(reader, failures, informed);
+            Ok(finish(state, step, outputs))
         }
-        Ok(informed) => {
-            let step = reading::answered(&mut reader, failures, informed);
-            Ok(finish(state, reader, step, outputs))
-        }
+        _ => Ok(NextTasks::Nothing),
     }
 }
 
@@ -205,63 +184,111 @@ fn is_answered(what: &EventKind, inquiry: InfoRequest) -> bool
 fn check_inquiry(
     context: &EventContext<'_>,
     state: &mut ReplayState,
-    reader: Reader,
     outputs: &mut Vec<Output>,
-) -> Result<NextTasks, OutOfMemory>
+) -> NextTasks
     requires room { vec_len outputs.old + 1 ≤ vec_capacity outputs.old }
-    ensures { PassesTo context.now (row.Read read.CheckInfoRequest ∷ []) (at (Phase.Pulls reader) state.old) state.new outputs.old.items outputs.new.items result }
+    ensures { LeadsOn context.now (row.Read read.CheckInfoRequest ∷ []) state.old outputs.old.items (next_rows (matter_now context.now) result) state.new outputs.new.items }
 {
-    let answered = is_answered(context.what, reader.inquiry);
-    let step = reading::check_inquiry(reader.inquiry, context.moment, answered);
-    Ok(finish(state, reader, step, outputs))
+    match &state.consumer.phase {
+        Phase::Pulls(reader) => {
+            let answered = is_answered(context.what, reader.inquiry);
+            let step = reading::check_inquiry(reader.inquiry, context.moment, answered);
+            finish(state, step, outputs)
+        }
+        _ => NextTasks::Nothing,
+    }
+}
+
+/// An info request has failed once more.
+fn fail_inquiry(
+    context: &EventContext<'_>,
+    state: &mut ReplayState,
+    failures: u64,
+    outputs: &mut Vec<Output>,
+) -> NextTasks
+    requires room { vec_len outputs.old + 1 ≤ vec_capacity outputs.old }
+    ensures { LeadsOn context.now (row.Read (read.FailInfoRequest failures) ∷ []) state.old outputs.old.items (next_rows (matter_now context.now) result) state.new outputs.new.items }
+{
+    match &mut state.consumer.phase {
+        Phase::Pulls(reader) => {
+            let step = reading::fail_inquiry(reader, context.moment, failures);
+            finish(state, step, outputs)
+        }
+        _ => NextTasks::Nothing,
+    }
+}
+
+// ---- what is looked at
+
+/// The last pull request may have expired.
+#[inline]
+fn check_expiry(
+    context: &EventContext<'_>,
+    state: &mut ReplayState,
+    outputs: &mut Vec<Output>,
+) -> NextTasks
+    requires room { vec_len outputs.old + 1 ≤ vec_capacity outputs.old }
+    ensures { LeadsOn context.now (row.Read read.CheckExpiry ∷ []) state.old outputs.old.items (next_rows (matter_now context.now) result) state.new outputs.new.items }
+{
+    match &state.consumer.phase {
+        Phase::Pulls(reader) => {
+            let step = reading::check_expiry(reader, context.moment);
+            finish(state, step, outputs)
+        }
+        _ => NextTasks::Nothing,
+    }
+}
+
+/// The heartbeat may be missing.
+#[inline]
+fn check_silence(
+    context: &EventContext<'_>,
+    state: &mut ReplayState,
+    outputs: &mut Vec<Output>,
+) -> NextTasks
+    requires room { vec_len outputs.old + 1 ≤ vec_capacity outputs.old }
+    ensures { LeadsOn context.now (row.Read read.CheckSilence ∷ []) state.old outputs.old.items (next_rows (matter_now context.now) result) state.new outputs.new.items }
+{
+    match &mut state.consumer.phase {
+        Phase::Pulls(reader) => {
+            let step = reading::check_silence(reader, context.moment);
+            finish(state, step, outputs)
+        }
+        _ => NextTasks::Nothing,
+    }
+}
+
+/// Little may be pending.
+#[inline]
+fn check_threshold(
+    context: &EventContext<'_>,
+    state: &mut ReplayState,
+    outputs: &mut Vec<Output>,
+) -> NextTasks
+    requires room { vec_len outputs.old + 1 ≤ vec_capacity outputs.old }
+    ensures { LeadsOn context.now (row.Read read.Threshold ∷ []) state.old outputs.old.items (next_rows (matter_now context.now) result) state.new outputs.new.items }
+{
+    match &mut state.consumer.phase {
+        Phase::Pulls(reader) => {
+            let step = reading::threshold(reader);
+            finish(state, step, outputs)
+        }
+        _ => NextTasks::Nothing,
+    }
+}
+
+/// The heartbeat is armed.
+fn arm(context: &EventContext<'_>, state: &mut ReplayState)
+    ensures { (outputs : List SpecOutput) → LeadsOn context.now (row.Read read.Arm ∷ []) state.old outputs [] state.new outputs }
+{
+    if let Phase::Pulls(reader) = &mut state.consumer.phase {
+        reader.arm_silence(context.moment);
+    }
 }
 
 // ---- any row
 
-/// A row of a reader is passed.
-#[inline]
-fn read(
-    alloc: Global,
-    context: &EventContext<'_>,
-    state: &mut ReplayState,
-    mut reader: Reader,
-    due: Due,
-    outputs: &mut Vec<Output>,
-) -> Result<NextTasks, OutOfMemory>
-    requires room { vec_len outputs.old + 1 ≤ vec_capacity outputs.old }
-    ensures { PassesTo context.now (row.Read (row_of (brought (matter_now context.now).answer) due) ∷ []) (at (Phase.Pulls reader) state.old) state.new outputs.old.items outputs.new.items result }
-{
-    match due {
-        Due::Ask { reason } => ask(alloc, context, state, reader, reason, outputs),
-        Due::Inquire { failures } => inquire(alloc, context, state, reader, failures, outputs),
-        Due::Answered { failures } => answered(alloc, context, state, reader, failures, outputs),
-        Due::CheckArrival => check_arrival(alloc, context, state, reader, outputs),
-        Due::CheckInfoRequest => check_inquiry(context, state, reader, outputs),
-        Due::Threshold => {
-            let step = reading::threshold(&mut reader);
-            Ok(finish(state, reader, step, outputs))
-        }
-        Due::Arm => {
-            reader.arm_silence(context.moment);
-            state.consumer.phase = Phase::Pulls(reader);
-            Ok(NextTasks::Nothing)
-        }
-        Due::FailInfoRequest { failures } => {
-            let step = reading::fail_inquiry(&mut reader, context.moment, failures);
-            Ok(finish(state, reader, step, outputs))
-        }
-        Due::CheckExpiry => {
-            let step = reading::check_expiry(&reader, context.moment);
-            Ok(finish(state, reader, step, outputs))
-        }
-        Due::CheckSilence => {
-            let step = reading::check_silence(&mut reader, context.moment);
-            Ok(finish(state, reader, step, outputs))
-        }
-    }
-}
-
-/// A row of the reader is passed, where one reads.
+/// A row of the reader is passed, where one reads. The reader stays in its place, since it is large.
 #[inline]
 pub(crate) fn pass_read(
     alloc: Global,
@@ -273,32 +300,18 @@ pub(crate) fn pass_read(
     requires room { vec_len outputs.old + 1 ≤ vec_capacity outputs.old }
     ensures { PassesTo context.now (row.Read (row_of (brought (matter_now context.now).answer) due) ∷ []) state.old state.new outputs.old.items outputs.new.items result }
 {
-    match mem::replace(&mut state.consumer.phase, Phase::Idle) {
-        Phase::Pulls(reader) => read(alloc, context, state, reader, due, outputs),
-        Phase::Recreates(recreation) => {
-            state.consumer.phase = Phase::Recreates(recreation);
-            Ok(NextTasks::Nothing)
-        }
-        Phase::Pushes {
-            inbox,
-            heartbeat_timer,
-        } => {
-            state.consumer.phase = Phase::Pushes {
-                inbox,
-                heartbeat_timer,
-            };
-            Ok(NextTasks::Nothing)
-        }
-        Phase::Idle => {
-            state.consumer.phase = Phase::Idle;
-            Ok(NextTasks::Nothing)
-        }
-        Phase::Ended => {
-            state.consumer.phase = Phase::Ended;
-            Ok(NextTasks::Nothing)
-        }
-        Phase::Exhausted => {
-            state.consumer.phase = Phase::Exhausted;
+    match due {
+        Due::Ask { reason } => ask(alloc, context, state, reason, outputs),
+        Due::Inquire { failures } => inquire(alloc, context, state, failures, outputs),
+        Due::Answered { failures } => answered(alloc, context, state, failures, outputs),
+        Due::CheckArrival => check_arrival(alloc, context, state, outputs),
+        Due::CheckInfoRequest => Ok(check_inquiry(context, state, outputs)),
+        Due::FailInfoRequest { failures } => Ok(fail_inquiry(context, state, failures, outputs)),
+        Due::CheckExpiry => Ok(check_expiry(context, state, outputs)),
+        Due::CheckSilence => Ok(check_silence(context, state, outputs)),
+        Due::Threshold => Ok(check_threshold(context, state, outputs)),
+        Due::Arm => {
+            arm(context, state);
             Ok(NextTasks::Nothing)
         }
     }

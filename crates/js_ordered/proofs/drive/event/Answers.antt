@@ -1,6 +1,5 @@
 use Rattle.std.proofs.Common.{refl, sym, ◌∙◌}
 use Rattle.js_table.specs.Passes.{given_of, matter_now}
-use Rattle.js_table.specs.declared.row.Row.TheVariants as row
 use Rattle.js_table.specs.Fold.{passing}
 use Rattle.js_ordered.proofs.Driving.{event_over, event_passed}
 use Rattle.js_ordered.proofs.drive.event.Goals as goal

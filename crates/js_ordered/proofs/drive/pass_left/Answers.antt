@@ -1,5 +1,4 @@
-use Rattle.std.proofs.Common.{◌≡◌, refl, sym, ap, ◌∙◌}
-use Rattle.js_ordered.proofs.Taking.{left_some, left_none}
+use Rattle.std.proofs.Common.{◌∙◌}
 use Rattle.js_ordered.proofs.drive.pass_left.Goals as goal
 
 pub loop-preserved : goal.loop-preserved

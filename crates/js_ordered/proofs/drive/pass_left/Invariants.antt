@@ -1,4 +1,3 @@
-use Rattle.std.proofs.Common.{◌≡◌}
 use Rattle.js_ordered.specs.Driven.{LeadsOn, left_rows}
 use Rattle.js_table.specs.Passes.{matter_now}
 use Rattle.js_ordered.proofs.drive.pass_left.Given as goal

@@ -1,6 +1,5 @@
-use Rattle.std.proofs.Common.{refl, sym, ap, ◌∙◌}
+use Rattle.std.proofs.Common.{ap}
 use Rattle.js_table.specs.Passes.{given_of, matter_now}
-use Rattle.js_table.specs.declared.row.Row.TheVariants as row
 use Rattle.js_ordered.specs.Driven.{first_rows, left_rows}
 use Rattle.js_ordered.proofs.Driving.{leads_on}
 use Rattle.js_ordered.proofs.Taking.{refused_on, ok_passes, err_passes, left_again}

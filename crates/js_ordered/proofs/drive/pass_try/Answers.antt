@@ -1,8 +1,5 @@
 use Rattle.std.proofs.Common.{refl, sym, ◌∙◌}
-use Rattle.std.specs.Prelude.{Ok}
-use Rattle.js_ordered.specs.Driven.{PassesTo}
-use Rattle.js_ordered_rows.specs.Tasks.{rows_of}
-use Rattle.js_table.specs.declared.consumer.Phase.TheVariants.{Pulls, Pushes, Recreates, Idle, Ended, Exhausted}
+use Rattle.js_table.specs.declared.consumer.Phase.TheVariants.{Pulls, Pushes, Idle, Ended, Exhausted}
 use Rattle.js_table.specs.Passes.{given_of, matter_now}
 use Rattle.js_ordered.proofs.Nowhere.{tries_nowhere, tries_here}
 use Rattle.js_ordered.proofs.drive.pass_try.Goals as goal

@@ -1,4 +1,4 @@
-use Rattle.std.proofs.Common.{◌≡◌, ap, sym, subst, ◌∙◌}
+use Rattle.std.proofs.Common.{ap, sym, subst, ◌∙◌}
 use Rattle.js_ordered.specs.Driven.{Leads, left_rows}
 use Rattle.js_pull.specs.declared.reader.Reader.{Reader}
 use Rattle.js_table.specs.declared.consumer.Phase.TheVariants.{Pulls}

@@ -1,5 +1,5 @@
-use Rattle.std.proofs.Common.{◌≡◌, ap, sym, ◌∙◌}
-use Rattle.js_table.specs.Fold.{Ran, event}
+use Rattle.std.proofs.Common.{ap, sym, ◌∙◌}
+use Rattle.js_table.specs.Fold.{Ran}
 use Rattle.js_table.specs.Passes.{given_of}
 use Rattle.js_ordered.proofs.Replaying.{event_led}
 use Rattle.js_ordered.proofs.replay.pass.Goals as goal

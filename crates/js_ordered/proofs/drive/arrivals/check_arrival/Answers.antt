@@ -1,11 +1,11 @@
-use Rattle.std.proofs.Common.{◌≡◌, refl, sym, ap, ◌∙◌, Option, Some, None, [], ◌∷◌, List, ◌++◌}
-use Rattle.js_ordered_rows.specs.Readings.{brought}
+use Rattle.std.proofs.Common.{sym, subst, [], ◌∷◌}
 use Rattle.js_pull.specs.declared.reader.Row.TheVariants as read
-use Rattle.js_pull.specs.Reader as pull
-use Rattle.js_table.specs.declared.run.Output.{Output}
-use Rattle.js_table.specs.Fold.{passing}
-use Rattle.js_table.specs.Passes.{given_of, matter_now}
+use Rattle.js_table.specs.Passes.{at, given_of, matter_now}
+use Rattle.js_ordered.specs.Driven.{Arrives, Leads}
+use Rattle.js_table.specs.declared.consumer.Phase.{Phase}
+use Rattle.js_table.specs.declared.row.Row.TheVariants as row
 use Rattle.js_ordered.proofs.ReadDriving.{leads_silent}
+use Rattle.js_ordered.proofs.Nowhere.{reads_nowhere}
 use Rattle.js_ordered.proofs.drive.arrivals.check_arrival.Goals as goal
 
 pub returns-in-None : goal.returns-in-None
@@ -14,4 +14,18 @@ returns-in-None c =
     let now = c.args.context.now.moment in
     let m = matter_now c.args.context.now in
     let w = c.args.state.now in
-    leads_silent g now m c.args.reader w c.args.outputs.now.items c.in-None.ensures
+    let r = c.in-Pulls.reader in
+    let outputs = c.args.outputs.now.items in
+    subst (λ (q : Phase). Leads g now m (row.Read read.CheckArrival ∷ []) (at q w) outputs (row.Read read.CheckSilence ∷ []) (at q w) outputs) (sym c.in-Pulls.is)
+    (leads_silent g now m r w outputs c.in-None.ensures)
+
+pub returns-in_default : goal.returns-in_default
+returns-in_default c =
+    let g = given_of c.args.context.now in
+    let now = c.args.context.now.moment in
+    let m = matter_now c.args.context.now in
+    let w = c.args.state.now in
+    reads_nowhere g now m (read.CheckArrival) w c.args.outputs.now.items c.in_default.not-Pulls
+
+pub hear_arrival-requires-clause-arrives : goal.hear_arrival-requires-clause-arrives
+hear_arrival-requires-clause-arrives c = subst (λ (q : Phase). Arrives (matter_now c.args.context.now) c.in-Some.message.now q) (sym c.in-Pulls.is) (sym c.in-Some.ensures)

@@ -1,7 +1,6 @@
 use Rattle.std.proofs.Common.{refl, sym, ap, ◌∙◌, List, ◌++◌}
 use Rattle.js_table.specs.declared.run.Output.{Output}
 use Rattle.js_table.specs.Passes.{given_of, matter_now}
-use Rattle.js_table.specs.declared.row.Row.TheVariants as row
 use Rattle.js_table.specs.Fold.{passing}
 use Rattle.js_ordered.proofs.Driving.{hears_on, heard_elsewhere}
 use Rattle.js_ordered.proofs.drive.listening.hear.Goals as goal

@@ -1,7 +1,6 @@
-use Rattle.std.proofs.Common.{◌≡◌, refl, sym, ap, ◌∙◌, Option, Some, None, [], ◌∷◌, List, ◌++◌}
+use Rattle.std.proofs.Common.{refl, sym}
 use Rattle.js_table.specs.declared.consumer.Phase.TheVariants.{Pulls, Pushes, Recreates, Idle, Ended, Exhausted}
 use Rattle.js_table.specs.declared.row.Row.TheVariants as row
-use Rattle.js_table.specs.Fold.{passing}
 use Rattle.js_table.specs.Passes.{given_of, matter_now}
 use Rattle.js_ordered.proofs.Driving.{look_nowhere, looks_on}
 use Rattle.js_ordered_rows.specs.declared.task.RowOutput.TheVariants as tells

@@ -1,19 +1,32 @@
-use Rattle.std.proofs.Common.{refl, sym, ap, ◌∙◌, Option, Some, None, [], ◌∷◌}
-use Rattle.js_ordered_rows.specs.Readings.{brought}
+use Rattle.std.proofs.Common.{refl, subst, None}
+use Rattle.js_ordered_rows.specs.Tasks.{next_rows}
 use Rattle.js_pull.specs.declared.reader.Row.TheVariants as read
 use Rattle.js_pull.specs.Reader as pull
 use Rattle.js_table.specs.Fold.{passing}
-use Rattle.js_table.specs.Passes.{given_of, matter_now}
-use Rattle.js_ordered.proofs.Driving.{ok_holds}
-use Rattle.js_ordered.proofs.ReadDriving.{leads_finish, leads_read}
+use Rattle.js_table.specs.Passes.{at, given_of, matter_now}
+use Rattle.js_table.specs.declared.consumer.Phase.{Phase}
+use Rattle.js_ordered.specs.Driven.{Finishes}
+use Rattle.js_ordered.proofs.ReadDriving.{leads_finish}
 use Rattle.js_ordered_rows.proofs.ReaderSteps.{inquiry_sends}
+use Rattle.js_ordered.proofs.Nowhere.{reads_here, reads_nowhere}
 use Rattle.js_ordered.proofs.drive.reading.check_inquiry.Goals as goal
 
-pub returns : goal.returns
-returns c =
+pub returns-in-Pulls : goal.returns-in-Pulls
+returns-in-Pulls c =
     let g = given_of c.args.context.now in
     let now = c.args.context.now.moment in
     let m = matter_now c.args.context.now in
     let w = c.args.state.now in
-    leads_finish g now m read.CheckInfoRequest c.args.reader c.args.reader w _ (passing g now w) c.check_inquiry-step.result (pull.check_inquiry (passing g now w) m.answer c.args.reader.inquiry c.args.reader) c.args.outputs.now.items _ _ refl refl
-    (c.check_inquiry-step.ensures (passing g now w) m.answer None c.args.reader c.is_answered-answered.ensures) (inquiry_sends (passing g now w) m.answer c.args.reader.inquiry c.args.reader) (c.finish.ensures m)
+    let r = c.in-Pulls.reader in
+    reads_here g now m (read.CheckInfoRequest) r w _ c.args.outputs.now.items _ (next_rows m c.finish.result) c.in-Pulls.is
+    (leads_finish g now m (read.CheckInfoRequest) r r w _ (passing g now w) c.check_inquiry-step.result (pull.check_inquiry (passing g now w) m.answer r.inquiry r) c.args.outputs.now.items _ c.finish.result refl refl
+    (c.check_inquiry-step.ensures (passing g now w) m.answer None r c.is_answered-answered.ensures) (inquiry_sends (passing g now w) m.answer r.inquiry r)
+    (subst (λ (q : Phase). Finishes m (at q w) c.finish.new.state c.check_inquiry-step.result c.args.outputs.now.items c.finish.new.outputs.items c.finish.result) c.in-Pulls.is (c.finish.ensures m)))
+
+pub returns-in_default : goal.returns-in_default
+returns-in_default c =
+    let g = given_of c.args.context.now in
+    let now = c.args.context.now.moment in
+    let m = matter_now c.args.context.now in
+    let w = c.args.state.now in
+    reads_nowhere g now m (read.CheckInfoRequest) w c.args.outputs.now.items c.in_default.not-Pulls

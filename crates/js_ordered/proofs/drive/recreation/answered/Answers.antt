@@ -1,7 +1,6 @@
 use Rattle.std.proofs.Common.{refl, sym, ap, ◌∙◌}
 use Rattle.std.specs.Prelude.{◌≡◌, Ok, Some, option_map}
 use Rattle.js_table.specs.Passes.{given_of, matter_now}
-use Rattle.js_table.specs.declared.row.Row.TheVariants as row
 use Rattle.js_pull.specs.Reader.{info_of_reply, reply_to}
 use Rattle.js_ordered.proofs.Driving.{ok_holds, reply_read}
 use Rattle.js_ordered.proofs.drive.recreation.answered.Goals as goal

@@ -4,7 +4,7 @@ use Rattle.js_table.specs.Passes.{given_of, matter_now}
 use Rattle.js_table.specs.declared.row.Row.TheVariants as row
 use Rattle.js_ordered.specs.Giving.{IsSending}
 use Rattle.js_table.specs.Fold.{passing}
-use Rattle.js_table.specs.Texts.{delete_subject, create_subject, create_body}
+use Rattle.js_table.specs.Texts.{delete_subject}
 use Rattle.js_ordered.proofs.Driving.{leads_sent, ok_holds}
 use Rattle.js_ordered.proofs.drive.recreation.begin_try.Goals as goal
 

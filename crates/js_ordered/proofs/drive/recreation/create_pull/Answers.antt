@@ -1,6 +1,5 @@
-use Rattle.std.proofs.Common.{refl, sym, ap, ◌∙◌}
+use Rattle.std.proofs.Common.{refl}
 use Rattle.js_table.specs.Passes.{given_of, matter_now}
-use Rattle.js_table.specs.declared.row.Row.TheVariants as row
 use Rattle.js_table.specs.Fold.{passing}
 use Rattle.js_ordered.proofs.Driving.{creates_pull}
 use Rattle.js_ordered.proofs.drive.recreation.create_pull.Goals as goal

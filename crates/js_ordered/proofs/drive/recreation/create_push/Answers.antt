@@ -1,6 +1,5 @@
-use Rattle.std.proofs.Common.{refl, sym, ap, ◌∙◌}
+use Rattle.std.proofs.Common.{refl}
 use Rattle.js_table.specs.Passes.{given_of, matter_now}
-use Rattle.js_table.specs.declared.row.Row.TheVariants as row
 use Rattle.js_ordered.specs.Giving.{IsOpening}
 use Rattle.js_table.specs.Fold.{passing}
 use Rattle.js_table.specs.Texts.{inbox_subject}

@@ -1,9 +1,9 @@
-use Rattle.std.proofs.Common.{◌∙◌, refl, sym, ap}
+use Rattle.std.proofs.Common.{◌∙◌, refl, ap}
 use Rattle.std.specs.Prelude.{Bool, Some, None, if◌then◌else◌, nat_lt}
 use Rattle.js_ordered.specs.declared.incremental_replay.IncrementalReplay.{IncrementalReplay}
 use Rattle.js_ordered.specs.IncrementalReplay.{course_given}
 use Rattle.js_table.specs.Refusal.{first_of, is_exhausted}
-use Rattle.js_ordered.proofs.Coursing.{comes_on, within_first, within_still}
+use Rattle.js_ordered.proofs.Coursing.{comes_on, within_first}
 use Rattle.js_ordered.proofs.incremental_replay.IncrementalReplay.advance.Goals as goal
 
 pub returns-clause-resumed : goal.returns-clause-resumed

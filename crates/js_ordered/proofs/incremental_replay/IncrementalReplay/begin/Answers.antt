@@ -1,4 +1,4 @@
-use Rattle.std.proofs.Common.{◌∙◌, refl}
+use Rattle.std.proofs.Common.{◌∙◌}
 use Rattle.js_ordered.specs.IncrementalReplay.{course_given}
 use Rattle.js_ordered.proofs.Coursing.{rest_begins}
 use Rattle.js_ordered.proofs.incremental_replay.IncrementalReplay.begin.Goals as goal

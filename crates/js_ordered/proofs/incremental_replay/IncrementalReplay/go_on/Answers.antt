@@ -1,4 +1,4 @@
-use Rattle.std.proofs.Common.{◌∙◌, refl}
+use Rattle.std.proofs.Common.{◌∙◌}
 use Rattle.js_ordered.specs.IncrementalReplay.{course_given}
 use Rattle.js_ordered.proofs.Coursing.{on_ok, on_err, rest_passed_as, rest_kept_as}
 use Rattle.js_ordered.proofs.incremental_replay.IncrementalReplay.go_on.Goals as goal
