@@ -1,6 +1,7 @@
 //! A client's end of JetStream, what makes its requests, the lists of its streams, and its calls on buckets.
 pub use js_call::{
-    ApiRequest, ApiScope, RawCall, RawRequest, RequestError, RequestErrorKind, SendError,
+    ApiRequest, ApiScope, OpenRequest, RawCall, RawRequest, RequestError, RequestErrorKind,
+    SendError,
 };
 pub use js_context::{
     BuildError, ClientProvider, Context, ContextBuilder, No, Publisher, RequestSender, Requester,

@@ -5,6 +5,8 @@ use Rattle.js_base.specs.declared.turn.Turn.{Turn}
 use Rattle.js_base.specs.declared.turn.Turn.TheVariants.{Pending, Ready, OutOfMemory}
 use Rattle.js_link.specs.LinkView.{LinkView}
 use Rattle.js_call.specs.Thens.{Polls}
+use Rattle.js_call.specs.Wakes.{unless_refused}
+use Rattle.js_call.specs.declared.open_request.OpenRequest.{OpenRequest}
 use Rattle.js_store.specs.declared.outcome.BucketCall.{BucketCall}
 use Rattle.js_store.specs.declared.outcome.Stage.{Stage}
 use Rattle.js_store.specs.declared.outcome.Stage.TheVariants.{Asking, Answered}
@@ -58,3 +60,12 @@ PolledUnless None t told polls call now turn old new = GoesOn t told polls call.
 abbrev pub Polled : {S M X E N A : Type 0} → Row M X E N A → (E → Source) → Polls S (Result X E) → BucketCall S X E M → ℕ
     → Turn (BucketCall S X E M) A → LinkView → LinkView → Type 0
 Polled t told polls call now turn old new = PolledUnless (t.refused call.api_call) t told polls call now turn old new
+
+-- what a call waits for by its stage: what the other call does, unless that has answered
+abbrev pub stage_waits_for : {S X E : Type 0} → (S → Option OpenRequest) → Stage S X E → Option OpenRequest
+stage_waits_for waits_for (Asking call) = waits_for call
+stage_waits_for waits_for (Answered given) = None
+
+-- what a call waits for
+abbrev pub bucket_waits_for : {S M X E N A : Type 0} → Row M X E N A → (S → Option OpenRequest) → BucketCall S X E M → Option OpenRequest
+bucket_waits_for t waits_for call = unless_refused (t.refused call.api_call) (stage_waits_for waits_for call.stage)

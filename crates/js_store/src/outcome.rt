@@ -1,11 +1,11 @@
 //! Calls on a bucket, each of which stands on another call.
 ghost use Rattle.std.specs.Prelude.{◌≡◌, IfOk, Result};
 ghost use Rattle.js_base.specs.declared.turn.Turn.{Turn};
-ghost use Rattle.js_store.specs.Outcomes.{Row, answered, asking, AnswersOf, Polled, TurnsTo};
+ghost use Rattle.js_store.specs.Outcomes.{Row, answered, asking, bucket_waits_for, stage_waits_for, AnswersOf, Polled, TurnsTo};
 
 use crate::to_source::ToSource;
 use js_base::{Moment, OutOfMemory, Source, Turn};
-use js_call::State;
+use js_call::{OpenRequest, State};
 use js_link::Link;
 use std::alloc::Global;
 
@@ -54,6 +54,18 @@ pub(crate) enum Stage<S, X, E> {
     Asking(S),
     /// The call that it stands on has answered, and that is not told yet.
     Answered(Result<X, E>),
+}
+
+impl<S: State, X, E> Stage<S, X, E> {
+    /// The request whose answer it waits for.
+    fn waits_for(&self) -> Option<OpenRequest>
+        ensures { result ≡ stage_waits_for S.waits_for self.now }
+    {
+        match self {
+            Stage::Asking(asked) => asked.waits_for(),
+            Stage::Answered(_) => None,
+        }
+    }
 }
 
 impl<S, X, E, M> BucketCall<S, X, E, M> {
@@ -117,6 +129,15 @@ impl<S: State<Answer = Result<X, E>>, X: Drop, E: ToSource, M: Outcome<X, E>> St
     type Answer = M::Answer;
 
     ghost polled = { Polled M.table E.told S.polled };
+
+    ghost waits_for = { bucket_waits_for M.table S.waits_for };
+
+    fn waits_for(&self) -> Option<OpenRequest> {
+        match self.api_call.refusal() {
+            Some(_) => None,
+            None => self.stage.waits_for(),
+        }
+    }
 
     fn poll<L: Link>(self, alloc: Global, link: &mut L, now: Moment) -> Turn<Self, Self::Answer> {
         if let Some(answer) = self.api_call.refusal() {
