@@ -183,14 +183,10 @@ impl Config {
     pub fn into_stream_config(self, alloc: Global) -> Result<stream::Config, OutOfMemory>
         ensures { IfOk result (λ stream. stream ≡ stream_config self) }
     {
-        let name = stream_name(alloc, self.bucket.as_str())?;
-        let origins = origins_of(
-            alloc,
-            self.bucket.as_str(),
-            self.mirror,
-            self.sources,
-            self.mirror_direct,
-        )?;
+        let (mirror, sources) = (self.mirror, self.sources);
+        let bucket = self.bucket.as_str();
+        let name = stream_name(alloc, bucket)?;
+        let origins = origins_of(alloc, bucket, mirror, sources, self.mirror_direct)?;
         Ok(stream::Config {
             name,
             retention: RetentionPolicy::Limits,
