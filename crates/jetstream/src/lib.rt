@@ -34,9 +34,10 @@
 //! error, a poll.
 //!
 //! **When to wake.** After `Pending`: when the answer to the state's `request` was brought or its request is gone, and at the latest at its `wakes_at`, when its wait is over ([`State::request`], [`State::wakes_at`]);
-//! a poll before that does nothing. The wait began when the request was sent and lasts for the timeout of its call, of the context or of the link; that of an ack began at its first poll. A reader tells it
-//! too: a poll before its `wakes_at`, as [`consumer::pull::Stream::wakes_at`], for which nothing came does nothing. [`link::OutboxLink::deliver`] answers which inbox or request wanted
-//! the message, so that a program that keeps many states polls the one whose `request` it was.
+//! a poll before that does nothing. The wait began when the request was sent and lasts for the timeout of its call, of the context or of the link. A [`publish::PublishAckFuture`] has both too, from its first
+//! poll on, when its wait begins; for detached acks [`Context::wakes_at`] is the moment at which `reap` has to be called at the latest. A reader tells it too: a poll before its `wakes_at`, as
+//! [`consumer::pull::Stream::wakes_at`], for which nothing came does nothing. [`link::OutboxLink::deliver`] answers which inbox or request wanted the message, so that a program that keeps many states
+//! polls the one whose `request` it was.
 //!
 //! **Reading a consumer.** A call of the context answers the consumer: `get_consumer_from_stream` one that is there, `create_consumer_on_stream` a new one, each as the kind that its
 //! configuration names. `messages` of the consumer opens what reads it: [`consumer::pull::PullCalls`] for one that is asked for messages, [`consumer::push::PushCalls`] for one that delivers

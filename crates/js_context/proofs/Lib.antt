@@ -2,3 +2,4 @@ pub mod Looking
 pub mod Ring
 pub mod Crossing
 pub mod Waiting
+pub mod Sleeping

@@ -7,3 +7,4 @@ pub mod Acks
 pub mod Sendings
 pub mod Reaps
 pub mod Waits
+pub mod Wakes

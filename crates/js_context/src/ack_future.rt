@@ -1,11 +1,13 @@
 //! The ack of a message that was sent.
-ghost use Rattle.std.specs.Prelude.{◌≡◌, ◌+◌, ◌++◌, ◌∷◌, [], IfOk, Some, None};
+ghost use Rattle.std.specs.Prelude.{◌≡◌, ◌+◌, ◌<◌, ◌^◌, ◌++◌, ◌∷◌, [], ℕ, IfOk, Some, None};
 ghost use Rattle.js_link.specs.LinkView.{LinkView};
 ghost use Rattle.js_base.specs.Errors.{plain};
 ghost use Rattle.js_fields.specs.Reading.{Gives};
+ghost use Rattle.js_call.specs.Wakes.{Sleeps, has_come, is_due, request_of};
 ghost use Rattle.js_context.specs.Contexts.{ContextView};
 ghost use Rattle.js_context.specs.Clocks.{started};
 ghost use Rattle.js_context.specs.Acks.{ack_in, meaning_of, meaning_read, unreadable, AckPolled, AckReads, AckTurns, Ends, IsAwaitedBy, PermitAfter};
+ghost use Rattle.js_context.specs.Wakes.{ack_waits_for};
 
 use crate::context::{Context, Detached};
 use crate::publish_error::{PublishError, PublishErrorKind, refusal_by};
@@ -82,7 +84,8 @@ fn answer_in(alloc: Global, payload: &[u8]) -> Result<Result<PublishAck, Publish
 impl PublishAckFuture {
     /// Looks at the answer, and then at the clock. The clock begins at the first poll and runs for the caller's `timeout` of that
     /// moment, in nanoseconds; what is set later changes it no more. The caller is the context that sent the message. Each answer
-    /// gives the permit back.
+    /// gives the permit back. After `Pending` it may be left alone while the link waits for the answer to its `request` and its
+    /// `wakes_at` has not come: a poll before that changes nothing.
     ///
     /// `StreamNotFound` comes where the reply has status 503; `WrongLastMessageId` at error code 10070, `WrongLastSequence`
     /// at 10071 and 10164; `Other` at another error code, or where the reply does not read; `BrokenPipe` where the replier is
@@ -99,6 +102,7 @@ impl PublishAckFuture {
         requires { IsAwaitedBy self context.old }
         ensures polled { AckPolled self.reply self now result context.old context.new (L.view link.old) (L.view link.new) }
         ensures permit { PermitAfter result self context.old context.new }
+        ensures sleeps { Sleeps (ack_waits_for self) now self result (L.view link.old) (L.view link.new) }
     {
         match self.reply.take() {
             Some(message) => self.read(rt, alloc, context, message),
@@ -136,6 +140,42 @@ impl PublishAckFuture {
             window,
             since: None,
         });
+    }
+
+    /// The number of the request whose answer it waits for. None where it is to be polled at once: its clock has not begun, or a
+    /// reply was kept.
+    pub fn request(&self) -> Option<RequestId>
+        ensures { result ≡ request_of (ack_waits_for self.now) }
+    {
+        match self.waits_for() {
+            None => None,
+            Some(sent) => Some(sent.request),
+        }
+    }
+
+    /// The first moment at which it has something to do by itself: its clock is due. None where it is to be polled at once, or its
+    /// clock would end past `u64::MAX`.
+    pub fn wakes_at(&self) -> Option<Moment>
+        ensures { (now : ℕ) → now < 2 ^ 64 → has_come result now ≡ is_due (ack_waits_for self.now) now }
+    {
+        match self.waits_for() {
+            None => None,
+            Some(sent) => sent.ends_at(),
+        }
+    }
+
+    /// The request whose answer it waits for, by its clock.
+    fn waits_for(&self) -> Option<OpenRequest>
+        ensures { result ≡ ack_waits_for self.now }
+    {
+        match (&self.reply, self.clock) {
+            (None, Some(clock)) => Some(OpenRequest {
+                request: self.request,
+                since: clock.since,
+                timeout: Some(clock.wait),
+            }),
+            _ => None,
+        }
     }
 
     /// Its clock, which begins now and runs for that wait where it has not begun.

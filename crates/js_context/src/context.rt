@@ -1,15 +1,18 @@
 //! A client's end of JetStream: where its requests go, its pass to the window of its permits, and the acks that nobody awaits.
-ghost use Rattle.std.specs.Prelude.{◌≡◌, ◌+◌, ◌<◌, ◌≤◌, ◌^◌, OnErr, IfOk, List, Some, IsSome, ◌↔◌, codes, length, take, drop, [], ◌∷◌, ◌++◌};
+ghost use Rattle.std.specs.Prelude.{◌≡◌, ◌+◌, ◌<◌, ◌≤◌, ◌^◌, ℕ, OnErr, IfOk, List, Some, IsSome, ◌↔◌, codes, length, take, drop, [], ◌∷◌, ◌++◌};
 ghost use Rattle.js_window.specs.Caller.{Makes, held};
 ghost use Rattle.js_window.specs.declared.history.Call.TheVariants.{AllFree, Give};
 ghost use Rattle.js_stream_calls.specs.Places.{domain_prefix};
+ghost use Rattle.js_call.specs.Wakes.{has_come};
 ghost use Rattle.js_context.specs.Contexts.{GivesBack, IsNew, IsUsual, SplitsOff, Takes, timeout_of};
 ghost use Rattle.js_context.specs.Reaps.{GivesIf, clocked_ack, stays};
 ghost use Rattle.js_context.specs.Waits.{Settles};
+ghost use Rattle.js_context.specs.Wakes.{is_one_due};
 ghost use Rattle.js_context.specs.declared.context.Detached.{Detached};
 
 use crate::build_error::BuildError;
 use crate::builder::ContextBuilder;
+use crate::wakes::{earlier, end_of};
 use js_base::{Moment, Nanos, OutOfMemory, TryClone};
 use js_call::{ApiScope, OpenRequest};
 use js_link::RequestId;
@@ -195,6 +198,18 @@ impl Context {
         ensures { result ≡ length self.now.detached }
     {
         self.detached.len()
+    }
+
+    /// The first moment at which a `reap` that looks at all detached acks ends one by its clock. None where no clock of one has begun: it
+    /// begins at the first `reap` that looks at the ack.
+    pub fn wakes_at(&self) -> Option<Moment>
+        ensures { (now : ℕ) → now < 2 ^ 64 → has_come result now ≡ is_one_due self.now.settings.ack_timeout now self.now.detached }
+    {
+        let mut first = None;
+        for ack in &self.detached {
+            first = earlier(first, end_of(ack.since, self.settings.ack_timeout));
+        }
+        first
     }
 
     /// Whether no permit of the window is out, those of other callers among them.

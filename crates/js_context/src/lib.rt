@@ -22,6 +22,7 @@ mod reap;
 mod requests;
 mod sending;
 mod streams;
+mod wakes;
 
 pub use ack_future::PublishAckFuture;
 pub use build_error::BuildError;
