@@ -7,6 +7,7 @@ mod ordered;
 mod reading;
 mod recreation;
 mod rows;
+mod success;
 
 pub use error::{OrderedError, OrderedErrorKind};
 

@@ -4,7 +4,7 @@ use Rattle.js_ordered_stream.specs.Rows.{read_by}
 use Rattle.js_pull.specs.Asking.{met_shown}
 use Rattle.js_table.specs.Passes.{given_of}
 use Rattle.js_ordered_stream.proofs.Passing.{succeed_passes}
-use Rattle.js_ordered_stream.proofs.recreation.succeed_pull.Goals as goal
+use Rattle.js_ordered_stream.proofs.success.succeed_pull.Goals as goal
 
 pub returns-in-Ok : goal.returns-in-Ok
 returns-in-Ok g c =

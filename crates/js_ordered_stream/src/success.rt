@@ -1,0 +1,128 @@
+//! A recreation that succeeded: its consumer reads the next inbox.
+ghost use Rattle.std.specs.Prelude.{◌≡◌, [], IfOk, OnErr};
+ghost use Rattle.js_link.specs.Meets.{Meets};
+ghost use Rattle.js_link.specs.Met.{Opens_inbox};
+ghost use Rattle.js_ordered_stream.specs.Rows.{PassesRow, inbox_in};
+ghost use Rattle.js_pull.specs.Asking.{met_shown};
+ghost use Rattle.js_table.specs.Kept.{IsPull};
+ghost use Rattle.js_table.specs.Passes.{given_of};
+ghost use Rattle.js_table.specs.Texts as texts_of;
+ghost use Rattle.js_table.specs.declared.row.Row.TheVariants as row;
+
+use crate::rows::{Stepped, Stop, quietly};
+use js_base::{OutOfMemory, Subject};
+use js_json::consumer::Info;
+use js_link::Link;
+use js_ordered_rows::Inbox;
+use js_ordered_rows::recreation::pass_succeed_pull;
+use js_pull::{Met, Source, Wish, ask};
+use js_table::{Consumer, EventContext, OrderedSetup, Phase, Recreation, texts};
+use std::alloc::Global;
+
+/// Whom the next reader asks, but for its inbox.
+fn source_for(
+    alloc: Global,
+    context: &EventContext<'_>,
+    recreation_count: u64,
+    info: &Info,
+) -> Result<Source, OutOfMemory>
+    ensures { IfOk result (λ source. source ≡ texts_of.source_of (given_of context.now) recreation_count 0 [] info.now) }
+{
+    let unknown = Subject::from(String::new(alloc));
+    Ok(texts::source_of(context, recreation_count, 0, unknown, info)?)
+}
+
+/// The inbox that was opened, or could not be.
+fn inbox_met(met: Met) -> Option<Inbox>
+    ensures { result ≡ inbox_in (met_shown met) }
+{
+    match met {
+        Met::Opened { inbox, subject } => Some(Inbox {
+            number: inbox,
+            subject,
+        }),
+        Met::Unasked
+        | Met::GoneOut
+        | Met::Refused
+        | Met::Dropped
+        | Met::Requested { .. }
+        | Met::Empty
+        | Met::Shut
+        | Met::Took(_)
+        | Met::Waiting
+        | Met::Gone
+        | Met::Got(_)
+        | Met::Stands(_)
+        | Met::WatchOver => None,
+    }
+}
+
+/// What pull needs for its next reader.
+#[derive(Drop)]
+struct Reading {
+    source: Source,
+    met: Met,
+}
+
+/// Pull's next inbox is opened.
+fn reading_for<L: Link>(
+    alloc: Global,
+    context: &EventContext<'_>,
+    link: &mut L,
+    recreation_count: u64,
+    info: &Info,
+) -> Result<Reading, OutOfMemory>
+    ensures source { IfOk result (λ reading. reading.source ≡ texts_of.source_of (given_of context.now) recreation_count 0 [] info.now) }
+    ensures met { IfOk result (λ reading. Meets Opens_inbox (met_shown reading.met) (L.view link.old) (L.view link.new)) }
+    ensures refused { OnErr result (L.view link.new ≡ L.view link.old) }
+{
+    let source = source_for(alloc, context, recreation_count, info)?;
+    let met = ask(alloc, link, &Wish::OpensInbox)?;
+    Ok(Reading { source, met })
+}
+
+/// A create was answered well: pull reads its next inbox.
+pub(crate) fn succeed<L: Link>(
+    alloc: Global,
+    context: &EventContext<'_>,
+    link: &mut L,
+    consumer: &mut Consumer,
+    recreation: Recreation,
+    info: &Info,
+) -> Result<Stepped, Stop>
+    ensures { PassesRow (given_of context.now) context.now.moment (row.Succeed info.now) (record consumer.old { phase = Phase.Recreates recreation }) consumer.new (L.view link.old) (L.view link.new) result }
+{
+    match context.setup {
+        OrderedSetup::Pull(_) => { succeed_pull(alloc, context, link, consumer, recreation, info) }
+        // The consumer is a pull consumer.
+        OrderedSetup::Push(_) => {
+            consumer.phase = Phase::Recreates(recreation);
+            Err(Stop::OutOfMemory)
+        }
+    }
+}
+
+/// Pull reads its next inbox.
+fn succeed_pull<L: Link>(
+    alloc: Global,
+    context: &EventContext<'_>,
+    link: &mut L,
+    consumer: &mut Consumer,
+    recreation: Recreation,
+    info: &Info,
+) -> Result<Stepped, Stop>
+    requires pull { IsPull context.now.setup.now }
+    ensures { PassesRow (given_of context.now) context.now.moment (row.Succeed info.now) (record consumer.old { phase = Phase.Recreates recreation }) consumer.new (L.view link.old) (L.view link.new) result }
+{
+    match reading_for(alloc, context, link, consumer.recreation_count, info) {
+        Err(_) => {
+            consumer.phase = Phase::Recreates(recreation);
+            Err(Stop::OutOfMemory)
+        }
+        Ok(reading) => {
+            let Reading { source, met } = reading;
+            let inbox = inbox_met(met);
+            Ok(quietly(pass_succeed_pull(context, consumer, recreation, source, inbox)))
+        }
+    }
+}
