@@ -9,7 +9,7 @@ use Rattle.js_table.specs.declared.consumer.Phase.{Phase}
 use Rattle.js_table.specs.declared.consumer.Phase.TheVariants.{Pulls, Pushes, Ended, Exhausted}
 use Rattle.js_table.specs.declared.row.Arrival.{Arrival}
 use Rattle.js_table.specs.declared.row.Row.{Row}
-use Rattle.js_table.specs.declared.row.Row.TheVariants.{Hold}
+use Rattle.js_table.specs.declared.row.Row.TheVariants.{Hold, Hear}
 use Rattle.js_table.specs.declared.run.ItemKind.{ItemKind}
 use Rattle.js_table.specs.declared.run.ItemKind.TheVariants as item
 use Rattle.js_table.specs.declared.run.Output.{Output}
@@ -84,16 +84,21 @@ handed_by (Yields message) = yielded (readable_as message.reply) message ∷ []
 handed_by (Tells kind) = out.Item kind ∷ []
 handed_by _ = []
 
--- the message that the last row looked at
-abbrev pub last_arrival : List Stride → Option Message
-last_arrival [] = None
-last_arrival (stride ∷ []) = option_map (λ arrival. arrival.message) stride.matter.arrival
-last_arrival (stride ∷ strides) = last_arrival strides
+-- the message that a row looks at: push hears what a row before it took, any other row looks at what it takes itself
+abbrev pub looked_at : Row → Stride → Option Message
+looked_at (Hear arrival) stride = Some arrival.message
+looked_at row stride = option_map (λ arrival. arrival.message) stride.matter.arrival
 
--- what is yielded is the whole message that the last row took
-abbrev pub IsTaken : Answer → List Stride → Type 0
-IsTaken (Yields message) strides = last_arrival strides ≡ Some message
-IsTaken answer strides = ⊤
+-- the message that the last row looked at
+abbrev pub last_arrival : ReplayInput → List Stride → Position → Option Message
+last_arrival g [] at = None
+last_arrival g (stride ∷ []) at = looked_at (first_row at.todo) stride
+last_arrival g (stride ∷ strides) at = last_arrival g strides (step g stride at).position
+
+-- what is yielded is the whole message that the last row looked at
+abbrev pub IsTaken : ReplayInput → Answer → List Stride → Position → Type 0
+IsTaken g (Yields message) strides at = last_arrival g strides at ≡ Some message
+IsTaken g answer strides at = ⊤
 
 -- no row but the last one hands something out
 abbrev pub StopsAtFirst : ReplayInput → List Stride → Position → Type 0
@@ -138,7 +143,7 @@ pub record IsPoll {V : Type 0} (g : ReplayInput) (meets : Wish → Met → V →
   pub met : IsMet g now meets strides old before between
   pub closing : IsClosing meets (poll_wish g (walk g strides old).position) closed between after
   pub out : handed (walk g strides old).outputs ≡ handed_by answer
-  pub taken : IsTaken answer strides
+  pub taken : IsTaken g answer strides old
   pub stops : StopsAtFirst g strides old
   -- that there is no sequence to go on from is told by the poll in which the consumer came to its end so
   pub exhausted : answer ≡ HandsEnd → (old.consumer.phase ≢ Exhausted) × (new.consumer.phase ≡ Exhausted)
