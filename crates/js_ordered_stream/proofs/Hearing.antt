@@ -1,6 +1,6 @@
 -- A row of a pull reader that was passed over a link, with what the consumer makes of what the reader tells.
 use Rattle.std.proofs.Common.{◌≡◌, ℕ, Bool, true, false, List, [], ◌∷◌, ◌++◌, map, Option, Some, None, refl, sym, ap, ◌∙◌, subst}
-use Rattle.std.specs.Prelude.{is_some, unwrap_or, Result, Ok, Err, IfOk, if◌then◌else◌}
+use Rattle.std.specs.Prelude.{is_some, ◌||◌, IfSome, unwrap_or, Result, Ok, Err, IfOk, if◌then◌else◌}
 use Rattle.js_base.specs.declared.message.Message.{Message}
 use Rattle.js_link.specs.LinkView.{LinkView}
 use Rattle.js_link.specs.Met.{Met, passing_of, message_of, reply_of}
@@ -96,17 +96,25 @@ reply_none replied met reply is not_there to = ap (λ (o : Option Reply). brough
     by_reply None e = refl
     by_reply (Some x) e = cc
 
+or_none : (b : Bool) → (b || false) ≡ b
+or_none true = refl
+or_none false = refl
+
+looked : (message other : Option Message) → message ≡ other → IfSome message (λ x. other ≡ Some x)
+looked None other is = tt
+looked (Some x) other is = sym is
+
 -- a row of a reader was passed with what it met
 pub read_passes : (g : ReplayInput) (now : ℕ) (one : PullRow) (r s : Reader) (c d : Consumer) (read : ReadMet) (step : Read) (taken : Taken) (message : Option Message) (reply : Option Reply) (done : Stepped) (v u : LinkView)
     → IsReadMet read one r v u
     → ReaderStepsTo (reader_met now one (met_shown read.met) r) (met_shown read.met) step s
     → message ≡ message_of (met_shown read.met) → brought (answer_shown reply) ≡ reply_met (met_shown read.met)
-    → TakesIn (read_by (answer_shown reply)) (told_shown step.told message) (reader_rows (read_by (answer_shown reply)) step.next) message (at_phase (Pulls s) c) d taken
-    → done ≡ record { handed = taken.handed; next = taken.next; reply = reply; message = message }
+    → TakesIn (read_by (answer_shown reply) None) (told_shown step.told message) (reader_rows (read_by (answer_shown reply) None) step.next) message (at_phase (Pulls s) c) d taken
+    → done ≡ record { handed = taken.handed; next = taken.next; reply = reply; arrival = None; message = message }
     → PassesRow g now (row.Read one) (at_phase (Pulls r) c) d v u (Ok done)
 read_passes g now one r s c d read step taken message reply done v u is steps took kept takes to =
     let met : Met = met_shown read.met in
-    let m : Matter = read_by (answer_shown reply) in
+    let m : Matter = read_by (answer_shown reply) None in
     let passed : pull.Passed = reader_met now one met r in
     let reads : ReadsTo (brought m.answer) (message_of met) passed s step = record {
       reader = steps.reader;
@@ -125,9 +133,10 @@ read_passes g now one r s c d read step taken message reply done v u is steps to
       is.is_open,
       record {
         consumer = all.consumer ∙ ap (λ (p : Passed). p.consumer) (sym same);
-        shown = ap (λ (p : Passed). handed p.outputs) same ∙ ap handed all.outputs ∙ none_sent passed.sent t.outputs ∙ sym t.shown;
+        shown = ap (λ (p : Passed). handed p.outputs) same ∙ ap handed all.outputs ∙ none_sent passed.sent t.outputs ∙ sym t.shown ∙ ap (λ (o : Option Message). handed_list taken.handed o) (sym took);
         next = all.next ∙ ap (λ (p : Passed). p.next) (sym same);
-        message = took;
+        seen = or_none (is_some message) ∙ ap (λ (o : Option Message). is_some o) took;
+        message = looked message (message_of met) took;
       },
     )
 

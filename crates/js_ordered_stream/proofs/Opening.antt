@@ -1,51 +1,88 @@
 -- The beginning of a stream.
-use Rattle.std.proofs.Common.{◌≡◌, ℕ, List, map, ap, ◌∙◌}
-use Rattle.std.specs.Prelude.{Ok}
+use Rattle.std.proofs.Common.{◌≡◌, ℕ, List, [], ◌∷◌, Option, Some, None, map, ap, sym, ◌∙◌, subst}
+use Rattle.std.specs.Prelude.{Result, Ok, Err}
 use Rattle.js_json.specs.declared.consumer.info.Info.{Info}
-use Rattle.js_json.specs.declared.pull.OrderedConfig.{OrderedConfig}
-use Rattle.js_link.specs.Calls.{OpensOwn}
+use Rattle.js_json.specs.declared.pull.OrderedConfig as pull_config
+use Rattle.js_json.specs.declared.push.OrderedConfig as push_config
+use Rattle.js_link.specs.Calls.{Opens, OpensOwn}
 use Rattle.js_link.specs.LinkView.{LinkView}
-use Rattle.js_ordered_stream.specs.declared.ordered.Ordered.{Ordered}
+use Rattle.js_ordered_stream.specs.declared.left.Left.{Left}
+use Rattle.js_ordered_stream.specs.declared.ordered.Ordered as polled
+use Rattle.js_ordered_stream.specs.declared.pull.Ordered as pulls
+use Rattle.js_ordered_stream.specs.declared.push.Ordered as pushes
+use Rattle.js_ordered_stream.specs.Opening.{ListensFirst, OpensConsumer, OpensDelivery, OpensOrdered, OpensPushed, listens_first, reads_first}
 use Rattle.js_ordered_stream.specs.Rows.{left_rows}
-use Rattle.js_ordered_stream.specs.Stream.{OpensConsumer, OpensOrdered, first_of, with_retries}
+use Rattle.js_ordered_stream.specs.Stream.{first_at, with_retries}
 use Rattle.js_pull.specs.Reader.{new_reader, opening}
 use Rattle.js_pull.specs.declared.reader.Reader.{Reader}
 use Rattle.js_pull.specs.declared.reader.Source.{Source}
 use Rattle.js_table.specs.declared.consumer.Consumer.{Consumer}
+use Rattle.js_table.specs.declared.consumer.Phase.{Phase}
+use Rattle.js_table.specs.declared.consumer.Phase.TheVariants.{Pulls, Pushes, Idle}
 use Rattle.js_table.specs.declared.consumer.ReplayInput.{ReplayInput}
 use Rattle.js_table.specs.declared.row.Row.{Row}
-use Rattle.js_table.specs.declared.row.Row.TheVariants.{Read}
-use Rattle.js_table.specs.declared.setup.OrderedSetup.TheVariants.{Pull}
+use Rattle.js_table.specs.declared.row.Row.TheVariants.{Arm, Read}
+use Rattle.js_table.specs.declared.setup.OrderedSetup.TheVariants.{Pull, Push}
 use Rattle.js_table.specs.declared.setup.Settings.{Settings}
+use Rattle.js_table.specs.Reading.{armed}
+use Rattle.js_table.specs.State.{at_phase}
 use Rattle.js_table.specs.Texts.{source_of}
 use Rattle.js_turns.specs.Turns.{Position}
+
+abbrev position_at : Consumer → List Row → Position
+position_at c todo = record { consumer = c; todo = todo }
+
+-- ---- pull
 
 -- the reader of the first consumer reads the inbox that was opened
 pub opens_consumer : (g : ReplayInput) (inbox : ℕ) (unknown subject name : List ℕ) (source : Source) (r : Reader) (c : Consumer) (old new : LinkView)
     → OpensOwn inbox subject old new → source ≡ source_of g 0 0 unknown g.first → r ≡ new_reader (record source { inbox = inbox; subject = subject })
-    → name ≡ g.first.name → c ≡ first_of name r
+    → name ≡ g.first.name → c ≡ first_at name (Pulls r)
     → OpensConsumer (Ok c) g old new
 opens_consumer g inbox unknown subject name source r c old new opens asks reads named first = (
   inbox,
   subject,
   opens,
-  (first ∙ ap (λ (n : List ℕ). first_of n r) named
-      ∙ ap (first_of g.first.name) (reads ∙ ap (λ (s : Source). new_reader (record s { inbox = inbox; subject = subject })) asks)),
+  (first ∙ ap (λ (n : List ℕ). first_at n (Pulls r)) named
+      ∙ ap (λ (x : Reader). first_at g.first.name (Pulls x)) (reads ∙ ap (λ (s : Source). new_reader (record s { inbox = inbox; subject = subject })) asks)),
 )
 
 -- and the rows of its opening are left
-pub opens_ordered : (g : ReplayInput) (o : Ordered) (settings : Settings) (config : OrderedConfig) (first : Info) (old new : LinkView)
-    → OpensConsumer (Ok o.consumer) g old new → g ≡ o.given → o.given ≡ record { settings = with_retries settings; setup = Pull config; first = first }
-    → left_rows o.left ≡ map Read opening
-    → OpensOrdered (Ok o) settings config first old new
-opens_ordered g o settings config first old new (inbox, subject, opens, is) same given left = (
+pub opens_ordered : (g given : ReplayInput) (c : Consumer) (left : Left) (o : polled.Ordered) (settings : Settings) (config : pull_config.OrderedConfig) (first : Info) (old new : LinkView)
+    → OpensConsumer (Ok c) g old new → g ≡ given → given ≡ record { settings = with_retries settings; setup = Pull config; first = first }
+    → left_rows left ≡ map Read opening → o ≡ record { given = given; consumer = c; left = left }
+    → OpensOrdered (Ok (record { polled = o })) settings config first old new
+opens_ordered g given c left o settings config first old new (inbox, subject, opens, is) same given_is rows to =
+    subst (λ (x : polled.Ordered). OpensOrdered (Ok (record { polled = x })) settings config first old new) (sym to) (
+      inbox,
+      subject,
+      opens,
+      given_is,
+      (ap (λ (x : Consumer). position_at x (left_rows left)) (is ∙ ap (λ (x : ReplayInput). reads_first x inbox subject) same)
+          ∙ ap (position_at (reads_first given inbox subject)) rows),
+    )
+
+-- ---- push
+
+-- the first consumer listens to the inbox that was opened
+pub listens_at : (g : ReplayInput) (inbox : ℕ) (name : List ℕ) (c d : Consumer) (old new : LinkView) → OpensDelivery inbox g.first old new → name ≡ g.first.name → c ≡ first_at name Idle
+    → d ≡ at_phase (Pushes inbox (armed 0)) c → ListensFirst (Ok d) g old new
+listens_at g inbox name c d old new opens named first leads = (
   inbox,
-  subject,
   opens,
-  given,
-  (ap (λ (c : Consumer). position_at c (left_rows o.left)) (is ∙ ap (λ (x : ReplayInput). first_of x.first.name (new_reader (source_of x 0 inbox subject x.first))) same)
-      ∙ ap (position_at (first_of o.given.first.name (new_reader (source_of o.given 0 inbox subject o.given.first)))) left),
+  (leads ∙ ap (λ (x : Consumer). at_phase (Pushes inbox (armed 0)) x) first ∙ ap (λ (n : List ℕ). first_at n (Pushes inbox (armed 0))) named),
 )
-  where
-    position_at : Consumer → List Row → Position
-    position_at c todo = record { consumer = c; todo = todo }
+
+-- and arms its heartbeat next
+pub opens_pushed : (g given : ReplayInput) (c : Consumer) (left : Left) (o : polled.Ordered) (settings : Settings) (config : push_config.OrderedConfig) (first : Info) (old new : LinkView)
+    → ListensFirst (Ok c) g old new → g ≡ given → given ≡ record { settings = with_retries settings; setup = Push config; first = first }
+    → left_rows left ≡ Arm ∷ [] → o ≡ record { given = given; consumer = c; left = left }
+    → OpensPushed (Ok (record { polled = o })) settings config first old new
+opens_pushed g given c left o settings config first old new (inbox, opens, is) same given_is rows to =
+    subst (λ (x : polled.Ordered). OpensPushed (Ok (record { polled = x })) settings config first old new) (sym to) (
+      inbox,
+      subst (λ (x : ReplayInput). OpensDelivery inbox x.first old new) (same ∙ given_is) opens,
+      given_is,
+      (ap (λ (x : Consumer). position_at x (left_rows left)) (is ∙ ap (λ (x : ReplayInput). listens_first x inbox) same)
+          ∙ ap (position_at (listens_first given inbox)) rows),
+    )

@@ -1,13 +1,13 @@
 -- A row that was passed over a link is the row of the table at what it met.
-use Rattle.std.proofs.Common.{◌≡◌, ℕ, Bool, true, false, List, [], ◌∷◌, ◌++◌, Option, Some, None, refl, sym, ap, ◌∙◌, subst, arith}
+use Rattle.std.proofs.Common.{◌≡◌, ℕ, suc, Bool, true, false, List, [], ◌∷◌, ◌++◌, map, Option, Some, None, refl, sym, ap, ◌∙◌, subst, arith}
 use Rattle.std.proofs.lemmas.Bool.Decides.{nat_tests}
-use Rattle.std.specs.Prelude.{◌==◌, codes, is_some, option_map, Result, Ok, Err, IfOk, if◌then◌else◌}
+use Rattle.std.specs.Prelude.{◌==◌, codes, is_some, length, option_map, Result, Ok, Err, IfOk, if◌then◌else◌}
 use Rattle.js_base.specs.declared.message.Message.{Message}
 use Rattle.js_json.specs.declared.consumer.info.Info.{Info}
 use Rattle.js_json.specs.declared.pull.OrderedConfig as pull_config
 use Rattle.js_link.specs.LinkView.{LinkView}
 use Rattle.js_link.specs.Meets.{Meets}
-use Rattle.js_link.specs.Met.{Wish, Met, Nothing, Opens_inbox, Watches, Requests, Unasked, passing_of, reply_of}
+use Rattle.js_link.specs.Met.{Wish, Met, Nothing, Opens_inbox, Watches, Requests, Unasked, message_of, passing_of, reply_of}
 use Rattle.js_link.specs.Passing.{Passing as Sends}
 use Rattle.js_ordered_rows.specs.declared.task.Inbox.{Inbox}
 use Rattle.js_ordered_rows.specs.declared.task.NextTasks.{NextTasks}
@@ -22,11 +22,12 @@ use Rattle.js_ordered_stream.specs.declared.rows.Handed.TheVariants as hands
 use Rattle.js_ordered_stream.specs.declared.rows.Stepped.{Stepped}
 use Rattle.js_ordered_stream.specs.declared.rows.Stop.{Stop}
 use Rattle.js_ordered_stream.specs.declared.rows.Stop.TheVariants as stop
-use Rattle.js_ordered_stream.specs.Rows.{IfAlone, PassesRow, PassesRows, answer_shown, handed_list, inbox_in, met_row, read_by, replied}
+use Rattle.js_ordered_stream.specs.Rows.{IfAlone, PassesRow, PassesRows, answer_shown, handed_list, inbox_in, is_bare, met_row, read_by, replied, seen_by}
 use Rattle.js_pull.specs.Asking.{GoesAs}
 use Rattle.js_pull.specs.Reader.{Answer, info_of_reply, reply_to}
 use Rattle.js_table.specs.declared.answer.Change.{Change as CodeChange}
 use Rattle.js_table.specs.declared.consumer.Consumer.{Consumer}
+use Rattle.js_table.specs.declared.consumer.Opened.{Opened}
 use Rattle.js_table.specs.declared.consumer.Phase.{Phase}
 use Rattle.js_table.specs.declared.consumer.Phase.TheVariants.{Pulls, Pushes, Recreates, Idle, Ended, Exhausted}
 use Rattle.js_table.specs.declared.consumer.Recreation.{Recreation}
@@ -39,97 +40,119 @@ use Rattle.js_table.specs.declared.run.Output.{Output}
 use Rattle.js_table.specs.declared.setup.OrderedSetup.{OrderedSetup}
 use Rattle.js_table.specs.declared.setup.OrderedSetup.TheVariants.{Pull, Push}
 use Rattle.js_table.specs.Fold.{is_over}
-use Rattle.js_table.specs.Kept.{IsPull}
+use Rattle.js_table.specs.Kept.{IsPull, IsPush}
 use Rattle.js_table.specs.Passes.{change_shown}
-use Rattle.js_table.specs.Recreation.{answered, ask_row, create_row, fail_row, stage_rows, start_row, succeed_pull, succeed_row, try_row}
+use Rattle.js_table.specs.Recreation.{answered, ask_row, create_row, fail_row, held_in, stage_rows, start_row, succeed_pull, succeed_push, succeed_row, try_row}
 use Rattle.js_table.specs.State.{Change, Matter, Passed, at_phase, quietly}
 use Rattle.js_table.specs.Texts.{create_body, create_subject, delete_subject}
-use Rattle.js_table.specs.Turn.{event_row}
+use Rattle.js_table.specs.Turn.{event_row, row_at}
 use Rattle.js_turns.specs.Polling.{poll_wish_at}
 use Rattle.js_turns.specs.Turns.{handed}
 use Rattle.js_turns.specs.Wishes.{awaited, change_of, create_wish, dropped, matter_of, opened_dropped, succeed_wish}
 use Rattle.js_ordered_stream.proofs.Meeting.{IsUntaken, untaken, opened_other, dropped_other, awaited_other, moment_met, requesting_met, opening_met, no_request, no_inbox}
 
 abbrev done_by : Handed → NextTasks → Stepped
-done_by handed rest = record { handed = handed; next = rest; reply = None; message = None }
+done_by handed rest = record { handed = handed; next = rest; reply = None; arrival = None; message = None }
 
 -- ---- a row that takes nothing
 
 pub row_passes : (g : ReplayInput) (now : ℕ) (row : Row) (c d : Consumer) (met : Met) (passed : Passed) (outputs : List Output) (hand : Handed) (rest : NextTasks) (done : Stepped) (v u : LinkView)
-    → Meets (poll_wish_at g row c.phase) met v u → IsUntaken met → met_row g now row met c ≡ passed
-    → StepsTo (read_by None) passed outputs d rest → handed outputs ≡ handed_list hand None → done ≡ done_by hand rest
+    → Meets (poll_wish_at g row c.phase) met v u → IsUntaken met → seen_by row met ≡ message_of met → met_row g now row met c ≡ passed
+    → StepsTo (read_by None None) passed outputs d rest → handed outputs ≡ handed_list hand None → done ≡ done_by hand rest
     → PassesRow g now row c d v u (Ok done)
-row_passes g now row c d met passed outputs hand rest done v u meets none is steps hands to =
+row_passes g now row c d met passed outputs hand rest done v u meets none sees is steps hands to =
     subst (λ (x : Stepped). PassesRow g now row c d v u (Ok x)) (sym to) (
       met,
       meets,
       none.is_open,
       record {
         consumer = steps.consumer ∙ ap (λ (p : Passed). p.consumer) (sym is);
-        shown = ap (λ (p : Passed). handed p.outputs) is ∙ ap handed steps.outputs ∙ hands ∙ ap (λ (o : Option Message). handed_list hand o) (sym none.message);
+        shown = ap (λ (p : Passed). handed p.outputs) is ∙ ap handed steps.outputs ∙ hands;
         next = steps.next ∙ ap (λ (p : Passed). p.next) (sym is);
-        message = sym none.message;
+        seen = ap (λ (o : Option Message). is_some o) (sym (sees ∙ none.message));
+        message = tt;
       },
     )
 
 -- what a row tells is handed out
 pub row_tells : (g : ReplayInput) (now : ℕ) (row : Row) (c d : Consumer) (met : Met) (passed : Passed) (told : RowOutput) (rest : NextTasks) (done : Stepped) (v u : LinkView)
-    → Meets (poll_wish_at g row c.phase) met v u → IsUntaken met → met_row g now row met c ≡ passed
-    → StepsTo (read_by None) passed (told_outputs told) d rest → handed_list done.handed None ≡ handed (told_outputs told) → done ≡ record done { next = rest; reply = None; message = None }
+    → Meets (poll_wish_at g row c.phase) met v u → IsUntaken met → seen_by row met ≡ message_of met → met_row g now row met c ≡ passed
+    → StepsTo (read_by None None) passed (told_outputs told) d rest → handed_list done.handed None ≡ handed (told_outputs told)
+    → done ≡ record done { next = rest; reply = None; arrival = None; message = None }
     → PassesRow g now row c d v u (Ok done)
-row_tells g now row c d met passed told rest done v u meets none is steps hands to =
-    row_passes g now row c d met passed (told_outputs told) done.handed rest done v u meets none is steps (sym hands) to
+row_tells g now row c d met passed told rest done v u meets none sees is steps hands to =
+    row_passes g now row c d met passed (told_outputs told) done.handed rest done v u meets none sees is steps (sym hands) to
 
 -- ---- a recreation starts
 
 pub start_passes : (g : ReplayInput) (now : ℕ) (c d : Consumer) (met : Met) (told : RowOutput) (rest : NextTasks) (done : Stepped) (v u : LinkView)
-    → Meets (dropped c.phase) met v u → StepsTo (read_by None) (start_row g c) (told_outputs told) d rest
-    → handed_list done.handed None ≡ handed (told_outputs told) → done ≡ record done { next = rest; reply = None; message = None }
+    → Meets (dropped c.phase) met v u → StepsTo (read_by None None) (start_row g c) (told_outputs told) d rest
+    → handed_list done.handed None ≡ handed (told_outputs told) → done ≡ record done { next = rest; reply = None; arrival = None; message = None }
     → PassesRow g now row.Start c d v u (Ok done)
 start_passes g now c d met told rest done v u meets steps hands to =
-    row_tells g now row.Start c d met (start_row g c) told rest done v u meets (untaken (dropped c.phase) met v u (dropped_other c.phase) meets) refl steps hands to
+    row_tells g now row.Start c d met (start_row g c) told rest done v u meets (untaken (dropped c.phase) met v u (dropped_other c.phase) meets) refl refl steps hands to
 
 -- ---- a try
 
 pub try_passes : (g : ReplayInput) (now : ℕ) (r : Recreation) (c d : Consumer) (met : Met) (request : Option ℕ) (rest : NextTasks) (done : Stepped) (v u : LinkView)
     → Meets (Requests (delete_subject g r) (codes "{}")) met v u → GoesAs request met
-    → StepsTo (read_by None) (try_row g (requesting now request (passing_of now met)) r (at_phase (Recreates r) c)) (requested (delete_subject g r) (codes "{}") request) d rest
+    → StepsTo (read_by None None) (try_row g (requesting now request (passing_of now met)) r (at_phase (Recreates r) c)) (requested (delete_subject g r) (codes "{}") request) d rest
     → done ≡ done_by hands.Nothing rest → PassesRow g now row.Try (at_phase (Recreates r) c) d v u (Ok done)
 try_passes g now r c d met request rest done v u meets goes steps to =
     row_passes g now row.Try (at_phase (Recreates r) c) d met (try_row g (requesting now request (passing_of now met)) r (at_phase (Recreates r) c)) (requested (delete_subject g r) (codes "{}") request) hands.Nothing rest done v u meets
-    (untaken (Requests (delete_subject g r) (codes "{}")) met v u tt meets)
+    (untaken (Requests (delete_subject g r) (codes "{}")) met v u tt meets) refl
     (ap (λ (p : Sends). try_row g p r (at_phase (Recreates r) c)) (sym (requesting_met now met request (delete_subject g r) (codes "{}") v u meets goes)))
     steps (no_request (delete_subject g r) (codes "{}") request) to
 
 pub ask_passes : (g : ReplayInput) (now : ℕ) (r : Recreation) (c d : Consumer) (met : Met) (request : Option ℕ) (rest : NextTasks) (done : Stepped) (v u : LinkView)
     → Meets (Requests (create_subject g r) (create_body g r)) met v u → GoesAs request met
-    → StepsTo (read_by None) (ask_row g (requesting now request (passing_of now met)) r (at_phase (Recreates r) c)) (requested (create_subject g r) (create_body g r) request) d rest
+    → StepsTo (read_by None None) (ask_row g (requesting now request (passing_of now met)) r (at_phase (Recreates r) c)) (requested (create_subject g r) (create_body g r) request) d rest
     → done ≡ done_by hands.Nothing rest → PassesRow g now row.Ask (at_phase (Recreates r) c) d v u (Ok done)
 ask_passes g now r c d met request rest done v u meets goes steps to =
     row_passes g now row.Ask (at_phase (Recreates r) c) d met (ask_row g (requesting now request (passing_of now met)) r (at_phase (Recreates r) c)) (requested (create_subject g r) (create_body g r) request) hands.Nothing rest done v u meets
-    (untaken (Requests (create_subject g r) (create_body g r)) met v u tt meets)
+    (untaken (Requests (create_subject g r) (create_body g r)) met v u tt meets) refl
     (ap (λ (p : Sends). ask_row g p r (at_phase (Recreates r) c)) (sym (requesting_met now met request (create_subject g r) (create_body g r) v u meets goes)))
     steps (no_request (create_subject g r) (create_body g r) request) to
 
 -- pull opens nothing before its create
 pub create_passes : (g : ReplayInput) (now : ℕ) (setup : pull_config.OrderedConfig) (r : Recreation) (c d : Consumer) (rest : NextTasks) (done : Stepped) (v : LinkView) → g.setup ≡ Pull setup
-    → StepsTo (read_by None) (create_row g.setup (opening_to now None (passing_of now Unasked)) r (at_phase (Recreates r) c)) (create_outputs g.setup None) d rest
+    → StepsTo (read_by None None) (create_row g.setup (opening_to now None (passing_of now Unasked)) r (at_phase (Recreates r) c)) (create_outputs g.setup None) d rest
     → done ≡ done_by hands.Nothing rest → PassesRow g now row.Create (at_phase (Recreates r) c) d v v (Ok done)
 create_passes g now setup r c d rest done v pulls steps to =
     row_passes g now row.Create (at_phase (Recreates r) c) d Unasked (create_row g.setup (opening_to now None (passing_of now Unasked)) r (at_phase (Recreates r) c)) (create_outputs g.setup None) hands.Nothing rest done v v
     (subst (λ (s : OrderedSetup). Meets (create_wish s) Unasked v v) (sym pulls) refl)
-    (record { message = refl; is_open = refl })
+    (record { message = refl; is_open = refl }) refl
     (subst (λ (s : OrderedSetup). create_row s (passing_of now Unasked) r (at_phase (Recreates r) c) ≡ create_row s (opening_to now None (passing_of now Unasked)) r (at_phase (Recreates r) c)) (sym pulls) refl)
     steps (subst (λ (s : OrderedSetup). handed (create_outputs s None) ≡ []) (sym pulls) refl) to
 
+-- push opens its inbox before its create
+pub create_push_passes : (g : ReplayInput) (now : ℕ) (r : Recreation) (c d : Consumer) (met : Met) (inbox : Option Inbox) (rest : NextTasks) (done : Stepped) (v u : LinkView) → IsPush g.setup
+    → Meets Opens_inbox met v u → inbox ≡ inbox_in met
+    → StepsTo (read_by None None) (create_row g.setup (opening_to now inbox (passing_of now met)) r (at_phase (Recreates r) c)) (create_outputs g.setup inbox) d rest
+    → done ≡ done_by hands.Nothing rest → PassesRow g now row.Create (at_phase (Recreates r) c) d v u (Ok done)
+create_push_passes g now r c d met inbox rest done v u pushes meets opens steps to =
+    row_passes g now row.Create (at_phase (Recreates r) c) d met (create_row g.setup (opening_to now inbox (passing_of now met)) r (at_phase (Recreates r) c)) (create_outputs g.setup inbox) hands.Nothing rest done v u
+    (wished g.setup pushes)
+    (untaken Opens_inbox met v u tt meets) refl
+    (ap (λ (p : Sends). create_row g.setup p r (at_phase (Recreates r) c)) (sym (ap (λ (o : Option Inbox). opening_to now o (passing_of now met)) opens ∙ opening_met now met v u meets)))
+    steps (silent g.setup pushes) to
+  where
+    wished : (setup : OrderedSetup) → IsPush setup → Meets (create_wish setup) met v u
+    wished (Pull setup) is = absurd is
+    wished (Push setup) is = meets
+
+    silent : (setup : OrderedSetup) → IsPush setup → handed (create_outputs setup inbox) ≡ []
+    silent (Pull setup) is = absurd is
+    silent (Push setup) is = no_inbox inbox
+
 pub fail_passes : (g : ReplayInput) (now : ℕ) (r : Recreation) (c d : Consumer) (met : Met) (told : RowOutput) (rest : NextTasks) (done : Stepped) (v u : LinkView)
     → Meets (opened_dropped r.opened) met v u
-    → StepsTo (read_by None) (fail_row g (at_moment now (passing_of now met)) r (at_phase (Recreates r) c)) (told_outputs told) d rest
-    → handed_list done.handed None ≡ handed (told_outputs told) → done ≡ record done { next = rest; reply = None; message = None }
+    → StepsTo (read_by None None) (fail_row g (at_moment now (passing_of now met)) r (at_phase (Recreates r) c)) (told_outputs told) d rest
+    → handed_list done.handed None ≡ handed (told_outputs told) → done ≡ record done { next = rest; reply = None; arrival = None; message = None }
     → PassesRow g now row.Fail (at_phase (Recreates r) c) d v u (Ok done)
 fail_passes g now r c d met told rest done v u meets steps hands to =
     row_tells g now row.Fail (at_phase (Recreates r) c) d met (fail_row g (at_moment now (passing_of now met)) r (at_phase (Recreates r) c)) told rest done v u meets
-    (untaken (opened_dropped r.opened) met v u (opened_other r.opened) meets)
+    (untaken (opened_dropped r.opened) met v u (opened_other r.opened) meets) refl
     (ap (λ (p : Sends). fail_row g p r (at_phase (Recreates r) c)) (sym (moment_met now met))) steps hands to
 
 -- ---- an open recreation
@@ -161,7 +184,7 @@ met_reply (Deleting request timeout) met v u m = refl
 met_reply (Creating request timeout) met v u m = refl
 met_reply (Waiting wait) met v u m = ap (replying 0) (none_replied met v u m)
 
-task_same : (k : Change) (a : Option Answer) (one : Task) → rows_of (record { change = k; answer = a; arrival = None }) one ≡ rows_of (read_by a) one
+task_same : (k : Change) (a : Option Answer) (one : Task) → rows_of (record { change = k; answer = a; arrival = None }) one ≡ rows_of (read_by a None) one
 task_same k a task.Event = refl
 task_same k a task.Start = refl
 task_same k a task.Try = refl
@@ -180,21 +203,21 @@ task_same k a task.Arm = refl
 task_same k a (task.Read due) = refl
 
 -- the change of the connection is read by no row that follows
-next_same : (k : Change) (a : Option Answer) (rest : NextTasks) → next_rows (record { change = k; answer = a; arrival = None }) rest ≡ next_rows (read_by a) rest
+next_same : (k : Change) (a : Option Answer) (rest : NextTasks) → next_rows (record { change = k; answer = a; arrival = None }) rest ≡ next_rows (read_by a None) rest
 next_same k a next.Nothing = refl
 next_same k a (next.One one) = task_same k a one
-next_same k a (next.Two one second) = ap (λ (rows : List Row). rows ++ rows_of (record { change = k; answer = a; arrival = None }) second) (task_same k a one) ∙ ap (λ (rows : List Row). rows_of (read_by a) one ++ rows) (task_same k a second)
+next_same k a (next.Two one second) = ap (λ (rows : List Row). rows ++ rows_of (record { change = k; answer = a; arrival = None }) second) (task_same k a one) ∙ ap (λ (rows : List Row). rows_of (read_by a None) one ++ rows) (task_same k a second)
 
-stage_same : (g : ReplayInput) (p : Sends) (m : Matter) (a : Option Answer) (stage : Stage) → m.answer ≡ a → stage_rows g p (read_by a) stage ≡ stage_rows g p m stage
+stage_same : (g : ReplayInput) (p : Sends) (m : Matter) (a : Option Answer) (stage : Stage) → m.answer ≡ a → stage_rows g p (read_by a None) stage ≡ stage_rows g p m stage
 stage_same g p m a stage is = by_stage stage
   where
-    by_stage : (stage : Stage) → stage_rows g p (read_by a) stage ≡ stage_rows g p m stage
+    by_stage : (stage : Stage) → stage_rows g p (read_by a None) stage ≡ stage_rows g p m stage
     by_stage Between = refl
-    by_stage (Deleting request timeout) = ap (λ (x : Option Answer). stage_rows g p (read_by x) (Deleting request timeout)) (sym is)
-    by_stage (Creating request timeout) = ap (λ (x : Option Answer). stage_rows g p (read_by x) (Creating request timeout)) (sym is)
+    by_stage (Deleting request timeout) = ap (λ (x : Option Answer). stage_rows g p (read_by x None) (Deleting request timeout)) (sym is)
+    by_stage (Creating request timeout) = ap (λ (x : Option Answer). stage_rows g p (read_by x None) (Creating request timeout)) (sym is)
     by_stage (Waiting wait) = refl
 
-answered_same : (m : Matter) (a : Option Answer) (stage : Stage) (replied : Bool) → m.answer ≡ a → IsAnswered m stage replied → IsAnswered (read_by a) stage replied
+answered_same : (m : Matter) (a : Option Answer) (stage : Stage) (replied : Bool) → m.answer ≡ a → IsAnswered m stage replied → IsAnswered (read_by a None) stage replied
 answered_same m a Between replied is there = tt
 answered_same m a (Deleting request timeout) replied is there = there ∙ ap (λ (x : Option Answer). is_some (reply_to request x)) is
 answered_same m a (Creating request timeout) replied is there = there ∙ ap (λ (x : Option Answer). is_some (reply_to request x)) is
@@ -203,15 +226,15 @@ answered_same m a (Waiting wait) replied is there = tt
 pub await_passes : (g : ReplayInput) (now : ℕ) (r : Recreation) (c d : Consumer) (met : Met) (request : ℕ) (replied_is : Bool) (reply : Option Reply) (rest : NextTasks) (done : Stepped) (v u : LinkView)
     → Meets (awaited r.stage) met v u → replied_is ≡ is_some (reply_of met) → request ≡ replied r.stage → answer_shown reply ≡ replying request (reply_of met)
     → ((m : Matter) (p : Sends) → IsAnswered m r.stage replied_is → StepsTo m (quietly (at_phase (Recreates r) c) (stage_rows g (at_moment now p) m r.stage)) [] d rest)
-    → done ≡ record { handed = hands.Nothing; next = rest; reply = reply; message = None } → PassesRow g now row.Await (at_phase (Recreates r) c) d v u (Ok done)
+    → done ≡ record { handed = hands.Nothing; next = rest; reply = reply; arrival = None; message = None } → PassesRow g now row.Await (at_phase (Recreates r) c) d v u (Ok done)
 await_passes g now r c d met request replied_is reply rest done v u meets there number kept steps to =
     let w : Wish = awaited r.stage in
     let m : Matter = matter_of w met in
     let a : Option Answer = answer_shown reply in
     let same : m.answer ≡ a = sym (kept ∙ ap (λ (n : ℕ). replying n (reply_of met)) number ∙ met_reply r.stage met v u meets) in
     let none : IsUntaken met = untaken w met v u (awaited_other r.stage) meets in
-    let answers : IsAnswered (read_by a) r.stage replied_is = subst (λ (b : Bool). IsAnswered (read_by a) r.stage b) (sym there) (answered_same m a r.stage (is_some (reply_of met)) same (met_answered r.stage met)) in
-    let s = steps (read_by a) (passing_of now met) answers in
+    let answers : IsAnswered (read_by a None) r.stage replied_is = subst (λ (b : Bool). IsAnswered (read_by a None) r.stage b) (sym there) (answered_same m a r.stage (is_some (reply_of met)) same (met_answered r.stage met)) in
+    let s = steps (read_by a None) (passing_of now met) answers in
     subst (λ (x : Stepped). PassesRow g now row.Await (at_phase (Recreates r) c) d v u (Ok x)) (sym to) (
       met,
       meets,
@@ -220,33 +243,34 @@ await_passes g now r c d met request replied_is reply rest done v u meets there 
         consumer = s.consumer;
         shown = refl;
         next = s.next ∙ stage_same g (at_moment now (passing_of now met)) m a r.stage same ∙ ap (λ (p : Sends). stage_rows g p m r.stage) (moment_met now met);
-        message = sym none.message;
+        seen = ap (λ (o : Option Message). is_some o) (sym none.message);
+        message = tt;
       },
     )
 
 -- the answer to a create was read
 pub answered_passes : (g : ReplayInput) (now : ℕ) (r : Recreation) (c d : Consumer) (request : ℕ) (a : Option Answer) (info : Option Info) (rest : NextTasks) (done : Stepped) (v : LinkView)
     → option_map info_of_reply (reply_to request a) ≡ Some info
-    → StepsTo (read_by None) (quietly (at_phase (Recreates r) c) (answered g.setup info ∷ [])) [] d rest → done ≡ done_by hands.Nothing rest
-    → PassesRows g now (rows_of (read_by a) (task.Answered request)) (at_phase (Recreates r) c) d v v (Ok done)
+    → StepsTo (read_by None None) (quietly (at_phase (Recreates r) c) (answered g.setup info ∷ [])) [] d rest → done ≡ done_by hands.Nothing rest
+    → PassesRows g now (rows_of (read_by a None) (task.Answered request)) (at_phase (Recreates r) c) d v v (Ok done)
 answered_passes g now r c d request a info rest done v reads steps to = by_reply (reply_to request a) reads
   where
     by_reply : (reply : Option (Option Message)) → option_map info_of_reply reply ≡ Some info → IfAlone (answered_rows reply) (λ (one : Row). PassesRow g now one (at_phase (Recreates r) c) d v v (Ok done))
     by_reply None e = cc
     by_reply (Some message) e =
         let same : info_of_reply message ≡ info = cc in
-        row_passes g now (row.Answered message) (at_phase (Recreates r) c) d Unasked (quietly (at_phase (Recreates r) c) (answered g.setup info ∷ [])) [] hands.Nothing rest done v v refl (record { message = refl; is_open = refl })
+        row_passes g now (row.Answered message) (at_phase (Recreates r) c) d Unasked (quietly (at_phase (Recreates r) c) (answered g.setup info ∷ [])) [] hands.Nothing rest done v v refl (record { message = refl; is_open = refl }) refl
         (ap (λ (o : Option Info). quietly (at_phase (Recreates r) c) (answered g.setup o ∷ [])) same) steps refl to
 
 -- pull reads its next inbox
 pub succeed_passes : (g : ReplayInput) (now : ℕ) (info : Info) (r : Recreation) (c d : Consumer) (met : Met) (inbox : Option Inbox) (rest : NextTasks) (done : Stepped) (v u : LinkView) → IsPull g.setup
     → Meets Opens_inbox met v u → inbox ≡ inbox_in met
-    → StepsTo (read_by None) (succeed_pull g (opening_to now inbox (passing_of now met)) info (at_phase (Recreates r) c)) (subscribed inbox) d rest
+    → StepsTo (read_by None None) (succeed_pull g (opening_to now inbox (passing_of now met)) info (at_phase (Recreates r) c)) (subscribed inbox) d rest
     → done ≡ done_by hands.Nothing rest → PassesRow g now (row.Succeed info) (at_phase (Recreates r) c) d v u (Ok done)
 succeed_passes g now info r c d met inbox rest done v u pulls meets opens steps to =
     row_passes g now (row.Succeed info) (at_phase (Recreates r) c) d met (succeed_pull g (opening_to now inbox (passing_of now met)) info (at_phase (Recreates r) c)) (subscribed inbox) hands.Nothing rest done v u
     (wished g.setup pulls)
-    (untaken Opens_inbox met v u tt meets)
+    (untaken Opens_inbox met v u tt meets) refl
     (passed g.setup pulls ∙ ap (λ (p : Sends). succeed_pull g p info (at_phase (Recreates r) c)) (sym (ap (λ (o : Option Inbox). opening_to now o (passing_of now met)) opens ∙ opening_met now met v u meets)))
     steps (no_inbox inbox) to
   where
@@ -257,6 +281,55 @@ succeed_passes g now info r c d met inbox rest done v u pulls meets opens steps 
     passed : (setup : OrderedSetup) → IsPull setup → succeed_row setup g (passing_of now met) info r (at_phase (Recreates r) c) ≡ succeed_pull g (passing_of now met) info (at_phase (Recreates r) c)
     passed (Pull setup) is = refl
     passed (Push setup) is = absurd is
+
+-- push listens to the inbox that it has opened, for which nothing is held
+none_held : (held : List Message) → (length held == 0) ≡ true → held ≡ []
+none_held [] e = refl
+none_held (x ∷ held) e = absurd (never e)
+  where
+    never : (suc (length held) == 0) ≡ true → ⊥
+    never e = grind (arith, nat_tests)
+
+pub succeed_push_passes : (g : ReplayInput) (now : ℕ) (info : Info) (r : Recreation) (c d : Consumer) (rest : NextTasks) (done : Stepped) (v : LinkView) → IsPush g.setup → is_bare r.opened ≡ true
+    → ((m : Matter) (p : Sends) → StepsTo m (succeed_push (at_moment now p) r.opened (at_phase (Recreates r) c)) [] d rest)
+    → done ≡ done_by hands.Nothing (next.One task.Arm) → PassesRow g now (row.Succeed info) (at_phase (Recreates r) c) d v v (Ok done)
+succeed_push_passes g now info r c d rest done v pushes bare steps to =
+    let p : Sends = passing_of now Unasked in
+    let s = steps (read_by None None) p in
+    row_passes g now (row.Succeed info) (at_phase (Recreates r) c) d Unasked (succeed_push p r.opened (at_phase (Recreates r) c)) [] hands.Nothing (next.One task.Arm) done v v
+    (wished g.setup pushes)
+    (record { message = refl; is_open = refl }) refl
+    (passed g.setup pushes)
+    (record { consumer = s.consumer; outputs = s.outputs; next = sym (arms r.opened bare) }) refl to
+  where
+    wished : (setup : OrderedSetup) → IsPush setup → Meets (succeed_wish setup) Unasked v v
+    wished (Pull setup) is = absurd is
+    wished (Push setup) is = refl
+
+    passed : (setup : OrderedSetup) → IsPush setup → succeed_row setup g (passing_of now Unasked) info r (at_phase (Recreates r) c) ≡ succeed_push (passing_of now Unasked) r.opened (at_phase (Recreates r) c)
+    passed (Pull setup) is = absurd is
+    passed (Push setup) is = refl
+
+    arms : (opened : Option Opened) → is_bare opened ≡ true → (succeed_push (passing_of now Unasked) opened (at_phase (Recreates r) c)).next ≡ row.Arm ∷ []
+    arms None e = absurd (let h = e in cc)
+    arms (Some opened) e = ap (λ (held : List Message). map (λ (message : Message). row.Hear (record { inbox = opened.inbox; message = message })) held ++ row.Arm ∷ []) (none_held opened.held e)
+
+-- a poll holds nothing
+pub hold_passes : (g : ReplayInput) (now : ℕ) (c : Consumer) (done : Stepped) (v : LinkView) → done ≡ done_by hands.Nothing next.Nothing → PassesRow g now row.Hold c c v v (Ok done)
+hold_passes g now c done v to =
+    row_passes g now row.Hold c c Unasked (quietly c []) [] hands.Nothing next.Nothing done v v refl (record { message = refl; is_open = refl }) refl (stays c.phase refl) (record { consumer = refl; outputs = refl; next = refl }) refl to
+  where
+    same : (opened : Option Opened) → held_in None opened ≡ opened
+    same None = refl
+    same (Some opened) = refl
+
+    stays : (phase : Phase) → phase ≡ c.phase → row_at g (passing_of now Unasked) (matter_of Nothing Unasked) row.Hold phase c ≡ quietly c []
+    stays (Recreates r) is = ap (λ (o : Option Opened). quietly (at_phase (Recreates (record r { opened = o })) c) []) (same r.opened) ∙ ap (λ (x : Phase). quietly (at_phase x c) []) is
+    stays (Pulls reader) is = refl
+    stays (Pushes inbox heartbeat_timer) is = refl
+    stays Idle is = refl
+    stays Ended is = refl
+    stays Exhausted is = refl
 
 -- ---- a turn begins
 
@@ -277,14 +350,14 @@ event_watches g Exhausted going = absurd (never going)
 pub event_passes : (g : ReplayInput) (now : ℕ) (c d : Consumer) (met : Met) (change : CodeChange) (told : RowOutput) (rest : NextTasks) (done : Stepped) (v u : LinkView)
     → is_over c.phase ≡ false → Meets Watches met v u → change_shown change ≡ change_of met
     → ((p : Sends) (m : Matter) → m.change ≡ change_shown change → StepsTo m (event_row g (at_moment now p) m c.phase c) (told_outputs told) d rest)
-    → handed_list done.handed None ≡ handed (told_outputs told) → done ≡ record done { next = rest; reply = None; message = None }
+    → handed_list done.handed None ≡ handed (told_outputs told) → done ≡ record done { next = rest; reply = None; arrival = None; message = None }
     → PassesRow g now row.Event c d v u (Ok done)
 event_passes g now c d met change told rest done v u going meets shown steps hands to =
     let w : Wish = poll_wish_at g row.Event c.phase in
     let is : w ≡ Watches = event_watches g c.phase going in
     let s = steps (passing_of now met) (matter_of Watches met) (sym shown) in
     row_tells g now row.Event c d met (event_row g (at_moment now (passing_of now met)) (matter_of Watches met) c.phase c) told rest done v u
-    (subst (λ (x : Wish). Meets x met v u) (sym is) meets) (untaken Watches met v u tt meets)
+    (subst (λ (x : Wish). Meets x met v u) (sym is) meets) (untaken Watches met v u tt meets) refl
     (ap (λ (x : Wish). event_row g (passing_of now met) (matter_of x met) c.phase c) is ∙ ap (λ (p : Sends). event_row g p (matter_of Watches met) c.phase c) (sym (moment_met now met)))
     (record { consumer = s.consumer; outputs = s.outputs; next = sym (next_same (change_of met) None rest) ∙ s.next }) hands to
 

@@ -4,12 +4,15 @@ use Rattle.std.specs.Prelude.{◌≢◌, ◌↔◌, not, ◌&&◌, ◌||◌, is_
 use Rattle.js_base.specs.declared.message.Message.{Message}
 use Rattle.js_link.specs.LinkView.{LinkView}
 use Rattle.js_link.specs.Meets.{Meets}
-use Rattle.js_link.specs.Met.{Wish, Met, Nothing, Opens_inbox, Watches, Publishes, Requests, Drops, Reads, Awaits, Took, IsClosing, message_of}
+use Rattle.js_link.specs.Met.{Wish, Met, passing_of, Nothing, Opens_inbox, Watches, Publishes, Requests, Drops, Reads, Awaits, Took, IsClosing, message_of}
 use Rattle.js_pull.specs.Asking.{is_shut}
 use Rattle.js_table.specs.declared.consumer.ReplayInput.{ReplayInput}
 use Rattle.js_table.specs.declared.consumer.Phase.{Phase}
 use Rattle.js_table.specs.declared.consumer.Phase.TheVariants.{Pulls, Pushes, Recreates, Idle, Ended, Exhausted}
 use Rattle.js_table.specs.declared.row.Arrival.{Arrival}
+use Rattle.js_table.specs.declared.row.Row.{Row}
+use Rattle.js_table.specs.declared.row.Row.TheVariants.{Hear}
+use Rattle.js_ordered_stream.specs.Rows.{seen_by}
 use Rattle.js_table.specs.declared.run.ItemKind.{ItemKind}
 use Rattle.js_table.specs.declared.run.ItemKind.TheVariants as item
 use Rattle.js_table.specs.declared.run.Output.{Output}
@@ -20,9 +23,9 @@ use Rattle.js_ordered_stream.specs.declared.error.OrderedErrorKind.TheVariants a
 use Rattle.js_ordered_stream.specs.declared.ordered.Turned.{Turned}
 use Rattle.js_ordered_stream.specs.declared.ordered.Turned.TheVariants as turns
 use Rattle.js_ordered_stream.specs.Stream.{PassesNext, TurnsTo, error_kind, told_of, is_spent, step_met, stride_met, stirring}
-use Rattle.js_turns.specs.Polling.{Answer, Yields, Tells, HandsEnd, Waits, Ends, Lacks, IsPoll, IsMet, IsQuietRow, AreQuiet, IsQuietTurn, IsTaken, StopsAtFirst, last_arrival, poll_wish, closed_at, handed_by}
-use Rattle.js_turns.specs.Turns.{Position, Stride, IsStride, step, walk, handed}
-use Rattle.js_turns.specs.Wishes.{arrival_of}
+use Rattle.js_turns.specs.Polling.{Answer, Yields, Tells, HandsEnd, Waits, Ends, Lacks, IsPoll, IsMet, IsQuietRow, AreQuiet, IsQuietTurn, IsTaken, StopsAtFirst, last_arrival, looked_at, poll_wish, closed_at, handed_by}
+use Rattle.js_turns.specs.Turns.{Position, Stride, IsStride, step, walk, handed, first_row}
+use Rattle.js_turns.specs.Wishes.{arrival_of, matter_of}
 use Rattle.js_turns.proofs.Polls.{poll_gapless}
 
 -- ---- lists of strides
@@ -155,10 +158,14 @@ or_right : (a b : Bool) → (a || b) ≡ false → b ≡ false
 or_right true b e = absurd (let h = e in cc)
 or_right false b e = e
 
-row_quiet : (g : ReplayInput) (now : ℕ) (met : Met) (at : Position) → stirring met at.consumer.phase (step_met g now met at).position.consumer.phase ≡ false → IsQuietRow g (stride_met g now met at) at
+none_seen : (row : Row) (met : Met) → is_some (seen_by row met) ≡ false → is_some (message_of met) ≡ false
+none_seen (Hear arrival) met e = absurd (let h = e in cc)
+none_seen row met e = e
+
+row_quiet : (g : ReplayInput) (now : ℕ) (met : Met) (at : Position) → stirring (first_row at.todo) met at.consumer.phase (step_met g now met at).position.consumer.phase ≡ false → IsQuietRow g (stride_met g now met at) at
 row_quiet g now met at still = record {
-  untaken = none_arrives (poll_wish g at) met (or_left (is_some (message_of met)) _ still);
-  unstarted = or_right (is_some (message_of met)) _ still;
+  untaken = none_arrives (poll_wish g at) met (none_seen (first_row at.todo) met (or_left (is_some (seen_by (first_row at.todo) met)) _ still));
+  unstarted = or_right (is_some (seen_by (first_row at.todo) met)) _ still;
 }
 
 -- what was quiet so far, is so with one quiet row more
@@ -202,7 +209,7 @@ at_end g now met at bt new v u e p = subst (λ (x : Position). PassesNext g now 
 
 -- rows were passed in silence, and then this one
 pub walked_more : (g : ReplayInput) (now : ℕ) (quiet begins stirs : Bool) (met : Met) (old at new : Position) (v u w : LinkView) → Walked g now quiet old at v u → (begins ≡ true → at.todo ≡ [])
-    → PassesNext g now met at new u w → handed (step_met g now met at).outputs ≡ [] → stirs ≡ stirring met at.consumer.phase new.consumer.phase → is_spent new.consumer.phase ≡ false
+    → PassesNext g now met at new u w → handed (step_met g now met at).outputs ≡ [] → stirs ≡ stirring (first_row at.todo) met at.consumer.phase new.consumer.phase → is_spent new.consumer.phase ≡ false
     → Walked g now ((begins || quiet) && not stirs) old new v w
 walked_more g now quiet begins stirs met old at new v u w walked begins_is passes silent stirred spent =
     let bt : Position = (walk g walked.strides old).position in
@@ -215,7 +222,8 @@ walked_more g now quiet begins stirs met old at new v u w walked begins_is passe
       silent = handed_more g walked.strides s old walked.silent ∙ subst (λ (x : Position). handed (step_met g now met x).outputs ≡ []) walked.leads silent;
       turn = turn_more g quiet begins stirs walked.strides s old walked.turn (λ e. ap (λ (x : Position). x.todo) (sym walked.leads) ∙ begins_is e)
           (λ still. row_quiet g now met bt
-          (ap (λ (x : Position). stirring met bt.consumer.phase x.consumer.phase) (sym p.leads) ∙ ap (λ (x : Position). stirring met x.consumer.phase new.consumer.phase) (sym walked.leads) ∙ sym stirred ∙ still));
+          (ap (λ (x : Position). stirring (first_row bt.todo) met bt.consumer.phase x.consumer.phase) (sym p.leads)
+          ∙ ap (λ (x : Position). stirring (first_row x.todo) met x.consumer.phase new.consumer.phase) (sym walked.leads) ∙ sym stirred ∙ still));
       alive = walked.alive;
       spent = spent;
     }
@@ -385,13 +393,13 @@ poll_over g now old v over = record {
 }
 
 -- the message that a row looked at
-abbrev message_at : ReplayInput → Met → Position → Option Message
-message_at g met at = option_map (λ (arrival : Arrival). arrival.message) (arrival_of (poll_wish g at) met)
+abbrev message_at : ReplayInput → ℕ → Met → Position → Option Message
+message_at g now met at = looked_at (first_row at.todo) (stride_met g now met at)
 
-last_more : (strides : List Stride) (s : Stride) → last_arrival (strides ++ s ∷ []) ≡ option_map (λ (arrival : Arrival). arrival.message) s.matter.arrival
-last_more [] s = refl
-last_more (x ∷ []) s = refl
-last_more (x ∷ y ∷ strides) s = last_more (y ∷ strides) s
+last_more : (g : ReplayInput) (strides : List Stride) (s : Stride) (at : Position) → last_arrival g (strides ++ s ∷ []) at ≡ looked_at (first_row (walk g strides at).position.todo) s
+last_more g [] s at = refl
+last_more g (x ∷ []) s at = refl
+last_more g (x ∷ y ∷ strides) s at = last_more g (y ∷ strides) s (step g x at).position
 
 none_some : (message : Message) → None ≡ Some message → ⊥
 none_some message e = cc
@@ -407,17 +415,22 @@ took_from (Drops inbox) (Took taken) message v u m e = absurd m
 took_from (Awaits request) (Took taken) message v u m e = absurd m
 took_from wish met message v u m e = absurd (none_some message e)
 
+looked_from : (row : Row) (now : ℕ) (wish : Wish) (met : Met) (message : Message) (v u : LinkView) → Meets wish met v u → seen_by row met ≡ Some message
+    → looked_at row (record { passing = passing_of now met; matter = matter_of wish met }) ≡ Some message
+looked_from (Hear arrival) now wish met message v u m e = e
+looked_from row now wish met message v u m e = took_from wish met message v u m e
+
 -- the last row of a poll
 pub record Last (g : ReplayInput) (now : ℕ) (old new : Position) (before after : LinkView) (outputs : List Output) (message : Option Message) : Type 0 where
   pub strides : List Stride
   pub leads : new ≡ (walk g strides old).position
   pub met : IsMet g now Meets strides old before after
   pub out : handed (walk g strides old).outputs ≡ outputs
-  pub arrival : last_arrival strides ≡ message
+  pub arrival : last_arrival g strides old ≡ message
   pub stops : StopsAtFirst g strides old
 
 last_row : (g : ReplayInput) (now : ℕ) (quiet : Bool) (met : Met) (old at new : Position) (v u w : LinkView) (outputs : List Output) → Walked g now quiet old at v u → PassesNext g now met at new u w
-    → handed (step_met g now met at).outputs ≡ outputs → Last g now old new v w outputs (message_at g met at)
+    → handed (step_met g now met at).outputs ≡ outputs → Last g now old new v w outputs (message_at g now met at)
 last_row g now quiet met old at new v u w outputs walked passes hands =
     let bt : Position = (walk g walked.strides old).position in
     let p : PassesNext g now met bt new u w = at_end g now met at bt new u w walked.leads passes in
@@ -427,16 +440,16 @@ last_row g now quiet met old at new v u w outputs walked passes hands =
       leads = p.leads ∙ sym (walk_more g walked.strides s old);
       met = met_more g now walked.strides s met old v u w walked.met (record { passing = refl; matter = refl }) p.is_open p.meets;
       out = handed_more g walked.strides s old walked.silent ∙ subst (λ (x : Position). handed (step_met g now met x).outputs ≡ outputs) walked.leads hands;
-      arrival = last_more walked.strides s ∙ ap (λ (x : Position). message_at g met x) (sym walked.leads);
+      arrival = last_more g walked.strides s old ∙ ap (λ (x : Position). message_at g now met x) (sym walked.leads);
       stops = stops_more g walked.strides s old walked.silent;
     }
 
 -- it hands something out
 poll_hands : (g : ReplayInput) (now : ℕ) (quiet : Bool) (met : Met) (old at new : Position) (v u w : LinkView) (answer : Answer) → Walked g now quiet old at v u → PassesNext g now met at new u w
     → handed (step_met g now met at).outputs ≡ handed_by answer → (answer ≡ Ends → ⊥) → (answer ≡ Waits → ⊥) → (answer ≡ HandsEnd → ⊥)
-    → ((strides : List Stride) → last_arrival strides ≡ message_at g met at → IsTaken answer strides) → Polls g now old new v w answer
+    → ((strides : List Stride) → last_arrival g strides old ≡ message_at g now met at → IsTaken g answer strides old) → Polls g now old new v w answer
 poll_hands g now quiet met old at new v u w answer walked passes hands no_end no_wait no_spent taken =
-    let last : Last g now old new v w (handed_by answer) (message_at g met at) = last_row g now quiet met old at new v u w (handed_by answer) walked passes hands in
+    let last : Last g now old new v w (handed_by answer) (message_at g now met at) = last_row g now quiet met old at new v u w (handed_by answer) walked passes hands in
     record {
       strides = last.strides;
       closed = false;
@@ -455,10 +468,10 @@ poll_hands g now quiet met old at new v u w answer walked passes hands no_end no
     }
 
 pub poll_yields : (g : ReplayInput) (now : ℕ) (quiet : Bool) (met : Met) (old at new : Position) (v u w : LinkView) (message : Message) → Walked g now quiet old at v u → PassesNext g now met at new u w
-    → handed (step_met g now met at).outputs ≡ handed_by (Yields message) → message_of met ≡ Some message → Polls g now old new v w (Yields message)
+    → handed (step_met g now met at).outputs ≡ handed_by (Yields message) → seen_by (first_row at.todo) met ≡ Some message → Polls g now old new v w (Yields message)
 poll_yields g now quiet met old at new v u w message walked passes hands took =
     poll_hands g now quiet met old at new v u w (Yields message) walked passes hands (λ e. yields_ends message e) (λ e. yields_waits message e) (λ e. yields_end message e)
-    (λ strides last. last ∙ took_from (poll_wish g at) met message u w passes.meets took)
+    (λ strides last. last ∙ looked_from (first_row at.todo) now (poll_wish g at) met message u w passes.meets took)
 
 poll_tells : (g : ReplayInput) (now : ℕ) (quiet : Bool) (met : Met) (old at new : Position) (v u w : LinkView) (kind : ItemKind) → Walked g now quiet old at v u → PassesNext g now met at new u w
     → handed (step_met g now met at).outputs ≡ handed_by (Tells kind) → Polls g now old new v w (Tells kind)
@@ -483,7 +496,7 @@ poll_errs g now quiet met old at new v u w kind told is walked passes hands =
 pub poll_exhausts : (g : ReplayInput) (now : ℕ) (quiet : Bool) (met : Met) (old at new : Position) (v u w : LinkView) → Walked g now quiet old at v u → PassesNext g now met at new u w
     → handed (step_met g now met at).outputs ≡ [] → is_spent new.consumer.phase ≡ true → Polls g now old new v w HandsEnd
 poll_exhausts g now quiet met old at new v u w walked passes hands spent =
-    let last : Last g now old new v w [] (message_at g met at) = last_row g now quiet met old at new v u w [] walked passes hands in
+    let last : Last g now old new v w [] (message_at g now met at) = last_row g now quiet met old at new v u w [] walked passes hands in
     record {
       strides = last.strides;
       closed = false;

@@ -1,6 +1,6 @@
 -- The next row of a position, and what is left then.
 use Rattle.std.proofs.Common.{◌≡◌, ℕ, Bool, true, false, List, [], ◌∷◌, ◌++◌, Option, Some, None, refl, sym, ap, ◌∙◌, subst, append-nil, append_assoc}
-use Rattle.std.specs.Prelude.{◌||◌, ◌&&◌, not, is_some, Result, Ok, Err}
+use Rattle.std.specs.Prelude.{◌||◌, ◌&&◌, not, is_some, IfSome, Result, Ok, Err}
 use Rattle.js_base.specs.declared.message.Message.{Message}
 use Rattle.js_link.specs.LinkView.{LinkView}
 use Rattle.js_link.specs.Meets.{Meets}
@@ -14,6 +14,8 @@ use Rattle.js_pull.specs.declared.rows.Due.{Due}
 use Rattle.js_table.specs.declared.row.Row.TheVariants as row
 use Rattle.js_ordered_rows.specs.Tasks.{next_rows, rows_of}
 use Rattle.js_ordered_stream.specs.declared.left.Left.{Left}
+use Rattle.js_ordered_stream.specs.declared.left.Reply.{Reply}
+use Rattle.js_table.specs.declared.row.Arrival.{Arrival}
 use Rattle.js_ordered_stream.specs.declared.left.Todo.{Todo}
 use Rattle.js_ordered_stream.specs.declared.left.Todo.TheVariants as todo
 use Rattle.js_ordered_stream.specs.declared.ordered.Turned.{Turned}
@@ -22,7 +24,7 @@ use Rattle.js_ordered_stream.specs.declared.rows.Handed.TheVariants as hands
 use Rattle.js_ordered_stream.specs.declared.rows.Stepped.{Stepped}
 use Rattle.js_ordered_stream.specs.declared.rows.Stop.{Stop}
 use Rattle.js_ordered_stream.specs.declared.rows.Stop.TheVariants as stop
-use Rattle.js_ordered_stream.specs.Rows.{Fits, IfAlone, IsPlain, ReadsNone, PassesRow, PassesRows, Steps, answer_shown, handed_list, is_rested, later_of, left_rows, met_row, read_by, todo_rows}
+use Rattle.js_ordered_stream.specs.Rows.{Fits, IfAlone, IsPlain, ReadsNone, PassesRow, PassesRows, Steps, answer_shown, handed_list, is_rested, later_of, left_rows, met_row, read_by, seen_by, todo_rows}
 use Rattle.js_ordered_stream.specs.Stream.{IsNext, PassesFirst, PassesNext, TurnsTo, is_spent, step_met, stirring, turned_by, silent_by}
 use Rattle.js_table.specs.declared.consumer.Consumer.{Consumer}
 use Rattle.js_table.specs.declared.consumer.ReplayInput.{ReplayInput}
@@ -54,23 +56,22 @@ read_plain one false same = tt
 pub rested : (left : Left) (b : Bool) → b ≡ is_rested left.todo → b ≡ true → left_rows left ≡ []
 rested left b is e = by_todo left.todo (sym is ∙ e)
   where
-    by_todo : (t : Todo) → is_rested t ≡ true → todo_rows (read_by (answer_shown left.reply)) t ≡ []
+    by_todo : (t : Todo) → is_rested t ≡ true → todo_rows (read_by (answer_shown left.reply) left.arrival) t ≡ []
     by_todo todo.Nothing e = refl
     by_todo (todo.One one) e = absurd (let h = e in cc)
     by_todo (todo.Two one second) e = absurd (let h = e in cc)
     by_todo (todo.Three one second third) e = absurd (let h = e in cc)
 
 -- this task comes first
-abbrev IsFirst : Option Answer → Todo → Task → Type 0
-IsFirst a t one = (todo_rows (read_by a) t ≡ rows_of (read_by a) one ++ later_of (read_by a) t) × ((m u : Matter) → later_of m t ≡ later_of u t) × Fits t
+abbrev IsFirst : Todo → Task → Type 0
+IsFirst t one = ((m : Matter) → todo_rows m t ≡ rows_of m one ++ later_of m t) × ((m u : Matter) → later_of m t ≡ later_of u t) × Fits t
 
-pub first_one : (left : Left) (one : Task) → left.todo ≡ todo.One one → IsFirst (answer_shown left.reply) left.todo one
-first_one left one is =
-    subst (λ (t : Todo). IsFirst (answer_shown left.reply) t one) (sym is) (sym (append-nil (rows_of (read_by (answer_shown left.reply)) one)), (λ m u. refl), tt)
+pub first_one : (t : Todo) (one : Task) → t ≡ todo.One one → IsFirst t one
+first_one t one is = subst (λ (x : Todo). IsFirst x one) (sym is) ((λ m. sym (append-nil (rows_of m one))), (λ m u. refl), tt)
 
-pub first_two : (left : Left) (one later : Task) (plain : Bool) → left.todo ≡ todo.Two one later → IsPlain later plain → plain ≡ true → IsFirst (answer_shown left.reply) left.todo one
-first_two left one later plain is same plain_is =
-    subst (λ (t : Todo). IsFirst (answer_shown left.reply) t one) (sym is) (refl, subst (λ (b : Bool). IsPlain later b) plain_is same, tt)
+pub first_two : (t : Todo) (one later : Task) (plain : Bool) → t ≡ todo.Two one later → IsPlain later plain → plain ≡ true → IsFirst t one
+first_two t one later plain is same plain_is =
+    subst (λ (x : Todo). IsFirst x one) (sym is) ((λ m. refl), subst (λ (b : Bool). IsPlain later b) plain_is same, tt)
 
 -- what is left after it
 pub later_none : (m : Matter) (t : Todo) → t ≡ todo.Nothing → [] ≡ later_of m t
@@ -90,6 +91,10 @@ later_three m t one second third rows is fits = absurd (let h : Fits (todo.Three
 abbrev place : Consumer → List Row → Position
 place c rows = record { consumer = c; todo = rows }
 
+-- what is left, in its parts
+abbrev pub left_with : Todo → Option Reply → Option Arrival → Left
+left_with todo reply arrival = record { todo = todo; reply = reply; arrival = arrival }
+
 -- the row that it stands for comes next
 pub next_of : (left : Left) (rows later : List Row) (holds : Row → Type 0) → left_rows left ≡ rows ++ later → ((m : Matter) → later ≡ later_of m left.todo) → IfAlone rows holds → IsNext left holds
 next_of left [] later holds is same alone = absurd alone
@@ -108,7 +113,7 @@ pub begins_first : (g : ReplayInput) (now : ℕ) (left : Left) (c d : Consumer) 
 begins_first g now left c d v u result is passes = by_result result passes
   where
     none : left_rows left ≡ []
-    none = ap (todo_rows (read_by (answer_shown left.reply))) is
+    none = ap (todo_rows (read_by (answer_shown left.reply) left.arrival)) is
 
     same : (m : Matter) → later_rows (left_rows left) ≡ later_of m left.todo
     same m = ap later_rows none ∙ sym (ap (later_of m) is)
@@ -124,42 +129,48 @@ begins_first g now left c d v u result is passes = by_result result passes
 -- ---- what the next row comes to
 
 turned_silent : (g : ReplayInput) (now : ℕ) (met : Met) (old new : Position) (v u : LinkView) (stirs spent : Bool) → PassesNext g now met old new v u → handed (step_met g now met old).outputs ≡ []
-    → stirs ≡ stirring met old.consumer.phase new.consumer.phase → spent ≡ is_spent new.consumer.phase → TurnsTo (silent_by stirs spent) g now old new v u
+    → stirs ≡ stirring (first_row old.todo) met old.consumer.phase new.consumer.phase → spent ≡ is_spent new.consumer.phase → TurnsTo (silent_by stirs spent) g now old new v u
 turned_silent g now met old new v u stirs true passes shows stirred is = (met, passes, shows, sym is)
 turned_silent g now met old new v u stirs false passes shows stirred is = (met, passes, shows, stirred, sym is)
 
 turned_to : (g : ReplayInput) (now : ℕ) (met : Met) (old new : Position) (v u : LinkView) (hand : Handed) (message : Option Message) (stirs spent : Bool) → PassesNext g now met old new v u
-    → message ≡ message_of met → handed (step_met g now met old).outputs ≡ handed_list hand message
-    → stirs ≡ stirring met old.consumer.phase new.consumer.phase → spent ≡ is_spent new.consumer.phase → TurnsTo (turned_by hand message stirs spent) g now old new v u
+    → IfSome message (λ x. seen_by (first_row old.todo) met ≡ Some x) → handed (step_met g now met old).outputs ≡ handed_list hand message
+    → stirs ≡ stirring (first_row old.todo) met old.consumer.phase new.consumer.phase → spent ≡ is_spent new.consumer.phase → TurnsTo (turned_by hand message stirs spent) g now old new v u
 turned_to g now met old new v u hands.Nothing message stirs spent passes took shows stirred is = turned_silent g now met old new v u stirs spent passes shows stirred is
 turned_to g now met old new v u hands.Message None stirs spent passes took shows stirred is = turned_silent g now met old new v u stirs spent passes shows stirred is
-turned_to g now met old new v u hands.Message (Some message) stirs spent passes took shows stirred is = (met, passes, shows, sym took)
+turned_to g now met old new v u hands.Message (Some message) stirs spent passes took shows stirred is = (met, passes, shows, took)
 turned_to g now met old new v u (hands.Error kind) message stirs spent passes took shows stirred is = (met, passes, shows)
+
+-- what follows reads what the row met
+abbrev matter_left : Stepped → Matter
+matter_left done = read_by (answer_shown done.reply) done.arrival
 
 -- the next row was passed
 pub next_passed : (g : ReplayInput) (now : ℕ) (left after : Left) (c d e : Consumer) (done : Stepped) (was_reading : Bool) (turned : Turned) (v u : LinkView) → PassesFirst g now left c d v u (Ok done) → e ≡ d
     → was_reading ≡ is_reading c.phase
-    → left_rows after ≡ next_rows (read_by (answer_shown done.reply)) done.next ++ later_of (read_by (answer_shown done.reply)) left.todo
-    → turned ≡ turned_by done.handed done.message (is_some done.message || (not was_reading && is_reading d.phase)) (is_spent d.phase)
+    → left_rows after ≡ next_rows (matter_left done) done.next ++ later_of (matter_left done) left.todo
+    → turned ≡ turned_by done.handed done.message ((is_some done.message || is_some done.arrival) || (not was_reading && is_reading d.phase)) (is_spent d.phase)
     → TurnsTo turned g now (place c (left_rows left)) (place e (left_rows after)) v u
 next_passed g now left after c d e done was_reading turned v u (fits, (one, first_is, later_is, (met, meets, is_open, steps))) kept was rows to =
     let old : Position = place c (left_rows left) in
     let new : Position = place d (left_rows after) in
+    let looks : Bool = is_some done.message || is_some done.arrival in
     let known : Steps g now (first_row (left_rows left)) met c d done = subst (λ (x : Row). Steps g now x met c d done) (sym first_is) steps in
     let passes : PassesNext g now met old new v u = record {
       meets = subst (λ (x : Row). Meets (poll_wish_at g x c.phase) met v u) (sym first_is) meets;
       is_open = is_open;
       leads = ap (λ (x : Consumer). place x (left_rows after)) known.consumer
           ∙ ap (λ (xs : List Row). place (step_met g now met old).position.consumer xs)
-          (rows ∙ ap (λ (xs : List Row). xs ++ later_of (read_by (answer_shown done.reply)) left.todo) known.next
-          ∙ ap (λ (xs : List Row). (met_row g now (first_row (left_rows left)) met c).next ++ xs) (sym (later_is (read_by (answer_shown done.reply)))));
+          (rows ∙ ap (λ (xs : List Row). xs ++ later_of (matter_left done) left.todo) known.next
+          ∙ ap (λ (xs : List Row). (met_row g now (first_row (left_rows left)) met c).next ++ xs) (sym (later_is (matter_left done))));
     } in
-    let stirred : (is_some done.message || (not was_reading && is_reading d.phase)) ≡ stirring met c.phase d.phase =
-    ap (λ (o : Option Message). is_some o || (not was_reading && is_reading d.phase)) known.message ∙ ap (λ (b : Bool). is_some (message_of met) || (not b && is_reading d.phase)) was in
+    let stirred : (looks || (not was_reading && is_reading d.phase)) ≡ stirring (first_row (left_rows left)) met c.phase d.phase =
+    ap (λ (b : Bool). b || (not was_reading && is_reading d.phase)) known.seen
+    ∙ ap (λ (b : Bool). is_some (seen_by (first_row (left_rows left)) met) || (not b && is_reading d.phase)) was in
     subst (λ (x : Consumer). TurnsTo turned g now old (place x (left_rows after)) v u) (sym kept)
     (subst (λ (t : Turned). TurnsTo t g now old new v u) (sym to)
-    (turned_to g now met old new v u done.handed done.message (is_some done.message || (not was_reading && is_reading d.phase)) (is_spent d.phase) passes known.message
-    (known.shown ∙ ap (λ (o : Option Message). handed_list done.handed o) (sym known.message)) stirred refl))
+    (turned_to g now met old new v u done.handed done.message (looks || (not was_reading && is_reading d.phase)) (is_spent d.phase) passes known.message
+    known.shown stirred refl))
 
 -- its inbox is closed
 pub next_closed : (g : ReplayInput) (now : ℕ) (left : Left) (c d : Consumer) (new : Position) (v u : LinkView) → PassesFirst g now left c d v u (Err stop.Closed)

@@ -1,9 +1,9 @@
 -- The rows that are left of a turn, as the code keeps them, and what a function says that passes one over a link.
-use Rattle.std.specs.Prelude.{◌≡◌, ℕ, Bool, true, false, List, [], ◌∷◌, ◌++◌, Option, Some, None, Result, Ok, Err, ⊤}
+use Rattle.std.specs.Prelude.{◌≡◌, ℕ, Bool, true, false, List, [], ◌∷◌, ◌++◌, Option, Some, None, IfSome, is_some, option_map, ◌||◌, ◌==◌, length, Result, Ok, Err, ⊤}
 use Rattle.js_base.specs.declared.message.Message.{Message}
 use Rattle.js_link.specs.LinkView.{LinkView}
 use Rattle.js_link.specs.Meets.{Meets}
-use Rattle.js_link.specs.Met.{Met, Opened, passing_of, message_of, IsClosing}
+use Rattle.js_link.specs.Met.{Met, Opened, Reads, Shut, passing_of, message_of, IsClosing}
 use Rattle.js_message.specs.Ack.{readable_as}
 use Rattle.js_ordered_rows.specs.declared.task.Heard.{Heard}
 use Rattle.js_ordered_rows.specs.declared.task.Heard.TheVariants as hears
@@ -32,19 +32,22 @@ use Rattle.js_pull.specs.declared.reader.Reader.{Reader}
 use Rattle.js_pull.specs.declared.reader.ReaderOutput.{ReaderOutput}
 use Rattle.js_pull.specs.declared.reader.Row.{Row as PullRow}
 use Rattle.js_table.specs.declared.consumer.Consumer.{Consumer}
+use Rattle.js_table.specs.declared.consumer.Opened.{Opened as OpenedInbox}
 use Rattle.js_table.specs.declared.consumer.ReplayInput.{ReplayInput}
 use Rattle.js_table.specs.declared.consumer.Stage.{Stage}
 use Rattle.js_table.specs.declared.consumer.Stage.TheVariants.{Deleting, Creating}
+use Rattle.js_table.specs.declared.row.Arrival.{Arrival}
 use Rattle.js_table.specs.declared.row.Row.{Row}
+use Rattle.js_table.specs.declared.row.Row.TheVariants.{Hear}
 use Rattle.js_table.specs.declared.run.ItemKind.TheVariants as item
 use Rattle.js_table.specs.declared.run.Output.{Output}
 use Rattle.js_table.specs.declared.run.Output.TheVariants as out
-use Rattle.js_table.specs.Reading.{told, with_sent}
+use Rattle.js_table.specs.Reading.{push_kind, told, with_sent}
 use Rattle.js_table.specs.State.{Matter, Passed, Unchanged}
-use Rattle.js_table.specs.Turn.{pass}
+use Rattle.js_table.specs.Turn.{pass, push_rows}
 use Rattle.js_turns.specs.Polling.{poll_wish_at, yielded}
 use Rattle.js_turns.specs.Turns.{handed}
-use Rattle.js_turns.specs.Wishes.{matter_of}
+use Rattle.js_turns.specs.Wishes.{beat_wish, matter_of}
 
 -- ---- the rows that are left
 
@@ -53,8 +56,8 @@ answer_shown None = None
 answer_shown (Some reply) = Some (record { request = reply.request; reply = reply.message })
 
 -- what the rows read that are left
-abbrev pub read_by : Option Answer → Matter
-read_by answer = record { change = Unchanged; answer = answer; arrival = None }
+abbrev pub read_by : Option Answer → Option Arrival → Matter
+read_by answer arrival = record { change = Unchanged; answer = answer; arrival = arrival }
 
 -- in order
 abbrev pub todo_rows : Matter → Todo → List Row
@@ -75,7 +78,7 @@ later_list m None = []
 later_list m (Some one) = rows_of m one
 
 abbrev pub left_rows : Left → List Row
-left_rows left = todo_rows (read_by (answer_shown left.reply)) left.todo
+left_rows left = todo_rows (read_by (answer_shown left.reply) left.arrival) left.todo
 
 abbrev pub is_rested : Todo → Bool
 is_rested todo.Nothing = true
@@ -97,11 +100,10 @@ IsPlain one true = (m u : Matter) → rows_of m one ≡ rows_of u one
 IsPlain one false = ⊤
 
 -- the next row, after which the others stay the same
-abbrev pub FirstOf : First → Left → Type 0
-FirstOf first.Rests left = left.todo ≡ todo.Nothing
+abbrev pub FirstOf : First → Todo → Type 0
+FirstOf first.Rests left = left ≡ todo.Nothing
 FirstOf (first.Next task) left =
-    (left_rows left ≡ rows_of (read_by (answer_shown left.reply)) task.now ++ later_of (read_by (answer_shown left.reply)) left.todo)
-    × ((m u : Matter) → later_of m left.todo ≡ later_of u left.todo) × Fits left.todo
+    ((m : Matter) → todo_rows m left ≡ rows_of m task.now ++ later_of m left) × ((m u : Matter) → later_of m left ≡ later_of u left) × Fits left
 FirstOf first.Blocked left = ⊤
 
 -- ---- a row is passed
@@ -119,16 +121,22 @@ handed_by_heard (hears.Yields place) = hands.Message
 handed_by_heard hears.Unreadable = hands.Error item.Other
 handed_by_heard heard = hands.Nothing
 
+-- the message that a row looks at: push hears what a row before it took, any other row looks at what it takes itself
+abbrev pub seen_by : Row → Met → Option Message
+seen_by (Hear arrival) met = Some arrival.message
+seen_by row met = message_of met
+
 -- the row of the table at what was met
 abbrev pub met_row : ReplayInput → ℕ → Row → Met → Consumer → Passed
 met_row g now row met c = pass g (passing_of now met) (matter_of (poll_wish_at g row c.phase) met) row c
 
--- the consumer after it, what it hands out, and the rows that follow at once
+-- the consumer after it, what it hands out, and the rows that follow at once; the message that it looked at is kept for the row that hears it, or let go
 pub record Steps (g : ReplayInput) (now : ℕ) (row : Row) (met : Met) (old new : Consumer) (done : Stepped) : Type 0 where
   pub consumer : new ≡ (met_row g now row met old).consumer
-  pub shown : handed (met_row g now row met old).outputs ≡ handed_list done.handed (message_of met)
-  pub next : next_rows (read_by (answer_shown done.reply)) done.next ≡ (met_row g now row met old).next
-  pub message : done.message ≡ message_of met
+  pub shown : handed (met_row g now row met old).outputs ≡ handed_list done.handed done.message
+  pub next : next_rows (read_by (answer_shown done.reply) done.arrival) done.next ≡ (met_row g now row met old).next
+  pub seen : (is_some done.message || is_some done.arrival) ≡ is_some (seen_by row met)
+  pub message : IfSome done.message (λ message. seen_by row met ≡ Some message)
 
 -- a row was passed with what it met; or its inbox is closed, or there was no memory, and it was not passed
 abbrev pub PassesRow : ReplayInput → ℕ → Row → Consumer → Consumer → LinkView → LinkView → Result Stepped Stop → Type 0
@@ -171,6 +179,40 @@ abbrev pub MeetsReader : Result ReadMet Stop → PullRow → Reader → LinkView
 MeetsReader (Ok read) one r before after = IsReadMet read one r before after × (r.source.pinned ≡ false)
 MeetsReader (Err stop.Closed) one r before after = IsClosing Meets (pull.wish one r) true before after
 MeetsReader (Err stop.OutOfMemory) one r before after = after ≡ before
+
+-- ---- what push hears
+
+-- a message on an inbox
+abbrev pub arrived : ℕ → Option Message → Option Arrival
+arrived inbox message = option_map (λ message. record { inbox = inbox; message = message }) message
+
+-- a look into an inbox: what was taken is heard next, and without it the heartbeat is looked at
+pub record Looked (inbox : ℕ) (taken : Option Message) (done : Stepped) : Type 0 where
+  pub handed : done.handed ≡ hands.Nothing
+  pub message : done.message ≡ None
+  pub arrival : done.arrival ≡ arrived inbox taken
+  pub next : next_rows (read_by (answer_shown done.reply) done.arrival) done.next ≡ push_rows inbox taken
+
+abbrev pub LooksInto : Result Stepped Stop → ℕ → LinkView → LinkView → Type 0
+LooksInto (Ok done) inbox before after = (met : Met) × Meets (Reads inbox) met before after × (is_shut met ≡ false) × Looked inbox (message_of met) done
+LooksInto (Err stop.Closed) inbox before after = Meets (Reads inbox) Shut before after
+LooksInto (Err stop.OutOfMemory) inbox before after = after ≡ before
+
+-- a beat was answered, where it asks for that
+abbrev pub AnswersBeat : Message → LinkView → LinkView → Type 0
+AnswersBeat message before after = (met : Met) × Meets (beat_wish (push_kind message) message.reply) met before after
+
+-- an arrival was heard, or is handed back
+abbrev pub HearsTaken : ReplayInput → ℕ → Arrival → Consumer → Consumer → LinkView → LinkView → Result Stepped Arrival → Type 0
+HearsTaken g now arrival old new before after (Ok done) = PassesRow g now (Hear arrival) old new before after (Ok done)
+HearsTaken g now arrival old new before after (Err back) = (back ≡ arrival) × (new ≡ old) × (after ≡ before)
+
+-- an inbox was opened for a create, and nothing is held for it
+abbrev pub is_bare : Option OpenedInbox → Bool
+is_bare None = false
+is_bare (Some opened) = length opened.held == 0
+
+-- ---- what pull reads
 
 -- what the consumer makes of what its reader tells
 pub record TakesIn (m : Matter) (tells : ReaderOutput) (rows : List Row) (message : Option Message) (old new : Consumer) (taken : Taken) : Type 0 where

@@ -24,7 +24,7 @@ use Rattle.js_ordered_stream.specs.declared.left.Left.{Left}
 use Rattle.js_ordered_stream.specs.declared.rows.Stepped.{Stepped}
 use Rattle.js_ordered_stream.specs.declared.rows.Stop.{Stop}
 use Rattle.js_ordered_stream.specs.declared.rows.Stop.TheVariants as stop
-use Rattle.js_ordered_stream.specs.Rows.{Fits, PassesRow, later_of, left_rows}
+use Rattle.js_ordered_stream.specs.Rows.{Fits, PassesRow, later_of, left_rows, seen_by}
 use Rattle.js_pull.specs.declared.reader.Reader.{Reader}
 use Rattle.js_table.specs.State.{Matter}
 use Rattle.js_pull.specs.Asking.{is_shut}
@@ -110,9 +110,9 @@ stride_met g now met at = record { passing = passing_of now met; matter = matter
 abbrev pub step_met : ReplayInput → ℕ → Met → Position → Moved
 step_met g now met at = step g (stride_met g now met at) at
 
--- a row took a message, or started a reader
-abbrev pub stirring : Met → Phase → Phase → Bool
-stirring met before after = is_some (message_of met) || has_started before after
+-- a row looked at a message, or started a reader
+abbrev pub stirring : Row → Met → Phase → Phase → Bool
+stirring row met before after = is_some (seen_by row met) || has_started before after
 
 -- the next row was passed with what it met
 pub record PassesNext (g : ReplayInput) (now : ℕ) (met : Met) (old new : Position) (before after : LinkView) : Type 0 where
@@ -128,9 +128,9 @@ hands_out g now met at answer = handed (step_met g now met at).outputs ≡ hande
 abbrev pub TurnsTo : Turned → ReplayInput → ℕ → Position → Position → LinkView → LinkView → Type 0
 TurnsTo (turns.Silent stirs) g now old new before after =
     (met : Met) × PassesNext g now met old new before after × (handed (step_met g now met old).outputs ≡ [])
-    × (stirs ≡ stirring met old.consumer.phase new.consumer.phase) × (is_spent new.consumer.phase ≡ false)
+    × (stirs ≡ stirring (first_row old.todo) met old.consumer.phase new.consumer.phase) × (is_spent new.consumer.phase ≡ false)
 TurnsTo (turns.Hands message) g now old new before after =
-    (met : Met) × PassesNext g now met old new before after × hands_out g now met old (Yields message) × (message_of met ≡ Some message)
+    (met : Met) × PassesNext g now met old new before after × hands_out g now met old (Yields message) × (seen_by (first_row old.todo) met ≡ Some message)
 TurnsTo (turns.Tells kind) g now old new before after =
     (met : Met) × PassesNext g now met old new before after × hands_out g now met old (Tells kind)
 TurnsTo turns.Exhausted g now old new before after =
@@ -159,10 +159,10 @@ turned_by (hands.Error kind) message stirs spent = turns.Tells kind
 
 -- ---- the beginning of a stream
 
--- the consumer with this name, whose reader has read nothing yet
-abbrev pub first_of : List ℕ → Reader → Consumer
-first_of name reader = record {
-  phase = Pulls reader;
+-- a consumer with this name and at this phase, which has yielded nothing yet
+abbrev pub first_at : List ℕ → Phase → Consumer
+first_at name phase = record {
+  phase = phase;
   consumer_sequence = 0;
   stream_sequence = 0;
   recreation_count = 0;
@@ -172,27 +172,6 @@ first_of name reader = record {
   connection = Connected;
 }
 
--- a consumer whose reader reads this inbox, before its opening is passed
-abbrev pub opened_at : ReplayInput → ℕ → List ℕ → Position
-opened_at g inbox subject = record {
-  consumer = first_of g.first.name (new_reader (source_of g 0 inbox subject g.first));
-  todo = map Read opening;
-}
-
 -- a recreation is tried as often as a number counts
 abbrev pub with_retries : Settings → Settings
 with_retries settings = record settings { retries = 4294967295 }
-
--- an inbox is opened for the reader of the first consumer
-abbrev pub OpensConsumer : Result Consumer LinkError → ReplayInput → LinkView → LinkView → Type 0
-OpensConsumer (Ok c) g old new =
-    (inbox : ℕ) × (subject : List ℕ) × OpensOwn inbox subject old new × (c ≡ first_of g.first.name (new_reader (source_of g 0 inbox subject g.first)))
-OpensConsumer (Err e) g old new = RefusedSend e old new
-
--- what `open` does: it opens one inbox, and asks for nothing
-abbrev pub OpensOrdered : Result Ordered LinkError → Settings → OrderedConfig → Info → LinkView → LinkView → Type 0
-OpensOrdered (Ok o) settings config first old new =
-    (inbox : ℕ) × (subject : List ℕ) × OpensOwn inbox subject old new
-    × (given_to o ≡ record { settings = with_retries settings; setup = Pull config; first = first })
-    × (position_of o ≡ opened_at (given_to o) inbox subject)
-OpensOrdered (Err e) settings config first old new = RefusedSend e old new

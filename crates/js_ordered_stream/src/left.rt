@@ -1,5 +1,5 @@
 //! The rows that are left of a turn.
-ghost use Rattle.std.specs.Prelude.{◌≡◌, ◌++◌, [], map};
+ghost use Rattle.std.specs.Prelude.{◌≡◌, ◌++◌, ◌∷◌, [], map};
 ghost use Rattle.js_ordered_rows.specs.Tasks.{next_rows};
 ghost use Rattle.js_ordered_stream.specs.Rows.{FirstOf, Fits, IsPlain, ReadsNone, answer_shown, is_rested, later_list, later_of, left_rows, read_by, todo_rows};
 ghost use Rattle.js_pull.specs.Reader.{opening};
@@ -9,6 +9,7 @@ ghost use Rattle.js_table.specs.declared.row.Row.TheVariants as row;
 use js_base::Message;
 use js_ordered_rows::{NextTasks, Task};
 use js_pull::Due;
+use js_table::Arrival;
 use std::mem;
 
 /// An answer that a row has met, which the row after it reads.
@@ -28,11 +29,13 @@ pub(crate) enum Todo {
     Three(Task, Task, Task),
 }
 
-/// The rows that are left of a turn, with the answer that they read.
+/// The rows that are left of a turn, with what they read.
 #[derive(Drop)]
 pub(crate) struct Left {
     pub todo: Todo,
     pub reply: Option<Reply>,
+    /// An arrival that push has taken, and has still to hear.
+    pub arrival: Option<Arrival>,
 }
 
 /// The row that comes next.
@@ -41,7 +44,7 @@ pub(crate) enum First<'a> {
     /// Nothing is left.
     Rests,
     Next(&'a Task),
-    /// No pull consumer comes to this.
+    /// No consumer comes to this.
     Blocked,
 }
 
@@ -108,22 +111,12 @@ fn before(next: NextTasks, later: Option<Task>) -> Todo
     }
 }
 
-impl Left {
-    /// The rows of the opening.
-    pub(crate) fn opening() -> Left
-        ensures { left_rows result ≡ map row.Read opening }
-    {
-        Left {
-            todo: Todo::Two(Task::Read(Due::Threshold), Task::Read(Due::Arm)),
-            reply: None,
-        }
-    }
-
+impl Todo {
     /// Whether the last turn is over.
     pub(crate) fn is_empty(&self) -> bool
-        ensures { result ≡ is_rested self.now.todo }
+        ensures { result ≡ is_rested self.now }
     {
-        match self.todo {
+        match self {
             Todo::Nothing => true,
             Todo::One(_) => false,
             Todo::Two(_, _) => false,
@@ -135,7 +128,7 @@ impl Left {
     pub(crate) fn first(&self) -> First<'_>
         ensures { FirstOf result self.now }
     {
-        match &self.todo {
+        match self {
             Todo::Nothing => First::Rests,
             Todo::One(task) => First::Next(task),
             Todo::Two(task, later) => {
@@ -146,6 +139,30 @@ impl Left {
                 }
             }
             Todo::Three(_, _, _) => First::Blocked,
+        }
+    }
+}
+
+impl Left {
+    /// The rows of a pull reader's opening.
+    pub(crate) fn opening() -> Left
+        ensures { left_rows result ≡ map row.Read opening }
+    {
+        Left {
+            todo: Todo::Two(Task::Read(Due::Threshold), Task::Read(Due::Arm)),
+            reply: None,
+            arrival: None,
+        }
+    }
+
+    /// Push begins by arming its heartbeat.
+    pub(crate) fn arming() -> Left
+        ensures { left_rows result ≡ row.Arm ∷ [] }
+    {
+        Left {
+            todo: Todo::One(Task::Arm),
+            reply: None,
+            arrival: None,
         }
     }
 
@@ -162,14 +179,15 @@ impl Left {
         }
     }
 
-    /// The next row was passed: what follows it at once takes its place, with the answer that it met.
-    pub(crate) fn follow(&mut self, next: NextTasks, reply: Option<Reply>)
+    /// The next row was passed: what follows it at once takes its place, with what it met for it.
+    pub(crate) fn follow(&mut self, next: NextTasks, reply: Option<Reply>, arrival: Option<Arrival>)
         requires { Fits self.old.todo }
-        ensures { left_rows self.new ≡ next_rows (read_by (answer_shown reply)) next ++ later_of (read_by (answer_shown reply)) self.old.todo }
+        ensures { left_rows self.new ≡ next_rows (read_by (answer_shown reply) arrival) next ++ later_of (read_by (answer_shown reply) arrival) self.old.todo }
     {
         let later = self.take_later();
         self.todo = before(next, later);
         self.reply = reply;
+        self.arrival = arrival;
     }
 
     /// Nothing is left.

@@ -3,15 +3,13 @@
 
 mod error;
 mod left;
+mod listening;
 mod ordered;
+pub mod pull;
+pub mod push;
 mod reading;
 mod recreation;
 mod rows;
 mod success;
 
 pub use error::{OrderedError, OrderedErrorKind};
-
-/// The stream of an ordered pull consumer.
-pub mod pull {
-    pub use crate::ordered::Ordered;
-}

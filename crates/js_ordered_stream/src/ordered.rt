@@ -1,30 +1,29 @@
-//! The stream of an ordered pull consumer over its link: it passes row after row, and may stop between any two.
-ghost use Rattle.std.specs.Prelude.{◌≡◌, ◌||◌, ◌&&◌, ◌++◌, false, is_some, not, true};
+//! An ordered consumer over its link, by pull or by push: it passes row after row, and may stop between any two.
+ghost use Rattle.std.specs.Prelude.{◌≡◌, ◌||◌, ◌&&◌, ◌++◌, IfOk, OnErr, false, is_some, not, true};
 ghost use Rattle.js_link.specs.Meets.{Meets};
 ghost use Rattle.js_ordered_rows.specs.Tasks.{next_rows};
 ghost use Rattle.js_ordered_stream.specs.Rows.{Fits, answer_shown, later_of, left_rows, read_by};
-ghost use Rattle.js_ordered_stream.specs.Stream.{OpensConsumer, OpensOrdered, PassesFirst, TurnsTo, first_of, given_to, is_spent as has_no_sequence, poll_answer, position_of, silent_by, turned_by};
+ghost use Rattle.js_ordered_stream.specs.Stream.{PassesFirst, TurnsTo, first_at, given_to, is_spent as has_no_sequence, poll_answer, position_of, silent_by, turned_by, with_retries};
 ghost use Rattle.js_table.specs.Fold.{is_over as has_ended};
 ghost use Rattle.js_table.specs.Passes.{given_of};
 ghost use Rattle.js_turns.specs.Polling.{IsPoll, closed_at, is_reading as reads_inbox};
 
 use crate::error::{OrderedError, error_of, sequence_end};
-use crate::left::{First, Left};
+use crate::left::{First, Left, Reply, Todo};
 use crate::rows::{Handed, Stepped, Stop, begin, pass};
-use js_base::{Boxed, Message, Moment, Next, State, Subject, Text, TryClone};
+use js_base::{Boxed, Message, Moment, Next, OutOfMemory, State, Text};
 use js_json::consumer::Info;
-use js_json::pull::OrderedConfig;
-use js_link::{Link, LinkError};
+use js_link::Link;
 use js_ordered_rows::event::is_over;
-use js_pull::Reader;
 use js_table::{
-    Consumer, EventContext, EventKind, ItemKind, OrderedSetup, Phase, ReplayInput, Settings, texts,
+    Arrival, Consumer, EventContext, EventKind, ItemKind, OrderedSetup, Phase, ReplayInput,
+    Settings,
 };
 use std::alloc::Global;
 
-/// The stream of an ordered pull consumer: it yields the messages of its stream in order and without a gap, and makes its consumer anew where one shows.
+/// An ordered consumer: it yields the messages of its stream in order and without a gap, and makes its server-side consumer anew where one shows.
 #[derive(Drop)]
-pub struct Ordered {
+pub(crate) struct Ordered {
     given: Boxed<ReplayInput>,
     consumer: Consumer,
     left: Left,
@@ -94,12 +93,12 @@ fn turn_of(handed: Handed, message: Option<Message>, stirs: bool, spent: bool) -
     }
 }
 
-/// A row took a message, or started a reader.
-fn stirs(took: bool, was_reading: bool, phase: &Phase) -> bool
-    ensures { result ≡ (took || (not was_reading && reads_inbox phase.now)) }
+/// A row looked at a message, or started a reader.
+fn stirs(looked: bool, was_reading: bool, phase: &Phase) -> bool
+    ensures { result ≡ (looked || (not was_reading && reads_inbox phase.now)) }
 {
     let reads = is_reading(phase);
-    took || (!was_reading && reads)
+    looked || (!was_reading && reads)
 }
 
 /// A turn that begins is quiet until a row stirs.
@@ -116,12 +115,12 @@ fn both(begins: bool, quiet: bool) -> bool
     begins && quiet
 }
 
-/// The consumer with this name, whose reader has read nothing yet.
-fn first_consumer(name: Text, reader: Reader) -> Consumer
-    ensures { result ≡ first_of name reader }
+/// A consumer with this name and at this phase, which has yielded nothing yet.
+pub(crate) fn first_consumer(name: Text, phase: Phase) -> Consumer
+    ensures { result ≡ first_at name phase }
 {
     Consumer {
-        phase: Phase::Pulls(reader),
+        phase,
         consumer_sequence: 0,
         stream_sequence: 0,
         recreation_count: 0,
@@ -132,84 +131,60 @@ fn first_consumer(name: Text, reader: Reader) -> Consumer
     }
 }
 
-/// Opens an inbox for the reader of the first consumer.
-fn open_consumer<L: Link>(
+/// What a polled consumer is made with: it is tried to be made anew as often as a number counts.
+pub(crate) fn given_with(
     alloc: Global,
-    link: &mut L,
-    given: &ReplayInput,
-) -> Result<Consumer, LinkError>
-    ensures { OpensConsumer result given.now (L.view link.old) (L.view link.new) }
+    mut settings: Settings,
+    setup: OrderedSetup,
+    first: Info,
+) -> Result<Boxed<ReplayInput>, OutOfMemory>
+    ensures { IfOk result (λ given. given ≡ record { settings = with_retries settings; setup = setup; first = first }) }
 {
-    let tick = EventKind::Tick;
-    let context = EventContext {
-        settings: &given.settings,
-        setup: &given.setup,
-        first: &given.first,
-        moment: 0,
-        what: &tick,
-    };
-    let unknown = Subject::from(String::new(alloc));
-    let mut source = texts::source_of(&context, 0, 0, unknown, &given.first)?;
-    let name = given.first.name.try_clone()?;
-    let (inbox, subject) = link.open_inbox(alloc)?;
-    source.inbox = inbox.0;
-    source.subject = subject;
-    Ok(first_consumer(name, Reader::new(source)))
+    settings.retries = u32::MAX;
+    Boxed::new(
+        alloc,
+        ReplayInput {
+            settings,
+            setup,
+            first,
+        },
+    )
 }
 
-/// Passes the first of the rows that are left. A turn begins where none is left.
+/// Passes the first of the rows that are left, which read this. A turn begins where none is left.
 fn pass_first<L: Link>(
     alloc: Global,
     context: &EventContext<'_>,
     link: &mut L,
     consumer: &mut Consumer,
-    left: &Left,
+    todo: &Todo,
+    reply: &Option<Reply>,
+    arrival: &mut Option<Arrival>,
 ) -> Result<Stepped, Stop>
-    ensures { PassesFirst (given_of context.now) context.now.moment left.now consumer.old consumer.new (L.view link.old) (L.view link.new) result }
+    ensures passes { PassesFirst (given_of context.now) context.now.moment (record { todo = todo.now; reply = reply.now; arrival = arrival.old }) consumer.old consumer.new (L.view link.old) (L.view link.new) result }
+    ensures kept { OnErr result (arrival.new ≡ arrival.old) }
 {
-    match left.first() {
+    match todo.first() {
         First::Rests => begin(alloc, context, link, consumer),
-        First::Next(task) => pass(alloc, context, link, consumer, task, &left.reply),
+        First::Next(task) => pass(alloc, context, link, consumer, task, reply, arrival),
         First::Blocked => Err(Stop::OutOfMemory),
     }
 }
 
 impl Ordered {
-    /// Opens an inbox, and a stream that reads the consumer of this info there. It asks for nothing before its first poll.
-    ///
-    /// The settings' number of retries does not count: a consumer is tried to be made anew 4,294,967,295 times.
-    ///
-    /// # Errors
-    ///
-    /// A refused subscription, and want of memory.
-    pub fn open<L: Link>(
-        alloc: Global,
-        link: &mut L,
-        mut settings: Settings,
-        config: OrderedConfig,
-        first: Info,
-    ) -> Result<Ordered, LinkError>
-        ensures { OpensOrdered result settings config first (L.view link.old) (L.view link.new) }
+    /// A consumer with the rows that are left of its opening.
+    pub(crate) fn new(given: Boxed<ReplayInput>, consumer: Consumer, left: Left) -> Ordered
+        ensures { result ≡ record { given = given; consumer = consumer; left = left } }
     {
-        settings.retries = u32::MAX;
-        let given = Boxed::new(
-            alloc,
-            ReplayInput {
-                settings,
-                setup: OrderedSetup::Pull(config),
-                first,
-            },
-        )?;
-        let consumer = open_consumer(alloc, link, given.get())?;
-        Ok(Ordered {
+        Ordered {
             given,
             consumer,
-            left: Left::opening(),
-        })
+            left,
+        }
     }
 
     /// Reads the next message or error. It waits after a turn in which nothing came.
-    pub fn poll_next<L: Link>(
+    pub(crate) fn poll_next<L: Link>(
         &mut self,
         alloc: Global,
         link: &mut L,
@@ -239,7 +214,7 @@ impl Ordered {
     {
         let mut quiet = false;
         'rows: for _ in 0..u64::MAX {
-            let begins = self.left.is_empty();
+            let begins = self.left.todo.is_empty();
             if both(begins, quiet) {
                 return Next::Pending;
             }
@@ -263,7 +238,8 @@ impl Ordered {
         now: Moment,
     ) -> Result<Stepped, Stop>
         ensures given { given_to self.new ≡ given_to self.old }
-        ensures left { self.new.left ≡ self.old.left }
+        ensures todo { self.new.left.todo ≡ self.old.left.todo }
+        ensures kept { OnErr result (self.new.left ≡ self.old.left) }
         ensures passes { PassesFirst (given_to self.old) now self.old.left self.old.consumer self.new.consumer (L.view link.old) (L.view link.new) result }
     {
         let given = self.given.get();
@@ -275,7 +251,15 @@ impl Ordered {
             moment: now,
             what: &tick,
         };
-        pass_first(alloc, &context, link, &mut self.consumer, &self.left)
+        pass_first(
+            alloc,
+            &context,
+            link,
+            &mut self.consumer,
+            &self.left.todo,
+            &self.left.reply,
+            &mut self.left.arrival,
+        )
     }
 
     /// A closed inbox ends the stream.
@@ -308,17 +292,19 @@ impl Ordered {
         requires { Fits self.old.left.todo }
         ensures given { given_to self.new ≡ given_to self.old }
         ensures consumer { self.new.consumer ≡ self.old.consumer }
-        ensures left { left_rows self.new.left ≡ next_rows (read_by (answer_shown done.reply)) done.next ++ later_of (read_by (answer_shown done.reply)) self.old.left.todo }
-        ensures turned { result ≡ turned_by done.handed done.message (is_some done.message || (not was_reading && reads_inbox self.old.consumer.phase)) (has_no_sequence self.old.consumer.phase) }
+        ensures left { left_rows self.new.left ≡ next_rows (read_by (answer_shown done.reply) done.arrival) done.next ++ later_of (read_by (answer_shown done.reply) done.arrival) self.old.left.todo }
+        ensures turned { result ≡ turned_by done.handed done.message ((is_some done.message || is_some done.arrival) || (not was_reading && reads_inbox self.old.consumer.phase)) (has_no_sequence self.old.consumer.phase) }
     {
         let Stepped {
             handed,
             next,
             reply,
+            arrival,
             message,
         } = done;
-        self.left.follow(next, reply);
-        let stirs = stirs(message.is_some(), was_reading, &self.consumer.phase);
+        let looked = message.is_some() || arrival.is_some();
+        self.left.follow(next, reply, arrival);
+        let stirs = stirs(looked, was_reading, &self.consumer.phase);
         turn_of(handed, message, stirs, is_spent(&self.consumer.phase))
     }
 }

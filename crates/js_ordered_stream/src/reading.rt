@@ -69,7 +69,7 @@ fn read_met<L: Link>(
 // ---- what the consumer makes of it
 
 /// What is handed out of a message of the stream.
-fn handed_heard(heard: Heard) -> Handed
+pub(crate) fn handed_heard(heard: Heard) -> Handed
     ensures { result ≡ handed_by_heard heard }
 {
     match heard {
@@ -189,6 +189,7 @@ fn finish(
         handed,
         next,
         reply,
+        arrival: None,
         message,
     }
 }

@@ -1,5 +1,5 @@
 //! The rows of a recreation over a link.
-ghost use Rattle.std.specs.Prelude.{◌≡◌, IfOk, OnErr, Some, codes, option_map};
+ghost use Rattle.std.specs.Prelude.{◌≡◌, IfOk, None, OnErr, Option, Some, codes, option_map};
 ghost use Rattle.js_link.specs.Meets.{Meets};
 ghost use Rattle.js_link.specs.LinkView.{LinkView};
 ghost use Rattle.js_link.specs.Met.{Requests, reply_of};
@@ -7,14 +7,16 @@ ghost use Rattle.js_ordered_rows.specs.Tasks.{rows_of};
 ghost use Rattle.js_ordered_stream.specs.Rows.{PassesRow, PassesRows, answer_shown, read_by, replied};
 ghost use Rattle.js_pull.specs.Asking.{met_shown, wish_shown};
 ghost use Rattle.js_pull.specs.Reader.{info_of_reply as info_in, reply_to};
+ghost use Rattle.js_table.specs.Kept.{IsPush};
 ghost use Rattle.js_table.specs.Passes.{given_of};
 ghost use Rattle.js_table.specs.Texts as texts_of;
+ghost use Rattle.js_table.specs.declared.row.Arrival.{Arrival as SpecArrival};
 ghost use Rattle.js_table.specs.declared.row.Row.TheVariants as row;
 ghost use Rattle.js_turns.specs.Wishes as wishes;
 
 use crate::left::Reply;
 use crate::rows::{Handed, Stepped, Stop, quietly, untaken};
-use crate::success::succeed;
+use crate::success::{inbox_met, succeed};
 use bytes::Bytes;
 use js_base::{Boxed, Message, OutOfMemory, TryClone};
 use js_json::consumer::Info;
@@ -124,6 +126,29 @@ fn begin_try<L: Link>(
     }
 }
 
+/// Push opens its inbox before its create.
+fn create_push<L: Link>(
+    alloc: Global,
+    context: &EventContext<'_>,
+    link: &mut L,
+    consumer: &mut Consumer,
+    recreation: Recreation,
+) -> Result<Stepped, Stop>
+    requires push { IsPush context.now.setup.now }
+    ensures { PassesRow (given_of context.now) context.now.moment row.Create (record consumer.old { phase = Phase.Recreates recreation }) consumer.new (L.view link.old) (L.view link.new) result }
+{
+    match ask(alloc, link, &Wish::OpensInbox) {
+        Err(_) => {
+            consumer.phase = Phase::Recreates(recreation);
+            Err(Stop::OutOfMemory)
+        }
+        Ok(met) => {
+            let inbox = inbox_met(met);
+            Ok(quietly(pass_create(alloc, context, consumer, recreation, inbox)))
+        }
+    }
+}
+
 /// The new consumer is to be asked for.
 fn create<L: Link>(
     alloc: Global,
@@ -138,11 +163,7 @@ fn create<L: Link>(
         OrderedSetup::Pull(_) => {
             Ok(quietly(pass_create(alloc, context, consumer, recreation, None)))
         }
-        // The consumer is a pull consumer.
-        OrderedSetup::Push(_) => {
-            consumer.phase = Phase::Recreates(recreation);
-            Err(Stop::OutOfMemory)
-        }
+        OrderedSetup::Push(_) => create_push(alloc, context, link, consumer, recreation),
     }
 }
 
@@ -252,12 +273,13 @@ fn look_on<L: Link>(
 
 /// A row that hands nothing out, with the answer that it met.
 fn answered_by(next: NextTasks, reply: Option<Reply>) -> Stepped
-    ensures { result ≡ record { handed = Handed.Nothing; next = next; reply = reply; message = None } }
+    ensures { result ≡ record { handed = Handed.Nothing; next = next; reply = reply; arrival = None; message = None } }
 {
     Stepped {
         handed: Handed::Nothing,
         next,
         reply,
+        arrival: None,
         message: None,
     }
 }
@@ -301,7 +323,7 @@ fn answered(
     request: u64,
     reply: &Option<Reply>,
 ) -> Result<Stepped, Stop>
-    ensures { (v : LinkView) → PassesRows (given_of context.now) context.now.moment (rows_of (read_by (answer_shown reply.now)) (Task.Answered request)) (record consumer.old { phase = Phase.Recreates recreation }) consumer.new v v result }
+    ensures { (v : LinkView) → PassesRows (given_of context.now) context.now.moment (rows_of (read_by (answer_shown reply.now) None) (Task.Answered request)) (record consumer.old { phase = Phase.Recreates recreation }) consumer.new v v result }
 {
     match info_met(alloc, request, reply) {
         Err(_) => {
@@ -324,7 +346,7 @@ fn pass_recreating<L: Link>(
     task: &Task,
     reply: &Option<Reply>,
 ) -> Result<Stepped, Stop>
-    ensures { PassesRows (given_of context.now) context.now.moment (rows_of (read_by (answer_shown reply.now)) task.now) (record consumer.old { phase = Phase.Recreates recreation }) consumer.new (L.view link.old) (L.view link.new) result }
+    ensures { (arrival : Option SpecArrival) → PassesRows (given_of context.now) context.now.moment (rows_of (read_by (answer_shown reply.now) arrival) task.now) (record consumer.old { phase = Phase.Recreates recreation }) consumer.new (L.view link.old) (L.view link.new) result }
 {
     match task {
         Task::Try => begin_try(alloc, context, link, consumer, recreation),
@@ -352,7 +374,7 @@ pub(crate) fn pass_open<L: Link>(
     task: &Task,
     reply: &Option<Reply>,
 ) -> Result<Stepped, Stop>
-    ensures { PassesRows (given_of context.now) context.now.moment (rows_of (read_by (answer_shown reply.now)) task.now) consumer.old consumer.new (L.view link.old) (L.view link.new) result }
+    ensures { (arrival : Option SpecArrival) → PassesRows (given_of context.now) context.now.moment (rows_of (read_by (answer_shown reply.now) arrival) task.now) consumer.old consumer.new (L.view link.old) (L.view link.new) result }
 {
     match mem::replace(&mut consumer.phase, Phase::Idle) {
         Phase::Recreates(recreation) => {

@@ -1,7 +1,7 @@
 //! One row over a link: what it asks is made first, then its link is asked, and it is passed with what it met.
 //!
 //! Until the link was asked nothing has changed. After that a row takes no memory.
-ghost use Rattle.std.specs.Prelude.{◌≡◌, Option};
+ghost use Rattle.std.specs.Prelude.{◌≡◌, OnErr, Option};
 ghost use Rattle.js_base.specs.declared.message.Message.{Message as SpecMessage};
 ghost use Rattle.js_ordered_rows.specs.Tasks.{rows_of, told_outputs};
 ghost use Rattle.js_ordered_stream.specs.Rows.{PassesRow, PassesRows, answer_shown, handed_list, read_by};
@@ -12,6 +12,7 @@ ghost use Rattle.js_turns.specs.Wishes.{change_of};
 ghost use Rattle.js_pull.specs.Asking.{met_shown};
 
 use crate::left::Reply;
+use crate::listening::{arm, hear, look, look_at_silence};
 use crate::reading::pass_read;
 use crate::recreation::{pass_open, start};
 use js_base::{Message, OutOfMemory};
@@ -19,7 +20,7 @@ use js_link::Link;
 use js_ordered_rows::event::{is_over, pass_event};
 use js_ordered_rows::{NextTasks, RowOutput, Step, Task};
 use js_pull::{Met, Wish, ask};
-use js_table::{Change, Consumer, EventContext, ItemKind};
+use js_table::{Arrival, Change, Consumer, EventContext, ItemKind};
 use std::alloc::Global;
 
 /// Why a row was not passed.
@@ -45,7 +46,7 @@ impl From<OutOfMemory> for Stop {
 #[derive(Clone, Copy)]
 pub(crate) enum Handed {
     Nothing,
-    /// The message that was taken.
+    /// The message that it looked at.
     Message,
     Error(ItemKind),
 }
@@ -56,20 +57,23 @@ pub(crate) struct Stepped {
     pub handed: Handed,
     /// The rows that follow at once,
     pub next: NextTasks,
-    /// and the answer that they read.
+    /// and the answer that they read,
     pub reply: Option<Reply>,
-    /// The message that was taken.
+    /// or the message that push has taken, and hears next.
+    pub arrival: Option<Arrival>,
+    /// The message that it looked at, where no row hears it next.
     pub message: Option<Message>,
 }
 
 /// A row that took nothing and hands nothing out.
 pub(crate) fn quietly(next: NextTasks) -> Stepped
-    ensures { result ≡ record { handed = Handed.Nothing; next = next; reply = None; message = None } }
+    ensures { result ≡ record { handed = Handed.Nothing; next = next; reply = None; arrival = None; message = None } }
 {
     Stepped {
         handed: Handed::Nothing,
         next,
         reply: None,
+        arrival: None,
         message: None,
     }
 }
@@ -88,13 +92,14 @@ pub(crate) fn handed_of(told: RowOutput) -> Handed
 /// A row that took nothing.
 pub(crate) fn untaken(step: Step) -> Stepped
     ensures handed { (message : Option SpecMessage) → handed_list result.handed message ≡ handed (told_outputs step.told) }
-    ensures rest { result ≡ record result { next = step.next; reply = None; message = None } }
+    ensures rest { result ≡ record result { next = step.next; reply = None; arrival = None; message = None } }
 {
     let Step { told, next } = step;
     Stepped {
         handed: handed_of(told),
         next,
         reply: None,
+        arrival: None,
         message: None,
     }
 }
@@ -142,7 +147,7 @@ pub(crate) fn begin<L: Link>(
 
 // ---- any row
 
-/// The next row is passed.
+/// The next row is passed. An arrival that it hears is let go, where it is passed.
 pub(crate) fn pass<L: Link>(
     alloc: Global,
     context: &EventContext<'_>,
@@ -150,8 +155,10 @@ pub(crate) fn pass<L: Link>(
     consumer: &mut Consumer,
     task: &Task,
     reply: &Option<Reply>,
+    arrival: &mut Option<Arrival>,
 ) -> Result<Stepped, Stop>
-    ensures { PassesRows (given_of context.now) context.now.moment (rows_of (read_by (answer_shown reply.now)) task.now) consumer.old consumer.new (L.view link.old) (L.view link.new) result }
+    ensures passes { PassesRows (given_of context.now) context.now.moment (rows_of (read_by (answer_shown reply.now) arrival.old) task.now) consumer.old consumer.new (L.view link.old) (L.view link.new) result }
+    ensures kept { OnErr result (arrival.new ≡ arrival.old) }
 {
     match task {
         Task::Event => begin(alloc, context, link, consumer),
@@ -164,12 +171,13 @@ pub(crate) fn pass<L: Link>(
         Task::Answered { .. } => pass_open(alloc, context, link, consumer, task, reply),
         Task::Succeed(_) => pass_open(alloc, context, link, consumer, task, reply),
         Task::Fail => pass_open(alloc, context, link, consumer, task, reply),
-        // Push's rows, of which no pull consumer has one.
-        Task::Hold => Err(Stop::OutOfMemory),
-        Task::CheckArrival => Err(Stop::OutOfMemory),
-        Task::Hear { .. } => Err(Stop::OutOfMemory),
+        Task::CheckArrival => look(context, link, consumer),
+        Task::Hear { inbox } => { hear(alloc, context, link, consumer, *inbox, arrival) }
+        Task::CheckSilence => look_at_silence(context, consumer),
+        Task::Arm => arm(context, consumer),
+        // What comes for the inbox of a create lies in the link, up to a later turn.
+        Task::Hold => Ok(quietly(NextTasks::Nothing)),
+        // So nothing is ever held.
         Task::HearHeld(_) => Err(Stop::OutOfMemory),
-        Task::CheckSilence => Err(Stop::OutOfMemory),
-        Task::Arm => Err(Stop::OutOfMemory),
     }
 }

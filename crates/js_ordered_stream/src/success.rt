@@ -1,10 +1,12 @@
-//! A recreation that succeeded: its consumer reads the next inbox.
+//! A recreation that succeeded: its consumer reads another inbox.
 ghost use Rattle.std.specs.Prelude.{◌≡◌, [], IfOk, OnErr};
+ghost use Rattle.js_json.specs.declared.consumer.info.Info.{Info as SpecInfo};
+ghost use Rattle.js_link.specs.LinkView.{LinkView};
 ghost use Rattle.js_link.specs.Meets.{Meets};
 ghost use Rattle.js_link.specs.Met.{Opens_inbox};
-ghost use Rattle.js_ordered_stream.specs.Rows.{PassesRow, inbox_in};
+ghost use Rattle.js_ordered_stream.specs.Rows.{PassesRow, inbox_in, is_bare as holds_nothing};
 ghost use Rattle.js_pull.specs.Asking.{met_shown};
-ghost use Rattle.js_table.specs.Kept.{IsPull};
+ghost use Rattle.js_table.specs.Kept.{IsPull, IsPush};
 ghost use Rattle.js_table.specs.Passes.{given_of};
 ghost use Rattle.js_table.specs.Texts as texts_of;
 ghost use Rattle.js_table.specs.declared.row.Row.TheVariants as row;
@@ -13,10 +15,10 @@ use crate::rows::{Stepped, Stop, quietly};
 use js_base::{OutOfMemory, Subject};
 use js_json::consumer::Info;
 use js_link::Link;
-use js_ordered_rows::Inbox;
-use js_ordered_rows::recreation::pass_succeed_pull;
+use js_ordered_rows::recreation::{pass_succeed_pull, pass_succeed_push};
+use js_ordered_rows::{Inbox, NextTasks, Task};
 use js_pull::{Met, Source, Wish, ask};
-use js_table::{Consumer, EventContext, OrderedSetup, Phase, Recreation, texts};
+use js_table::{Consumer, EventContext, Opened, OrderedSetup, Phase, Recreation, texts};
 use std::alloc::Global;
 
 /// Whom the next reader asks, but for its inbox.
@@ -33,7 +35,7 @@ fn source_for(
 }
 
 /// The inbox that was opened, or could not be.
-fn inbox_met(met: Met) -> Option<Inbox>
+pub(crate) fn inbox_met(met: Met) -> Option<Inbox>
     ensures { result ≡ inbox_in (met_shown met) }
 {
     match met {
@@ -81,7 +83,7 @@ fn reading_for<L: Link>(
     Ok(Reading { source, met })
 }
 
-/// A create was answered well: pull reads its next inbox.
+/// A create was answered well: pull opens its next inbox and reads it, and push listens to the one that it has opened for the create.
 pub(crate) fn succeed<L: Link>(
     alloc: Global,
     context: &EventContext<'_>,
@@ -94,11 +96,7 @@ pub(crate) fn succeed<L: Link>(
 {
     match context.setup {
         OrderedSetup::Pull(_) => { succeed_pull(alloc, context, link, consumer, recreation, info) }
-        // The consumer is a pull consumer.
-        OrderedSetup::Push(_) => {
-            consumer.phase = Phase::Recreates(recreation);
-            Err(Stop::OutOfMemory)
-        }
+        OrderedSetup::Push(_) => succeed_push(context, consumer, recreation),
     }
 }
 
@@ -125,4 +123,32 @@ fn succeed_pull<L: Link>(
             Ok(quietly(pass_succeed_pull(context, consumer, recreation, source, inbox)))
         }
     }
+}
+
+/// Nothing is held for the inbox that was opened for a create.
+fn is_bare(opened: &Option<Opened>) -> bool
+    ensures { result ≡ holds_nothing opened.now }
+{
+    match opened {
+        None => false,
+        Some(opened) => opened.held.is_empty(),
+    }
+}
+
+/// Push listens to the inbox that it has opened: what has come there lies in the link, and is the arrival of a later turn.
+fn succeed_push(
+    context: &EventContext<'_>,
+    consumer: &mut Consumer,
+    recreation: Recreation,
+) -> Result<Stepped, Stop>
+    requires push { IsPush context.now.setup.now }
+    ensures { (info : SpecInfo) → (v : LinkView) → PassesRow (given_of context.now) context.now.moment (row.Succeed info) (record consumer.old { phase = Phase.Recreates recreation }) consumer.new v v result }
+{
+    // Only a consumer that has opened an inbox comes here, and a poll holds nothing.
+    if !is_bare(&recreation.opened) {
+        consumer.phase = Phase::Recreates(recreation);
+        return Err(Stop::OutOfMemory);
+    }
+    let _held = pass_succeed_push(context, consumer, recreation);
+    Ok(quietly(NextTasks::One(Task::Arm)))
 }

@@ -10,4 +10,4 @@ pub returns-in-Pull : goal.returns-in-Pull
 returns-in-Pull g c =
     let now = c.args.context.now.moment in
     create_passes (given_of c.args.context.now) now c.in-Pull.field-0 c.args.recreation c.args.consumer.now c.pass_create.new.consumer c.pass_create.result c.quietly.result (g.L.Link.view c.args.link.now)
-    c.in-Pull.is (c.pass_create.ensures (read_by None) (passing_of now Unasked)) c.quietly.ensures
+    c.in-Pull.is (c.pass_create.ensures (read_by None None) (passing_of now Unasked)) c.quietly.ensures

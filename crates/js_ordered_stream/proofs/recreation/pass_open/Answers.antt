@@ -7,7 +7,7 @@ use Rattle.js_ordered_stream.proofs.Passing.{row_open}
 use Rattle.js_ordered_stream.proofs.recreation.pass_open.Goals as goal
 
 pub returns-in-Recreates : goal.returns-in-Recreates
-returns-in-Recreates g c =
+returns-in-Recreates g c = λ arrival.
     let view = g.L.Link.view in
-    row_open (given_of c.args.context.now) c.args.context.now.moment (rows_of (read_by (answer_shown c.args.reply.now)) c.args.task.now) (Recreates c.in-Recreates.recreation) c.args.consumer.now c.pass_recreating.new.consumer (view c.args.link.now) (view c.pass_recreating.new.link) c.pass_recreating.result
-    (sym c.replace.ensures.value ∙ c.in-Recreates.is) c.pass_recreating.ensures
+    row_open (given_of c.args.context.now) c.args.context.now.moment (rows_of (read_by (answer_shown c.args.reply.now) arrival) c.args.task.now) (Recreates c.in-Recreates.recreation) c.args.consumer.now c.pass_recreating.new.consumer (view c.args.link.now) (view c.pass_recreating.new.link) c.pass_recreating.result
+    (sym c.replace.ensures.value ∙ c.in-Recreates.is) (c.pass_recreating.ensures arrival)

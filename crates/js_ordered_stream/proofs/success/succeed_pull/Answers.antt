@@ -12,4 +12,4 @@ returns-in-Ok g c =
     let now = c.args.context.now.moment in
     let met = met_shown c.in-Ok.reading.met in
     succeed_passes (given_of c.args.context.now) now c.args.info.now c.args.recreation c.args.consumer.now c.pass_succeed_pull.new.consumer met c.inbox_met-inbox.result c.pass_succeed_pull.result c.quietly.result (view c.args.link.now) (view c.reading_for.new.link)
-    c.requires.pull c.in-Ok.ensures.met c.inbox_met-inbox.ensures (c.pass_succeed_pull.ensures (read_by None) (passing_of now met) c.args.info.now c.in-Ok.ensures.source) c.quietly.ensures
+    c.requires.pull c.in-Ok.ensures.met c.inbox_met-inbox.ensures (c.pass_succeed_pull.ensures (read_by None None) (passing_of now met) c.args.info.now c.in-Ok.ensures.source) c.quietly.ensures

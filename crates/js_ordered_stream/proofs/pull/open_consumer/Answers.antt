@@ -1,5 +1,5 @@
 use Rattle.js_ordered_stream.proofs.Opening.{opens_consumer}
-use Rattle.js_ordered_stream.proofs.ordered.open_consumer.Goals as goal
+use Rattle.js_ordered_stream.proofs.pull.open_consumer.Goals as goal
 
 pub returns : goal.returns
 returns g c =

@@ -1,5 +1,5 @@
 use Rattle.js_ordered_stream.proofs.Turning.{first_one, first_two}
-use Rattle.js_ordered_stream.proofs.left.Left.first.Goals as goal
+use Rattle.js_ordered_stream.proofs.left.Todo.first.Goals as goal
 
 pub returns-in-One : goal.returns-in-One
 returns-in-One c = first_one c.args.self.now c.in-One.task c.in-One.is

@@ -1,0 +1,218 @@
+-- Push's rows of reading over a link: what is looked for, and what is heard.
+use Rattle.std.proofs.Common.{◌≡◌, ℕ, Bool, true, false, List, [], ◌∷◌, Option, Some, None, refl, sym, ap, ◌∙◌, subst, arith}
+use Rattle.std.proofs.lemmas.Bool.Decides.{nat_tests}
+use Rattle.std.specs.Prelude.{◌==◌, ◌||◌, IfSome, is_some, Result, Ok, Err, if◌then◌else◌}
+use Rattle.js_base.specs.declared.clock.Timer.{Timer}
+use Rattle.js_base.specs.declared.message.Message.{Message}
+use Rattle.js_link.specs.LinkView.{LinkView}
+use Rattle.js_link.specs.Meets.{Meets}
+use Rattle.js_link.specs.Met.{Wish, Met, Nothing, Publishes, Reads, Unasked, passing_of, message_of}
+use Rattle.js_link.specs.Passing.{Passing as Sends}
+use Rattle.js_ordered_rows.specs.declared.task.Heard.{Heard}
+use Rattle.js_ordered_rows.specs.declared.task.Heard.TheVariants as hears
+use Rattle.js_ordered_rows.specs.declared.task.NextTasks.{NextTasks}
+use Rattle.js_ordered_rows.specs.declared.task.NextTasks.TheVariants as next
+use Rattle.js_ordered_rows.specs.declared.task.RowOutput.{RowOutput}
+use Rattle.js_ordered_rows.specs.Tasks.{IsHeard, IsHeardAs, StepsTo, at_moment, heard_outputs, heard_row, heard_rows, next_rows, told_outputs}
+use Rattle.js_ordered_rows.proofs.Stepping.{hears_as, hears_here}
+use Rattle.js_ordered_stream.specs.declared.rows.Handed.{Handed}
+use Rattle.js_ordered_stream.specs.declared.rows.Handed.TheVariants as hands
+use Rattle.js_ordered_stream.specs.declared.rows.Stepped.{Stepped}
+use Rattle.js_ordered_stream.specs.declared.rows.Stop.{Stop}
+use Rattle.js_ordered_stream.specs.declared.rows.Stop.TheVariants as stop
+use Rattle.js_ordered_stream.specs.Rows.{AnswersBeat, Looked, LooksInto, PassesRow, PassesRows, arrived, handed_by_heard, handed_list, met_row, read_by}
+use Rattle.js_table.specs.declared.consumer.Consumer.{Consumer}
+use Rattle.js_table.specs.declared.consumer.Phase.{Phase}
+use Rattle.js_table.specs.declared.consumer.Phase.TheVariants.{Pulls, Pushes, Recreates, Idle, Ended, Exhausted}
+use Rattle.js_table.specs.declared.consumer.ReplayInput.{ReplayInput}
+use Rattle.js_table.specs.declared.kind.PushKind.{PushKind}
+use Rattle.js_table.specs.declared.kind.PushKind.TheVariants as kind
+use Rattle.js_table.specs.declared.row.Arrival.{Arrival}
+use Rattle.js_table.specs.declared.row.Row.TheVariants as row
+use Rattle.js_table.specs.declared.run.Output.{Output}
+use Rattle.js_table.specs.Passes.{listens_to}
+use Rattle.js_table.specs.Reading.{armed, beat_answer, push_kind, silence_row}
+use Rattle.js_table.specs.Recreation.{message_on}
+use Rattle.js_table.specs.State.{Matter, Passed, at_phase, quietly}
+use Rattle.js_table.specs.Turn.{push_rows}
+use Rattle.js_turns.specs.Polling.{poll_wish_at}
+use Rattle.js_turns.specs.Turns.{handed}
+use Rattle.js_turns.specs.Wishes.{arrival_of, beat_wish, matter_of}
+use Rattle.js_ordered_stream.proofs.Hearing.{yields_handed}
+use Rattle.js_ordered_stream.proofs.Meeting.{IsOther, arrives_here, moment_met, untaken}
+use Rattle.js_ordered_stream.proofs.Passing.{row_passes, row_tells}
+
+eqb_same : (n : ℕ) → (n == n) ≡ true
+eqb_same n = grind (arith, nat_tests)
+
+-- ---- what is looked for
+
+-- what was taken is the message that is heard next
+pub taken_here : (inbox : ℕ) (message : Message) → message_on inbox (arrived inbox (Some message)) ≡ Some message
+taken_here inbox message = ap (λ (b : Bool). if b then Some message else None) (eqb_same inbox)
+
+-- a look that takes nothing
+pub looked_none : (inbox : ℕ) (message : Option Message) (rest : NextTasks) (done : Stepped) → message ≡ None
+    → ((m : Matter) → false ≡ is_some (message_on inbox m.arrival) → next_rows m rest ≡ push_rows inbox (message_on inbox m.arrival))
+    → done ≡ record { handed = hands.Nothing; next = rest; reply = None; arrival = None; message = None } → Looked inbox message done
+looked_none inbox message rest done is follows to =
+    subst (λ (o : Option Message). Looked inbox o done) (sym is)
+    (subst (λ (x : Stepped). Looked inbox None x) (sym to) (record { handed = refl; message = refl; arrival = refl; next = follows (read_by None None) refl }))
+
+-- and one that takes a message
+pub looked_some : (inbox : ℕ) (message : Option Message) (taken : Message) (rest : NextTasks) → message ≡ Some taken
+    → ((m : Matter) → true ≡ is_some (message_on inbox m.arrival) → next_rows m rest ≡ push_rows inbox (message_on inbox m.arrival))
+    → Looked inbox message (record { handed = hands.Nothing; next = rest; reply = None; arrival = Some (record { inbox = inbox; message = taken }); message = None })
+looked_some inbox message taken rest is follows =
+    subst (λ (o : Option Message). Looked inbox o (record { handed = hands.Nothing; next = rest; reply = None; arrival = Some (record { inbox = inbox; message = taken }); message = None })) (sym is)
+    (record {
+      handed = refl;
+      message = refl;
+      arrival = refl;
+      next = follows (read_by None (arrived inbox (Some taken))) (sym (ap (λ (o : Option Message). is_some o) (taken_here inbox taken))) ∙ ap (push_rows inbox) (taken_here inbox taken);
+    })
+
+pub looked_as : (inbox : ℕ) (message other : Option Message) (done : Stepped) → message ≡ other → Looked inbox message done → Looked inbox other done
+looked_as inbox message other done is looks = subst (λ (o : Option Message). Looked inbox o done) is looks
+
+some_arrived : (inbox : ℕ) (message : Option Message) → is_some (arrived inbox message) ≡ is_some message
+some_arrived inbox None = refl
+some_arrived inbox (Some message) = refl
+
+pub looks_at : (g : ReplayInput) (now inbox : ℕ) (timer : Timer) (c : Consumer) (v u : LinkView) (result : Result Stepped Stop) → c.phase ≡ Pushes inbox timer
+    → LooksInto result inbox v u → PassesRow g now row.CheckArrival c c v u result
+looks_at g now inbox timer c v u result is looks =
+    subst (λ (q : Phase). PassesRow g now row.CheckArrival (at_phase q c) (at_phase q c) v u result) (sym is) (by_result result looks)
+  where
+    by_result : (result : Result Stepped Stop) → LooksInto result inbox v u → PassesRow g now row.CheckArrival (at_phase (Pushes inbox timer) c) (at_phase (Pushes inbox timer) c) v u result
+    by_result (Err stop.Closed) shut = (refl, shut)
+    by_result (Err stop.OutOfMemory) same = (refl, same)
+    by_result (Ok done) (met, meets, is_open, l) = (
+      met,
+      meets,
+      is_open,
+      record {
+        consumer = refl;
+        shown = sym (ap (λ (h : Handed). handed_list h done.message) l.handed);
+        next = l.next ∙ ap (push_rows inbox) (sym (arrives_here inbox met));
+        seen = ap (λ (o : Option Message). is_some o || is_some done.arrival) l.message ∙ ap (λ (a : Option Arrival). is_some a) l.arrival ∙ some_arrived inbox (message_of met);
+        message = subst (λ (o : Option Message). IfSome o (λ x. message_of met ≡ Some x)) (sym l.message) tt;
+      },
+    )
+
+-- the heartbeat
+pub silence_passes : (g : ReplayInput) (now inbox : ℕ) (timer : Timer) (c : Consumer) (told : RowOutput) (rest : NextTasks) (done : Stepped) (v : LinkView) → c.phase ≡ Pushes inbox timer
+    → ((m : Matter) (p : Sends) (x : Consumer) → StepsTo m (silence_row (at_moment now p) timer x) (told_outputs told) x rest)
+    → handed_list done.handed None ≡ handed (told_outputs told) → done ≡ record done { next = rest; reply = None; arrival = None; message = None }
+    → PassesRow g now row.CheckSilence c c v v (Ok done)
+silence_passes g now inbox timer c told rest done v is steps hands to =
+    subst (λ (q : Phase). PassesRow g now row.CheckSilence (at_phase q c) (at_phase q c) v v (Ok done)) (sym is)
+    (row_tells g now row.CheckSilence (at_phase (Pushes inbox timer) c) (at_phase (Pushes inbox timer) c) Unasked (silence_row (at_moment now (passing_of now Unasked)) timer (at_phase (Pushes inbox timer) c)) told rest done v v refl
+    (record { message = refl; is_open = refl }) refl refl (steps (read_by None None) (passing_of now Unasked) (at_phase (Pushes inbox timer) c)) hands to)
+
+pub arm_passes : (g : ReplayInput) (now inbox : ℕ) (timer : Timer) (c d : Consumer) (done : Stepped) (v : LinkView) → c.phase ≡ Pushes inbox timer
+    → d ≡ at_phase (Pushes inbox (armed now)) c → done ≡ record { handed = hands.Nothing; next = next.Nothing; reply = None; arrival = None; message = None }
+    → PassesRow g now row.Arm c d v v (Ok done)
+arm_passes g now inbox timer c d done v is leads to =
+    subst (λ (q : Phase). PassesRow g now row.Arm (at_phase q c) d v v (Ok done)) (sym is)
+    (row_passes g now row.Arm (at_phase (Pushes inbox timer) c) d Unasked (quietly (at_phase (Pushes inbox (armed now)) c) []) [] hands.Nothing next.Nothing done v v refl
+    (record { message = refl; is_open = refl }) refl refl (record { consumer = leads; outputs = refl; next = refl }) refl to)
+
+-- ---- what an arrival asks
+
+-- by what is heard
+abbrev asked_by : Heard → Option (List ℕ) → Wish
+asked_by (hears.Beat last) (Some reply) = Publishes reply None []
+asked_by _ _ = Nothing
+
+asks_as : (number : ℕ) (message : Message) (k : PushKind) (heard : Heard) (reply : Option (List ℕ)) → IsHeardAs number message k heard → asked_by heard reply ≡ beat_wish k reply
+asks_as number message kind.Delivered (hears.Yields place) reply is = refl
+asks_as number message kind.Delivered hears.Unreadable reply is = refl
+asks_as number message kind.Delivered hears.Gap reply is = refl
+asks_as number message kind.Delivered (hears.Beat last) reply is = absurd is
+asks_as number message kind.Delivered hears.OtherStatus reply is = absurd is
+asks_as number message (kind.Beat last) heard None is = ap (λ (h : Heard). asked_by h None) is
+asks_as number message (kind.Beat last) heard (Some reply) is = ap (λ (h : Heard). asked_by h (Some reply)) is
+asks_as number message kind.Bad heard reply is = ap (λ (h : Heard). asked_by h reply) is
+asks_as number message kind.OtherStatus heard reply is = ap (λ (h : Heard). asked_by h reply) is
+
+pub asks_nothing : (number : ℕ) (message : Message) (heard known : Heard) → heard ≡ known → asked_by known message.reply ≡ Nothing → IsHeard number message heard → Nothing ≡ beat_wish (push_kind message) message.reply
+asks_nothing number message heard known is none heard_is = sym none ∙ ap (λ (h : Heard). asked_by h message.reply) (sym is) ∙ asks_as number message (push_kind message) heard message.reply heard_is
+
+pub asks_answer : (number : ℕ) (message : Message) (heard : Heard) (last : Option ℕ) (reply subject payload : List ℕ) → heard ≡ hears.Beat last → message.reply ≡ Some reply → subject ≡ reply → payload ≡ [] → IsHeard number message heard
+    → Publishes subject None payload ≡ beat_wish (push_kind message) message.reply
+asks_answer number message heard last reply subject payload is replies same empty heard_is =
+    ap (λ (s : List ℕ). Publishes s None payload) same ∙ ap (λ (p : List ℕ). Publishes reply None p) empty ∙ ap (λ (o : Option (List ℕ)). asked_by (hears.Beat last) o) (sym replies)
+    ∙ ap (λ (h : Heard). asked_by h message.reply) (sym is) ∙ asks_as number message (push_kind message) heard message.reply heard_is
+
+pub asks_no_reply : (number : ℕ) (message : Message) (heard : Heard) (last : Option ℕ) → heard ≡ hears.Beat last → message.reply ≡ None → IsHeard number message heard → Nothing ≡ beat_wish (push_kind message) message.reply
+asks_no_reply number message heard last is none heard_is =
+    asks_nothing number message heard (hears.Beat last) is (ap (λ (o : Option (List ℕ)). asked_by (hears.Beat last) o) none) heard_is
+
+beat_other : (k : PushKind) (reply : Option (List ℕ)) → IsOther (beat_wish k reply)
+beat_other (kind.Beat last) (Some reply) = tt
+beat_other (kind.Beat last) None = tt
+beat_other kind.Delivered reply = tt
+beat_other kind.Bad reply = tt
+beat_other kind.OtherStatus reply = tt
+
+-- ---- what is heard
+
+none_answered : (up : Bool) (reply : Option (List ℕ)) → handed (beat_answer up reply) ≡ []
+none_answered up None = refl
+none_answered true (Some reply) = refl
+none_answered false (Some reply) = refl
+
+heard_shown : (number : ℕ) (message : Message) (up : Bool) (k : PushKind) (heard : Heard) → IsHeardAs number message k heard → handed (heard_outputs up message heard) ≡ handed_list (handed_by_heard heard) (Some message)
+heard_shown number message up kind.Delivered heard is = sym (yields_handed number message up heard (handed_by_heard heard) is refl)
+heard_shown number message up (kind.Beat last) heard is =
+    subst (λ (h : Heard). handed (heard_outputs up message h) ≡ handed_list (handed_by_heard h) (Some message)) (sym is) (none_answered up message.reply)
+heard_shown number message up kind.Bad heard is = subst (λ (h : Heard). handed (heard_outputs up message h) ≡ handed_list (handed_by_heard h) (Some message)) (sym is) refl
+heard_shown number message up kind.OtherStatus heard is = subst (λ (h : Heard). handed (heard_outputs up message h) ≡ handed_list (handed_by_heard h) (Some message)) (sym is) refl
+
+hear_wish : (g : ReplayInput) (arrival : Arrival) (phase : Phase) → listens_to arrival.inbox phase ≡ true → poll_wish_at g (row.Hear arrival) phase ≡ beat_wish (push_kind arrival.message) arrival.message.reply
+hear_wish g arrival (Pushes current timer) here = ap (λ (b : Bool). if b then beat_wish (push_kind arrival.message) arrival.message.reply else Nothing) here
+hear_wish g arrival (Pulls reader) here = absurd (let h = here in cc)
+hear_wish g arrival (Recreates r) here = absurd (let h = here in cc)
+hear_wish g arrival Idle here = absurd (let h = here in cc)
+hear_wish g arrival Ended here = absurd (let h = here in cc)
+hear_wish g arrival Exhausted here = absurd (let h = here in cc)
+
+now_met : (now : ℕ) (met : Met) → (passing_of now met).now ≡ now
+now_met now met = ap (λ (p : Sends). p.now) (sym (moment_met now met))
+
+pub hear_passes : (g : ReplayInput) (now : ℕ) (arrival : Arrival) (heard : Heard) (c d : Consumer) (hand : Handed) (rest : NextTasks) (v u : LinkView) → listens_to arrival.inbox c.phase ≡ true
+    → IsHeard c.consumer_sequence arrival.message heard
+    → ((m : Matter) (p : Sends) (message : Message) → StepsTo m (heard_row p message heard (at_phase (Pushes arrival.inbox (armed now)) c)) (heard_outputs p.up message heard) d rest)
+    → hand ≡ handed_by_heard heard → AnswersBeat arrival.message v u
+    → PassesRow g now (row.Hear arrival) c d v u (Ok (record { handed = hand; next = rest; reply = None; arrival = None; message = Some arrival.message }))
+hear_passes g now arrival heard c d hand rest v u here is steps hands (met, meets) =
+    let message : Message = arrival.message in
+    let w : Wish = beat_wish (push_kind message) message.reply in
+    let p : Sends = passing_of now met in
+    let m : Matter = matter_of (poll_wish_at g (row.Hear arrival) c.phase) met in
+    let s = steps (read_by None None) p message in
+    let same : met_row g now (row.Hear arrival) met c ≡ heard_row p message heard (at_phase (Pushes arrival.inbox (armed now)) c) =
+    hears_here g p m arrival.inbox message c.phase c here
+    ∙ hears_as p message (push_kind message) heard (at_phase (Pushes arrival.inbox (armed p.now)) c) is
+    ∙ ap (λ (n : ℕ). heard_row p message heard (at_phase (Pushes arrival.inbox (armed n)) c)) (now_met now met) in (
+      met,
+      subst (λ (x : Wish). Meets x met v u) (sym (hear_wish g arrival c.phase here)) meets,
+      (untaken w met v u (beat_other (push_kind message) message.reply) meets).is_open,
+      record {
+        consumer = s.consumer ∙ ap (λ (x : Passed). x.consumer) (sym same);
+        shown = ap (λ (x : Passed). handed x.outputs) same ∙ ap handed s.outputs ∙ heard_shown c.consumer_sequence message p.up (push_kind message) heard is
+            ∙ ap (λ (h : Handed). handed_list h (Some message)) (sym hands);
+        next = s.next ∙ ap (λ (x : Passed). x.next) (sym same);
+        seen = refl;
+        message = refl;
+      },
+    )
+
+-- what was taken is heard
+pub heard_alone : (g : ReplayInput) (now inbox : ℕ) (slot : Option Arrival) (taken : Arrival) (c d : Consumer) (done : Stepped) (v u : LinkView) → slot ≡ Some taken → inbox ≡ taken.inbox
+    → PassesRow g now (row.Hear taken) c d v u (Ok done) → PassesRows g now (heard_rows inbox (message_on inbox slot)) c d v u (Ok done)
+heard_alone g now inbox slot taken c d done v u is same passes =
+    subst (λ (o : Option Arrival). PassesRows g now (heard_rows inbox (message_on inbox o)) c d v u (Ok done)) (sym is)
+    (subst (λ (i : ℕ). PassesRows g now (heard_rows i (message_on i (Some taken))) c d v u (Ok done)) (sym same)
+    (subst (λ (o : Option Message). PassesRows g now (heard_rows taken.inbox o) c d v u (Ok done)) (sym (taken_here taken.inbox taken.message)) passes))

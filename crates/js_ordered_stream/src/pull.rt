@@ -1,0 +1,88 @@
+//! The stream of an ordered pull consumer.
+ghost use Rattle.std.specs.Prelude.{◌≡◌};
+ghost use Rattle.js_link.specs.Meets.{Meets};
+ghost use Rattle.js_ordered_stream.specs.Opening.{OpensConsumer, OpensOrdered, given_of_pull, position_of_pull};
+ghost use Rattle.js_ordered_stream.specs.Stream.{poll_answer};
+ghost use Rattle.js_turns.specs.Polling.{IsPoll};
+
+use crate::error::OrderedError;
+use crate::left::Left;
+use crate::ordered;
+use js_base::{Message, Moment, Next, Subject, TryClone};
+use js_json::consumer::Info;
+use js_json::pull::OrderedConfig;
+use js_link::{Link, LinkError};
+use js_pull::Reader;
+use js_table::{
+    Consumer, EventContext, EventKind, OrderedSetup, Phase, ReplayInput, Settings, texts,
+};
+use std::alloc::Global;
+
+/// The stream of an ordered pull consumer: it yields the messages of its stream in order and without a gap, and makes its consumer anew where one shows.
+#[derive(Drop)]
+pub struct Ordered {
+    polled: ordered::Ordered,
+}
+
+/// Opens an inbox for the reader of the first consumer.
+fn open_consumer<L: Link>(
+    alloc: Global,
+    link: &mut L,
+    given: &ReplayInput,
+) -> Result<Consumer, LinkError>
+    ensures { OpensConsumer result given.now (L.view link.old) (L.view link.new) }
+{
+    let tick = EventKind::Tick;
+    let context = EventContext {
+        settings: &given.settings,
+        setup: &given.setup,
+        first: &given.first,
+        moment: 0,
+        what: &tick,
+    };
+    let unknown = Subject::from(String::new(alloc));
+    let mut source = texts::source_of(&context, 0, 0, unknown, &given.first)?;
+    let name = given.first.name.try_clone()?;
+    let (inbox, subject) = link.open_inbox(alloc)?;
+    source.inbox = inbox.0;
+    source.subject = subject;
+    Ok(ordered::first_consumer(name, Phase::Pulls(Reader::new(source))))
+}
+
+impl Ordered {
+    /// Opens an inbox, and a stream that reads the consumer of this info there. It asks for nothing before its first poll.
+    ///
+    /// The settings' number of retries does not count: a consumer is tried to be made anew 4,294,967,295 times.
+    ///
+    /// # Errors
+    ///
+    /// A refused subscription, and want of memory.
+    pub fn open<L: Link>(
+        alloc: Global,
+        link: &mut L,
+        settings: Settings,
+        config: OrderedConfig,
+        first: Info,
+    ) -> Result<Ordered, LinkError>
+        ensures { OpensOrdered result settings config first (L.view link.old) (L.view link.new) }
+    {
+        let given = ordered::given_with(alloc, settings, OrderedSetup::Pull(config), first)?;
+        let consumer = open_consumer(alloc, link, given.get())?;
+        Ok(Ordered {
+            polled: ordered::Ordered::new(given, consumer, Left::opening()),
+        })
+    }
+
+    /// Reads the next message or error. It waits after a turn in which nothing came.
+    pub fn poll_next<L: Link>(
+        &mut self,
+        alloc: Global,
+        link: &mut L,
+        now: Moment,
+    ) -> Next<Result<Message, OrderedError>>
+        ensures given { given_of_pull self.new ≡ given_of_pull self.old }
+        ensures polls { IsPoll (given_of_pull self.old) Meets now (position_of_pull self.old) (position_of_pull self.new) (L.view link.old) (L.view link.new) (poll_answer result) }
+    {
+        self.polled.poll_next(alloc, link, now)
+    }
+}

@@ -1,0 +1,139 @@
+//! The stream of an ordered push consumer.
+ghost use Rattle.std.specs.Prelude.{◌≡◌, Some};
+ghost use Rattle.js_link.specs.Meets.{Meets};
+ghost use Rattle.js_ordered_stream.specs.Opening.{ListensFirst, OpensPushed, Subscribes, given_of_push, open_text, position_of_push};
+ghost use Rattle.js_ordered_stream.specs.Stream.{poll_answer};
+ghost use Rattle.js_turns.specs.Polling.{IsPoll};
+
+use crate::error::OrderedError;
+use crate::left::Left;
+use crate::ordered;
+use js_base::{Message, Moment, Next, OutOfMemory, TryClone};
+use js_json::consumer::Info;
+use js_json::push::OrderedConfig;
+use js_link::{Link, LinkError};
+use js_ordered_rows::listening::listen;
+use js_table::{Consumer, EventContext, EventKind, OrderedSetup, Phase, ReplayInput, Settings};
+use std::alloc::Global;
+use std::{error, fmt};
+
+/// Why an ordered push consumer was not opened.
+#[derive(Clone, Copy, Debug, PartialEq, Eq)]
+pub enum OpenError {
+    /// The consumer's info names no subject that it delivers to.
+    NoDeliverSubject,
+    /// The subscription was refused.
+    Failed,
+    /// Memory ran out.
+    OutOfMemory,
+}
+
+impl fmt::Display for OpenError {
+    ghost output = { λ e. Some (open_text e) };
+
+    fn fmt<W: fmt::Write>(&self, f: &mut fmt::Formatter<W>) -> fmt::Result {
+        match self {
+            OpenError::NoDeliverSubject => write!(f, "no deliver subject"),
+            OpenError::Failed => write!(f, "subscription failed"),
+            OpenError::OutOfMemory => write!(f, "out of memory"),
+        }
+    }
+}
+
+impl error::Error for OpenError {}
+
+impl From<OutOfMemory> for OpenError {
+    ghost use Rattle.std.specs.Prelude.{◌≡◌};
+    ghost use Rattle.js_ordered_stream.specs.declared.push.OpenError.TheVariants.{OutOfMemory};
+
+    ghost from_gives = { λ _ e. e ≡ OutOfMemory };
+
+    fn from(_error: js_base::OutOfMemory) -> OpenError {
+        OpenError::OutOfMemory
+    }
+}
+
+/// The stream of an ordered push consumer: it yields the messages of its stream in order and without a gap, answers what the server's flow control asks,
+/// and makes its consumer anew where a gap shows, where the server is silent, and where the connection comes or goes.
+#[derive(Drop)]
+pub struct Ordered {
+    polled: ordered::Ordered,
+}
+
+/// Subscribes to what the consumer delivers to.
+fn subscribe<L: Link>(alloc: Global, link: &mut L, first: &Info) -> Result<u64, OpenError>
+    ensures { Subscribes result first.now (L.view link.old) (L.view link.new) }
+{
+    let Some(subject) = &first.config.deliver_subject else {
+        return Err(OpenError::NoDeliverSubject);
+    };
+    match link.subscribe(alloc, subject.as_str(), None) {
+        Ok(inbox) => Ok(inbox.0),
+        Err(LinkError::Failed) => Err(OpenError::Failed),
+        Err(LinkError::OutOfMemory) => Err(OpenError::OutOfMemory),
+    }
+}
+
+/// Opens the inbox of the first consumer, which listens there.
+fn open_consumer<L: Link>(
+    alloc: Global,
+    link: &mut L,
+    given: &ReplayInput,
+) -> Result<Consumer, OpenError>
+    ensures { ListensFirst result given.now (L.view link.old) (L.view link.new) }
+{
+    let name = given.first.name.try_clone()?;
+    let inbox = subscribe(alloc, link, &given.first)?;
+    let mut consumer = ordered::first_consumer(name, Phase::Idle);
+    let tick = EventKind::Tick;
+    let context = EventContext {
+        settings: &given.settings,
+        setup: &given.setup,
+        first: &given.first,
+        moment: 0,
+        what: &tick,
+    };
+    listen(&context, &mut consumer, inbox);
+    Ok(consumer)
+}
+
+impl Ordered {
+    /// Subscribes to the deliver subject of this info, in no group, and listens to its consumer there. The server is heard from the first poll on:
+    /// then the heartbeat is armed.
+    ///
+    /// The settings' number of retries does not count: a consumer is tried to be made anew 4,294,967,295 times.
+    ///
+    /// # Errors
+    ///
+    /// - `NoDeliverSubject`: the info names no deliver subject; nothing was subscribed.
+    /// - `Failed`: the subscription was refused.
+    /// - `OutOfMemory`: memory ran out.
+    pub fn open<L: Link>(
+        alloc: Global,
+        link: &mut L,
+        settings: Settings,
+        config: OrderedConfig,
+        first: Info,
+    ) -> Result<Ordered, OpenError>
+        ensures { OpensPushed result settings config first (L.view link.old) (L.view link.new) }
+    {
+        let given = ordered::given_with(alloc, settings, OrderedSetup::Push(config), first)?;
+        let consumer = open_consumer(alloc, link, given.get())?;
+        Ok(Ordered {
+            polled: ordered::Ordered::new(given, consumer, Left::arming()),
+        })
+    }
+
+    /// Reads the next message or error. It waits after a turn in which nothing came.
+    pub fn poll_next<L: Link>(
+        &mut self,
+        alloc: Global,
+        link: &mut L,
+        now: Moment,
+    ) -> Next<Result<Message, OrderedError>>
+        ensures given { given_of_push self.new ≡ given_of_push self.old }
+        ensures polls { IsPoll (given_of_push self.old) Meets now (position_of_push self.old) (position_of_push self.new) (L.view link.old) (L.view link.new) (poll_answer result) }
+    {
+        self.polled.poll_next(alloc, link, now)
+    }
+}
