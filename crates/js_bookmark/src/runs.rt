@@ -10,9 +10,20 @@ ghost use Rattle.js_bookmark.specs.declared.session.Session.{Session};
 use crate::error::SessionsError;
 use crate::session::{Line, Session, SessionRun};
 use crate::session_replay::{SessionEnd, SessionReplay, Sessions};
-use js_base::{Items, OutOfMemory, TryClone};
+use bytes::Bytes;
+use js_base::{Items, OutOfMemory, Subject, TryClone};
 use js_ordered::{Output, Run, Step};
 use std::alloc::Global;
+
+fn request_of(number: u64, subject: &Subject, payload: &Bytes) -> Result<Output, OutOfMemory>
+    ensures { IfOk result (λ copy. copy ≡ Output.Request number subject.now payload.now) }
+{
+    Ok(Output::Request {
+        number,
+        subject: subject.try_clone()?,
+        payload: payload.clone()?,
+    })
+}
 
 fn copy_of(output: &Output) -> Result<Output, OutOfMemory>
     ensures { IfOk result (λ copy. copy ≡ output.now) }
@@ -41,11 +52,7 @@ fn copy_of(output: &Output) -> Result<Output, OutOfMemory>
             number,
             subject,
             payload,
-        } => Ok(Output::Request {
-            number: *number,
-            subject: subject.try_clone()?,
-            payload: payload.clone()?,
-        }),
+        } => request_of(*number, subject, payload),
         Output::Publish {
             subject,
             reply,
