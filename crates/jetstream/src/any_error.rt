@@ -6,6 +6,7 @@ use js_base::OutOfMemory;
 use js_consumer_calls::ConsumerError;
 use js_context::PublishError;
 use js_link::LinkError;
+use js_ordered_calls::OrderedError;
 use js_pull_calls::{BatchError, BatchItemError, BatchRequestError, MessagesError, StreamError};
 use js_stream_calls::{CreateStreamError, GetStreamError};
 use std::alloc::{AllocError, AllocFailed};
@@ -38,6 +39,8 @@ pub enum AnyError {
     BatchItem(BatchItemError),
     /// The messages of a push consumer told of something in place of a message.
     PushMessages(js_push_calls::MessagesError),
+    /// An ordered consumer told of something in place of a message.
+    Ordered(OrderedError),
     /// Something was not read or written.
     Io(io::Error),
 }
@@ -57,6 +60,7 @@ impl fmt::Display for AnyError {
             AnyError::Messages(error) => write!(f, "{error}"),
             AnyError::BatchItem(error) => write!(f, "{error}"),
             AnyError::PushMessages(error) => write!(f, "{error}"),
+            AnyError::Ordered(error) => write!(f, "{error}"),
             AnyError::Io(error) => write!(f, "{error}"),
         }
     }
@@ -181,5 +185,13 @@ impl From<js_push_calls::MessagesError> for AnyError {
 
     fn from(error: js_push_calls::MessagesError) -> AnyError {
         AnyError::PushMessages(error)
+    }
+}
+
+impl From<OrderedError> for AnyError {
+    ghost from_gives = { λ error told. told ≡ any.Ordered error };
+
+    fn from(error: OrderedError) -> AnyError {
+        AnyError::Ordered(error)
     }
 }
