@@ -1,0 +1,49 @@
+//! Each call of the table of a run.
+
+use crate::mirrors::fill;
+use crate::round::replayed;
+use js_log_table::{RunProjection, project, worked_tables};
+use js_mirror::Mirror;
+use js_ordered::Run;
+use js_project::Projection;
+use js_relay::relay;
+use std::alloc::Global;
+use std::test::Fail;
+
+/// Prints the table of a run, made at once and as its outputs come.
+pub fn show(rt: &(impl Print + AllocGlobal)) -> Result<(), Fail> {
+    worked_tables();
+    let run = relayed(rt.alloc())?;
+    tell(rt, &project(rt.alloc(), &run)?)?;
+    tell(rt, &advanced(rt.alloc(), &run)?)
+}
+
+/// The run that hands out entries 4, 5 and 9.
+fn relayed(alloc: Global) -> Result<Run, Fail> {
+    let mut mirror = Mirror::new(alloc, 3);
+    fill(alloc, &mut mirror)?;
+    let events = relay(alloc, &mirror, "events", "gen")?;
+    Ok(replayed(alloc, 3, &events)?)
+}
+
+/// The same table, as the outputs come.
+fn advanced(alloc: Global, run: &Run) -> Result<Projection, Fail> {
+    let mut table = RunProjection::new(alloc);
+    for step in run.steps.as_slice() {
+        table.advance(step.outputs.as_slice())?;
+    }
+    Ok(table.end()?)
+}
+
+/// Sequences 4 and 9 have one subject.
+fn tell(rt: &impl Print, table: &Projection) -> Result<(), Fail> {
+    println!(rt;
+        "table up to {}: {} rows",
+        table.last(),
+        table.matching(">")?.len()
+    )?;
+    if let Some(entry) = table.get("key.4") {
+        println!(rt; "key.4 has {:?}", entry.payload)?;
+    }
+    Ok(())
+}
