@@ -5,12 +5,16 @@ use Rattle.std.specs.Io.KnownBytes.{Appends, IsAtEnd}
 use Rattle.js_io.specs.Causes.{Rose, AppendsPrefix}
 use Rattle.js_tool.specs.declared.status.Status.{Status}
 use Rattle.js_tool.specs.declared.status.Status.TheVariants as status
+use Rattle.js_tool.specs.declared.transcript.Unread.{Unread}
+use Rattle.js_tool.specs.declared.transcript.Unread.TheVariants as unread
 use Rattle.js_tool.specs.Program.{WritesUnlessFault}
 use Rattle.js_tool.proofs.Called.{told}
 use Rattle.js_words.specs.declared.report.Report.{Report}
 use Rattle.js_words.specs.declared.report.Report.TheVariants as report
 use Rattle.js_words.specs.Commands.{Wanted}
-use Rattle.js_words.specs.Told.{AnswersBytes, AnswersSource, AnswersLog, report_status, called_for}
+use Rattle.js_words.specs.OnSessions.{AnswersSessions}
+use Rattle.js_words.specs.Reports.{Reports}
+use Rattle.js_words.specs.Told.{Writes, AnswersBytes, AnswersSource, AnswersLog, report_status, called_for}
 
 not_long : (n : ℕ) → n ≤ 67_108_864 → nat_lt 67_108_864 n ≡ false
 not_long n within = grind (arith, nat_tests)
@@ -33,6 +37,11 @@ called_too_long : {T : Type 0} (reading : List ℕ → Result T ℕ) (of : T →
 unfolding called_for
 called_too_long reading of bytes long = rw (is_long (length bytes) long) refl
 
+-- a line that does not read is told
+pub first_unread : {T : Type 0} (reading : List ℕ → Result T ℕ) (of : T → Report) (more : T → Report → Type 0) (read : List ℕ) (made : Result Report Unread) (line : ℕ)
+    → Reports of more (reading read) made → made ≡ Err (unread.BadLine line) → reading read ≡ Err line
+first_unread reading of more read made line reports is = subst (λ (m : Result Report Unread). Reports of more (reading read) m) is reports
+
 -- ---- what was answered to bytes
 
 -- the text was written, or a front of it where the sink failed
@@ -41,8 +50,20 @@ pub writes_unless_fault : {T E : Type 0} (taken taken_after : Option (List ℕ))
 writes_unless_fault taken taken_after faults faults_after line (Ok done) whole front rose = inl whole
 writes_unless_fault taken taken_after faults faults_after line (Err failed) whole front rose = inr (front, rose)
 
+-- so what was made of the bytes was written
+module _ (taken taken_after : Option (List ℕ)) (faults faults_after : ℕ) (made : Result Report Unread) where
+  pub writes_done : (text : List ℕ) → made ≡ Ok (report.Done text) → Appends taken taken_after text → Writes made taken taken_after faults faults_after status.Done
+  writes_done text is appends = subst (λ (m : Result Report Unread). Writes m taken taken_after faults faults_after status.Done) (sym is) (inl (refl, appends))
+
+  pub writes_front : (text : List ℕ) → made ≡ Ok (report.Done text) → AppendsPrefix taken taken_after text → Writes made taken taken_after faults faults_after status.WriteFault
+  writes_front text is appends = subst (λ (m : Result Report Unread). Writes m taken taken_after faults faults_after status.WriteFault) (sym is) (inr (refl, appends))
+
+  pub writes_refused : (line : List ℕ) → made ≡ Ok (report.Refused line) → WritesUnlessFault taken taken_after faults faults_after line
+      → Writes made taken taken_after faults faults_after status.Refused
+  writes_refused line is writes = subst (λ (m : Result Report Unread). Writes m taken taken_after faults faults_after status.Refused) (sym is) (refl, writes)
+
 module _ {T : Type 0} (reading : List ℕ → Result T ℕ) (of : T → Report) (more : T → Report → Type 0) (taken taken_after : Option (List ℕ)) (faults faults_after : ℕ) where
-  pub answers_done : (read : List ℕ) (t : T) (text : List ℕ) → length read ≤ 67_108_864 → reading read ≡ Ok t → report.Done text ≡ of t
+  answers_done : (read : List ℕ) (t : T) (text : List ℕ) → length read ≤ 67_108_864 → reading read ≡ Ok t → report.Done text ≡ of t
       → Appends taken taken_after text → more t (report.Done text) → AnswersBytes reading of more read taken taken_after faults faults_after status.Done
   answers_done read t text within reads says appends served = record {
     done = λ is. (t, text, record { within = within; by = reads }, sym says, appends, served);
@@ -51,7 +72,7 @@ module _ {T : Type 0} (reading : List ℕ → Result T ℕ) (of : T → Report) 
     otherwise = called_made reading of read t (report.Done text) within reads says;
   }
 
-  pub answers_fault : (read : List ℕ) (t : T) (text : List ℕ) → length read ≤ 67_108_864 → reading read ≡ Ok t → report.Done text ≡ of t
+  answers_fault : (read : List ℕ) (t : T) (text : List ℕ) → length read ≤ 67_108_864 → reading read ≡ Ok t → report.Done text ≡ of t
       → AppendsPrefix taken taken_after text → AnswersBytes reading of more read taken taken_after faults faults_after status.WriteFault
   answers_fault read t text within reads says appends = record {
     done = search rules;
@@ -60,7 +81,7 @@ module _ {T : Type 0} (reading : List ℕ → Result T ℕ) (of : T → Report) 
     otherwise = tt;
   }
 
-  pub answers_refused : (read : List ℕ) (t : T) (line : List ℕ) → length read ≤ 67_108_864 → reading read ≡ Ok t → report.Refused line ≡ of t
+  answers_refused : (read : List ℕ) (t : T) (line : List ℕ) → length read ≤ 67_108_864 → reading read ≡ Ok t → report.Refused line ≡ of t
       → WritesUnlessFault taken taken_after faults faults_after line → AnswersBytes reading of more read taken taken_after faults faults_after status.Refused
   answers_refused read t line within reads says writes = record {
     done = search rules;
@@ -69,13 +90,35 @@ module _ {T : Type 0} (reading : List ℕ → Result T ℕ) (of : T → Report) 
     otherwise = called_made reading of read t (report.Refused line) within reads says;
   }
 
-  pub answers_unread : (read : List ℕ) (line : ℕ) → length read ≤ 67_108_864 → reading read ≡ Err line → AnswersBytes reading of more read taken taken_after faults faults_after (status.BadLine line)
+  answers_unread : (read : List ℕ) (line : ℕ) → length read ≤ 67_108_864 → reading read ≡ Err line → AnswersBytes reading of more read taken taken_after faults faults_after (status.BadLine line)
   answers_unread read line within fails = record {
     done = search rules;
     refused = search rules;
     written_before_fault = search rules;
     otherwise = called_unread reading of read line within fails;
   }
+
+  answers_nothing : (read : List ℕ) → AnswersBytes reading of more read taken taken_after faults faults_after status.OutOfMemory
+  answers_nothing read = record {
+    done = search rules;
+    refused = search rules;
+    written_before_fault = search rules;
+    otherwise = tt;
+  }
+
+  -- what was made of the bytes was written
+  pub bytes_answered : (read : List ℕ) (made : Result Report Unread) (s : Status) → length read ≤ 67_108_864 → Reports of more (reading read) made
+      → Writes made taken taken_after faults faults_after s → AnswersBytes reading of more read taken taken_after faults faults_after s
+  bytes_answered read (Ok (report.Done text)) s within (t, reads, says, holds) (inl (is, appends)) =
+      subst (λ (x : Status). AnswersBytes reading of more read taken taken_after faults faults_after x) (sym is) (answers_done read t text within reads says appends holds)
+  bytes_answered read (Ok (report.Done text)) s within (t, reads, says, holds) (inr (is, appends)) =
+      subst (λ (x : Status). AnswersBytes reading of more read taken taken_after faults faults_after x) (sym is) (answers_fault read t text within reads says appends)
+  bytes_answered read (Ok (report.Refused line)) s within (t, reads, says, holds) (is, writes) =
+      subst (λ (x : Status). AnswersBytes reading of more read taken taken_after faults faults_after x) (sym is) (answers_refused read t line within reads says writes)
+  bytes_answered read (Err (unread.BadLine line)) s within fails is =
+      subst (λ (x : Status). AnswersBytes reading of more read taken taken_after faults faults_after x) (sym is) (answers_unread read line within fails)
+  bytes_answered read (Err unread.OutOfMemory) s within fails is =
+      subst (λ (x : Status). AnswersBytes reading of more read taken taken_after faults faults_after x) (sym is) (answers_nothing read)
 
   answers_long : (read : List ℕ) → 67_108_864 < length read → AnswersBytes reading of more read taken taken_after faults faults_after status.TooLong
   answers_long read long = record {
@@ -115,4 +158,13 @@ answers_asked left left_after taken taken_after faults faults_after s asked comm
     subst (λ (wanted : Wanted). AnswersLog wanted left left_after taken taken_after faults faults_after s) (injected asked command (is ∙ named)) answers
   where
     injected : (x y : Wanted) → Some x ≡ Some y → x ≡ y
+    injected x y same = cc
+
+-- what was answered to the words of sessions
+pub sessions_asked : (left left_after taken taken_after : Option (List ℕ)) (faults faults_after : ℕ) (s : Status) (asked next : ℕ) (words : Option ℕ) → Some asked ≡ words
+    → AnswersSessions asked left left_after taken taken_after faults faults_after s → words ≡ Some next → AnswersSessions next left left_after taken taken_after faults faults_after s
+sessions_asked left left_after taken taken_after faults faults_after s asked next words is answers named =
+    subst (λ (n : ℕ). AnswersSessions n left left_after taken taken_after faults faults_after s) (injected asked next (is ∙ named)) answers
+  where
+    injected : (x y : ℕ) → Some x ≡ Some y → x ≡ y
     injected x y same = cc

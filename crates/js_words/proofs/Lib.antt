@@ -1,5 +1,6 @@
 mod Answered
 mod Applying
+mod Joining
 mod LogsShown
 mod Named
 mod Passing

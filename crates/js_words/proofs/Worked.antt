@@ -3,7 +3,7 @@ use Rattle.std.specs.Prelude.{◌≡◌, ℕ, List, [], ◌∷◌, Some, None, r
 use Rattle.js_base.specs.declared.message.Entry.{Entry}
 use Rattle.js_table.specs.declared.run.ReplayError.TheVariants.{BadEvent}
 use Rattle.js_table.specs.declared.setup.OrderedSetup.{OrderedSetup}
-use Rattle.js_words.specs.Commands.{Project, Mirror, Relay, wanted_of, project_of, project_up_to, relay_of, with_two}
+use Rattle.js_words.specs.Commands.{Project, Mirror, Relay, bookmark_of, bookmark_in, wanted_of, project_of, project_up_to, relay_of, with_two}
 use Rattle.js_words.specs.declared.gathering.Ending.TheVariants as ending
 use Rattle.js_words.specs.declared.report.Report.TheVariants as report
 use Rattle.js_words.specs.LogTexts.{no_start_text, not_rising_text, hole_text}
@@ -35,6 +35,15 @@ two_names = refl
 no_name : wanted_of (codes "relay" ∷ codes "events" ∷ codes "c.1" ∷ []) ≡ None
 unfolding relay_of with_two
 no_name = refl
+
+from_one : bookmark_of (codes "sessions" ∷ codes "1" ∷ []) ≡ Some 1
+unfolding bookmark_in
+from_one = refl
+
+-- a body that takes any number for a bookmark answers a command here
+from_nothing : bookmark_of (codes "sessions" ∷ codes "0" ∷ []) ≡ None
+unfolding bookmark_in
+from_nothing = refl
 
 -- ---- refusals
 

@@ -1,5 +1,5 @@
--- Which words are a command over a log, and what they ask for.
-use Rattle.std.specs.Prelude.{ℕ, List, [], ◌∷◌, codes, ◌&&◌, IsTrue, ⊤, Option, Some, None, option_and_then, if◌then◌else◌}
+-- Which words are a command over a log or over sessions, and what they ask for.
+use Rattle.std.specs.Prelude.{ℕ, nat_lt, List, [], ◌∷◌, codes, ◌&&◌, IsTrue, ⊤, Option, Some, None, option_and_then, if◌then◌else◌}
 use Rattle.std.specs.Str.{bytes_eq}
 use Rattle.js_base.specs.Match.{is_valid_subject}
 use Rattle.js_codes.specs.Names.{is_name}
@@ -48,3 +48,17 @@ wanted_of (name ∷ []) = if bytes_eq name (codes "mirror") then Some Mirror els
 wanted_of (name ∷ filter ∷ []) = if bytes_eq name (codes "project") then project_of filter None else None
 wanted_of (name ∷ first ∷ second ∷ []) = with_two name first second
 wanted_of words = None
+
+-- ---- sessions
+
+abbrev pub above_nothing : ℕ → Option ℕ
+above_nothing number = if nat_lt 0 number then Some number else None
+
+-- a number of 64 bits above 0
+unfoldable pub bookmark_in : List ℕ → Option ℕ
+bookmark_in word = option_and_then above_nothing (number_of word)
+
+-- the bookmark from which the words ask for sessions, where they do
+abbrev pub bookmark_of : List (List ℕ) → Option ℕ
+bookmark_of (name ∷ word ∷ []) = if bytes_eq name (codes "sessions") then bookmark_in word else None
+bookmark_of words = None

@@ -5,3 +5,4 @@ pub mod Reports
 pub mod Served
 pub mod Told
 pub mod OnLogs
+pub mod OnSessions

@@ -1,10 +1,12 @@
 -- What the program answers to a command over what its source holds, and what it writes.
-use Rattle.std.specs.Prelude.{◌≡◌, ◌≤◌, ℕ, List, length, nat_lt, if◌then◌else◌, Option, IfSome, Result, Ok, Err}
+use Rattle.std.specs.Prelude.{◌≡◌, ◌⊎◌, ◌≤◌, ℕ, List, length, nat_lt, if◌then◌else◌, Option, IfSome, Result, Ok, Err}
 use Rattle.std.specs.Io.KnownBytes.{Appends, IsAtEnd}
 use Rattle.js_io.specs.Causes.{AppendsPrefix}
 use Rattle.js_tool.specs.declared.status.Status.{Status}
 use Rattle.js_tool.specs.declared.status.Status.TheVariants as status
 use Rattle.js_tool.specs.declared.transcript.Transcript.{Transcript}
+use Rattle.js_tool.specs.declared.transcript.Unread.{Unread}
+use Rattle.js_tool.specs.declared.transcript.Unread.TheVariants as unread
 use Rattle.js_tool.specs.Program.{IsUnlessFailed, WritesUnlessFault, HasReadAll}
 use Rattle.js_tool.specs.Transcripts.{transcript}
 use Rattle.js_words.specs.declared.report.Report.{Report}
@@ -22,6 +24,11 @@ pub record ReadsBy {T : Type 0} (reading : List ℕ → Result T ℕ) (bytes : L
 abbrev pub Reads : List ℕ → Transcript → Type 0
 Reads bytes t = ReadsBy transcript bytes t
 
+-- the first line of the bytes that does not read is this
+pub record IsFirstUnread {T : Type 0} (reading : List ℕ → Result T ℕ) (bytes : List ℕ) (line : ℕ) : Type 0 where
+  pub within : length bytes ≤ 67_108_864
+  pub by : reading bytes ≡ Err line
+
 -- ---- the status that the bytes call for, where nothing fails
 
 abbrev pub report_status : Report → Status
@@ -36,6 +43,18 @@ unfoldable pub called_for : {T : Type 0} → (List ℕ → Result T ℕ) → (T 
 called_for reading of bytes = if nat_lt 67_108_864 (length bytes) then status.TooLong else reading_status of (reading bytes)
 
 -- ---- what is answered and written, over ends before and after it: what the source had left, what the sink had taken, and the sink's count of faults
+
+-- where nothing was made of the bytes
+abbrev pub unread_status : Unread → Status
+unread_status (unread.BadLine line) = status.BadLine line
+unread_status unread.OutOfMemory = status.OutOfMemory
+
+-- the text or the line that was made of the bytes was written, or a front of it where the sink failed
+abbrev pub Writes : Result Report Unread → Option (List ℕ) → Option (List ℕ) → ℕ → ℕ → Status → Type 0
+Writes (Ok (report.Done text)) taken taken_after faults faults_after answer =
+    ((answer ≡ status.Done) × Appends taken taken_after text) ⊎ ((answer ≡ status.WriteFault) × AppendsPrefix taken taken_after text)
+Writes (Ok (report.Refused line)) taken taken_after faults faults_after answer = (answer ≡ status.Refused) × WritesUnlessFault taken taken_after faults faults_after line
+Writes (Err e) taken taken_after faults faults_after answer = answer ≡ unread_status e
 
 -- what a command makes of the bytes, by what they are read as
 pub record AnswersBytes {T : Type 0} (reading : List ℕ → Result T ℕ) (of : T → Report) (more : T → Report → Type 0)

@@ -1,9 +1,9 @@
-//! The words of a command over a log.
+//! The words of a command over a log, and of sessions.
 
 ghost use Rattle.std.specs.Prelude.{◌≡◌, ◌∷◌, [], map, codes, false, option_map, string_bytes, None, IfSome};
 ghost use Rattle.std.specs.Str.{bytes_eq};
 ghost use Rattle.js_tool.specs.Commands.{command_of as command_in};
-ghost use Rattle.js_words.specs.Commands.{wanted, wanted_of, project_of as project_in, project_up_to as project_up_to_in, relay_of as relay_in, with_two as with_two_in};
+ghost use Rattle.js_words.specs.Commands.{wanted, wanted_of, bookmark_of as bookmark_of_words, bookmark_in as bookmark_in_word, project_of as project_in, project_up_to as project_up_to_in, relay_of as relay_in, with_two as with_two_in};
 
 use js_base::is_valid_subject;
 use js_codes::is_valid_name;
@@ -30,6 +30,7 @@ pub enum LogCommand<'a> {
 pub fn log_command_of(words: &[String]) -> Option<LogCommand<'_>>
     ensures form { option_map wanted result ≡ wanted_of (map string_bytes words.now) }
     ensures apart { IfSome result (λ _. command_in (map string_bytes words.now) ≡ None) }
+    ensures no_sessions { IfSome result (λ _. bookmark_of_words (map string_bytes words.now) ≡ None) }
 {
     match words {
         [] => None,
@@ -53,6 +54,7 @@ fn alone<'a>(name: &str) -> Option<LogCommand<'a>>
 fn with_one<'a>(name: &str, filter: &'a str) -> Option<LogCommand<'a>>
     ensures form { option_map wanted result ≡ wanted_of (name.now ∷ filter.now ∷ []) }
     ensures apart { IfSome result (λ _. bytes_eq name.now (codes "info") ≡ false) }
+    ensures no_sessions { IfSome result (λ _. bytes_eq name.now (codes "sessions") ≡ false) }
 {
     match name {
         "project" => project_of(filter, None),
@@ -100,4 +102,37 @@ fn with_two<'a>(name: &str, first: &'a str, second: &'a str) -> Option<LogComman
         "relay" => relay_of(first, second),
         _ => None,
     }
+}
+
+/// The bookmark that the words `sessions NEXT` name, a number above 0, if they are these words. Then they are no other command.
+pub fn bookmark_of(words: &[String]) -> Option<u64>
+    ensures form { result ≡ bookmark_of_words (map string_bytes words.now) }
+    ensures apart { IfSome result (λ _. command_in (map string_bytes words.now) ≡ None) }
+    ensures no_log { IfSome result (λ _. wanted_of (map string_bytes words.now) ≡ None) }
+{
+    match words {
+        [] => None,
+        [_] => None,
+        [name, next] => bookmark_with(name.as_str(), next.as_str()),
+        [_, _, _, ..] => None,
+    }
+}
+
+fn bookmark_with(name: &str, next: &str) -> Option<u64>
+    ensures form { result ≡ bookmark_of_words (name.now ∷ next.now ∷ []) }
+    ensures apart { IfSome result (λ _. bytes_eq name.now (codes "info") ≡ false) }
+    ensures no_log { IfSome result (λ _. bytes_eq name.now (codes "project") ≡ false) }
+{
+    match name {
+        "sessions" => bookmark_in(next),
+        _ => None,
+    }
+}
+
+#[tactic(auto, unfolding(crate::specs::Commands::bookmark_in))]
+fn bookmark_in(word: &str) -> Option<u64>
+    ensures { result ≡ bookmark_in_word word.now }
+{
+    let number = read_number(word)?;
+    if 0 < number { Some(number) } else { None }
 }

@@ -1,5 +1,5 @@
-//! The words over logs: what a transcript's replay yields, as a table, as a mirror, or as a transcript again. All other words are
-//! those of js_tool.
+//! The words over logs: what a transcript's replay yields, as a table, as a mirror, or as a transcript again; and the word over
+//! sessions with bookmarks. All other words are those of js_tool.
 #![tactic(auto)]
 
 mod command;
@@ -9,9 +9,10 @@ mod program;
 mod project;
 mod relay;
 mod report;
+mod sessions;
 mod telling;
 
-pub use command::{LogCommand, log_command_of};
+pub use command::{LogCommand, bookmark_of, log_command_of};
 pub use gathering::Ending;
 pub use js_tool::{
     Failed, MemorySink, MemorySource, PlainSink, PlainSource, ReadSource, Sink, Source, Status,

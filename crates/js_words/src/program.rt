@@ -1,16 +1,18 @@
-//! The top call: the words over logs, and all others.
+//! The top call: the words over logs and sessions, and all others.
 
 ghost use Rattle.std.specs.Prelude.{◌≡◌, ◌<◌, ◌↔◌, ℕ, List, length, map, Some, None, IfSome, string_bytes};
 ghost use Rattle.std.specs.Io.KnownBytes.{Keeps};
 ghost use Rattle.js_io.specs.Causes.{Rose};
 ghost use Rattle.js_tool.specs.Commands.{Replay, Generate, Info, Window, command_of as command_in};
 ghost use Rattle.js_tool.specs.Program.{AnswersReplay, AnswersGenerate, AnswersInfo, AnswersWindow, FirstUnread, SaysNothing, without_threads};
-ghost use Rattle.js_words.specs.Commands.{Wanted, Project, Mirror, Relay, wanted_of};
+ghost use Rattle.js_sessions.specs.SessionLines.{sessions as sessions_in};
+ghost use Rattle.js_words.specs.Commands.{Wanted, Project, Mirror, Relay, bookmark_of as bookmark_in, wanted_of};
 ghost use Rattle.js_words.specs.OnLogs.{WritesLogsTable, WritesLogsMirror, WritesLogsRelay};
-ghost use Rattle.js_words.specs.Told.{AnswersLog};
+ghost use Rattle.js_words.specs.OnSessions.{AnswersSessions, WritesLogsSessions};
+ghost use Rattle.js_words.specs.Told.{AnswersLog, IsFirstUnread};
 
-use crate::command::log_command_of;
-use crate::telling::tell;
+use crate::command::{bookmark_of, log_command_of};
+use crate::telling::{tell, tell_sessions};
 use js_io::{Sink, Source};
 use js_tool::Status;
 use std::alloc::Global;
@@ -22,7 +24,8 @@ use std::thread::Threads;
 ///
 /// `project` reads a transcript to its end, replays it, and writes the last entry of each subject that a filter matches.
 /// `mirror` writes all that the replay yields, with the holes between, and `relay` the transcript of another consumer that is
-/// sent all of it. All other words are those of [`js_tool::run`]. It may wait in `window` alone.
+/// sent all of it. `sessions` reads the lines of sessions to their end, and writes what each comes to, from a bookmark on. All
+/// other words are those of [`js_tool::run`]. It may wait in `window` alone.
 pub fn run<R: Threads + Wait + Sync, S: Source, K: Sink>(
     rt: &R,
     alloc: Global,
@@ -31,7 +34,8 @@ pub fn run<R: Threads + Wait + Sync, S: Source, K: Sink>(
     output: &mut K,
 ) -> Status
     ensures usage { (result ≡ Status.Usage)
-        ↔ ((wanted_of (map string_bytes words.now) ≡ None) × (command_in (map string_bytes words.now) ≡ None)) }
+        ↔ ((wanted_of (map string_bytes words.now) ≡ None) × (bookmark_in (map string_bytes words.now) ≡ None)
+        × (command_in (map string_bytes words.now) ≡ None)) }
 
     // What each command answers and writes. Of `replay`, `done` is that the text of the input's run was written, which
     // leaves no gap where the server was honest.
@@ -58,6 +62,12 @@ pub fn run<R: Threads + Wait + Sync, S: Source, K: Sink>(
     ensures logs_relay { (stream name : List ℕ) → wanted_of (map string_bytes words.now) ≡ Some (Relay stream name)
         → result ≡ Status.Done
         → IfSome (S.left input.old) (λ bytes. WritesLogsRelay stream name bytes (K.taken output.old) (K.taken output.new)) }
+    ensures sessions { (next : ℕ) → bookmark_in (map string_bytes words.now) ≡ Some next
+        → AnswersSessions next (S.left input.old) (S.left input.new)
+        (K.taken output.old) (K.taken output.new) (K.faults output.old) (K.faults output.new) result }
+    // Where each session's server was honest, all that was committed leaves no gap in their log.
+    ensures logs_sessions { (next : ℕ) → bookmark_in (map string_bytes words.now) ≡ Some next → result ≡ Status.Done
+        → IfSome (S.left input.old) (λ bytes. WritesLogsSessions next bytes (K.taken output.old) (K.taken output.new)) }
 
     // What else a status tells.
     ensures write_fault { result ≡ Status.WriteFault → Rose (K.faults output.old) (K.faults output.new) }
@@ -65,15 +75,22 @@ pub fn run<R: Threads + Wait + Sync, S: Source, K: Sink>(
     ensures read_fault { result ≡ Status.ReadFault → Rose (S.faults input.old) (S.faults input.new) }
     ensures too_long { result ≡ Status.TooLong
         → IfSome (S.left input.old) (λ bytes. 67_108_864 < length bytes) }
-    ensures bad_line { (line : ℕ) → result ≡ Status.BadLine line
+    // Of a transcript, or of the lines of sessions.
+    ensures bad_line { (line : ℕ) → result ≡ Status.BadLine line → bookmark_in (map string_bytes words.now) ≡ None
         → IfSome (S.left input.old) (λ bytes. FirstUnread bytes line) }
-    // Words that read no transcript leave the source as it was.
+    ensures bad_session_line { (line next : ℕ) → result ≡ Status.BadLine line → bookmark_in (map string_bytes words.now) ≡ Some next
+        → IfSome (S.left input.old) (λ bytes. IsFirstUnread sessions_in bytes line) }
+    // Words that read nothing leave the source as it was.
     ensures unread { (command_in (map string_bytes words.now) ≡ Some Replay → ⊥)
-        → wanted_of (map string_bytes words.now) ≡ None → input.new ≡ input.old }
+        → wanted_of (map string_bytes words.now) ≡ None → bookmark_in (map string_bytes words.now) ≡ None
+        → input.new ≡ input.old }
 {
     match log_command_of(words) {
         Some(command) => tell(alloc, command, input, output),
-        None => js_tool::run(rt, alloc, words, input, output),
+        None => match bookmark_of(words) {
+            Some(next) => tell_sessions(alloc, next, input, output),
+            None => js_tool::run(rt, alloc, words, input, output),
+        },
     }
 }
 
@@ -85,7 +102,8 @@ pub fn run_plain<S: Source, K: Sink>(
     output: &mut K,
 ) -> Status
     ensures usage { (result ≡ Status.Usage)
-        ↔ ((wanted_of (map string_bytes words.now) ≡ None) × (without_threads (command_in (map string_bytes words.now)) ≡ None)) }
+        ↔ ((wanted_of (map string_bytes words.now) ≡ None) × (bookmark_in (map string_bytes words.now) ≡ None)
+        × (without_threads (command_in (map string_bytes words.now)) ≡ None)) }
 
     // What each command answers and writes. Of `replay`, `done` is that the text of the input's run was written, which
     // leaves no gap where the server was honest.
@@ -109,6 +127,12 @@ pub fn run_plain<S: Source, K: Sink>(
     ensures logs_relay { (stream name : List ℕ) → wanted_of (map string_bytes words.now) ≡ Some (Relay stream name)
         → result ≡ Status.Done
         → IfSome (S.left input.old) (λ bytes. WritesLogsRelay stream name bytes (K.taken output.old) (K.taken output.new)) }
+    ensures sessions { (next : ℕ) → bookmark_in (map string_bytes words.now) ≡ Some next
+        → AnswersSessions next (S.left input.old) (S.left input.new)
+        (K.taken output.old) (K.taken output.new) (K.faults output.old) (K.faults output.new) result }
+    // Where each session's server was honest, all that was committed leaves no gap in their log.
+    ensures logs_sessions { (next : ℕ) → bookmark_in (map string_bytes words.now) ≡ Some next → result ≡ Status.Done
+        → IfSome (S.left input.old) (λ bytes. WritesLogsSessions next bytes (K.taken output.old) (K.taken output.new)) }
 
     // What else a status tells.
     ensures write_fault { result ≡ Status.WriteFault → Rose (K.faults output.old) (K.faults output.new) }
@@ -116,14 +140,21 @@ pub fn run_plain<S: Source, K: Sink>(
     ensures read_fault { result ≡ Status.ReadFault → Rose (S.faults input.old) (S.faults input.new) }
     ensures too_long { result ≡ Status.TooLong
         → IfSome (S.left input.old) (λ bytes. 67_108_864 < length bytes) }
-    ensures bad_line { (line : ℕ) → result ≡ Status.BadLine line
+    // Of a transcript, or of the lines of sessions.
+    ensures bad_line { (line : ℕ) → result ≡ Status.BadLine line → bookmark_in (map string_bytes words.now) ≡ None
         → IfSome (S.left input.old) (λ bytes. FirstUnread bytes line) }
-    // Words that read no transcript leave the source as it was.
+    ensures bad_session_line { (line next : ℕ) → result ≡ Status.BadLine line → bookmark_in (map string_bytes words.now) ≡ Some next
+        → IfSome (S.left input.old) (λ bytes. IsFirstUnread sessions_in bytes line) }
+    // Words that read nothing leave the source as it was.
     ensures unread { (command_in (map string_bytes words.now) ≡ Some Replay → ⊥)
-        → wanted_of (map string_bytes words.now) ≡ None → input.new ≡ input.old }
+        → wanted_of (map string_bytes words.now) ≡ None → bookmark_in (map string_bytes words.now) ≡ None
+        → input.new ≡ input.old }
 {
     match log_command_of(words) {
         Some(command) => tell(alloc, command, input, output),
-        None => js_tool::run_plain(alloc, words, input, output),
+        None => match bookmark_of(words) {
+            Some(next) => tell_sessions(alloc, next, input, output),
+            None => js_tool::run_plain(alloc, words, input, output),
+        },
     }
 }

@@ -1,18 +1,18 @@
-//! What a command over a log answers and writes.
+//! What a command over a log, or sessions, answers and writes.
 
-ghost use Rattle.std.specs.Prelude.{◌≡◌, ◌≤◌, ◌<◌, ℕ, length, IfSome};
+ghost use Rattle.std.specs.Prelude.{◌≡◌, ◌<◌, ℕ, length, IfSome, Err};
 ghost use Rattle.std.specs.Io.KnownBytes.{Keeps};
 ghost use Rattle.js_io.specs.Causes.{Rose};
+ghost use Rattle.js_sessions.specs.SessionLines.{sessions};
 ghost use Rattle.js_tool.specs.Program.{FirstUnread, SaysNothing};
-ghost use Rattle.js_tool.specs.Transcripts.{transcript};
 ghost use Rattle.js_words.specs.Commands.{HasNames, wanted};
-ghost use Rattle.js_words.specs.Reports.{report_of};
-ghost use Rattle.js_words.specs.Served.{ServesOf};
-ghost use Rattle.js_words.specs.Told.{AnswersBytes, AnswersLog};
+ghost use Rattle.js_words.specs.OnSessions.{AnswersSessions};
+ghost use Rattle.js_words.specs.Told.{AnswersLog, IsFirstUnread, Writes};
 
 use crate::command::LogCommand;
 use crate::report::{Report, report_on};
-use js_io::{Pieces, Sink, Source, Stop, read_all, write_all};
+use crate::sessions::report_on_sessions;
+use js_io::{Sink, Source, Stop, read_all, write_all};
 use js_tool::{Status, Unread};
 use std::alloc::Global;
 
@@ -36,27 +36,50 @@ pub(crate) fn tell<S: Source, K: Sink>(
         → IfSome (S.left input.old) (λ bytes. FirstUnread bytes line) }
 {
     match read_all(alloc, input) {
-        Ok(bytes) => answer(alloc, command, bytes, output),
+        Ok(bytes) => answer(report_on(alloc, command, bytes), output),
         Err(Stop::Fault) => Status::ReadFault,
         Err(Stop::TooLong) => Status::TooLong,
         Err(Stop::OutOfMemory) => Status::OutOfMemory,
     }
 }
 
-// Writes what the command makes of the bytes.
-fn answer<K: Sink>(alloc: Global, command: LogCommand<'_>, bytes: Pieces, output: &mut K) -> Status
-    requires within { length bytes ≤ 67_108_864 }
-    requires names { HasNames (wanted command) }
+/// Reads the lines of sessions to their end, and writes what the sessions come to from a bookmark on.
+pub(crate) fn tell_sessions<S: Source, K: Sink>(
+    alloc: Global,
+    next: u64,
+    input: &mut S,
+    output: &mut K,
+) -> Status
     ensures not_usage { result ≡ Status.Usage → ⊥ }
-    ensures not_read_fault { result ≡ Status.ReadFault → ⊥ }
-    ensures not_too_long { result ≡ Status.TooLong → ⊥ }
-    ensures answers { AnswersBytes transcript (report_of (wanted command.entry)) (ServesOf (wanted command.entry)) bytes
+    ensures answers { AnswersSessions next (S.left input.old) (S.left input.new)
         (K.taken output.old) (K.taken output.new) (K.faults output.old) (K.faults output.new) result }
     ensures write_fault { result ≡ Status.WriteFault → Rose (K.faults output.old) (K.faults output.new) }
     ensures silent { SaysNothing result → Keeps (K.taken output.old) (K.taken output.new) }
-    ensures bad_line { (line : ℕ) → result ≡ Status.BadLine line → FirstUnread bytes line }
+    ensures read_fault { result ≡ Status.ReadFault → Rose (S.faults input.old) (S.faults input.new) }
+    ensures too_long { result ≡ Status.TooLong
+        → IfSome (S.left input.old) (λ bytes. 67_108_864 < length bytes) }
+    ensures bad_line { (line : ℕ) → result ≡ Status.BadLine line
+        → IfSome (S.left input.old) (λ bytes. IsFirstUnread sessions bytes line) }
 {
-    match report_on(alloc, command, bytes) {
+    match read_all(alloc, input) {
+        Ok(bytes) => answer(report_on_sessions(alloc, next, bytes), output),
+        Err(Stop::Fault) => Status::ReadFault,
+        Err(Stop::TooLong) => Status::TooLong,
+        Err(Stop::OutOfMemory) => Status::OutOfMemory,
+    }
+}
+
+// Writes what was made of the bytes that were read.
+fn answer<K: Sink>(made: Result<Report, Unread>, output: &mut K) -> Status
+    ensures not_usage { result ≡ Status.Usage → ⊥ }
+    ensures not_read_fault { result ≡ Status.ReadFault → ⊥ }
+    ensures not_too_long { result ≡ Status.TooLong → ⊥ }
+    ensures writes { Writes made (K.taken output.old) (K.taken output.new) (K.faults output.old) (K.faults output.new) result }
+    ensures write_fault { result ≡ Status.WriteFault → Rose (K.faults output.old) (K.faults output.new) }
+    ensures silent { SaysNothing result → Keeps (K.taken output.old) (K.taken output.new) }
+    ensures bad_line { (line : ℕ) → result ≡ Status.BadLine line → made ≡ Err (Unread.BadLine line) }
+{
+    match made {
         Ok(Report::Done(text)) => match write_all(output, text.as_slice()) {
             Ok(()) => Status::Done,
             Err(_) => Status::WriteFault,

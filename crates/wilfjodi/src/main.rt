@@ -1,4 +1,4 @@
-//! `wilfjodi`: JetStream consumers replayed from transcripts and from numbers, tables and mirrors of their logs, acknowledgement subjects and publish windows, on a command line.
+//! `wilfjodi`: JetStream consumers replayed from transcripts and from numbers, tables and mirrors of their logs, sessions with bookmarks, acknowledgement subjects and publish windows, on a command line.
 #![tactic(auto)]
 
 use js_follow::follow;
@@ -20,6 +20,8 @@ wilfjodi: JetStream consumers, replayed
   wilfjodi relay STREAM NAME
                           reads the same, and writes the transcript of a consumer NAME of a stream STREAM that is sent
                           all that was handed out
+  wilfjodi sessions NEXT  reads the lines of sessions with bookmarks, the first of which starts at NEXT (1 or more), and
+                          writes the text of each, its bookmark, and how much all of them have committed
   wilfjodi generate SEED EVENTS
                           replays the first EVENTS events (at most 200000) of the transcript that the number SEED gives,
                           and writes how much its run puts out
@@ -38,7 +40,7 @@ Exit status, whose name stands on standard error where it is not 0:
   3 BadLine n    line n of the input is the first that does not read
   4 WriteFault   standard output failed
   5 OutOfMemory
-  6 Refused      the replay is refused, or the subject is none, and the one line that was written says why
+  6 Refused      the replay or a session is refused, or the subject is none, and the one line that was written says why
   7 TooLong      the input has more than 67108864 bytes
 ";
 

@@ -1,7 +1,8 @@
 use Rattle.std.proofs.Common.{None, map}
 use Rattle.std.specs.Prelude.{string_bytes}
-use Rattle.js_words.specs.Commands.{Project, Mirror, Relay, wanted, wanted_of}
-use Rattle.js_words.proofs.Answered.{answers_asked}
+use Rattle.js_words.specs.Commands.{Project, Mirror, Relay, bookmark_of, wanted, wanted_of}
+use Rattle.js_words.proofs.Answered.{answers_asked, sessions_asked}
+use Rattle.js_words.proofs.Joining.{sessions_told}
 use Rattle.js_words.proofs.Named.{names_of}
 use Rattle.js_words.proofs.LogsShown.{table_told, mirror_told, relay_told}
 use Rattle.js_words.proofs.program.run.Goals as goal
@@ -27,3 +28,12 @@ pub returns-in-Some-clause-logs_relay : goal.returns-in-Some-clause-logs_relay
 returns-in-Some-clause-logs_relay g c = λ stream name named done.
     relay_told stream name (g.S.Source.left c.args.input.now) _ _ _ _ _ c.tell.result
     (answers_asked _ _ _ _ _ _ c.tell.result (wanted c.in-Some.command) (Relay stream name) (wanted_of (map string_bytes c.args.words.now)) c.in-Some.ensures.form c.tell.ensures.answers named) done
+
+pub returns-in-Some-bookmark_of-clause-sessions : goal.returns-in-Some-bookmark_of-clause-sessions
+returns-in-Some-bookmark_of-clause-sessions g c = λ next named.
+    sessions_asked _ _ _ _ _ _ c.tell_sessions.result c.in-Some-bookmark_of.next next (bookmark_of (map string_bytes c.args.words.now)) c.in-Some-bookmark_of.ensures.form c.tell_sessions.ensures.answers named
+
+pub returns-in-Some-bookmark_of-clause-logs_sessions : goal.returns-in-Some-bookmark_of-clause-logs_sessions
+returns-in-Some-bookmark_of-clause-logs_sessions g c = λ next named done.
+    sessions_told next (g.S.Source.left c.args.input.now) _ _ _ _ _ c.tell_sessions.result
+    (sessions_asked _ _ _ _ _ _ c.tell_sessions.result c.in-Some-bookmark_of.next next (bookmark_of (map string_bytes c.args.words.now)) c.in-Some-bookmark_of.ensures.form c.tell_sessions.ensures.answers named) done
