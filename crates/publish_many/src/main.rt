@@ -14,20 +14,31 @@ struct Tally {
     most_in_flight: usize,
 }
 
-/// The server stores all that was sent, and answers.
-fn store(rt: &impl AllocGlobal, link: &mut OutboxLink, tally: &Tally) -> Result<(), AnyError> {
-    let mut sequence = tally.stored;
+/// The server stores what was sent as the message after this one, and answers.
+fn store(
+    rt: &impl AllocGlobal,
+    link: &mut OutboxLink,
+    item: &Outgoing,
+    sequence: &mut u64,
+) -> Result<(), AnyError> {
+    if let Outgoing::Publish {
+        reply: Some(reply),
+        ..
+    } = item
+    {
+        *sequence = sequence.saturating_add(1);
+        let ack = format!(in rt.alloc(); r#"{{"stream":"log","seq":{}}}"#, *sequence)?;
+        link.deliver(0, received(rt.alloc(), reply.as_str(), ack.as_bytes())?)?;
+    }
+    Ok(())
+}
+
+/// The server stores all that was sent.
+fn store_all(rt: &impl AllocGlobal, link: &mut OutboxLink, stored: u64) -> Result<(), AnyError> {
+    let mut sequence = stored;
     for _ in 0..link.outgoing_len() {
-        if let Some(
-            Outgoing::Publish {
-                reply: Some(reply),
-                ..
-            },
-        ) = link.next_outgoing()
-        {
-            sequence = sequence.saturating_add(1);
-            let ack = format!(in rt.alloc(); r#"{{"stream":"log","seq":{sequence}}}"#)?;
-            link.deliver(0, received(rt.alloc(), reply.as_str(), ack.as_bytes())?)?;
+        if let Some(item) = link.next_outgoing() {
+            store(rt, link, &item, &mut sequence)?;
         }
     }
     Ok(())
@@ -52,7 +63,7 @@ fn publish(
             }
             Next::Pending => {
                 tally.most_in_flight = cmp::max(tally.most_in_flight, queue.in_flight());
-                store(rt, link, tally)?;
+                store_all(rt, link, tally.stored)?;
             }
             Next::OutOfMemory => return Err(io::Error::from(io::ErrorKind::OutOfMemory).into()),
             Next::End => break,
