@@ -1,3 +1,4 @@
 pub mod Firsts
 pub mod Asked
+pub mod Sleeping
 pub mod Wholes

@@ -1,5 +1,6 @@
 pub mod Pages
 pub mod Finds
 pub mod Polls
+pub mod Wakes
 pub mod Chain
 pub mod Whole

@@ -1,7 +1,9 @@
 //! A list of the API, item by item.
-ghost use Rattle.std.specs.Prelude.{◌≡◌, IfOk, OnErr, None};
+ghost use Rattle.std.specs.Prelude.{◌≡◌, ◌<◌, ◌^◌, ℕ, IfOk, OnErr, None};
 ghost use Rattle.js_link.specs.LinkView.{LinkView};
+ghost use Rattle.js_call.specs.Wakes.{has_come, is_due, request_of};
 ghost use Rattle.js_listing.specs.Polls.{Polls, Turned, Takes, fresh};
+ghost use Rattle.js_listing.specs.Wakes.{ListPends, ListSleeps, list_waits_for};
 ghost use Rattle.js_listing.specs.Whole.{HandsOutWhole};
 
 use crate::error::StreamsError;
@@ -9,8 +11,8 @@ use crate::ledger::Ledger;
 use crate::listed::Listed;
 use crate::page::{AskingPage, ask_page};
 use js_base::{Moment, Next, OutOfMemory, Text, TryClone, Turn};
-use js_call::{ApiScope, Call, State};
-use js_link::Link;
+use js_call::{ApiScope, Call, OpenRequest, State};
+use js_link::{Link, RequestId};
 use js_stream_json::stream::{Info, Page};
 use std::alloc::Global;
 
@@ -44,7 +46,7 @@ impl<T: Listed> Listing<T> {
     /// The request that is open, and else a new one.
     fn take_page(&mut self, alloc: Global) -> Result<Call<AskingPage<T>>, OutOfMemory>
         ensures ok { IfOk result (λ call. Takes T.list self.old.page self.old call × (self.new ≡ record self.old { page = None })) }
-        ensures err { OnErr result (self.new ≡ self.old) }
+        ensures err { OnErr result ((self.new ≡ self.old) × (self.old.page ≡ None)) }
     {
         match self.page.take() {
             Some(call) => Ok(call),
@@ -81,19 +83,55 @@ impl<T: Listed> Listing<T> {
         }
     }
 
+    /// The request whose answer it waits for, with its clock.
+    fn waits_for(&self) -> Option<OpenRequest>
+        ensures { result ≡ list_waits_for T.reads self.now }
+    {
+        if !self.ledger.rest.is_empty() || self.ledger.is_last {
+            return None;
+        }
+        match &self.page {
+            None => None,
+            Some(call) => call.waits_for(),
+        }
+    }
+
+    /// The number of the request whose answer it waits for: that of its page. None where it is to be polled at once: an item is left to
+    /// hand out, the last page has come, or its page was not asked for or has come.
+    pub fn request(&self) -> Option<RequestId>
+        ensures { result ≡ request_of (list_waits_for T.reads self.now) }
+    {
+        match self.waits_for() {
+            None => None,
+            Some(sent) => Some(sent.request),
+        }
+    }
+
+    /// The moment from which on the time of its page's request is over. None where it waits without end, or is to be polled at once.
+    pub fn wakes_at(&self) -> Option<Moment>
+        ensures { (now : ℕ) → now < 2 ^ 64 → has_come result now ≡ is_due (list_waits_for T.reads self.now) now }
+    {
+        match self.waits_for() {
+            None => None,
+            Some(sent) => sent.ends_at(),
+        }
+    }
+
     /// Hands out the next item.
     ///
     /// A page that could not be got is an item with the error `Other`, whose source says why, and the next poll asks for the same page
-    /// again. `Pending` comes
-    /// only where the page's request waits and is in time. `End` comes where a page is empty, after which the next poll asks
-    /// again, and after the last page for good.
+    /// again. `Pending` comes only where the page's request waits and is in time: the list may then be left alone until the answer to
+    /// its `request` has come, that request is gone, or its `wakes_at` has come; a poll before that changes nothing. `End` comes where a
+    /// page is empty, after which the next poll asks again, and after the last page for good.
     pub fn poll_next<L: Link>(
         &mut self,
         alloc: Global,
         link: &mut L,
         now: Moment,
     ) -> Next<Result<T, StreamsError>>
-        ensures { Polls T.reads T.list now result self.old self.new (L.view link.old) (L.view link.new) }
+        ensures polls { Polls T.reads T.list now result self.old self.new (L.view link.old) (L.view link.new) }
+        ensures sleeps { ListSleeps T.reads now result self.old self.new (L.view link.old) (L.view link.new) }
+        ensures pends { ListPends T.reads result self.new }
     {
         if !self.ledger.rest.is_empty() {
             return self.ledger.hand_out();
