@@ -6,4 +6,5 @@ mod Falling
 mod Holding
 mod Seeing
 mod Turning
+pub mod Idle
 mod Sleeping

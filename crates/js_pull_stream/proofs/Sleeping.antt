@@ -1,51 +1,25 @@
 -- A stream at rest that is left alone does nothing before one of its timers is due.
-use Rattle.std.proofs.Common.{◌≡◌, ◌⊎◌, ℕ, Bool, true, false, List, [], ◌∷◌, ◌++◌, Option, None, refl, sym, ◌∙◌, ap, subst, inl, inr, arith}
-use Rattle.std.specs.Prelude.{⊤, ◌||◌, unwrap_or, if◌then◌else◌}
-use Rattle.js_base.specs.Clock.{is_due, is_any_due}
-use Rattle.js_base.specs.declared.clock.Timer.{Timer}
-use Rattle.js_base.specs.declared.message.Message.{Message}
+use Rattle.std.proofs.Common.{◌≡◌, ◌⊎◌, ℕ, Bool, true, false, List, [], ◌∷◌, ◌++◌, Option, None, refl, sym, ◌∙◌, ap, subst, inl, inr}
+use Rattle.std.specs.Prelude.{unwrap_or}
 use Rattle.js_base.specs.declared.message.State.{State}
-use Rattle.js_link.specs.LinkView.{LinkView, Status}
-use Rattle.js_link.specs.LinkView as views
-use Rattle.js_link.specs.Met.{Wish, Met, Watches, Awaits, Reads, Unasked, Took, Empty, Shut, Waiting, Gone, Got, Stands, Watch_over, passing_of, message_of, IsClosing}
-use Rattle.js_link.specs.Met as link
+use Rattle.js_link.specs.LinkView.{LinkView}
+use Rattle.js_link.specs.Met.{Met, Watches, Stands, Watch_over, IsClosing}
 use Rattle.js_link.specs.Meets.{Meets}
-use Rattle.js_link.specs.Passing.{Passing}
 use Rattle.js_link.specs.declared.link.Watch.{Watch}
 use Rattle.js_pull.specs.Asking.{watch_met}
 use Rattle.js_pull.specs.declared.reader.Reader.{Reader}
 use Rattle.js_pull.specs.declared.reader.InfoRequest.{InfoRequest}
 use Rattle.js_pull.specs.declared.reader.InfoRequest.TheVariants.{NoInfoRequest, Asked, Resting}
-use Rattle.js_pull.specs.declared.reader.Reason.TheVariants.{Expired}
 use Rattle.js_pull.specs.declared.reader.Row.{Row}
-use Rattle.js_pull.specs.declared.reader.Row.TheVariants.{Ask, Inquire, FailInfoRequest, CheckInfoRequest, CheckExpiry, CheckArrival, CheckSilence}
-use Rattle.js_pull.specs.declared.reader.MessagesErrorKind.TheVariants as error
+use Rattle.js_pull.specs.declared.reader.Row.TheVariants.{CheckSilence}
 use Rattle.js_pull.specs.declared.reader.ReaderOutput.{ReaderOutput}
 use Rattle.js_pull.specs.declared.reader.ReaderOutput.TheVariants.{Nothing}
 use Rattle.js_pull.specs.Reader as rows
 use Rattle.js_pull_stream.specs.Stream.{Position, Stride, PollAnswer, HandsOut, Fails, Waits, Ends, Lacks, told_by, walk, step, passed_by, told_list, later_rows, connection_after, wish_next, closed_at, change_met, IsStride, IsMet, IsPoll}
-use Rattle.js_pull_stream.specs.Wakes.{IsLeftAlone, IsUnanswered, Sleeps, inquiry_due, timer_due}
-use Rattle.js_pull_stream.proofs.Walking.{place, three_parts, passing_now, append_rows}
+use Rattle.js_pull_stream.specs.Wakes.{IsLeftAlone, Sleeps}
+use Rattle.js_pull_stream.proofs.Idle.{Stage, Rest, Expiry, Info, Arrival, Silence, IsAt, rows_at, early_parts, moment_is, nothing_same, begun_idle, expiry_idle, inquiry_idle, arrival_idle, silence_idle}
+use Rattle.js_pull_stream.proofs.Walking.{place, three_parts, append_rows}
 use Rattle.js_pull_stream.proofs.Answering.{walk_append}
-
--- where an event stands that does nothing
-data Stage : Type 0 where
-  Rest Expiry Info Arrival Silence : Stage
-
-abbrev rows_at : Stage → List Row
-rows_at Rest = []
-rows_at Expiry = CheckExpiry ∷ CheckArrival ∷ []
-rows_at Info = CheckInfoRequest ∷ CheckArrival ∷ []
-rows_at Arrival = CheckArrival ∷ []
-rows_at Silence = CheckSilence ∷ []
-
--- the expiry is looked at where no info is open
-abbrev IsAt : Stage → Reader → Type 0
-IsAt Expiry r = rows.is_asking r.inquiry ≡ false
-IsAt Rest r = ⊤
-IsAt Info r = ⊤
-IsAt Arrival r = ⊤
-IsAt Silence r = ⊤
 
 -- a row leads to the next of them, and does nothing
 record Stays (r : Reader) (c : State) (stage : Stage) (s : Stride) (v u : LinkView) : Type 0 where
@@ -69,83 +43,12 @@ stays_by r c stage s v u next xs at e f kept same =
       same = same;
     }
 
--- ---- what is not due
-
-either_false : (a b : Bool) → (a || b) ≡ false → (a ≡ false) × (b ≡ false)
-either_false true b e = absurd (never e)
-  where
-    never : true ≡ false → ⊥
-    never e = cc
-either_false false b e = (refl, e)
-
-early_parts : (now : ℕ) (r : Reader) → r.ended ≡ false → timer_due now r ≡ false → (inquiry_due now r.inquiry r.expiry ≡ false) × (is_any_due r.heartbeat_timer now ≡ false)
-early_parts now r alive e =
-    either_false (inquiry_due now r.inquiry r.expiry) (is_any_due r.heartbeat_timer now)
-    (sym (ap (λ (b : Bool). if b then false else (inquiry_due now r.inquiry r.expiry || is_any_due r.heartbeat_timer now)) alive) ∙ e)
-
-expiry_early : (now : ℕ) (inquiry : InfoRequest) (expiry : Option Timer) → rows.is_asking inquiry ≡ false → inquiry_due now inquiry expiry ≡ false → is_any_due expiry now ≡ false
-expiry_early now NoInfoRequest expiry none e = e
-expiry_early now (Asked request timeout failures) expiry none e = cc
-expiry_early now (Resting wait failures) expiry none e = cc
-
 -- ---- rows that do nothing
-
-nothing_same : (met : Met) (v u : LinkView) → Meets link.Nothing met v u → u ≡ v
-nothing_same Unasked v u m = m
-nothing_same met v u m = absurd m
-
--- an event begins
-begun_idle : (p : Passing) (r : Reader) (b : Bool) → rows.is_asking r.inquiry ≡ b → r.ended ≡ false → (stage : Stage) × IsAt stage r × (rows.begin_row p None r ≡ rows.quietly r (rows_at stage))
-begun_idle p r true asks alive = (
-  Info,
-  tt,
-  ap (λ (e : Bool). if e then rows.quietly r [] else (if rows.is_asking r.inquiry then rows.quietly r (CheckInfoRequest ∷ CheckArrival ∷ []) else rows.begin_change p None r)) alive
-      ∙ ap (λ (b : Bool). if b then rows.quietly r (CheckInfoRequest ∷ CheckArrival ∷ []) else rows.begin_change p None r) asks,
-)
-begun_idle p r false asks alive = (
-  Expiry,
-  asks,
-  ap (λ (e : Bool). if e then rows.quietly r [] else (if rows.is_asking r.inquiry then rows.quietly r (CheckInfoRequest ∷ CheckArrival ∷ []) else rows.begin_change p None r)) alive
-      ∙ ap (λ (b : Bool). if b then rows.quietly r (CheckInfoRequest ∷ CheckArrival ∷ []) else rows.begin_change p None r) asks,
-)
 
 unchanged : (c : State) (met : Met) (v u : LinkView) → change_met c (watch_met v.watch) ≡ None → Meets Watches met v u → (change_met c met ≡ None) × (u ≡ v)
 unchanged c (Stands state) v u same m = (ap (λ (w : Watch). change_met c (watch_met w)) (sym m.1) ∙ same, m.0)
 unchanged c Watch_over v u same m = (refl, m.0)
 unchanged c met v u same m = absurd m
-
-inquiry_idle : (now : ℕ) (p : Passing) (answer : Option rows.Answer) (inquiry : InfoRequest) (r : Reader) (met : Met) (v u : LinkView) → p.now ≡ now → answer ≡ rows.answer_of (rows.awaited inquiry) met
-    → Meets (rows.awaited inquiry) met v u → IsUnanswered inquiry v → inquiry_due now inquiry r.expiry ≡ false
-    → (rows.check_inquiry p answer inquiry r ≡ rows.quietly r []) × (u ≡ v)
-inquiry_idle now p answer NoInfoRequest r met v u at is m waits early = (refl, nothing_same met v u m)
-inquiry_idle now p answer (Asked request timeout failures) r Waiting v u at is m waits early = (
-  ap (λ (a : Option rows.Answer). rows.check_asked p timeout failures (rows.reply_to request a) r) is
-      ∙ ap (λ (b : Bool). rows.quietly r (if b then FailInfoRequest failures ∷ [] else [])) (ap (is_any_due timeout) at ∙ early),
-  m.0,
-)
-inquiry_idle now p answer (Asked request timeout failures) r Gone v u at is m waits early = absurd (never (sym waits ∙ m.1))
-  where
-    never : views.Waits ≡ views.Ended → ⊥
-    never e = cc
-inquiry_idle now p answer (Asked request timeout failures) r (Got reply) v u at is m waits early = absurd (never (sym waits ∙ m.had_come))
-  where
-    never : views.Waits ≡ views.Answered → ⊥
-    never e = cc
-inquiry_idle now p answer (Asked request timeout failures) r met v u at is m waits early = absurd m
-inquiry_idle now p answer (Resting wait failures) r met v u at is m waits early =
-    (ap (λ (b : Bool). rows.quietly r (if b then Inquire failures ∷ [] else [])) (ap (is_due wait) at ∙ early), nothing_same met v u m)
-
-arrival_idle : (p : Passing) (arrival : Option Message) (r : Reader) (met : Met) (v u : LinkView) → arrival ≡ message_of met → Meets (Reads r.source.inbox) met v u
-    → v.is_open r.source.inbox ≡ true → v.count r.source.inbox ≡ 0 → (rows.check_arrival p arrival r ≡ rows.quietly r (CheckSilence ∷ [])) × (u ≡ v)
-arrival_idle p arrival r Empty v u is m is_open empty = (ap (λ (a : Option Message). rows.check_arrival p a r) is, m.0)
-arrival_idle p arrival r Shut v u is m is_open empty = absurd (never (sym m.1 ∙ is_open))
-  where
-    never : false ≡ true → ⊥
-    never e = cc
-arrival_idle p arrival r (Took message) v u is m is_open empty =
-    let less = m.one_less in
-    absurd (omega (arith, less, empty))
-arrival_idle p arrival r met v u is m is_open empty = absurd m
 
 -- a row of a stream that is left alone
 idle_step : (now : ℕ) (r : Reader) (c : State) (v u : LinkView) → IsLeftAlone now (place r [] c) v → (stage : Stage) → IsAt stage r → (s : Stride) (met : Met)
@@ -158,23 +61,17 @@ idle_step now r c v u alone Rest at s met is meets =
     (ap (λ (x : Option State). unwrap_or x c) none) stands.1
 idle_step now r c v u alone Expiry at s met is meets =
     let early = early_parts now r alone.alive alone.early in
-    let moment : s.passing.now ≡ now = ap (λ (p : Passing). p.now) is.passing ∙ sym (passing_now now met) in
-    stays_by r c Expiry s v u Arrival [] tt
-    (ap (λ (b : Bool). rows.quietly r (if b then Ask Expired ∷ [] else [])) (ap (is_any_due r.expiry) moment ∙ expiry_early now r.inquiry r.expiry at early.0)) refl refl (nothing_same met v u meets)
+    stays_by r c Expiry s v u Arrival [] tt (expiry_idle now s.passing r (moment_is now s.passing met is.passing) at early.0) refl refl (nothing_same met v u meets)
 idle_step now r c v u alone Info at s met is meets =
     let early = early_parts now r alone.alive alone.early in
-    let moment : s.passing.now ≡ now = ap (λ (p : Passing). p.now) is.passing ∙ sym (passing_now now met) in
-    let idle = inquiry_idle now s.passing s.answer r.inquiry r met v u moment is.answer meets alone.unanswered early.0 in
+    let idle = inquiry_idle now s.passing s.answer r.inquiry r met v u (moment_is now s.passing met is.passing) is.answer meets alone.unanswered early.0 in
     stays_by r c Info s v u Arrival [] tt idle.0 refl refl idle.1
 idle_step now r c v u alone Arrival at s met is meets =
     let idle = arrival_idle s.passing s.arrival r met v u is.arrival meets alone.is_open alone.empty in
     stays_by r c Arrival s v u Silence (CheckSilence ∷ []) tt idle.0 refl refl idle.1
 idle_step now r c v u alone Silence at s met is meets =
     let early = early_parts now r alone.alive alone.early in
-    let moment : s.passing.now ≡ now = ap (λ (p : Passing). p.now) is.passing ∙ sym (passing_now now met) in
-    stays_by r c Silence s v u Rest [] tt
-    (ap (λ (b : Bool). if b then rows.tell error.MissingHeartbeat (rows.with_silence s.passing.now r) [] else rows.quietly r []) (ap (is_any_due r.heartbeat_timer) moment ∙ early.1)) refl refl
-    (nothing_same met v u meets)
+    stays_by r c Silence s v u Rest [] tt (silence_idle now s.passing r (moment_is now s.passing met is.passing) early.1) refl refl (nothing_same met v u meets)
 
 -- ---- row after row
 

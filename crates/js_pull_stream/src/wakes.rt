@@ -6,8 +6,8 @@ ghost use Rattle.js_pull_stream.specs.Wakes.{has_come, inquiry_due, timer_due};
 use js_base::{Moment, Timer};
 use js_pull::{InfoRequest, Reader};
 
-/// The moment from which on a wait is over.
-fn end_of(timer: &Option<Timer>) -> Option<Moment>
+/// The moment from which on a wait is over, where one is set and it ends before a `u64` of nanoseconds does.
+pub fn end_of(timer: &Option<Timer>) -> Option<Moment>
     ensures { (now : ℕ) → now < 2 ^ 64 → has_come result now ≡ is_any_due timer.now now }
 {
     match timer {
@@ -40,8 +40,8 @@ fn inquiry_end(inquiry: &InfoRequest, expiry: &Option<Timer>) -> Option<Moment>
     }
 }
 
-/// The first moment at which a timer of a reader is due.
-pub(crate) fn wakes_at(reader: &Reader) -> Option<Moment>
+/// The first moment at which a timer of a reader is due. One that has ended has none.
+pub fn wakes_at(reader: &Reader) -> Option<Moment>
     ensures { (now : ℕ) → now < 2 ^ 64 → has_come result now ≡ timer_due now reader.now }
 {
     if reader.ended {
