@@ -25,3 +25,6 @@ mod stream_calls;
 mod streams;
 #[cfg(test)]
 mod threads;
+mod words;
+
+pub use words::{Words, word};

@@ -1,5 +1,7 @@
 //! A server that answers from a script, and what a call over it comes to.
 
+pub(crate) use crate::words::{Words, word};
+
 use bytes::Bytes;
 use js_base::{Error, Message, OutOfMemory, StatusCode, Subject, Text, Turn};
 use js_call::{ApiScope, State};
@@ -9,9 +11,6 @@ use js_stream_json::{DeleteStatus, stream};
 use serde_json::Value;
 use std::alloc::Global;
 use std::fmt::Display;
-
-/// What a call comes to, in a word.
-pub(crate) type Words = Result<String, OutOfMemory>;
 
 /// The subject and the body of a request.
 pub(crate) type Asked = (&'static str, &'static str);
@@ -24,10 +23,6 @@ pub(crate) const NOBODY: Reply = (Some(StatusCode(503)), "");
 
 /// A reply that does not read.
 pub(crate) const GARBLED: Reply = (None, "{");
-
-pub(crate) fn word(alloc: Global, text: &str) -> Words {
-    Ok(String::from_str(alloc, text)?)
-}
 
 pub(crate) fn scope(
     alloc: Global,

@@ -7,3 +7,6 @@ mod buckets;
 mod objects;
 #[cfg(test)]
 mod server;
+mod words;
+
+pub use words::{Words, word};

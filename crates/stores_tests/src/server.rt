@@ -1,5 +1,7 @@
 //! A server that answers from a script, and what a call over it comes to.
 
+pub(crate) use crate::words::{Words, word};
+
 use bytes::Bytes;
 use js_base::{Error, Message, OutOfMemory, StatusCode, Subject, Text, Turn};
 use js_call::State;
@@ -11,9 +13,6 @@ use js_stream_json::DeleteStatus;
 use std::alloc::Global;
 use std::fmt::Display;
 use std::sync::Wait;
-
-/// What a call comes to, in a word.
-pub(crate) type Words = Result<String, OutOfMemory>;
 
 /// The subject and the body of a request.
 pub(crate) type Asked = (&'static str, &'static str);
@@ -34,10 +33,6 @@ pub(crate) const WRONG: Reply = (
 );
 
 pub(crate) const DELETED: Reply = (None, r#"{"success":true}"#);
-
-pub(crate) fn word(alloc: Global, text: &str) -> Words {
-    Ok(String::from_str(alloc, text)?)
-}
 
 fn message(alloc: Global, reply: Reply) -> Result<Message, OutOfMemory> {
     Ok(Message {

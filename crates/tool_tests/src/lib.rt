@@ -4,6 +4,7 @@
 
 #[cfg(test)]
 mod ends;
+mod faults;
 #[cfg(test)]
 mod lines;
 #[cfg(test)]
@@ -14,3 +15,5 @@ mod pull;
 mod steps;
 #[cfg(test)]
 mod threads;
+
+pub use faults::failing;

@@ -1,5 +1,6 @@
 //! One run over ends in memory, from which the tests are made.
 
+use crate::faults::failing;
 use js_tool::{MemorySink, MemorySource, Status, run};
 use std::alloc::{AllocError, Global};
 use std::sync::Wait;
@@ -27,13 +28,6 @@ pub(crate) fn words_of(alloc: Global, line: &str) -> Result<Vec<String>, AllocEr
         words.push(String::from_str(alloc, word)?)?;
     }
     Ok(words)
-}
-
-/// The one number of a call that fails; the first call is 1, and with 0 none fails.
-pub(crate) fn failing(alloc: Global, number: u64) -> Result<Vec<u64>, AllocError> {
-    let mut failing = Vec::new(alloc);
-    failing.push(number)?;
-    Ok(failing)
 }
 
 /// What `run` answers to the words of a line, and what it wrote, where this read and this write fail and a write takes

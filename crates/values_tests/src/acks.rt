@@ -1,5 +1,6 @@
 //! Acks and double acks over the link in memory.
 
+use crate::words::word;
 use bytes::Bytes;
 use js_base::{Message as Received, Moment, OutOfMemory, Subject, Turn};
 use js_link::{InboxId, Link, MemoryLink, Sent};
@@ -60,10 +61,6 @@ fn ack<L: Link>(alloc: Global, link: &mut L, by: By, kind: Option<AckKind>) -> A
 
 /// What has become of a call, in a word.
 type Acked = Result<String, OutOfMemory>;
-
-fn word(alloc: Global, text: &str) -> Acked {
-    Ok(String::from_str(alloc, text)?)
-}
 
 fn message_acks<L: Link>(alloc: Global, link: &mut L, kind: Option<AckKind>) -> Acked {
     let message = delivered(alloc)?;

@@ -21,3 +21,6 @@ mod project;
 mod requests;
 #[cfg(test)]
 mod stream_rows;
+mod words;
+
+pub use words::word;

@@ -1,5 +1,6 @@
 //! The link in memory, and the server that answers from its script.
 
+use crate::words::word;
 use bytes::Bytes;
 use js_base::{HeaderMap, Message, OutOfMemory, Subject};
 use js_link::{
@@ -23,10 +24,6 @@ enum Step {
 
 fn refusal(alloc: Global, error: LinkError) -> Result<String, OutOfMemory> {
     Ok(error.to_string(alloc)?)
-}
-
-fn word(alloc: Global, text: &str) -> Result<String, OutOfMemory> {
-    Ok(String::from_str(alloc, text)?)
 }
 
 /// The body of a message.
