@@ -1,7 +1,8 @@
 //! Acknowledgements whose answer is waited for, as a state with a poll.
-ghost use Rattle.std.specs.Prelude.{◌≡◌, IfOk};
+ghost use Rattle.std.specs.Prelude.{◌≡◌, ◌<◌, ◌^◌, ℕ, IfOk};
 ghost use Rattle.std.specs.Option.{option_copied};
 ghost use Rattle.js_message.specs.Acking.{ack_body, unsent, opened, waiting, PollsOf, OpensAndSends, FailsToOpen, Sends, Looks};
+ghost use Rattle.js_message.specs.Wakes.{Sleeps, has_come, times_out};
 
 use crate::ack_kind::AckKind;
 use crate::acker::AckError;
@@ -71,14 +72,16 @@ impl DoubleAck {
     ///
     /// `NoReply` comes where the message has no reply subject, `LinkFailed` where the link could not open the inbox or send,
     /// `TimedOut` where no answer had come and the timeout is over, and `SubscriptionDropped` where the inbox was closed.
-    /// After `OutOfMemory` an inbox that was opened stays open, and the next poll begins with the send.
+    /// After `OutOfMemory` an inbox that was opened stays open, and the next poll begins with the send. After `Pending` it may be left
+    /// alone until something lies in its inbox, the inbox is closed, or its `wakes_at` has come: a poll before that changes nothing.
     pub fn poll<L: Link>(
         self,
         alloc: Global,
         link: &mut L,
         now: Moment,
     ) -> Turn<DoubleAck, Result<(), AckError>>
-        ensures { PollsOf self now result (L.view link.old) (L.view link.new) }
+        ensures polled { PollsOf self now result (L.view link.old) (L.view link.new) }
+        ensures sleeps { Sleeps self now result (L.view link.old) (L.view link.new) }
     {
         let DoubleAck { outgoing, stage } = self;
         let Some(outgoing) = outgoing else {
@@ -88,6 +91,19 @@ impl DoubleAck {
             Stage::Unsent => outgoing.open(alloc, link, now),
             Stage::Opened(inbox, subject) => outgoing.send(alloc, link, now, inbox, subject),
             Stage::Waiting(inbox, since) => outgoing.look(link, now, inbox, since),
+        }
+    }
+
+    /// The moment from which on its timeout is over. None where it is to be polled at once, since it was not sent or has no reply subject,
+    /// or where its timeout would end past `u64::MAX`.
+    pub fn wakes_at(&self) -> Option<Moment>
+        ensures { (now : ℕ) → now < 2 ^ 64 → has_come result now ≡ times_out self.now now }
+    {
+        let outgoing = self.outgoing.as_ref()?;
+        match self.stage {
+            Stage::Unsent => None,
+            Stage::Opened(..) => None,
+            Stage::Waiting(_, since) => since.checked_add(outgoing.timeout),
         }
     }
 }

@@ -1,0 +1,37 @@
+-- When a double ack has something to do by itself, and that it may be left alone until then.
+use Rattle.std.specs.Prelude.{ℕ, ◌≡◌, Bool, false, nat_le, Option, Some, None}
+use Rattle.js_base.specs.Clock.{is_over}
+use Rattle.js_base.specs.declared.turn.Turn.TheVariants.{Pending}
+use Rattle.js_link.specs.LinkView.{LinkView}
+use Rattle.js_message.specs.declared.double_ack.DoubleAck.{DoubleAck}
+use Rattle.js_message.specs.declared.double_ack.Outgoing.{Outgoing}
+use Rattle.js_message.specs.declared.double_ack.Stage.{Stage}
+use Rattle.js_message.specs.declared.double_ack.Stage.TheVariants.{Unsent, Opened, Waiting}
+use Rattle.js_message.specs.Acking.{FindsNone, Polled}
+
+-- a moment has come, if there is one
+abbrev pub has_come : Option ℕ → ℕ → Bool
+has_come None now = false
+has_come (Some moment) now = nat_le moment now
+
+-- it was sent, and its timeout is over
+abbrev pub stage_due : Option Outgoing → Stage → ℕ → Bool
+stage_due None stage now = false
+stage_due (Some outgoing) Unsent now = false
+stage_due (Some outgoing) (Opened inbox subject) now = false
+stage_due (Some outgoing) (Waiting inbox since) now = is_over since outgoing.timeout now
+
+-- the same, of the double ack
+abbrev pub times_out : DoubleAck → ℕ → Bool
+times_out call now = stage_due call.outgoing call.stage now
+
+-- it was sent, nothing lies in its open inbox, and its timeout is not over
+abbrev pub IsStageLeftAlone : Option Outgoing → Stage → ℕ → LinkView → Type 0
+IsStageLeftAlone None stage now v = ⊥
+IsStageLeftAlone (Some outgoing) Unsent now v = ⊥
+IsStageLeftAlone (Some outgoing) (Opened inbox subject) now v = ⊥
+IsStageLeftAlone (Some outgoing) (Waiting inbox since) now v = FindsNone inbox.0 v × (is_over since outgoing.timeout now ≡ false)
+
+-- a double ack that is left alone is pending, and neither it nor the link is changed
+abbrev pub Sleeps : DoubleAck → ℕ → Polled → LinkView → LinkView → Type 0
+Sleeps call now turn old new = IsStageLeftAlone call.outgoing call.stage now old → (turn ≡ Pending call) × (new ≡ old)
