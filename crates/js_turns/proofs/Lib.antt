@@ -5,3 +5,5 @@ pub mod Told
 pub mod Asked
 pub mod Instance
 pub mod Single
+pub mod Walking
+pub mod Sleeping

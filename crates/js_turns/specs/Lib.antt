@@ -1,3 +1,4 @@
 pub mod Wishes
 pub mod Turns
 pub mod Polling
+pub mod Wakes
