@@ -1,2 +1,4 @@
 pub mod Counts
 pub mod Awaiting
+pub mod Rounds
+pub mod Sleeping

@@ -1,9 +1,10 @@
 -- A message that is published and whose ack is awaited, in one call.
-use Rattle.std.specs.Prelude.{ℕ, ◌≡◌, ◌+◌, ⊤, Result, Ok, Err}
+use Rattle.std.specs.Prelude.{ℕ, ◌≡◌, ◌+◌, ⊤, Option, None, Result, Ok, Err}
 use Rattle.js_base.specs.declared.error.Error.{Error}
 use Rattle.js_base.specs.declared.turn.Turn.{Turn}
 use Rattle.js_base.specs.declared.turn.Turn.TheVariants.{Pending, Ready, OutOfMemory}
 use Rattle.js_link.specs.LinkView.{LinkView}
+use Rattle.js_call.specs.declared.open_request.OpenRequest.{OpenRequest}
 use Rattle.js_context.specs.declared.ack_future.PublishAckFuture.{PublishAckFuture}
 use Rattle.js_context.specs.declared.publish_error.PublishErrorKind.{PublishErrorKind}
 use Rattle.js_context.specs.declared.sending.Sending.{Sending}
@@ -11,6 +12,7 @@ use Rattle.js_window.specs.Caller.{held}
 use Rattle.js_context.specs.Acks.{Acked, AckPolled, AckTurn, IsAwaitedBy}
 use Rattle.js_context.specs.Contexts.{ContextView}
 use Rattle.js_context.specs.Sendings.{SendPolled, SendTurn}
+use Rattle.js_context.specs.Wakes.{ack_waits_for}
 use Rattle.js_publish_queue.specs.declared.confirm.Confirming.{Confirming}
 use Rattle.js_publish_queue.specs.declared.confirm.Confirming.TheVariants.{Sends, Awaits}
 
@@ -54,6 +56,11 @@ pub record TriesAndLooks (sending : Sending) (now : ℕ) (turn : ConfirmTurn) (c
 abbrev pub ConfirmPolled : Confirming → ℕ → ConfirmTurn → ContextView → ContextView → LinkView → LinkView → Type 0
 ConfirmPolled (Sends sending) now turn c d old new = TriesAndLooks sending now turn c d old new
 ConfirmPolled (Awaits future) now turn c d old new = Looks future now turn c d old new
+
+-- the request whose answer it waits for: that of its ack, once it was sent
+abbrev pub confirming_waits_for : Confirming → Option OpenRequest
+confirming_waits_for (Sends sending) = None
+confirming_waits_for (Awaits future) = ack_waits_for future
 
 -- what is left to be polled is the caller's
 abbrev pub IsStillOf : ConfirmTurn → ContextView → Type 0

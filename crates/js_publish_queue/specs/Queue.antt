@@ -1,7 +1,8 @@
 -- A queue of messages that are published, and what each of its calls does.
-use Rattle.std.specs.Prelude.{ℕ, ◌≡◌, ◌<◌, ◌++◌, ◌==◌, List, [], ◌∷◌, map, count_by, All}
+use Rattle.std.specs.Prelude.{ℕ, ◌≡◌, ◌<◌, ◌++◌, ◌==◌, Option, List, [], ◌∷◌, map, count_by, All}
 use Rattle.js_base.specs.declared.turn.Next.{Next}
 use Rattle.js_base.specs.declared.turn.Next.TheVariants as next
+use Rattle.js_call.specs.declared.open_request.OpenRequest.{OpenRequest}
 use Rattle.js_context.specs.Contexts.{ContextView}
 use Rattle.js_publish_queue.specs.declared.published.Published.{Published}
 use Rattle.js_publish_queue.specs.declared.unsent.Unsent.{Unsent}
@@ -14,6 +15,7 @@ pub record QueueView : Type 0 where
   pub context : ContextView
   pub unsent : List Unsent  -- the messages that were not sent, in the order in which they were pushed
   pub in_flight : List ℕ  -- the tags of those that were sent
+  pub waits : List (Option OpenRequest)  -- the request that each of those waits for, none where its ack is to be polled at once
   pub next : ℕ  -- the tag that is given next
   pub patience : ℕ  -- how long a message may wait for its sending
 

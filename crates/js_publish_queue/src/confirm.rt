@@ -1,16 +1,18 @@
 //! A message that is published, and whose ack is awaited, as one call.
-ghost use Rattle.std.specs.Prelude.{◌≡◌, ◌+◌, IfOk, None};
+ghost use Rattle.std.specs.Prelude.{◌≡◌, ◌+◌, ◌<◌, ◌^◌, ℕ, IfOk, None};
 ghost use Rattle.js_message.specs.Publishing.{outbound};
+ghost use Rattle.js_call.specs.Wakes.{Sleeps, has_come, is_due, request_of};
 ghost use Rattle.js_context.specs.Acks.{IsAwaitedBy};
 ghost use Rattle.js_context.specs.Messages.{sending};
-ghost use Rattle.js_publish_queue.specs.Confirms.{BelongsTo, ConfirmPolled, HoldsBeside, IsStillOf, Looks, permits};
+ghost use Rattle.js_context.specs.Wakes.{ack_waits_for};
+ghost use Rattle.js_publish_queue.specs.Confirms.{BelongsTo, ConfirmPolled, HoldsBeside, IsStillOf, Looks, confirming_waits_for, permits};
 ghost use Rattle.js_publish_queue.specs.declared.confirm.Confirming.TheVariants.{Awaits, Sends};
 
 use bytes::Bytes;
 use js_base::{Moment, OutOfMemory, Turn};
 use js_context::{Context, PublishAckFuture, PublishError, Sending};
 use js_json::PublishAck;
-use js_link::Link;
+use js_link::{Link, RequestId};
 use std::alloc::Global;
 use std::sync::Wait;
 
@@ -38,6 +40,7 @@ fn look<R: Wait, L: Link>(
 ) -> Polled
     requires { IsAwaitedBy future context.old }
     ensures looks { Looks future now result context.old context.new (L.view link.old) (L.view link.new) }
+    ensures sleeps { Sleeps (ack_waits_for future) now (Awaits future) result (L.view link.old) (L.view link.new) }
     ensures still { IsStillOf result context.new }
     ensures holds { HoldsBeside (Awaits future) result context.old context.new }
 {
@@ -53,6 +56,9 @@ impl Confirming {
     /// those of the two; each comes with no permit held. A message that was not sent is sent by a later poll, and one that was sent never again.
     ///
     /// The caller is the context that sent the message.
+    ///
+    /// After `Pending` one that was not sent waits for a permit, as [`Sending::poll`] says. One that was sent may be left alone until the answer to its
+    /// `request` has come, that request is gone, or its `wakes_at` has come: a poll before that changes neither it nor the link.
     pub fn poll<R: Wait, L: Link>(
         self,
         rt: &R,
@@ -65,6 +71,7 @@ impl Confirming {
         ensures polled { ConfirmPolled self now result context.old context.new (L.view link.old) (L.view link.new) }
         ensures still { IsStillOf result context.new }
         ensures holds { HoldsBeside self result context.old context.new }
+        ensures sleeps { Sleeps (confirming_waits_for self) now self result (L.view link.old) (L.view link.new) }
     {
         match self {
             Confirming::Awaits(future) => look(future, rt, alloc, context, link, now),
@@ -74,6 +81,27 @@ impl Confirming {
                 Turn::Pending(next) => Turn::Pending(Confirming::Sends(next)),
                 Turn::OutOfMemory(next) => Turn::OutOfMemory(Confirming::Sends(next)),
             },
+        }
+    }
+
+    /// The number of the request whose answer it waits for. None where it was not sent, or its ack is to be polled at once.
+    pub fn request(&self) -> Option<RequestId>
+        ensures { result ≡ request_of (confirming_waits_for self.now) }
+    {
+        match self {
+            Confirming::Sends(_) => None,
+            Confirming::Awaits(future) => future.request(),
+        }
+    }
+
+    /// The moment from which on the clock of its ack is due. None where it was not sent, its ack is to be polled at once, or that clock would end past
+    /// `u64::MAX`.
+    pub fn wakes_at(&self) -> Option<Moment>
+        ensures { (now : ℕ) → now < 2 ^ 64 → has_come result now ≡ is_due (confirming_waits_for self.now) now }
+    {
+        match self {
+            Confirming::Sends(_) => None,
+            Confirming::Awaits(future) => future.wakes_at(),
         }
     }
 

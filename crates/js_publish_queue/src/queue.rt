@@ -1,15 +1,19 @@
 //! The queue.
-ghost use Rattle.std.specs.Prelude.{◌≡◌, ◌<◌, ◌≤◌, ◌+◌, ◌++◌, ◌∷◌, [], None, IfOk, OnOk, OnErr, length};
+ghost use Rattle.std.specs.Prelude.{◌≡◌, ◌<◌, ◌≤◌, ◌+◌, ◌^◌, ◌++◌, ◌∷◌, [], ℕ, None, IfOk, OnOk, OnErr, length};
 ghost use Rattle.js_message.specs.Publishing.{outbound};
 ghost use Rattle.js_window.specs.Caller.{held};
+ghost use Rattle.js_call.specs.Wakes.{has_come};
 ghost use Rattle.js_publish_queue.specs.Queue.{EachHasOne, EndsEmpty, Keeps, handed, open_tags, times};
 ghost use Rattle.js_publish_queue.specs.Flights.{Detaches};
 ghost use Rattle.js_publish_queue.specs.Steps.{Looks, Sends, outcome_of};
+ghost use Rattle.js_publish_queue.specs.Wakes.{is_first_over, queue_due};
+ghost use Rattle.js_publish_queue.specs.Rests.{GoesOn, HaveClocks, IsQuiet, LooksAtNothing, LooksInVain, LooksOnAtNothing, QueuePends, SendsNothing, SleepsIfLeftAlone};
 
 use crate::flying::{Flying, detach_all};
 use crate::published::{Published, Tag};
 use crate::tries::{Tried, try_to_send};
 use crate::unsent::Unsent;
+use crate::wakes::earlier;
 use bytes::Bytes;
 use js_base::{Error, Moment, Nanos, Next, OutOfMemory, Subject, Turn};
 use js_context::Context;
@@ -32,12 +36,12 @@ pub struct PublishQueue {
 }
 
 impl Model for PublishQueue {
-    ghost use Rattle.js_publish_queue.specs.Flights.{tags_of};
+    ghost use Rattle.js_publish_queue.specs.Flights.{tags_of, waits_of};
     ghost use Rattle.js_publish_queue.specs.Queue.{QueueView, IsQueue};
 
     ghost Value = { QueueView };
 
-    ghost view = { λ q. record { context = q.context; unsent = q.unsent.items; in_flight = tags_of q.flying.items; next = q.next; patience = q.patience } };
+    ghost view = { λ q. record { context = q.context; unsent = q.unsent.items; in_flight = tags_of q.flying.items; waits = waits_of q.flying.items; next = q.next; patience = q.patience } };
 
     ghost invariant = { λ q. IsQueue q.context q.unsent.items q.flying.items q.next };
 }
@@ -79,7 +83,7 @@ enum Step {
 impl PublishQueue {
     /// A queue without messages. A message waits as long as that for its sending, in nanoseconds, from its push on.
     pub fn new(alloc: Global, context: Context, patience: Nanos) -> PublishQueue
-        ensures { result ≡ record { context = context; unsent = []; in_flight = []; next = 0; patience = patience } }
+        ensures { result ≡ record { context = context; unsent = []; in_flight = []; waits = []; next = 0; patience = patience } }
     {
         PublishQueue {
             context,
@@ -130,6 +134,10 @@ impl PublishQueue {
     /// Sends what permits allow, then looks at the acks, and hands out an outcome.
     ///
     /// `Pending` comes where no outcome is known and messages are left, `End` where none is left.
+    ///
+    /// After `Pending`, where each message was sent, it may be left alone until an answer to one has come, the request of one is gone, or `wakes_at` has
+    /// come: a poll before that sends nothing, hands out nothing, and leaves the queue what it was. A message that was not sent waits for a permit, which an
+    /// outcome of this queue gives back, or another caller of its window, or for a link that is up again: each poll tries to send it.
     pub fn poll_next<R: Wait, L: Link>(
         &mut self,
         rt: &R,
@@ -140,6 +148,8 @@ impl PublishQueue {
         ensures each { EachHasOne (handed result) self.old self.new }
         ensures end { EndsEmpty result self.new }
         ensures keeps { Keeps self.old self.new }
+        ensures sleeps { SleepsIfLeftAlone now self.old self.new (L.view link.old) (L.view link.new) result }
+        ensures pends { QueuePends result self.new }
     {
         match self.send(rt, alloc, link, now) {
             Step::Over(published) => Next::Item(published),
@@ -160,6 +170,8 @@ impl PublishQueue {
         ensures each { EachHasOne (handed result) self.old self.new }
         ensures end { EndsEmpty result self.new }
         ensures keeps { Keeps self.old self.new }
+        ensures sleeps { LooksOnAtNothing now result self.old self.new (L.view link.old) (L.view link.new) }
+        ensures pends { QueuePends result self.new }
     {
         match self.look(rt, alloc, link, now) {
             Step::Over(published) => Next::Item(published),
@@ -173,16 +185,48 @@ impl PublishQueue {
     /// permits of its window.
     pub fn in_flight(&self) -> usize
         ensures count { result ≡ length self.now.in_flight }
+        ensures waits { result ≡ length self.now.waits }
         ensures held { result ≤ held self.now.context.pass }
     {
         let _awaited = self.context.awaited();
         self.flying.len()
     }
 
+    /// The first moment at which the clock of an ack is due, or the time of the first message is over that was not sent: those behind it wait for it. None
+    /// where there is none such. It is of use after `Pending`, when each ack in flight has its clock; after a push, an outcome or want of memory the queue is
+    /// to be polled at once.
+    pub fn wakes_at(&self) -> Option<Moment>
+        ensures { (now : ℕ) → now < 2 ^ 64 → has_come result now ≡ queue_due self.now now }
+    {
+        let mut first = self.gives_up_at();
+        for sent in &self.flying {
+            first = earlier(first, sent.future.wakes_at());
+        }
+        first
+    }
+
+    /// The moment from which on the time of the first message is over that was not sent.
+    fn gives_up_at(&self) -> Option<Moment>
+        ensures { (now : ℕ) → now < 2 ^ 64 → has_come result now ≡ is_first_over self.now.patience self.now.unsent now }
+    {
+        match self.unsent.front() {
+            None => None,
+            Some(first) => first.since.checked_add(self.patience),
+        }
+    }
+
+    /// How many messages were not sent.
+    fn unsent_len(&self) -> usize
+        ensures { result ≡ length self.now.unsent }
+    {
+        self.unsent.len()
+    }
+
     /// Whether messages are left.
     fn rest(&self) -> Next<Published>
         ensures end { EndsEmpty result self.now }
         ensures nothing { handed result ≡ [] }
+        ensures quiet { IsQuiet result self.now }
     {
         if self.unsent.is_empty() && self.flying.is_empty() {
             Next::End
@@ -195,8 +239,10 @@ impl PublishQueue {
     fn send<R: Wait, L: Link>(&mut self, rt: &R, alloc: Global, link: &mut L, now: Moment) -> Step
         ensures each { EachHasOne (outcome_of result) self.old self.new }
         ensures keeps { Keeps self.old self.new }
+        ensures sleeps { SendsNothing result self.old self.new (L.view link.old) (L.view link.new) }
     {
-        for _ in 0..self.unsent.len() {
+        let count = self.unsent_len();
+        for tried in 0..count {
             match self.send_first(rt, alloc, link, now) {
                 Step::Made => {}
                 step => return step,
@@ -251,8 +297,11 @@ impl PublishQueue {
     fn look<R: Wait, L: Link>(&mut self, rt: &R, alloc: Global, link: &mut L, now: Moment) -> Step
         ensures each { EachHasOne (outcome_of result) self.old self.new }
         ensures keeps { Keeps self.old self.new }
+        ensures sleeps { LooksAtNothing now result self.old self.new (L.view link.old) (L.view link.new) }
+        ensures clocks { HaveClocks result self.new }
     {
-        for _ in 0..self.flying.len() {
+        let count = self.in_flight();
+        for looked in 0..count {
             match self.look_first(rt, alloc, link, now) {
                 Step::Made => {}
                 step => return step,
@@ -271,6 +320,8 @@ impl PublishQueue {
     ) -> Step
         ensures looks { Looks result self.old self.new }
         ensures keeps { Keeps self.old self.new }
+        ensures sleeps { LooksInVain now result self.old self.new (L.view link.old) (L.view link.new) }
+        ensures on { GoesOn result self.old self.new }
     {
         let Some(Flying { tag, future }) = self.flying.pop_front() else {
             return Step::Stays;

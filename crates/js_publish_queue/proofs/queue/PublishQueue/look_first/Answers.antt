@@ -1,5 +1,9 @@
-use Rattle.std.proofs.Common.{rules}
+use Rattle.std.proofs.Common.{refl, rules}
+use Rattle.std.proofs.lemmas.Grind.{common_steps}
+use Rattle.js_context.specs.Wakes.{ack_waits_for}
+use Rattle.js_publish_queue.specs.Flights.{waits_of}
 use Rattle.js_publish_queue.proofs.Awaiting.{behind, landed}
+use Rattle.js_publish_queue.proofs.Sleeping.{pending_is_sent}
 use Rattle.js_publish_queue.proofs.queue.PublishQueue.look_first.Goals as goal
 
 pub invariant_of-self-in-Ready : goal.invariant_of-self-in-Ready
@@ -10,3 +14,13 @@ invariant_of-self-in-Pending g c = behind _ _ _ _ _ _ _ _ _ c.in-Some.ensures.it
 
 pub invariant_of-self-in-OutOfMemory : goal.invariant_of-self-in-OutOfMemory
 invariant_of-self-in-OutOfMemory g c = behind _ _ _ _ _ _ _ _ _ c.in-Some.ensures.items c.push_back_reserved-in-OutOfMemory.ensures.items (search rules) c.in-OutOfMemory.ensures.permit.0 c.in-OutOfMemory.ensures.permit.1 c.self.invariant
+
+pub returns-in-Pending-clause-on : goal.returns-in-Pending-clause-on
+returns-in-Pending-clause-on g c = (
+  ack_waits_for c.in-Some.field-0.future,
+  ack_waits_for c.in-Pending.future,
+  waits_of c.pop_front.new.self.items,
+  search (rules, common_steps),
+  search (rules, common_steps),
+  pending_is_sent _ _ _ _ _ _ _ _ refl c.in-Pending.ensures.polled,
+)

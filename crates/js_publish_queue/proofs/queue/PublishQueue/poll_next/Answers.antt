@@ -1,5 +1,9 @@
+use Rattle.std.proofs.Common.{◌≡◌}
+use Rattle.js_publish_queue.specs.declared.published.Published.{Published}
+use Rattle.js_publish_queue.specs.declared.queue.Step.TheVariants.{Made, NoMemory, Over, Stays}
 use Rattle.js_publish_queue.specs.Queue.{handed}
 use Rattle.js_publish_queue.proofs.Counts.{each_then}
+use Rattle.js_publish_queue.proofs.Sleeping.{sleeps_on}
 use Rattle.js_publish_queue.proofs.queue.PublishQueue.poll_next.Goals as goal
 
 pub returns-in-Made-clause-each : goal.returns-in-Made-clause-each
@@ -7,3 +11,24 @@ returns-in-Made-clause-each g c = each_then (handed c.look_on.result) c.args.sel
 
 pub returns-in-Stays-clause-each : goal.returns-in-Stays-clause-each
 returns-in-Stays-clause-each g c = each_then (handed c.look_on-in-Stays.result) c.args.self.now c.send.new.self c.look_on-in-Stays.new.self c.in-Stays.ensures.each c.look_on-in-Stays.ensures.each
+
+pub returns-in-Made-clause-sleeps : goal.returns-in-Made-clause-sleeps
+returns-in-Made-clause-sleeps g c = λ alone. sleeps_on _ _ _ _ _ _ _ _ alone c.in-Made.ensures.sleeps c.look_on.ensures.sleeps
+
+pub returns-in-Stays-clause-sleeps : goal.returns-in-Stays-clause-sleeps
+returns-in-Stays-clause-sleeps g c = λ alone. absurd (never (c.in-Stays.ensures.sleeps alone.sent).0)
+  where
+    never : Stays ≡ Made → ⊥
+    never e = cc
+
+pub returns-in-Over-clause-sleeps : goal.returns-in-Over-clause-sleeps
+returns-in-Over-clause-sleeps g c = λ alone. absurd (never c.in-Over.published (c.in-Over.ensures.sleeps alone.sent).0)
+  where
+    never : (published : Published) → Over published ≡ Made → ⊥
+    never published e = cc
+
+pub returns-in-NoMemory-clause-sleeps : goal.returns-in-NoMemory-clause-sleeps
+returns-in-NoMemory-clause-sleeps g c = λ alone. absurd (never (c.in-NoMemory.ensures.sleeps alone.sent).0)
+  where
+    never : NoMemory ≡ Made → ⊥
+    never e = cc

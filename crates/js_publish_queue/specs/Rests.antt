@@ -1,0 +1,82 @@
+-- That a queue may be left alone until it wakes.
+use Rattle.std.specs.Prelude.{ℕ, ◌≡◌, ◌++◌, ⊤, false, Option, Some, None, List, [], ◌∷◌, All}
+use Rattle.js_base.specs.declared.turn.Next.{Next}
+use Rattle.js_base.specs.declared.turn.Next.TheVariants as next
+use Rattle.js_link.specs.LinkView.{LinkView, Waits}
+use Rattle.js_call.specs.declared.open_request.OpenRequest.{OpenRequest}
+use Rattle.js_call.specs.Wakes.{IsLeftAlone, IsSent}
+use Rattle.js_publish_queue.specs.declared.published.Published.{Published}
+use Rattle.js_publish_queue.specs.declared.queue.Step.{Step}
+use Rattle.js_publish_queue.specs.declared.queue.Step.TheVariants as steps
+use Rattle.js_publish_queue.specs.Queue.{QueueView, open_tags}
+use Rattle.js_publish_queue.specs.Wakes.{queue_due}
+
+-- no answer has come to a request
+abbrev pub IsUnanswered : LinkView → Option OpenRequest → Type 0
+IsUnanswered v None = ⊥
+IsUnanswered v (Some sent) = v.status sent.request.0 ≡ Waits
+
+-- no message is left to be sent, each ack in flight has its clock, no answer to it has come, and it is not the time to wake
+pub record IsQueueLeftAlone (now : ℕ) (q : QueueView) (v : LinkView) : Type 0 where
+  pub sent : q.unsent ≡ []
+  pub unanswered : All (IsUnanswered v) q.waits
+  pub early : queue_due q now ≡ false
+
+-- no outcome is handed out
+abbrev pub IsQuiet : Next Published → QueueView → Type 0
+IsQuiet next.Pending q = ⊤
+IsQuiet next.OutOfMemory q = ⊤
+IsQuiet next.End q = open_tags q ≡ []
+IsQuiet (next.Item published) q = ⊥
+
+-- nothing was sent, nothing is handed out, and the queue is what it was
+pub record QueueSleeps (old new : QueueView) (before after : LinkView) (result : Next Published) : Type 0 where
+  pub quiet : IsQuiet result new
+  pub link : after ≡ before
+  pub same : new ≡ old
+
+abbrev pub SleepsIfLeftAlone : ℕ → QueueView → QueueView → LinkView → LinkView → Next Published → Type 0
+SleepsIfLeftAlone now old new before after result = IsQueueLeftAlone now old before → QueueSleeps old new before after result
+
+-- after it has pended each ack in flight has its clock
+abbrev pub QueuePends : Next Published → QueueView → Type 0
+QueuePends next.Pending q = All IsSent q.waits
+QueuePends next.End q = ⊤
+QueuePends next.OutOfMemory q = ⊤
+QueuePends (next.Item published) q = ⊤
+
+-- ---- the steps
+
+-- without a message that is to be sent nothing is done
+abbrev pub SendsNothing : Step → QueueView → QueueView → LinkView → LinkView → Type 0
+SendsNothing step old new before after = old.unsent ≡ [] → (step ≡ steps.Made) × (after ≡ before) × (new ≡ old)
+
+-- the first ack goes behind the others with its clock, unless it is known
+abbrev pub GoesOn : Step → QueueView → QueueView → Type 0
+GoesOn steps.Made old new = (first : Option OpenRequest) × (sent : Option OpenRequest) × (more : List (Option OpenRequest)) × (old.waits ≡ first ∷ more) × (new.waits ≡ more ++ sent ∷ []) × IsSent sent
+GoesOn steps.Stays old new = new.waits ≡ []
+GoesOn steps.NoMemory old new = ⊤
+GoesOn (steps.Over published) old new = ⊤
+
+-- an ack that is left alone goes behind the others as it is
+abbrev pub LooksInVain : ℕ → Step → QueueView → QueueView → LinkView → LinkView → Type 0
+LooksInVain now step old new before after =
+    (sent : Option OpenRequest) (more : List (Option OpenRequest)) → old.waits ≡ sent ∷ more → IsLeftAlone sent now before
+    → (step ≡ steps.Made) × (after ≡ before) × (new.waits ≡ more ++ sent ∷ []) × (new ≡ record old { in_flight = new.in_flight; waits = new.waits })
+
+-- each ack was looked at, and has its clock
+abbrev pub HaveClocks : Step → QueueView → Type 0
+HaveClocks steps.Made q = All IsSent q.waits
+HaveClocks steps.Stays q = All IsSent q.waits
+HaveClocks steps.NoMemory q = ⊤
+HaveClocks (steps.Over published) q = ⊤
+
+-- acks that are left alone are what they were
+abbrev pub LooksAtNothing : ℕ → Step → QueueView → QueueView → LinkView → LinkView → Type 0
+LooksAtNothing now step old new before after =
+    All (λ sent. IsLeftAlone sent now before) old.waits → (step ≡ steps.Made) × (after ≡ before) × (new ≡ old)
+
+-- the same, and what is handed out
+abbrev pub LooksOnAtNothing : ℕ → Next Published → QueueView → QueueView → LinkView → LinkView → Type 0
+LooksOnAtNothing now result old new before after =
+    All (λ sent. IsLeftAlone sent now before) old.waits → IsQuiet result new × (after ≡ before) × (new ≡ old)
