@@ -34,7 +34,8 @@ use Rattle.js_table.specs.declared.row.Row.TheVariants.{Event, Read}
 use Rattle.js_table.specs.declared.run.Output.{Output}
 use Rattle.js_table.specs.declared.run.Start.{Start}
 use Rattle.js_table.specs.declared.run.Start.TheVariants as start
-use Rattle.js_table.specs.Texts.{consumer_name, inbox_subject, recreation_timeout, source_of}
+use Rattle.js_table.specs.OrderedCore.{after_yield, new_core}
+use Rattle.js_table.specs.Texts.{configured_start, consumer_name, inbox_subject, recreation_timeout, source_of}
 use Rattle.js_table.specs.declared.replay_state.ReplayState.{ReplayState}
 use Rattle.js_table.specs.State.{Matter}
 use Rattle.js_table.specs.Reading.{read_row}
@@ -53,6 +54,7 @@ pub record IsRecreating (stage : ℕ → Timer → Stage) (request last inboxes_
   pub failures : ℕ
   pub timeout : Timer
   pub recreation_count : ℕ
+  pub configured : Option ℕ
   pub name : List ℕ
   pub limited : Bool
   pub connection : State
@@ -62,7 +64,7 @@ pub record IsRecreating (stage : ℕ → Timer → Stage) (request last inboxes_
   pub made_now : ℕ
   pub state : w ≡ state_at
       (Recreates (record { old_name = old_name; new_name = new_name; start = start; failures = failures; opened = None; stage = stage request_now timeout }))
-      (record { consumer_sequence = 0; stream_sequence = last_now; recreation_count = recreation_count; name = name; missed = false; limited = limited; connection = connection })
+      (record { core = record { stream_sequence = last_now; consumer_sequence = 0; recreation_count = recreation_count; start = configured }; name = name; missed = false; limited = limited; connection = connection })
       requests_sent made_now
   pub request_is : request_now ≡ request
   pub asked_is : requests_sent ≡ request
@@ -77,8 +79,8 @@ pub record IsOpened (request last inboxes_opened : ℕ) (w : ReplayState) : Type
   pub made_now : ℕ
   pub on : IsOn source c requests_sent made_now w
   pub inbox_is : source.inbox ≡ inboxes_opened
-  pub num_is : c.consumer_sequence ≡ 0
-  pub last_is : c.stream_sequence ≡ last
+  pub num_is : c.core.consumer_sequence ≡ 0
+  pub last_is : c.core.stream_sequence ≡ last
   pub missed_is : c.missed ≡ false
   pub asked_is : requests_sent ≡ request
   pub made_is : made_now ≡ inboxes_opened + 1
@@ -191,7 +193,7 @@ module _ (settings : Settings) (config : OrderedConfig) (first : Info) (starts :
 
   -- what is kept after a yield
   abbrev pub accepted : Place → Progress → Progress
-  accepted place c = record c { consumer_sequence = place.number; stream_sequence = place.sequence; missed = false; limited = false }
+  accepted place c = record c { core = after_yield place.sequence place.number c.core; missed = false; limited = false }
 
   module _ (now last from : ℕ) (source : Source) (c : Progress) (requests_sent inboxes_opened inbox : ℕ) (reply payload : List ℕ) (place : Place) where
     abbrev arrives : Matter
@@ -221,31 +223,32 @@ module _ (settings : Settings) (config : OrderedConfig) (first : Info) (starts :
         (refills now arrives place.sequence from source (accepted place c) (requests_sent + 0) (inboxes_opened + 0) depth (kept l)))
 
     -- the next message is yielded
-    pub yields : (depth : ℕ) (l : Requests) → (source.inbox == inbox) ≡ true → readable_as (Some reply) ≡ Some place → (place.number == c.consumer_sequence + 1) ≡ true → place.sequence ≡ last + 1
+    pub yields : (depth : ℕ) (l : Requests) → (source.inbox == inbox) ≡ true → readable_as (Some reply) ≡ Some place → (place.number == c.core.consumer_sequence + 1) ≡ true → place.sequence ≡ last + 1
         → Leads starts last from (IsOn source (accepted place c) requests_sent inboxes_opened) place.sequence from
         (pass_to given now arrives (suc (suc (suc depth))) (Read read.CheckArrival) (state_at (Pulls (reader source l)) c requests_sent inboxes_opened))
     yields depth l here reads next rises =
         rw (here, reads, next) (record { state = (goes_on depth l).state; outputs = (rises, (goes_on depth l).outputs) })
 
     -- another one begins a recreation
-    pub restarts : (depth : ℕ) (l : Requests) → (source.inbox == inbox) ≡ true → readable_as (Some reply) ≡ Some place → (place.number == c.consumer_sequence + 1) ≡ false
-        → (c.stream_sequence == pull.u64_max) ≡ false → (c.stream_sequence == 0) ≡ false → c.stream_sequence ≡ last
+    pub restarts : (depth : ℕ) (l : Requests) → (source.inbox == inbox) ≡ true → readable_as (Some reply) ≡ Some place → (place.number == c.core.consumer_sequence + 1) ≡ false
+        → (c.core.stream_sequence == pull.u64_max) ≡ false → (c.core.stream_sequence == 0) ≡ false → c.core.stream_sequence ≡ last
         → Leads starts last from (IsRecreating Deleting (requests_sent + 1) last inboxes_opened) last (last + 1)
         (pass_to given now arrives (suc (suc (suc depth))) (Read read.CheckArrival) (state_at (Pulls (reader source l)) c requests_sent inboxes_opened))
     restarts depth l here reads next below some is =
         rw (here, reads, next, below, some) (record {
           state = record {
             old_name = c.name;
-            new_name = consumer_name given (min (c.recreation_count + 1) pull.u64_max);
-            start = start.From (c.stream_sequence + 1);
+            new_name = consumer_name given (min (c.core.recreation_count + 1) pull.u64_max);
+            start = start.From (c.core.stream_sequence + 1);
             failures = 0;
             timeout = record { set = now; wait = recreation_timeout settings };
-            recreation_count = min (c.recreation_count + 1) pull.u64_max;
-            name = consumer_name given (min (c.recreation_count + 1) pull.u64_max);
+            recreation_count = min (c.core.recreation_count + 1) pull.u64_max;
+            configured = c.core.start;
+            name = consumer_name given (min (c.core.recreation_count + 1) pull.u64_max);
             limited = c.limited;
             connection = c.connection;
             request_now = requests_sent + 0 + 0 + 1;
-            last_now = c.stream_sequence;
+            last_now = c.core.stream_sequence;
             requests_sent = requests_sent + 0 + 0 + 1;
             made_now = inboxes_opened + 0 + 0 + 0;
             state = refl;
@@ -317,6 +320,7 @@ module _ (settings : Settings) (config : OrderedConfig) (first : Info) (starts :
             failures = at.failures;
             timeout = record { set = now; wait = recreation_timeout settings };
             recreation_count = at.recreation_count;
+            configured = at.configured;
             name = at.name;
             limited = at.limited;
             connection = at.connection;
@@ -356,7 +360,7 @@ module _ (settings : Settings) (config : OrderedConfig) (first : Info) (starts :
         let here : (at.request_now == answered) ≡ true = equal at.request_now answered (at.request_is ∙ same) in
         let inbox : ℕ = at.made_now + 0 + 0 + 0 in
         let source : Source = source_of given at.recreation_count inbox (inbox_subject given inbox) info in
-        let c : Progress = record { consumer_sequence = 0; stream_sequence = at.last_now; recreation_count = at.recreation_count; name = at.name; missed = false; limited = at.limited; connection = at.connection } in
+        let c : Progress = record { core = record { stream_sequence = at.last_now; consumer_sequence = 0; recreation_count = at.recreation_count; start = at.configured }; name = at.name; missed = false; limited = at.limited; connection = at.connection } in
         let requests_sent : ℕ = at.requests_sent + 0 + 0 + 0 + 0 in
         let rest : Leads starts last from (IsOn source c requests_sent (inbox + 1)) last from
         (pass_each (pass_to given now says 6) (Read read.Threshold ∷ Read read.Arm ∷ []) (state_at (Pulls (reader source new)) c requests_sent (inbox + 1))) =
@@ -381,11 +385,11 @@ module _ (settings : Settings) (config : OrderedConfig) (first : Info) (starts :
 
   -- ---- the opening
 
-  pub opened : (start : ℕ) → Leads starts 0 0 (IsOn (source_of given 0 0 (inbox_subject given 0) first) (record { consumer_sequence = 0; stream_sequence = 0; recreation_count = 0; name = first.name; missed = false; limited = false; connection = Connected }) 0 1) 0 0 (opening given start)
+  pub opened : (start : ℕ) → Leads starts 0 0 (IsOn (source_of given 0 0 (inbox_subject given 0) first) (record { core = new_core (configured_start given.setup); name = first.name; missed = false; limited = false; connection = Connected }) 0 1) 0 0 (opening given start)
   unfolding opening
   opened start =
       let source : Source = source_of given 0 0 (inbox_subject given 0) first in
-      let c : Progress = record { consumer_sequence = 0; stream_sequence = 0; recreation_count = 0; name = first.name; missed = false; limited = false; connection = Connected } in
+      let c : Progress = record { core = new_core (configured_start given.setup); name = first.name; missed = false; limited = false; connection = Connected } in
       leads_then starts 0 0 0 0 0 0 (IsOn source c 0 1) (IsOn source c 0 1)
       (pass_to given start tick 2 (Read read.Threshold) (state_at (Pulls (reader source new)) c 0 1))
       (λ (w : ReplayState). pass_each (λ row. pass_to given start tick (suc (rank row)) row) (Read read.Arm ∷ []) w)

@@ -38,8 +38,8 @@ pub record IsReading (inbox number before : ℕ) (w : ReplayState) : Type 0 wher
   pub inboxes_opened : ℕ
   pub on : IsOn source c requests_sent inboxes_opened w
   pub inbox_is : source.inbox ≡ inbox
-  pub num_is : c.consumer_sequence ≡ number
-  pub last_is : c.stream_sequence ≡ before + number
+  pub num_is : c.core.consumer_sequence ≡ number
+  pub last_is : c.core.stream_sequence ≡ before + number
   pub asked_is : requests_sent ≡ 2 * inbox
   pub made_is : inboxes_opened ≡ inbox + 1
 
@@ -75,7 +75,7 @@ module _ (settings : Settings) (config : OrderedConfig) (first : Info) (starts :
         })
         (at.yields settings config first starts now (before + number) from r.source r.c (r.requests_sent + 0) (r.inboxes_opened + 0) inbox (reply (before + (number + 1)) (number + 1)) (decimal (before + (number + 1))) place 6 l
         ((Decides-eqb r.source.inbox inbox).1 r.inbox_is) (reply_reads (before + (number + 1)) (number + 1) s n)
-        ((Decides-eqb (number + 1) (r.c.consumer_sequence + 1)).1 (let e = r.num_is in omega arith)) (omega arith)))
+        ((Decides-eqb (number + 1) (r.c.core.consumer_sequence + 1)).1 (let e = r.num_is in omega arith)) (omega arith)))
         w r.on
 
   all_in_order : (left place inbox number before from : ℕ) (w : ReplayState) → before + (number + left) < 2 ^ 64 → number + left < 2 ^ 64 → IsReading inbox number before w
@@ -113,9 +113,9 @@ module _ (settings : Settings) (config : OrderedConfig) (first : Info) (starts :
         (subst (λ (m : ℕ). IsRecreating Deleting (r.requests_sent + 0 + 1) (before + number) m w) (let m = r.made_is in omega arith) d))
         (at.restarts settings config first starts now (before + number) from r.source r.c (r.requests_sent + 0) (r.inboxes_opened + 0) inbox (reply (before + (number + 2)) (number + 2)) (decimal (before + (number + 2))) gap_place 6 l
         ((Decides-eqb r.source.inbox inbox).1 r.inbox_is) (reply_reads (before + (number + 2)) (number + 2) (omega arith) (omega arith))
-        (not_equal (number + 2) (r.c.consumer_sequence + 1) (λ e. let n = r.num_is in absurd (omega arith)))
-        (not_equal r.c.stream_sequence u64_max (λ e. let n = r.last_is in absurd (omega arith)))
-        (not_equal r.c.stream_sequence 0 (λ e. let n = r.last_is in absurd (omega arith)))
+        (not_equal (number + 2) (r.c.core.consumer_sequence + 1) (λ e. let n = r.num_is in absurd (omega arith)))
+        (not_equal r.c.core.stream_sequence u64_max (λ e. let n = r.last_is in absurd (omega arith)))
+        (not_equal r.c.core.stream_sequence 0 (λ e. let n = r.last_is in absurd (omega arith)))
         r.last_is))
         w r.on
 

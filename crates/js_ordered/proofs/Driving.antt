@@ -317,7 +317,7 @@ reply_missing g now m (Some reply) w u outputs is to = cc
 
 -- a message that was heard
 pub hears_on : (g : ReplayInput) (now : ℕ) (m : Matter) (inbox : ℕ) (message : Message) (heard : Heard) (w u : ReplayState) (earlier later : List Output) (d : Consumer) (rest : NextTasks)
-    → listens_to inbox w.consumer.phase ≡ true → IsHeard w.consumer.consumer_sequence message heard
+    → listens_to inbox w.consumer.phase ≡ true → IsHeard w.consumer.core.consumer_sequence message heard
     → StepsTo m (heard_row (passing g now w) message heard (at_phase (Pushes inbox (armed now)) w.consumer)) (heard_outputs w.link_up message heard) d rest
     → later ≡ earlier ++ heard_outputs w.link_up message heard → u ≡ record w { consumer = d }
     → Leads g now m (row.Hear (record { inbox = inbox; message = message }) ∷ []) w earlier (next_rows m rest) u later

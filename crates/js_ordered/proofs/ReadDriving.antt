@@ -103,7 +103,7 @@ leads_inquired g now m failures r s w u number requests_sent' earlier later step
 
 -- a message of the stream was heard
 pub leads_heard : (g : ReplayInput) (now : ℕ) (m : Matter) (message : Message) (heard_is : Heard) (r s : Reader) (w u : ReplayState) (earlier later : List Output) (d : Consumer) (rest : NextTasks)
-    → message_on r.source.inbox m.arrival ≡ Some message → pull_kind message ≡ pulls.Delivered → IsHeardFrom w.consumer.consumer_sequence message heard_is → s ≡ pull.lowered 1 message.length (heard now message r)
+    → message_on r.source.inbox m.arrival ≡ Some message → pull_kind message ≡ pulls.Delivered → IsHeardFrom w.consumer.core.consumer_sequence message heard_is → s ≡ pull.lowered 1 message.length (heard now message r)
     → StepsTo m (with_sent [] (row.Read read.Threshold ∷ []) (heard_row (passing g now w) message heard_is (record (at_phase (Pulls s) w.consumer) { missed = false }))) (heard_outputs w.link_up message heard_is) d rest
     → later ≡ earlier ++ heard_outputs w.link_up message heard_is → u ≡ record w { consumer = d }
     → Leads g now m (row.Read read.CheckArrival ∷ []) (at (Pulls r) w) earlier (next_rows m rest) u later

@@ -8,8 +8,8 @@ mod todo;
 
 pub use incremental_replay::IncrementalReplay;
 pub use js_table::{
-    Arrival, Consumer, Event, EventKind, Field, ItemKind, Opened, OrderedSetup, Output, Phase,
-    PushKind, Recreation, ReplayError, ReplayInput, ReplayState, Row, Run, Settings, Stage, Start,
-    Step, push_kind,
+    Arrival, AtEnd, Consumer, Event, EventKind, Field, ItemKind, Opened, OrderedCore, OrderedSetup,
+    Output, Phase, PushKind, Recreation, ReplayError, ReplayInput, ReplayState, Row, Run, Settings,
+    Stage, Start, Step, push_kind,
 };
 pub use replay::replay_ordered;

@@ -16,8 +16,8 @@ use js_ordered_rows::listening::listen;
 use js_ordered_rows::{NextTasks, Task};
 use js_pull::{Due, Reader};
 use js_table::{
-    Consumer, Event, EventContext, EventKind, OrderedSetup, Output, Phase, ReplayError,
-    ReplayState, Run, Settings, Step, refuse_input, texts,
+    Consumer, Event, EventContext, EventKind, OrderedCore, OrderedSetup, Output, Phase,
+    ReplayError, ReplayState, Run, Settings, Step, refuse_input, texts,
 };
 use std::alloc::Global;
 
@@ -38,9 +38,7 @@ fn first_state(context: &EventContext<'_>) -> Result<ReplayState, OutOfMemory>
     Ok(ReplayState {
         consumer: Consumer {
             phase: Phase::Idle,
-            consumer_sequence: 0,
-            stream_sequence: 0,
-            recreation_count: 0,
+            core: OrderedCore::new(context.setup.configured_start()),
             name: context.first.name.try_clone()?,
             missed: false,
             limited: false,

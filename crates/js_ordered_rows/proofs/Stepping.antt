@@ -21,7 +21,7 @@ use Rattle.js_ordered_rows.specs.declared.task.NextTasks.TheVariants as next
 use Rattle.js_ordered_rows.specs.declared.task.Step.{Step}
 use Rattle.js_ordered_rows.specs.declared.task.Task.TheVariants as task
 use Rattle.js_ordered_rows.specs.declared.task.RowOutput.TheVariants as tells
-use Rattle.js_ordered_rows.specs.Tasks.{StepsTo, goes_on, IsAnswered, IsHeardFrom, IsHeardAs, IsOfStream, answered_rows, heard_row, next_rows, told_outputs, is_lost}
+use Rattle.js_ordered_rows.specs.Tasks.{StepsTo, goes_on, IsAnswered, IsHeardFrom, IsHeardAs, IsOfStream, answered_rows, handing, heard_row, next_rows, told_outputs, is_lost}
 use Rattle.js_pull.specs.Reader.{reply_to}
 use Rattle.js_table.specs.declared.consumer.Consumer.{Consumer}
 use Rattle.js_table.specs.declared.consumer.ReplayInput.{ReplayInput}
@@ -31,12 +31,13 @@ use Rattle.js_table.specs.declared.consumer.Stage.{Stage}
 use Rattle.js_table.specs.declared.consumer.Stage.TheVariants.{Creating}
 use Rattle.js_table.specs.declared.kind.PushKind.{PushKind}
 use Rattle.js_table.specs.declared.kind.PushKind.TheVariants as kind
+use Rattle.js_table.specs.declared.place.Place.{Place}
 use Rattle.js_table.specs.declared.row.Row.{Row}
 use Rattle.js_table.specs.declared.row.Row.TheVariants as row
 use Rattle.js_table.specs.declared.setup.OrderedSetup.{OrderedSetup}
 use Rattle.js_table.specs.declared.setup.OrderedSetup.TheVariants.{Pull}
 use Rattle.js_table.specs.Fold.{is_over}
-use Rattle.js_table.specs.Passes.{listens_to, place_shown}
+use Rattle.js_table.specs.Passes.{listens_to, place_shown, yielding}
 use Rattle.js_table.specs.Reading.{accepted, armed, hear_kind, message_row, push_kind, read_row, restart}
 use Rattle.js_table.specs.Recreation.{created, stage_rows}
 use Rattle.js_table.specs.State.{Matter, Change, Unchanged, Becomes, WatcherEnds, Passed, quietly, at_phase}
@@ -182,22 +183,28 @@ create_answered g p m request timeout is = replied (reply_to request m.answer) i
 eqb_same : (n : ℕ) → (n == n) ≡ true
 eqb_same n = grind (arith, nat_tests)
 
-pub from_stream : (p : Passing) (message : Message) (heard : Heard) (c : Consumer) → IsHeardFrom c.consumer_sequence message heard
+-- the next message is accepted
+yields_next : (place : Place) (message : Message) (c : Consumer) → (place.number == c.core.consumer_sequence + 1) ≡ true
+    → yielding (place_shown place) c ≡ (accepted (place_shown place) message c).consumer
+yields_next place message c here = ap (λ (b : Bool). if b then (accepted (place_shown place) message c).consumer else c) here
+
+pub from_stream : (p : Passing) (message : Message) (heard : Heard) (c : Consumer) → IsHeardFrom c.core.consumer_sequence message heard
     → message_row (readable_as message.reply) message c ≡ heard_row p message heard c
 from_stream p message hears.Unreadable c none = ap (λ (place : Option ack.Place). message_row place message c) none
 from_stream p message (hears.Yields place) c (there, next) =
-    let here : (place.number == c.consumer_sequence + 1) ≡ true = rw next (eqb_same (c.consumer_sequence + 1)) in
+    let here : (place.number == c.core.consumer_sequence + 1) ≡ true = rw next (eqb_same (c.core.consumer_sequence + 1)) in
     ap (λ (place : Option ack.Place). message_row place message c) there
     ∙ ap (λ (b : Bool). if b then accepted (place_shown place) message c else restart c) here
+    ∙ sym (ap (handing place message) (yields_next place message c here))
 from_stream p message hears.Gap c (place, there, other) =
-    let here : (place.number == c.consumer_sequence + 1) ≡ false = ne_eqb place.number (c.consumer_sequence + 1) other in
+    let here : (place.number == c.core.consumer_sequence + 1) ≡ false = ne_eqb place.number (c.core.consumer_sequence + 1) other in
     ap (λ (place : Option ack.Place). message_row place message c) there
     ∙ ap (λ (b : Bool). if b then accepted (place_shown place) message c else restart c) here
 from_stream p message (hears.Beat last) c heard = absurd heard
 from_stream p message hears.OtherStatus c heard = absurd heard
 
 -- an arrival is what its kind says
-pub hears_as : (p : Passing) (message : Message) (k : PushKind) (heard : Heard) (c : Consumer) → IsHeardAs c.consumer_sequence message k heard → hear_kind p message k c ≡ heard_row p message heard c
+pub hears_as : (p : Passing) (message : Message) (k : PushKind) (heard : Heard) (c : Consumer) → IsHeardAs c.core.consumer_sequence message k heard → hear_kind p message k c ≡ heard_row p message heard c
 hears_as p message kind.Delivered heard c is = from_stream p message heard c is
 hears_as p message (kind.Beat last) heard c is = ap (λ (h : Heard). heard_row p message h c) (sym is)
 hears_as p message kind.Bad heard c is = ap (λ (h : Heard). heard_row p message h c) (sym is)

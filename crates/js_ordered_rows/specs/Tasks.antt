@@ -8,8 +8,8 @@ use Rattle.js_ordered_rows.specs.Readings.{brought}
 use Rattle.js_pull.specs.Steps.{row_list, row_of}
 use Rattle.js_pull.specs.declared.rows.Due.{Due}
 use Rattle.js_pull.specs.Reader.{reply_to}
-use Rattle.js_table.specs.Passes.{hearings, place_shown}
-use Rattle.js_table.specs.Reading.{accepted, put_item, restart, beat_answer, beat_rows, push_kind}
+use Rattle.js_table.specs.Passes.{hearings, place_shown, yielding}
+use Rattle.js_table.specs.Reading.{put_item, restart, beat_answer, beat_rows, push_kind}
 use Rattle.js_table.specs.Recreation.{message_on}
 use Rattle.js_table.specs.State.{Matter, Passed, quietly as passes_quietly}
 use Rattle.js_table.specs.Turn.{go_on, is_connected, reader_row}
@@ -181,10 +181,14 @@ heard_outputs up message (hears.Beat last) = beat_answer up message.reply
 heard_outputs up message hears.Gap = []
 heard_outputs up message hears.OtherStatus = []
 
+-- a message at this place is handed out, which leaves this consumer
+abbrev pub handing : Place → Message → Consumer → Passed
+handing place message c = record { consumer = c; outputs = out.Yield place.sequence place.number message.subject message.payload ∷ []; next = [] }
+
 -- and what comes of it
 abbrev pub heard_row : Passing → Message → Heard → Consumer → Passed
-heard_row p message (hears.Yields place) c = accepted (place_shown place) message c
+heard_row p message (hears.Yields place) c = handing place message (yielding (place_shown place) c)
 heard_row p message hears.Unreadable c = put_item item.Other c
-heard_row p message (hears.Beat last) c = record { consumer = c; outputs = beat_answer p.up message.reply; next = beat_rows last c.consumer_sequence }
+heard_row p message (hears.Beat last) c = record { consumer = c; outputs = beat_answer p.up message.reply; next = beat_rows last c.core.consumer_sequence }
 heard_row p message hears.Gap c = restart c
 heard_row p message hears.OtherStatus c = passes_quietly c []

@@ -128,12 +128,10 @@ pub fn pass_hear(
     listen(context, consumer, inbox);
     match heard {
         Heard::Yields(place) => {
-            consumer.consumer_sequence = place.number;
-            consumer.stream_sequence = place.sequence;
-            consumer.limited = false;
+            consumer.accept(place);
             NextTasks::Nothing
         }
-        Heard::Beat(last) => beat_next(last, consumer.consumer_sequence),
+        Heard::Beat(last) => beat_next(last, consumer.core.consumer_sequence),
         Heard::Gap => NextTasks::One(Task::Start),
         Heard::Unreadable => NextTasks::Nothing,
         Heard::OtherStatus => NextTasks::Nothing,

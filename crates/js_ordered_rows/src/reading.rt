@@ -330,9 +330,7 @@ pub fn take_message(consumer: &mut Consumer, heard: Heard, due: Option<Due>) -> 
     consumer.missed = false;
     match heard {
         Heard::Yields(place) => {
-            consumer.consumer_sequence = place.number;
-            consumer.stream_sequence = place.sequence;
-            consumer.limited = false;
+            consumer.accept(place);
             after(due)
         }
         Heard::Gap => NextTasks::One(Task::Start),

@@ -15,26 +15,12 @@ use js_base::{Boxed, Items, Moment, Text, Timer};
 use js_json::consumer::Info;
 use js_pull::{Due, Reader, Source, retry_wait};
 use js_table::{
-    Consumer, EventContext, ItemKind, Opened, OrderedSetup, Phase, Recreation, Stage, Start, texts,
+    Consumer, EventContext, ItemKind, Opened, OrderedSetup, Phase, Recreation, Stage, texts,
 };
 use std::alloc::Global;
 use std::mem;
 
 // ---- a recreation starts
-
-/// Where it starts: after the last yield, else where the setup starts.
-fn start_after(setup: &OrderedSetup, last: u64) -> Start
-    requires { last < u64.MAX }
-    ensures { result ≡ rows.start_after (texts_of.configured_start setup.now) last }
-{
-    if last > 0 {
-        return Start::From(last + 1);
-    }
-    match setup.configured_start() {
-        None => Start::All,
-        Some(sequence) => Start::From(sequence),
-    }
-}
 
 /// A recreation starts: what is current was dropped, and the first try follows. The name is the next consumer's.
 pub fn pass_start(
@@ -43,20 +29,16 @@ pub fn pass_start(
     name: Text,
     new_name: Text,
 ) -> Step
-    requires name { name ≡ texts_of.consumer_name (given_of context.now) (min (consumer.old.recreation_count + 1) u64_max) }
-    requires again { new_name ≡ texts_of.consumer_name (given_of context.now) (min (consumer.old.recreation_count + 1) u64_max) }
+    requires name { name ≡ texts_of.consumer_name (given_of context.now) (min (consumer.old.core.recreation_count + 1) u64_max) }
+    requires again { new_name ≡ texts_of.consumer_name (given_of context.now) (min (consumer.old.core.recreation_count + 1) u64_max) }
     ensures { (m : Matter) → StepsTo m (rows.start_row (given_of context.now) consumer.old) (told_outputs result.told) consumer.new result.next }
 {
-    let last = consumer.stream_sequence;
-    if last == u64::MAX {
+    let Ok(start) = consumer.core.restart() else {
         consumer.phase = Phase::Exhausted;
         return quietly(NextTasks::Nothing);
-    }
-    let start = start_after(context.setup, last);
-    let recreation_count = consumer.recreation_count.saturating_add(1);
+    };
+    let recreation_count = consumer.core.recreation_count;
     let old_name = mem::replace(&mut consumer.name, name);
-    consumer.consumer_sequence = 0;
-    consumer.recreation_count = recreation_count;
     consumer.phase = Phase::Recreates(Recreation {
         old_name,
         new_name,
@@ -339,7 +321,7 @@ pub fn pass_succeed_pull(
     mut source: Source,
     inbox: Option<Inbox>,
 ) -> NextTasks
-    ensures { (m : Matter) → (p : Passing) → (info : SpecInfo) → source ≡ texts_of.source_of (given_of context.now) consumer.old.recreation_count 0 [] info
+    ensures { (m : Matter) → (p : Passing) → (info : SpecInfo) → source ≡ texts_of.source_of (given_of context.now) consumer.old.core.recreation_count 0 [] info
         → StepsTo m (rows.succeed_pull (given_of context.now) (opening_to context.now.moment inbox p) info (at_phase (Phase.Recreates recreation) consumer.old))
         (subscribed inbox) consumer.new result }
 {

@@ -67,7 +67,7 @@ takes_told m tells silent rows message c d said taken is steps hands = record {
   shown = hands;
 }
 
-pub takes_handed : (m : Matter) (p : Sends) (rows : List Row) (message : Message) (heard : Heard) (c d : Consumer) (taken : Taken) → IsHeardFrom c.consumer_sequence message heard
+pub takes_handed : (m : Matter) (p : Sends) (rows : List Row) (message : Message) (heard : Heard) (c d : Consumer) (taken : Taken) → IsHeardFrom c.core.consumer_sequence message heard
     → StepsTo m (with_sent [] rows (heard_row p message heard (record c { missed = false }))) (heard_outputs p.up message heard) d taken.next
     → handed_list taken.handed (Some message) ≡ handed (heard_outputs p.up message heard)
     → TakesIn m (telling.Hands message) rows (Some message) c d taken

@@ -26,7 +26,7 @@ use Rattle.js_table.specs.declared.setup.OrderedSetup.TheVariants.{Pull, Push}
 use Rattle.js_table.specs.declared.setup.Settings.{Settings}
 use Rattle.js_table.specs.Reading.{armed}
 use Rattle.js_table.specs.State.{at_phase}
-use Rattle.js_table.specs.Texts.{source_of}
+use Rattle.js_table.specs.Texts.{configured_start, source_of}
 use Rattle.js_turns.specs.Turns.{Position}
 
 abbrev position_at : Consumer → List Row → Position
@@ -35,16 +35,17 @@ position_at c todo = record { consumer = c; todo = todo }
 -- ---- pull
 
 -- the reader of the first consumer reads the inbox that was opened
-pub opens_consumer : (g : ReplayInput) (inbox : ℕ) (unknown subject name : List ℕ) (source : Source) (r : Reader) (c : Consumer) (old new : LinkView)
+pub opens_consumer : (g : ReplayInput) (inbox : ℕ) (unknown subject name : List ℕ) (source : Source) (start : Option ℕ) (r : Reader) (c : Consumer) (old new : LinkView)
     → OpensOwn inbox subject old new → source ≡ source_of g 0 0 unknown g.first → r ≡ new_reader (record source { inbox = inbox; subject = subject })
-    → name ≡ g.first.name → c ≡ first_at name (Pulls r)
+    → name ≡ g.first.name → start ≡ configured_start g.setup → c ≡ first_at start name (Pulls r)
     → OpensConsumer (Ok c) g old new
-opens_consumer g inbox unknown subject name source r c old new opens asks reads named first = (
+opens_consumer g inbox unknown subject name source start r c old new opens asks reads named starts first = (
   inbox,
   subject,
   opens,
-  (first ∙ ap (λ (n : List ℕ). first_at n (Pulls r)) named
-      ∙ ap (λ (x : Reader). first_at g.first.name (Pulls x)) (reads ∙ ap (λ (s : Source). new_reader (record s { inbox = inbox; subject = subject })) asks)),
+  (first ∙ ap (λ (n : List ℕ). first_at start n (Pulls r)) named
+      ∙ ap (λ (s : Option ℕ). first_at s g.first.name (Pulls r)) starts
+      ∙ ap (λ (x : Reader). first_at (configured_start g.setup) g.first.name (Pulls x)) (reads ∙ ap (λ (s : Source). new_reader (record s { inbox = inbox; subject = subject })) asks)),
 )
 
 -- and the rows of its opening are left
@@ -65,12 +66,14 @@ opens_ordered g given c left o settings config first old new (inbox, subject, op
 -- ---- push
 
 -- the first consumer listens to the inbox that was opened
-pub listens_at : (g : ReplayInput) (inbox : ℕ) (name : List ℕ) (c d : Consumer) (old new : LinkView) → OpensDelivery inbox g.first old new → name ≡ g.first.name → c ≡ first_at name Idle
+pub listens_at : (g : ReplayInput) (inbox : ℕ) (name : List ℕ) (start : Option ℕ) (c d : Consumer) (old new : LinkView) → OpensDelivery inbox g.first old new → name ≡ g.first.name
+    → start ≡ configured_start g.setup → c ≡ first_at start name Idle
     → d ≡ at_phase (Pushes inbox (armed 0)) c → ListensFirst (Ok d) g old new
-listens_at g inbox name c d old new opens named first leads = (
+listens_at g inbox name start c d old new opens named starts first leads = (
   inbox,
   opens,
-  (leads ∙ ap (λ (x : Consumer). at_phase (Pushes inbox (armed 0)) x) first ∙ ap (λ (n : List ℕ). first_at n (Pushes inbox (armed 0))) named),
+  (leads ∙ ap (λ (x : Consumer). at_phase (Pushes inbox (armed 0)) x) first ∙ ap (λ (n : List ℕ). first_at start n (Pushes inbox (armed 0))) named
+      ∙ ap (λ (s : Option ℕ). first_at s g.first.name (Pushes inbox (armed 0))) starts),
 )
 
 -- and arms its heartbeat next

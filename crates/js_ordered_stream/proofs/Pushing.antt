@@ -182,7 +182,7 @@ now_met : (now : ℕ) (met : Met) → (passing_of now met).now ≡ now
 now_met now met = ap (λ (p : Sends). p.now) (sym (moment_met now met))
 
 pub hear_passes : (g : ReplayInput) (now : ℕ) (arrival : Arrival) (heard : Heard) (c d : Consumer) (hand : Handed) (rest : NextTasks) (v u : LinkView) → listens_to arrival.inbox c.phase ≡ true
-    → IsHeard c.consumer_sequence arrival.message heard
+    → IsHeard c.core.consumer_sequence arrival.message heard
     → ((m : Matter) (p : Sends) (message : Message) → StepsTo m (heard_row p message heard (at_phase (Pushes arrival.inbox (armed now)) c)) (heard_outputs p.up message heard) d rest)
     → hand ≡ handed_by_heard heard → AnswersBeat arrival.message v u
     → PassesRow g now (row.Hear arrival) c d v u (Ok (record { handed = hand; next = rest; reply = None; arrival = None; message = Some arrival.message }))
@@ -201,7 +201,7 @@ hear_passes g now arrival heard c d hand rest v u here is steps hands (met, meet
       (untaken w met v u (beat_other (push_kind message) message.reply) meets).is_open,
       record {
         consumer = s.consumer ∙ ap (λ (x : Passed). x.consumer) (sym same);
-        shown = ap (λ (x : Passed). handed x.outputs) same ∙ ap handed s.outputs ∙ heard_shown c.consumer_sequence message p.up (push_kind message) heard is
+        shown = ap (λ (x : Passed). handed x.outputs) same ∙ ap handed s.outputs ∙ heard_shown c.core.consumer_sequence message p.up (push_kind message) heard is
             ∙ ap (λ (h : Handed). handed_list h (Some message)) (sym hands);
         next = s.next ∙ ap (λ (x : Passed). x.next) (sym same);
         seen = refl;

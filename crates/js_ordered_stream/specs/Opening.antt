@@ -19,7 +19,7 @@ use Rattle.js_table.specs.declared.row.Row.TheVariants.{Arm, Read}
 use Rattle.js_table.specs.declared.setup.OrderedSetup.TheVariants.{Pull, Push}
 use Rattle.js_table.specs.declared.setup.Settings.{Settings}
 use Rattle.js_table.specs.Reading.{armed}
-use Rattle.js_table.specs.Texts.{source_of}
+use Rattle.js_table.specs.Texts.{configured_start, source_of}
 use Rattle.js_turns.specs.Turns.{Position}
 
 -- ---- pull
@@ -34,7 +34,7 @@ position_of_pull o = position_of o.polled
 
 -- a consumer whose reader reads this inbox, and has read nothing yet
 abbrev pub reads_first : ReplayInput → ℕ → List ℕ → Consumer
-reads_first g inbox subject = first_at g.first.name (Pulls (new_reader (source_of g 0 inbox subject g.first)))
+reads_first g inbox subject = first_at (configured_start g.setup) g.first.name (Pulls (new_reader (source_of g 0 inbox subject g.first)))
 
 -- before its opening is passed
 abbrev pub opened_at : ReplayInput → ℕ → List ℕ → Position
@@ -85,7 +85,7 @@ Subscribes (Err e) first old new = RefusesOpen e first old new
 
 -- a consumer that listens to this inbox, and has heard nothing yet
 abbrev pub listens_first : ReplayInput → ℕ → Consumer
-listens_first g inbox = first_at g.first.name (Pushes inbox (armed 0))
+listens_first g inbox = first_at (configured_start g.setup) g.first.name (Pushes inbox (armed 0))
 
 -- the first consumer listens to the inbox that was opened
 abbrev pub ListensFirst : Result Consumer OpenError → ReplayInput → LinkView → LinkView → Type 0

@@ -26,6 +26,7 @@ use Rattle.js_ordered_stream.specs.declared.rows.Stop.{Stop}
 use Rattle.js_ordered_stream.specs.declared.rows.Stop.TheVariants as stop
 use Rattle.js_ordered_stream.specs.Rows.{Fits, PassesRow, later_of, left_rows, seen_by}
 use Rattle.js_pull.specs.declared.reader.Reader.{Reader}
+use Rattle.js_table.specs.OrderedCore.{new_core}
 use Rattle.js_table.specs.State.{Matter}
 use Rattle.js_pull.specs.Asking.{is_shut}
 use Rattle.js_pull.specs.Reader.{new_reader, opening}
@@ -159,13 +160,11 @@ turned_by (hands.Error kind) message stirs spent = turns.Tells kind
 
 -- ---- the beginning of a stream
 
--- a consumer with this name and at this phase, which has yielded nothing yet
-abbrev pub first_at : List ℕ → Phase → Consumer
-first_at name phase = record {
+-- a consumer with this configured start and this name, and at this phase, which has yielded nothing yet
+abbrev pub first_at : Option ℕ → List ℕ → Phase → Consumer
+first_at configured name phase = record {
   phase = phase;
-  consumer_sequence = 0;
-  stream_sequence = 0;
-  recreation_count = 0;
+  core = new_core configured;
   name = name;
   missed = false;
   limited = false;

@@ -156,7 +156,7 @@ fn finish(
     heard: Heard,
 ) -> Stepped
     requires here { listens_to arrival.inbox consumer.old.phase ≡ true }
-    requires heard { IsHeard consumer.old.consumer_sequence arrival.message heard }
+    requires heard { IsHeard consumer.old.core.consumer_sequence arrival.message heard }
     ensures { (before after : LinkView) → AnswersBeat arrival.message before after → PassesRow (given_of context.now) context.now.moment (row.Hear arrival) consumer.old consumer.new before after (Ok result) }
 {
     let Arrival { inbox, message } = arrival;
@@ -182,7 +182,12 @@ fn hear_taken<L: Link>(
     if !listens(&consumer.phase, arrival.inbox) {
         return Err(arrival);
     }
-    match answer(alloc, link, consumer.consumer_sequence, &arrival.message) {
+    match answer(
+        alloc,
+        link,
+        consumer.core.consumer_sequence,
+        &arrival.message,
+    ) {
         Err(_) => Err(arrival),
         Ok(heard) => Ok(finish(context, consumer, arrival, heard)),
     }

@@ -16,8 +16,8 @@ use js_json::consumer::Info;
 use js_link::Link;
 use js_ordered_rows::event::is_over;
 use js_table::{
-    Arrival, Consumer, EventContext, EventKind, ItemKind, OrderedSetup, Phase, ReplayInput,
-    Settings,
+    Arrival, Consumer, EventContext, EventKind, ItemKind, OrderedCore, OrderedSetup, Phase,
+    ReplayInput, Settings,
 };
 use std::alloc::Global;
 
@@ -115,15 +115,13 @@ fn both(begins: bool, quiet: bool) -> bool
     begins && quiet
 }
 
-/// A consumer with this name and at this phase, which has yielded nothing yet.
-pub(crate) fn first_consumer(name: Text, phase: Phase) -> Consumer
-    ensures { result ≡ first_at name phase }
+/// A consumer with this configured start and this name, and at this phase, which has yielded nothing yet.
+pub(crate) fn first_consumer(start: Option<u64>, name: Text, phase: Phase) -> Consumer
+    ensures { result ≡ first_at start name phase }
 {
     Consumer {
         phase,
-        consumer_sequence: 0,
-        stream_sequence: 0,
-        recreation_count: 0,
+        core: OrderedCore::new(start),
         name,
         missed: false,
         limited: false,

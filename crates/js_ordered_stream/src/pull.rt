@@ -46,7 +46,8 @@ fn open_consumer<L: Link>(
     let (inbox, subject) = link.open_inbox(alloc)?;
     source.inbox = inbox.0;
     source.subject = subject;
-    Ok(ordered::first_consumer(name, Phase::Pulls(Reader::new(source))))
+    let start = given.setup.configured_start();
+    Ok(ordered::first_consumer(start, name, Phase::Pulls(Reader::new(source))))
 }
 
 impl Ordered {

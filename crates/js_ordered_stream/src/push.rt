@@ -84,7 +84,8 @@ fn open_consumer<L: Link>(
 {
     let name = given.first.name.try_clone()?;
     let inbox = subscribe(alloc, link, &given.first)?;
-    let mut consumer = ordered::first_consumer(name, Phase::Idle);
+    let start = given.setup.configured_start();
+    let mut consumer = ordered::first_consumer(start, name, Phase::Idle);
     let tick = EventKind::Tick;
     let context = EventContext {
         settings: &given.settings,

@@ -103,7 +103,7 @@ fn take_told(consumer: &mut Consumer, told: Notice, due: Option<Due>) -> Taken
 fn take_handed(consumer: &mut Consumer, message: &Message, due: Option<Due>) -> Taken
     ensures { (m : Matter) → TakesIn m (told_shown Notice.Hands (Some message.now)) (reader_rows m due) (Some message.now) consumer.old consumer.new result }
 {
-    let heard = heard_from(consumer.consumer_sequence, message);
+    let heard = heard_from(consumer.core.consumer_sequence, message);
     Taken {
         handed: handed_heard(heard),
         next: take_message(consumer, heard, due),

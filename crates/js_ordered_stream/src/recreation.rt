@@ -82,7 +82,11 @@ pub(crate) fn start<L: Link>(
 ) -> Result<Stepped, Stop>
     ensures { PassesRow (given_of context.now) context.now.moment row.Start consumer.old consumer.new (L.view link.old) (L.view link.new) result }
 {
-    let name = texts::consumer_name(alloc, context, consumer.recreation_count.saturating_add(1))?;
+    let name = texts::consumer_name(
+        alloc,
+        context,
+        consumer.core.recreation_count.saturating_add(1),
+    )?;
     let again = name.try_clone()?;
     let _met = ask(alloc, link, &dropped(&consumer.phase))?;
     Ok(untaken(pass_start(context, consumer, name, again)))

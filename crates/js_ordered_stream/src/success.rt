@@ -112,7 +112,7 @@ fn succeed_pull<L: Link>(
     requires pull { IsPull context.now.setup.now }
     ensures { PassesRow (given_of context.now) context.now.moment (row.Succeed info.now) (record consumer.old { phase = Phase.Recreates recreation }) consumer.new (L.view link.old) (L.view link.new) result }
 {
-    match reading_for(alloc, context, link, consumer.recreation_count, info) {
+    match reading_for(alloc, context, link, consumer.core.recreation_count, info) {
         Err(_) => {
             consumer.phase = Phase::Recreates(recreation);
             Err(Stop::OutOfMemory)

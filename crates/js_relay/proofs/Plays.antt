@@ -56,7 +56,7 @@ pub record IsReading (number : ℕ) (w : ReplayState) : Type 0 where
   pub inboxes_opened : ℕ
   pub on : IsOn source c requests_sent inboxes_opened w
   pub inbox_is : source.inbox ≡ 0
-  pub num_is : c.consumer_sequence ≡ number
+  pub num_is : c.core.consumer_sequence ≡ number
 
 equal : (a b : ℕ) → a ≡ b → eqb a b ≡ true
 equal a b e = (Decides-eqb a b).1 e
@@ -84,7 +84,7 @@ module _ (settings : Settings) (config : OrderedConfig) (first : Info) (stream n
         num_is = refl;
       })
       (at.yields settings config first (number + 1) left r.source r.c (r.requests_sent + 0) (r.inboxes_opened + 0) 0 e.subject (reply stream name e.sequence (number + 1)) e.payload place 6 l
-      (equal r.source.inbox 0 r.inbox_is) (reply_reads stream name e.sequence (number + 1) is_stream is s n) (equal (number + 1) (r.c.consumer_sequence + 1) (let k = r.num_is in omega arith))))
+      (equal r.source.inbox 0 r.inbox_is) (reply_reads stream name e.sequence (number + 1) is_stream is s n) (equal (number + 1) (r.c.core.consumer_sequence + 1) (let k = r.num_is in omega arith))))
       w r.on
 
   all : (es : List base.Entry) (number : ℕ) (w : ReplayState) → Fit es → number + length es < 2 ^ 64 → IsReading number w

@@ -23,7 +23,8 @@ use Rattle.js_table.specs.declared.consumer.Phase.{Phase}
 use Rattle.js_table.specs.declared.consumer.Phase.TheVariants.{Pulls}
 use Rattle.js_table.specs.declared.event.EventKind.TheVariants as what
 use Rattle.js_table.specs.declared.row.Row.TheVariants.{Event, Read}
-use Rattle.js_table.specs.Texts.{inbox_subject, source_of}
+use Rattle.js_table.specs.OrderedCore.{after_yield, new_core}
+use Rattle.js_table.specs.Texts.{configured_start, inbox_subject, source_of}
 use Rattle.js_table.specs.declared.replay_state.ReplayState.{ReplayState}
 use Rattle.js_table.specs.State.{Matter}
 use Rattle.js_table.specs.Reading.{read_row}
@@ -135,7 +136,7 @@ module _ (settings : Settings) (config : OrderedConfig) (first : Info) where
 
   -- what is kept after a yield
   abbrev pub accepted : Place → Progress → Progress
-  accepted place c = record c { consumer_sequence = place.number; stream_sequence = place.sequence; missed = false; limited = false }
+  accepted place c = record c { core = after_yield place.sequence place.number c.core; missed = false; limited = false }
 
   module _ (now : ℕ) (left : List Entry) (source : Source) (c : Progress) (requests_sent inboxes_opened inbox : ℕ) (subject reply payload : List ℕ) (place : Place) where
     abbrev arrives : Matter
@@ -165,7 +166,7 @@ module _ (settings : Settings) (config : OrderedConfig) (first : Info) where
         (refills now arrives left source (accepted place c) (requests_sent + 0) (inboxes_opened + 0) depth (kept l)))
 
     -- the next message is yielded
-    pub yields : (depth : ℕ) (l : Requests) → (source.inbox == inbox) ≡ true → readable_as (Some reply) ≡ Some place → (place.number == c.consumer_sequence + 1) ≡ true
+    pub yields : (depth : ℕ) (l : Requests) → (source.inbox == inbox) ≡ true → readable_as (Some reply) ≡ Some place → (place.number == c.core.consumer_sequence + 1) ≡ true
         → Leads (record { subject = subject; sequence = place.sequence; payload = payload } ∷ left) (IsOn source (accepted place c) requests_sent inboxes_opened) left
         (pass_to given now arrives (suc (suc (suc depth))) (Read read.CheckArrival) (state_at (Pulls (reader source l)) c requests_sent inboxes_opened))
     yields depth l here reads next =
@@ -194,11 +195,11 @@ module _ (settings : Settings) (config : OrderedConfig) (first : Info) where
 
   -- ---- the opening
 
-  pub opened : (start : ℕ) (left : List Entry) → Leads left (IsOn (source_of given 0 0 (inbox_subject given 0) first) (record { consumer_sequence = 0; stream_sequence = 0; recreation_count = 0; name = first.name; missed = false; limited = false; connection = Connected }) 0 1) left (opening given start)
+  pub opened : (start : ℕ) (left : List Entry) → Leads left (IsOn (source_of given 0 0 (inbox_subject given 0) first) (record { core = new_core (configured_start given.setup); name = first.name; missed = false; limited = false; connection = Connected }) 0 1) left (opening given start)
   unfolding opening
   opened start left =
       let source : Source = source_of given 0 0 (inbox_subject given 0) first in
-      let c : Progress = record { consumer_sequence = 0; stream_sequence = 0; recreation_count = 0; name = first.name; missed = false; limited = false; connection = Connected } in
+      let c : Progress = record { core = new_core (configured_start given.setup); name = first.name; missed = false; limited = false; connection = Connected } in
       leads_then left left left (IsOn source c 0 1) (IsOn source c 0 1)
       (pass_to given start tick 2 (Read read.Threshold) (state_at (Pulls (reader source new)) c 0 1))
       (λ (w : ReplayState). pass_each (λ row. pass_to given start tick (suc (rank row)) row) (Read read.Arm ∷ []) w)

@@ -106,7 +106,7 @@ LeavesNone passed = NotAsking passed.consumer.phase
 
 message_none : (o : Option Place) (message : Message) (c : Consumer) → NotAsking c.phase → LeavesNone (message_row o message c)
 message_none None message c never = never
-message_none (Some place) message c never = if_both LeavesNone (place.number == c.consumer_sequence + 1) _ _ never never
+message_none (Some place) message c never = if_both LeavesNone (place.number == c.core.consumer_sequence + 1) _ _ never never
 
 told_none : (t : PullTold) (c : Consumer) → NotAsking c.phase → LeavesNone (told t c)
 told_none tells.Nothing c never = never
@@ -128,7 +128,7 @@ hear_kind_none p message (Beat n) c never = never
 -- ---- the rows of a recreation
 
 start_asks : (g : ReplayInput) (c : Consumer) (from : ℕ) → Asks from (start_row g c)
-start_asks g c from = if_each (Asks from) (c.stream_sequence == pull.u64_max) _ _ (λ _. tt) (λ _. refl)
+start_asks g c from = if_each (Asks from) (c.core.stream_sequence == pull.u64_max) _ _ (λ _. tt) (λ _. refl)
 
 create_asks : (setup : OrderedSetup) (p : Passing) (r : Recreation) (c : Consumer) (from : ℕ) → from ≡ start_sequence r.start → Asks from (create_row setup p r (at_phase (Recreates r) c))
 create_asks (Pull setup) p r c from a = a

@@ -7,7 +7,7 @@ use Rattle.std.proofs.lemmas.List.Kept.{AllPairs-from_increasing}
 use Rattle.std.proofs.lemmas.Grind.{get_or_default_zero}
 use Rattle.js_table.specs.Gapless.{Entry}
 use Rattle.js_table.specs.Texts.{configured_start}
-use Rattle.js_table.specs.Recreation.{start_after}
+use Rattle.js_table.specs.OrderedCore.{start_after}
 use Rattle.js_table.specs.declared.setup.OrderedSetup.{OrderedSetup}
 use Rattle.js_table.specs.Gapless.{Logged, IsMatching, IsWhole, Server, IsDelivery, start_sequence}
 use Rattle.js_table.specs.Kept.{Joins, IsFirst, IsUnread, IsKeptOn, next_start}

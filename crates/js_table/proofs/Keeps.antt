@@ -27,6 +27,7 @@ use Rattle.js_pull.specs.declared.reader.InfoRequest.{InfoRequest}
 use Rattle.js_pull.specs.declared.reader.Source.{Source}
 use Rattle.js_pull.specs.declared.reader.MessagesErrorKind.TheVariants as error
 use Rattle.js_table.specs.declared.consumer.Consumer.{Consumer}
+use Rattle.js_table.specs.declared.ordered_core.OrderedCore.{OrderedCore}
 use Rattle.js_table.specs.State.{Matter, Change, Unchanged, Becomes, WatcherEnds, Passed, at_phase, output_of}
 use Rattle.js_table.specs.declared.row.Arrival.{Arrival}
 use Rattle.js_table.specs.declared.row.Row.{Row}
@@ -38,6 +39,8 @@ use Rattle.js_table.specs.declared.consumer.Stage.{Stage}
 use Rattle.js_table.specs.declared.consumer.Phase.{Phase}
 use Rattle.js_table.specs.declared.consumer.Stage.TheVariants.{Between, Deleting, Creating, Waiting}
 use Rattle.js_table.specs.declared.consumer.Phase.TheVariants.{Pulls, Pushes, Recreates, Idle, Ended, Exhausted}
+use Rattle.js_table.specs.OrderedCore.{after_yield, start_after}
+use Rattle.js_table.specs.Texts.{configured_start}
 use Rattle.js_table.specs.Recreation.{start_row, try_row, create_row, ask_row, succeed_row, succeed_pull, succeed_push, fail_row, message_on, hold, held_in, hold_row, stage_rows, recreation_rows, created, answered, has_subject}
 use Rattle.js_table.specs.Reading.{message_row, told, with_sent, push_kind, beat_answer, beat_rows, hear_kind, hear_row, silence_row, armed}
 use Rattle.js_table.specs.declared.kind.PushKind.{PushKind}
@@ -56,69 +59,77 @@ use Rattle.js_table.proofs.Central.{joins_next, kept_next}
 pub record Keeps (setup : OrderedSetup) (s : Server) (last : ℕ) (passed : Passed) : Type 0 where
   pub kept : IsKept setup s passed.consumer
   pub rows : AllByRecursion (IsHonestRow setup s) passed.next
-  pub extends : Extends setup s last passed.outputs passed.consumer.stream_sequence
+  pub extends : Extends setup s last passed.outputs passed.consumer.core.stream_sequence
+
+-- the same after a core: what is known at the phase, and the start that the core has
+record KeepsRow (setup : OrderedSetup) (s : Server) (core : OrderedCore) (passed : Passed) : Type 0 where
+  kept : IsKeptAt setup s passed.consumer passed.consumer.phase
+  start : passed.consumer.core.start ≡ core.start
+  rows : AllByRecursion (IsHonestRow setup s) passed.next
+  extends : Extends setup s core.stream_sequence passed.outputs passed.consumer.core.stream_sequence
 
 -- ---- recreations
 
-start_keeps : (g : ReplayInput) (s : Server) (c : Consumer) → Keeps g.setup s c.stream_sequence (start_row g c)
-start_keeps g s c = if_each (Keeps g.setup s c.stream_sequence) (c.stream_sequence == pull.u64_max) _ _
-    (λ _. record { kept = tt; rows = tt; extends = refl })
-    (λ _. record { kept = record { start = refl; fresh = refl; later = risen c.recreation_count; opened = tt }; rows = (tt, tt); extends = refl })
+start_keeps : (g : ReplayInput) (s : Server) (c : Consumer) → c.core.start ≡ configured_start g.setup → KeepsRow g.setup s c.core (start_row g c)
+start_keeps g s c configured = if_each (KeepsRow g.setup s c.core) (c.core.stream_sequence == pull.u64_max) _ _
+    (λ _. record { kept = tt; rows = tt; start = refl; extends = refl })
+    (λ _. record { kept = record { start = ap (λ (start : Option ℕ). start_after start c.core.stream_sequence) configured; fresh = refl; later = risen c.core.recreation_count; opened = tt }; rows = (tt, tt); start = refl; extends = refl })
   where
     risen : (n : ℕ) → 0 < min (n + 1) (2 ^ 64 - 1)
     risen n = omega arith
 
-try_keeps : (g : ReplayInput) (s : Server) (p : Passing) (r : Recreation) (c : Consumer) → IsKeptIn g.setup s c.consumer_sequence c.stream_sequence c.recreation_count r
-    → Keeps g.setup s c.stream_sequence (try_row g p r (at_phase (Recreates r) c))
-try_keeps g s p r c k = if_each (Keeps g.setup s c.stream_sequence) p.up _ _
-    (λ _. record { kept = record { start = k.start; fresh = k.fresh; later = k.later; opened = k.opened }; rows = tt; extends = refl })
-    (λ _. record { kept = k; rows = (tt, tt); extends = refl })
+try_keeps : (g : ReplayInput) (s : Server) (p : Passing) (r : Recreation) (c : Consumer) → IsKeptIn g.setup s c.core.consumer_sequence c.core.stream_sequence c.core.recreation_count r
+    → KeepsRow g.setup s c.core (try_row g p r (at_phase (Recreates r) c))
+try_keeps g s p r c k = if_each (KeepsRow g.setup s c.core) p.up _ _
+    (λ _. record { kept = record { start = k.start; fresh = k.fresh; later = k.later; opened = k.opened }; rows = tt; start = refl; extends = refl })
+    (λ _. record { kept = k; rows = (tt, tt); start = refl; extends = refl })
 
-create_keeps : (g : ReplayInput) (setup : OrderedSetup) (s : Server) (p : Passing) (r : Recreation) (c : Consumer) → IsKeptIn g.setup s c.consumer_sequence c.stream_sequence c.recreation_count r
+create_keeps : (g : ReplayInput) (setup : OrderedSetup) (s : Server) (p : Passing) (r : Recreation) (c : Consumer) → IsKeptIn g.setup s c.core.consumer_sequence c.core.stream_sequence c.core.recreation_count r
     → FollowsStarts s.starts (start_sequence r.start) (create_row setup p r (at_phase (Recreates r) c)).outputs
-    → Keeps g.setup s c.stream_sequence (create_row setup p r (at_phase (Recreates r) c))
-create_keeps g (Pull setup) s p r c k opens = record { kept = k; rows = (tt, tt); extends = refl }
+    → KeepsRow g.setup s c.core (create_row setup p r (at_phase (Recreates r) c))
+create_keeps g (Pull setup) s p r c k opens = record { kept = k; rows = (tt, tt); start = refl; extends = refl }
 create_keeps g (Push setup) s p r c k opens =
-    if_both (λ (passed : Passed). FollowsStarts s.starts (start_sequence r.start) passed.outputs → Keeps g.setup s c.stream_sequence passed) p.up _ _
+    if_both (λ (passed : Passed). FollowsStarts s.starts (start_sequence r.start) passed.outputs → KeepsRow g.setup s c.core passed) p.up _ _
     (λ starts. record {
       kept = record { start = k.start; fresh = k.fresh; later = k.later; opened = record { starts = starts.0; held = tt } };
       rows = (tt, tt);
+      start = refl;
       extends = refl;
     })
-    (λ starts. record { kept = k; rows = (tt, tt); extends = refl })
+    (λ starts. record { kept = k; rows = (tt, tt); start = refl; extends = refl })
     opens
 
-ask_keeps : (g : ReplayInput) (s : Server) (p : Passing) (r : Recreation) (c : Consumer) → IsKeptIn g.setup s c.consumer_sequence c.stream_sequence c.recreation_count r
-    → Keeps g.setup s c.stream_sequence (ask_row g p r (at_phase (Recreates r) c))
-ask_keeps g s p r c k = if_each (Keeps g.setup s c.stream_sequence) p.up _ _
-    (λ _. record { kept = record { start = k.start; fresh = k.fresh; later = k.later; opened = k.opened }; rows = tt; extends = refl })
-    (λ _. record { kept = k; rows = (tt, tt); extends = refl })
+ask_keeps : (g : ReplayInput) (s : Server) (p : Passing) (r : Recreation) (c : Consumer) → IsKeptIn g.setup s c.core.consumer_sequence c.core.stream_sequence c.core.recreation_count r
+    → KeepsRow g.setup s c.core (ask_row g p r (at_phase (Recreates r) c))
+ask_keeps g s p r c k = if_each (KeepsRow g.setup s c.core) p.up _ _
+    (λ _. record { kept = record { start = k.start; fresh = k.fresh; later = k.later; opened = k.opened }; rows = tt; start = refl; extends = refl })
+    (λ _. record { kept = k; rows = (tt, tt); start = refl; extends = refl })
 
-fail_keeps : (g : ReplayInput) (s : Server) (p : Passing) (r : Recreation) (c : Consumer) → IsKeptIn g.setup s c.consumer_sequence c.stream_sequence c.recreation_count r
-    → Keeps g.setup s c.stream_sequence (fail_row g p r (at_phase (Recreates r) c))
-fail_keeps g s p r c k = if_each (Keeps g.setup s c.stream_sequence) (nat_lt g.settings.retries (r.failures + 1)) _ _
-    (λ _. record { kept = tt; rows = tt; extends = refl })
-    (λ _. record { kept = record { start = k.start; fresh = k.fresh; later = k.later; opened = tt }; rows = tt; extends = refl })
+fail_keeps : (g : ReplayInput) (s : Server) (p : Passing) (r : Recreation) (c : Consumer) → IsKeptIn g.setup s c.core.consumer_sequence c.core.stream_sequence c.core.recreation_count r
+    → KeepsRow g.setup s c.core (fail_row g p r (at_phase (Recreates r) c))
+fail_keeps g s p r c k = if_each (KeepsRow g.setup s c.core) (nat_lt g.settings.retries (r.failures + 1)) _ _
+    (λ _. record { kept = tt; rows = tt; start = refl; extends = refl })
+    (λ _. record { kept = record { start = k.start; fresh = k.fresh; later = k.later; opened = tt }; rows = tt; start = refl; extends = refl })
 
 -- a new inbox that starts past the last yield
-fresh_inbox : (setup : OrderedSetup) (s : Server) (c : Consumer) (r : Recreation) (inbox : ℕ) → IsKeptIn setup s c.consumer_sequence c.stream_sequence c.recreation_count r
-    → s.starts inbox ≡ start_sequence r.start → IsKeptOn setup s c.consumer_sequence c.stream_sequence c.recreation_count inbox
+fresh_inbox : (setup : OrderedSetup) (s : Server) (c : Consumer) (r : Recreation) (inbox : ℕ) → IsKeptIn setup s c.core.consumer_sequence c.core.stream_sequence c.core.recreation_count r
+    → s.starts inbox ≡ start_sequence r.start → IsKeptOn setup s c.core.consumer_sequence c.core.stream_sequence c.core.recreation_count inbox
 fresh_inbox setup s c r inbox k starts =
-    let fresh : c.consumer_sequence ≡ 0 = k.fresh in
-    let later : 0 < c.recreation_count = k.later in
+    let fresh : c.core.consumer_sequence ≡ 0 = k.fresh in
+    let later : 0 < c.core.recreation_count = k.later in
     record {
       reached = λ some. absurd (omega (arith, fresh, some));
       first = λ _ zero_serial. absurd (omega (arith, later, zero_serial));
       later = λ _ _. starts ∙ ap start_sequence k.start;
     }
 
-succeed_pull_keeps : (g : ReplayInput) (s : Server) (p : Passing) (info : Info) (r : Recreation) (c : Consumer) → IsPull g.setup → IsKeptIn g.setup s c.consumer_sequence c.stream_sequence c.recreation_count r
+succeed_pull_keeps : (g : ReplayInput) (s : Server) (p : Passing) (info : Info) (r : Recreation) (c : Consumer) → IsPull g.setup → IsKeptIn g.setup s c.core.consumer_sequence c.core.stream_sequence c.core.recreation_count r
     → FollowsStarts s.starts (start_sequence r.start) (succeed_pull g p info (at_phase (Recreates r) c)).outputs
-    → Keeps g.setup s c.stream_sequence (succeed_pull g p info (at_phase (Recreates r) c))
+    → KeepsRow g.setup s c.core (succeed_pull g p info (at_phase (Recreates r) c))
 succeed_pull_keeps g s p info r c mode k =
-    if_both (λ (passed : Passed). FollowsStarts s.starts (start_sequence r.start) passed.outputs → Keeps g.setup s c.stream_sequence passed) p.up _ _
-    (λ starts. record { kept = (mode, fresh_inbox g.setup s c r p.inbox k starts.0); rows = (tt, (tt, tt)); extends = refl })
-    (λ starts. record { kept = k; rows = (tt, tt); extends = refl })
+    if_both (λ (passed : Passed). FollowsStarts s.starts (start_sequence r.start) passed.outputs → KeepsRow g.setup s c.core passed) p.up _ _
+    (λ starts. record { kept = (mode, fresh_inbox g.setup s c r p.inbox k starts.0); rows = (tt, (tt, tt)); start = refl; extends = refl })
+    (λ starts. record { kept = k; rows = (tt, tt); start = refl; extends = refl })
 
 held_rows : (setup : OrderedSetup) (s : Server) (inbox : ℕ) (held : List Message)
     → AllByRecursion (λ (message : Message). IsHonestArrival setup s (record { inbox = inbox; message = message })) held
@@ -126,19 +137,20 @@ held_rows : (setup : OrderedSetup) (s : Server) (inbox : ℕ) (held : List Messa
 held_rows setup s inbox [] honest = (tt, tt)
 held_rows setup s inbox (message ∷ held) honest = (honest.0, held_rows setup s inbox held honest.1)
 
-succeed_push_keeps : (g : ReplayInput) (s : Server) (p : Passing) (opened : Option Opened) (r : Recreation) (c : Consumer) → IsPush g.setup → IsKeptIn g.setup s c.consumer_sequence c.stream_sequence c.recreation_count r
+succeed_push_keeps : (g : ReplayInput) (s : Server) (p : Passing) (opened : Option Opened) (r : Recreation) (c : Consumer) → IsPush g.setup → IsKeptIn g.setup s c.core.consumer_sequence c.core.stream_sequence c.core.recreation_count r
     → IfSome opened (IsKeptOpened g.setup s r.start)
-    → Keeps g.setup s c.stream_sequence (succeed_push p opened (at_phase (Recreates r) c))
-succeed_push_keeps g s p None r c mode k ko = record { kept = k; rows = tt; extends = refl }
+    → KeepsRow g.setup s c.core (succeed_push p opened (at_phase (Recreates r) c))
+succeed_push_keeps g s p None r c mode k ko = record { kept = k; rows = tt; start = refl; extends = refl }
 succeed_push_keeps g s p (Some opened) r c mode k ko = record {
   kept = (mode, fresh_inbox g.setup s c r opened.inbox k ko.starts);
   rows = held_rows g.setup s opened.inbox opened.held ko.held;
+  start = refl;
   extends = refl;
 }
 
-succeed_keeps : (g : ReplayInput) (setup : OrderedSetup) → g.setup ≡ setup → (s : Server) (p : Passing) (info : Info) (r : Recreation) (c : Consumer) → IsKeptIn g.setup s c.consumer_sequence c.stream_sequence c.recreation_count r
+succeed_keeps : (g : ReplayInput) (setup : OrderedSetup) → g.setup ≡ setup → (s : Server) (p : Passing) (info : Info) (r : Recreation) (c : Consumer) → IsKeptIn g.setup s c.core.consumer_sequence c.core.stream_sequence c.core.recreation_count r
     → FollowsStarts s.starts (start_sequence r.start) (succeed_row setup g p info r (at_phase (Recreates r) c)).outputs
-    → Keeps g.setup s c.stream_sequence (succeed_row setup g p info r (at_phase (Recreates r) c))
+    → KeepsRow g.setup s c.core (succeed_row setup g p info r (at_phase (Recreates r) c))
 succeed_keeps g (Pull setup) same s p info r c k opens = succeed_pull_keeps g s p info r c (subst IsPull (sym same) tt) k opens
 succeed_keeps g (Push setup) same s p info r c k opens = succeed_push_keeps g s p r.opened r c (subst IsPush (sym same) tt) k k.opened
 
@@ -184,11 +196,12 @@ rows_of_stage g s p m (Deleting request timeout) =
 rows_of_stage g s p m (Creating request timeout) = created_rows g s p timeout (pull.reply_to request m.answer)
 rows_of_stage g s p m (Waiting wait) = if_each (AllByRecursion (IsHonestRow g.setup s)) (is_due wait p.now) _ _ (λ _. (tt, tt)) (λ _. tt)
 
-hold_row_keeps : (g : ReplayInput) (s : Server) (m : Matter) (r : Recreation) (c : Consumer) → IsKeptIn g.setup s c.consumer_sequence c.stream_sequence c.recreation_count r
-    → IsHonestMatter g.setup s m → Keeps g.setup s c.stream_sequence (hold_row m r (at_phase (Recreates r) c))
+hold_row_keeps : (g : ReplayInput) (s : Server) (m : Matter) (r : Recreation) (c : Consumer) → IsKeptIn g.setup s c.core.consumer_sequence c.core.stream_sequence c.core.recreation_count r
+    → IsHonestMatter g.setup s m → KeepsRow g.setup s c.core (hold_row m r (at_phase (Recreates r) c))
 hold_row_keeps g s m r c k honest = record {
   kept = record { start = k.start; fresh = k.fresh; later = k.later; opened = held_keeps g.setup s r.start m.arrival r.opened k.opened honest };
   rows = tt;
+  start = refl;
   extends = refl;
 }
 
@@ -203,21 +216,22 @@ DeliveredAs setup s inbox o message = (place : Place) → o ≡ Some place → I
 
 -- at a phase whose current inbox is this one
 message_keeps : (setup : OrderedSetup) (s : Server) (inbox : ℕ) (phase : Phase)
-    → ((c : Consumer) → IsKeptOn setup s c.consumer_sequence c.stream_sequence c.recreation_count inbox → IsKeptAt setup s c phase)
+    → ((c : Consumer) → IsKeptOn setup s c.core.consumer_sequence c.core.stream_sequence c.core.recreation_count inbox → IsKeptAt setup s c phase)
     → IsWhole setup s.log s.removed (s.starts inbox) (s.lists inbox)
-    → (c : Consumer) → IsKeptOn setup s c.consumer_sequence c.stream_sequence c.recreation_count inbox
+    → (c : Consumer) → IsKeptOn setup s c.core.consumer_sequence c.core.stream_sequence c.core.recreation_count inbox
     → (o : Option Place) (message : Message) → DeliveredAs setup s inbox o message
-    → Keeps setup s c.stream_sequence (message_row o message (at_phase phase c))
-message_keeps setup s inbox phase at whole c k None message delivered = record { kept = at (at_phase phase c) k; rows = tt; extends = refl }
+    → KeepsRow setup s c.core (message_row o message (at_phase phase c))
+message_keeps setup s inbox phase at whole c k None message delivered = record { kept = at (at_phase phase c) k; rows = tt; start = refl; extends = refl }
 message_keeps setup s inbox phase at whole c k (Some place) message delivered =
-    if_with (Keeps setup s c.stream_sequence) (place.number == c.consumer_sequence + 1) _ _
+    if_with (KeepsRow setup s c.core) (place.number == c.core.consumer_sequence + 1) _ _
     (λ same. record {
-      kept = at (record (at_phase phase c) { consumer_sequence = place.number; stream_sequence = place.sequence; limited = false })
-          (kept_next setup s c.consumer_sequence c.stream_sequence c.recreation_count inbox place.number (entry_of place message) (delivered place refl) (eqb-true place.number (c.consumer_sequence + 1) same));
+      kept = at (record (at_phase phase c) { core = after_yield place.sequence place.number c.core; limited = false })
+          (kept_next setup s c.core.consumer_sequence c.core.stream_sequence c.core.recreation_count inbox place.number (entry_of place message) (delivered place refl) (eqb-true place.number (c.core.consumer_sequence + 1) same));
+      start = refl;
       rows = tt;
-      extends = (joins_next setup s c.consumer_sequence c.stream_sequence c.recreation_count inbox place.number (entry_of place message) whole k (delivered place refl) (eqb-true place.number (c.consumer_sequence + 1) same), refl);
+      extends = (joins_next setup s c.core.consumer_sequence c.core.stream_sequence c.core.recreation_count inbox place.number (entry_of place message) whole k (delivered place refl) (eqb-true place.number (c.core.consumer_sequence + 1) same), refl);
     })
-    (record { kept = at (at_phase phase c) k; rows = (tt, tt); extends = refl })
+    (record { kept = at (at_phase phase c) k; rows = (tt, tt); start = refl; extends = refl })
 
 -- ---- the pull reader
 
@@ -299,40 +313,41 @@ pub reader_rows : (setup : OrderedSetup) (s : Server) (rows : List PullRow) → 
 reader_rows setup s [] = tt
 reader_rows setup s (row ∷ rows) = (tt, reader_rows setup s rows)
 
-with_sent_keeps : (setup : OrderedSetup) (s : Server) (last : ℕ) (sent : List Sent) (rows : List PullRow) (passed : Passed) → Keeps setup s last passed
-    → Keeps setup s last (with_sent (map output_of sent) (map Read rows) passed)
-with_sent_keeps setup s last sent rows passed keeps = record {
+with_sent_keeps : (setup : OrderedSetup) (s : Server) (core : OrderedCore) (sent : List Sent) (rows : List PullRow) (passed : Passed) → KeepsRow setup s core passed
+    → KeepsRow setup s core (with_sent (map output_of sent) (map Read rows) passed)
+with_sent_keeps setup s core sent rows passed keeps = record {
   kept = keeps.kept;
+  start = keeps.start;
   rows = all_in_place (IsHonestRow setup s) passed.next (map Read rows) keeps.rows (reader_rows setup s rows);
-  extends = sent_extends setup s last passed.consumer.stream_sequence sent passed.outputs keeps.extends;
+  extends = sent_extends setup s core.stream_sequence passed.consumer.core.stream_sequence sent passed.outputs keeps.extends;
 }
 
 told_keeps : (g : ReplayInput) (s : Server) (setup : OrderedSetup) (reader : PullReader) (c : Consumer) (arrival : Option Message) (t : PullTold)
     → IsWhole setup s.log s.removed (s.starts reader.source.inbox) (s.lists reader.source.inbox)
-    → IsPull setup → IsKeptOn setup s c.consumer_sequence c.stream_sequence c.recreation_count reader.source.inbox
+    → IsPull setup → IsKeptOn setup s c.core.consumer_sequence c.core.stream_sequence c.core.recreation_count reader.source.inbox
     → HandsOnly arrival t
     → ((message : Message) → arrival ≡ Some message → pull_kind message ≡ kind.Delivered → DeliveredAs setup s reader.source.inbox (readable_as message.reply) message)
-    → Keeps setup s c.stream_sequence (told t (at_phase (Pulls reader) c))
-told_keeps g s setup reader c arrival tells.Nothing whole mode k hands delivered = record { kept = (mode, k); rows = tt; extends = refl }
+    → KeepsRow setup s c.core (told t (at_phase (Pulls reader) c))
+told_keeps g s setup reader c arrival tells.Nothing whole mode k hands delivered = record { kept = (mode, k); rows = tt; start = refl; extends = refl }
 told_keeps g s setup reader c arrival (tells.Hands message) whole mode k hands delivered =
     message_keeps setup s reader.source.inbox (Pulls reader) (λ c' kept. (mode, kept)) whole (record c { missed = false }) k
     (readable_as message.reply) message (delivered message hands.0 hands.1)
-told_keeps g s setup reader c arrival (tells.Tells error.ConsumerDeleted) whole mode k hands delivered = record { kept = (mode, k); rows = (tt, tt); extends = refl }
-told_keeps g s setup reader c arrival (tells.Tells error.NoResponders) whole mode k hands delivered = record { kept = (mode, k); rows = (tt, tt); extends = refl }
-told_keeps g s setup reader c arrival (tells.Tells error.PushBasedConsumer) whole mode k hands delivered = record { kept = tt; rows = tt; extends = refl }
+told_keeps g s setup reader c arrival (tells.Tells error.ConsumerDeleted) whole mode k hands delivered = record { kept = (mode, k); rows = (tt, tt); start = refl; extends = refl }
+told_keeps g s setup reader c arrival (tells.Tells error.NoResponders) whole mode k hands delivered = record { kept = (mode, k); rows = (tt, tt); start = refl; extends = refl }
+told_keeps g s setup reader c arrival (tells.Tells error.PushBasedConsumer) whole mode k hands delivered = record { kept = tt; rows = tt; start = refl; extends = refl }
 told_keeps g s setup reader c arrival (tells.Tells error.RequestLimitExceeded) whole mode k hands delivered =
-    if_each (Keeps setup s c.stream_sequence) c.limited _ _ (λ _. record { kept = tt; rows = tt; extends = refl }) (λ _. record { kept = (mode, k); rows = (tt, tt); extends = refl })
+    if_each (KeepsRow setup s c.core) c.limited _ _ (λ _. record { kept = tt; rows = tt; start = refl; extends = refl }) (λ _. record { kept = (mode, k); rows = (tt, tt); start = refl; extends = refl })
 told_keeps g s setup reader c arrival (tells.Tells error.MissingHeartbeat) whole mode k hands delivered =
-    if_each (Keeps setup s c.stream_sequence) c.missed _ _ (λ _. record { kept = (mode, k); rows = (tt, tt); extends = refl }) (λ _. record { kept = (mode, k); rows = tt; extends = refl })
-told_keeps g s setup reader c arrival (tells.Tells error.Pull) whole mode k hands delivered = record { kept = (mode, k); rows = tt; extends = refl }
-told_keeps g s setup reader c arrival (tells.Tells error.Other) whole mode k hands delivered = record { kept = (mode, k); rows = tt; extends = refl }
+    if_each (KeepsRow setup s c.core) c.missed _ _ (λ _. record { kept = (mode, k); rows = (tt, tt); start = refl; extends = refl }) (λ _. record { kept = (mode, k); rows = tt; start = refl; extends = refl })
+told_keeps g s setup reader c arrival (tells.Tells error.Pull) whole mode k hands delivered = record { kept = (mode, k); rows = tt; start = refl; extends = refl }
+told_keeps g s setup reader c arrival (tells.Tells error.Other) whole mode k hands delivered = record { kept = (mode, k); rows = tt; start = refl; extends = refl }
 
 -- ---- push
 
-silence_keeps : (setup : OrderedSetup) (s : Server) (p : Passing) (heartbeat_timer : Timer) (inbox : ℕ) (c : Consumer) → IsPush setup → IsKeptOn setup s c.consumer_sequence c.stream_sequence c.recreation_count inbox
-    → Keeps setup s c.stream_sequence (silence_row p heartbeat_timer (at_phase (Pushes inbox heartbeat_timer) c))
+silence_keeps : (setup : OrderedSetup) (s : Server) (p : Passing) (heartbeat_timer : Timer) (inbox : ℕ) (c : Consumer) → IsPush setup → IsKeptOn setup s c.core.consumer_sequence c.core.stream_sequence c.core.recreation_count inbox
+    → KeepsRow setup s c.core (silence_row p heartbeat_timer (at_phase (Pushes inbox heartbeat_timer) c))
 silence_keeps setup s p heartbeat_timer inbox c mode k =
-    if_each (Keeps setup s c.stream_sequence) (is_due heartbeat_timer p.now) _ _ (λ _. record { kept = (mode, k); rows = (tt, tt); extends = refl }) (λ _. record { kept = (mode, k); rows = tt; extends = refl })
+    if_each (KeepsRow setup s c.core) (is_due heartbeat_timer p.now) _ _ (λ _. record { kept = (mode, k); rows = (tt, tt); start = refl; extends = refl }) (λ _. record { kept = (mode, k); rows = tt; start = refl; extends = refl })
 
 beat_extends : (setup : OrderedSetup) (s : Server) (last : ℕ) (up : Bool) (reply : Option (List ℕ)) → Extends setup s last (beat_answer up reply) last
 beat_extends setup s last up None = refl
@@ -345,15 +360,15 @@ beat_rows_honest setup s (Some n) consumer_sequence = if_each (AllByRecursion (I
 
 hear_kind_keeps : (setup : OrderedSetup) (s : Server) (p : Passing) (inbox : ℕ) (heartbeat_timer : Timer) (c : Consumer) (message : Message) (k : PushKind)
     → IsWhole setup s.log s.removed (s.starts inbox) (s.lists inbox)
-    → IsPush setup → IsKeptOn setup s c.consumer_sequence c.stream_sequence c.recreation_count inbox
+    → IsPush setup → IsKeptOn setup s c.core.consumer_sequence c.core.stream_sequence c.core.recreation_count inbox
     → (k ≡ Delivered → DeliveredAs setup s inbox (readable_as message.reply) message)
-    → Keeps setup s c.stream_sequence (hear_kind p message k (at_phase (Pushes inbox heartbeat_timer) c))
+    → KeepsRow setup s c.core (hear_kind p message k (at_phase (Pushes inbox heartbeat_timer) c))
 hear_kind_keeps setup s p inbox heartbeat_timer c message Delivered whole mode k delivered =
     message_keeps setup s inbox (Pushes inbox heartbeat_timer) (λ c' kept. (mode, kept)) whole c k (readable_as message.reply) message (delivered refl)
-hear_kind_keeps setup s p inbox heartbeat_timer c message OtherStatus whole mode k delivered = record { kept = (mode, k); rows = tt; extends = refl }
-hear_kind_keeps setup s p inbox heartbeat_timer c message Bad whole mode k delivered = record { kept = (mode, k); rows = tt; extends = refl }
+hear_kind_keeps setup s p inbox heartbeat_timer c message OtherStatus whole mode k delivered = record { kept = (mode, k); rows = tt; start = refl; extends = refl }
+hear_kind_keeps setup s p inbox heartbeat_timer c message Bad whole mode k delivered = record { kept = (mode, k); rows = tt; start = refl; extends = refl }
 hear_kind_keeps setup s p inbox heartbeat_timer c message (Beat n) whole mode k delivered =
-    record { kept = (mode, k); rows = beat_rows_honest setup s n c.consumer_sequence; extends = beat_extends setup s c.stream_sequence p.up message.reply }
+    record { kept = (mode, k); rows = beat_rows_honest setup s n c.core.consumer_sequence; start = refl; extends = beat_extends setup s c.core.stream_sequence p.up message.reply }
 
 -- ---- a mode's messages
 
@@ -369,16 +384,16 @@ push_message (Push setup) message mode is = is
 
 reader_keeps : (g : ReplayInput) (s : Server) (p : Passing) (m : Matter) (row : PullRow) (reader : PullReader) (c : Consumer)
     → ((inbox : ℕ) → IsWhole g.setup s.log s.removed (s.starts inbox) (s.lists inbox))
-    → IsPull g.setup → IsKeptOn g.setup s c.consumer_sequence c.stream_sequence c.recreation_count reader.source.inbox → IsHonestMatter g.setup s m
-    → Keeps g.setup s c.stream_sequence (reader_row p m row reader c)
+    → IsPull g.setup → IsKeptOn g.setup s c.core.consumer_sequence c.core.stream_sequence c.core.recreation_count reader.source.inbox → IsHonestMatter g.setup s m
+    → KeepsRow g.setup s c.core (reader_row p m row reader c)
 reader_keeps g s p m row reader c whole mode k honest =
     let arrival : Option Message = message_on reader.source.inbox m.arrival in
     let passed : pull.Passed = pull.row p m.answer arrival row reader in
     let read : IsRead reader arrival passed = row_read p m.answer arrival row reader in
     let same : reader.source.inbox ≡ passed.reader.source.inbox = sym (ap (λ (source : Source). source.inbox) read.source) in
-    with_sent_keeps g.setup s c.stream_sequence passed.sent passed.next (told passed.told (at_phase (Pulls passed.reader) c))
+    with_sent_keeps g.setup s c.core passed.sent passed.next (told passed.told (at_phase (Pulls passed.reader) c))
     (told_keeps g s g.setup passed.reader c arrival passed.told (whole passed.reader.source.inbox) mode
-    (subst (λ (i : ℕ). IsKeptOn g.setup s c.consumer_sequence c.stream_sequence c.recreation_count i) same k) read.hands
+    (subst (λ (i : ℕ). IsKeptOn g.setup s c.core.consumer_sequence c.core.stream_sequence c.core.recreation_count i) same k) read.hands
     (λ message is kind_is place place_is.
     subst (λ (i : ℕ). IsDelivery s i place.number (entry_of place message)) same
     (delivery arrival (on_inbox g.setup s reader.source.inbox m.arrival honest) message is kind_is place place_is)))
@@ -393,15 +408,15 @@ reader_keeps g s p m row reader c whole mode k honest =
 
 hear_keeps : (g : ReplayInput) (s : Server) (p : Passing) (arrival : Arrival) (inbox : ℕ) (heartbeat_timer : Timer) (c : Consumer)
     → ((inbox : ℕ) → IsWhole g.setup s.log s.removed (s.starts inbox) (s.lists inbox))
-    → IsPush g.setup → IsKeptOn g.setup s c.consumer_sequence c.stream_sequence c.recreation_count inbox → IsHonestArrival g.setup s arrival
-    → Keeps g.setup s c.stream_sequence (hear_row p arrival inbox (at_phase (Pushes inbox heartbeat_timer) c))
+    → IsPush g.setup → IsKeptOn g.setup s c.core.consumer_sequence c.core.stream_sequence c.core.recreation_count inbox → IsHonestArrival g.setup s arrival
+    → KeepsRow g.setup s c.core (hear_row p arrival inbox (at_phase (Pushes inbox heartbeat_timer) c))
 hear_keeps g s p arrival inbox heartbeat_timer c whole mode k honest =
-    if_with (Keeps g.setup s c.stream_sequence) (arrival.inbox == inbox) _ _
+    if_with (KeepsRow g.setup s c.core) (arrival.inbox == inbox) _ _
     (λ same. hear_kind_keeps g.setup s p inbox (armed p.now) c arrival.message (push_kind arrival.message) (whole inbox) mode k
     (λ kind_is place place_is.
     subst (λ (i : ℕ). IsDelivery s i place.number (entry_of place arrival.message)) (eqb-true arrival.inbox inbox same)
     (honest place (push_message g.setup arrival.message mode kind_is) place_is)))
-    (record { kept = (mode, k); rows = tt; extends = refl })
+    (record { kept = (mode, k); rows = tt; start = refl; extends = refl })
 
 -- ---- an event's first row
 
@@ -411,20 +426,20 @@ push_rows_honest setup s inbox None honest = (tt, tt)
 push_rows_honest setup s inbox (Some message) honest = (honest, tt)
 
 go_on_keeps : (g : ReplayInput) (s : Server) (whole : (inbox : ℕ) → IsWhole g.setup s.log s.removed (s.starts inbox) (s.lists inbox)) (p : Passing) (m : Matter) (phase : Phase) (c : Consumer) → IsKeptAt g.setup s c phase → IsHonestMatter g.setup s m
-    → Keeps g.setup s c.stream_sequence (go_on g p m phase (at_phase phase c))
-go_on_keeps g s whole p m Idle c k honest = record { kept = tt; rows = (tt, tt); extends = refl }
-go_on_keeps g s whole p m (Recreates r) c k honest = record { kept = k; rows = recreation_honest g.setup s r.opened; extends = refl }
+    → KeepsRow g.setup s c.core (go_on g p m phase (at_phase phase c))
+go_on_keeps g s whole p m Idle c k honest = record { kept = tt; rows = (tt, tt); start = refl; extends = refl }
+go_on_keeps g s whole p m (Recreates r) c k honest = record { kept = k; rows = recreation_honest g.setup s r.opened; start = refl; extends = refl }
 go_on_keeps g s whole p m (Pulls reader) c k honest = reader_keeps g s p m (read.Begin None) reader c whole k.0 k.1 honest
-go_on_keeps g s whole p m (Pushes inbox heartbeat_timer) c k honest = record { kept = k; rows = (tt, tt); extends = refl }
-go_on_keeps g s whole p m Ended c k honest = record { kept = tt; rows = tt; extends = refl }
-go_on_keeps g s whole p m Exhausted c k honest = record { kept = tt; rows = tt; extends = refl }
+go_on_keeps g s whole p m (Pushes inbox heartbeat_timer) c k honest = record { kept = k; rows = (tt, tt); start = refl; extends = refl }
+go_on_keeps g s whole p m Ended c k honest = record { kept = tt; rows = tt; start = refl; extends = refl }
+go_on_keeps g s whole p m Exhausted c k honest = record { kept = tt; rows = tt; start = refl; extends = refl }
 
 changed_keeps : (g : ReplayInput) (s : Server) (whole : (inbox : ℕ) → IsWhole g.setup s.log s.removed (s.starts inbox) (s.lists inbox)) (p : Passing) (m : Matter) (old new : State) (phase : Phase) (c : Consumer) → IsKeptAt g.setup s c phase → IsHonestMatter g.setup s m
-    → Keeps g.setup s c.stream_sequence (changed g p m old new phase (at_phase phase c))
+    → KeepsRow g.setup s c.core (changed g p m old new phase (at_phase phase c))
 changed_keeps g s whole p m old new (Pulls reader) c k honest = reader_keeps g s p m (read.Begin (Some new)) reader (record c { connection = new }) whole k.0 k.1 honest
 changed_keeps g s whole p m old new (Pushes inbox heartbeat_timer) c k honest =
-    if_both (Keeps g.setup s c.stream_sequence) (is_connected old || is_connected new) _ _
-    (record { kept = k; rows = (tt, tt); extends = refl }) (go_on_keeps g s whole p m (Pushes inbox heartbeat_timer) (record c { connection = new }) k honest)
+    if_both (KeepsRow g.setup s c.core) (is_connected old || is_connected new) _ _
+    (record { kept = k; rows = (tt, tt); start = refl; extends = refl }) (go_on_keeps g s whole p m (Pushes inbox heartbeat_timer) (record c { connection = new }) k honest)
 changed_keeps g s whole p m old new (Recreates r) c k honest =
     go_on_keeps g s whole p m (Recreates r) (record c { connection = new }) k honest
 changed_keeps g s whole p m old new Idle c k honest =
@@ -435,21 +450,21 @@ changed_keeps g s whole p m old new Exhausted c k honest =
     go_on_keeps g s whole p m Exhausted (record c { connection = new }) k honest
 
 watcher_keeps : (g : ReplayInput) (s : Server) (whole : (inbox : ℕ) → IsWhole g.setup s.log s.removed (s.starts inbox) (s.lists inbox)) (p : Passing) (m : Matter) (setup : OrderedSetup) (phase : Phase) (c : Consumer) → IsKeptAt g.setup s c phase → IsHonestMatter g.setup s m
-    → Keeps g.setup s c.stream_sequence (watcher_ended g p m setup (at_phase phase c))
+    → KeepsRow g.setup s c.core (watcher_ended g p m setup (at_phase phase c))
 watcher_keeps g s whole p m (Pull setup) phase c k honest = go_on_keeps g s whole p m phase c k honest
-watcher_keeps g s whole p m (Push setup) phase c k honest = record { kept = tt; rows = tt; extends = refl }
+watcher_keeps g s whole p m (Push setup) phase c k honest = record { kept = tt; rows = tt; start = refl; extends = refl }
 
 change_keeps : (g : ReplayInput) (s : Server) (whole : (inbox : ℕ) → IsWhole g.setup s.log s.removed (s.starts inbox) (s.lists inbox)) (p : Passing) (m : Matter) (change : Change) (phase : Phase) (c : Consumer) → IsKeptAt g.setup s c phase → IsHonestMatter g.setup s m
-    → Keeps g.setup s c.stream_sequence (event_change g p m change (at_phase phase c))
+    → KeepsRow g.setup s c.core (event_change g p m change (at_phase phase c))
 change_keeps g s whole p m Unchanged phase c k honest = go_on_keeps g s whole p m phase c k honest
 change_keeps g s whole p m (Becomes state) phase c k honest =
-    if_both (Keeps g.setup s c.stream_sequence) (same_state c.connection state) _ _ (go_on_keeps g s whole p m phase c k honest) (changed_keeps g s whole p m c.connection state phase c k honest)
+    if_both (KeepsRow g.setup s c.core) (same_state c.connection state) _ _ (go_on_keeps g s whole p m phase c k honest) (changed_keeps g s whole p m c.connection state phase c k honest)
 change_keeps g s whole p m WatcherEnds phase c k honest = watcher_keeps g s whole p m g.setup phase c k honest
 
 event_keeps : (g : ReplayInput) (s : Server) (whole : (inbox : ℕ) → IsWhole g.setup s.log s.removed (s.starts inbox) (s.lists inbox)) (p : Passing) (m : Matter) (phase : Phase) (c : Consumer) → IsKeptAt g.setup s c phase → IsHonestMatter g.setup s m
-    → Keeps g.setup s c.stream_sequence (event_row g p m phase (at_phase phase c))
-event_keeps g s whole p m Ended c k honest = record { kept = tt; rows = tt; extends = refl }
-event_keeps g s whole p m Exhausted c k honest = record { kept = tt; rows = tt; extends = refl }
+    → KeepsRow g.setup s c.core (event_row g p m phase (at_phase phase c))
+event_keeps g s whole p m Ended c k honest = record { kept = tt; rows = tt; start = refl; extends = refl }
+event_keeps g s whole p m Exhausted c k honest = record { kept = tt; rows = tt; start = refl; extends = refl }
 event_keeps g s whole p m (Pulls reader) c k honest = change_keeps g s whole p m m.change (Pulls reader) c k honest
 event_keeps g s whole p m (Pushes inbox heartbeat_timer) c k honest = change_keeps g s whole p m m.change (Pushes inbox heartbeat_timer) c k honest
 event_keeps g s whole p m (Recreates r) c k honest = change_keeps g s whole p m m.change (Recreates r) c k honest
@@ -457,32 +472,34 @@ event_keeps g s whole p m Idle c k honest = change_keeps g s whole p m m.change 
 
 -- ---- every row
 
-pub row_keeps : (g : ReplayInput) (s : Server) → ((inbox : ℕ) → IsWhole g.setup s.log s.removed (s.starts inbox) (s.lists inbox))
+row_keeps : (g : ReplayInput) (s : Server) → ((inbox : ℕ) → IsWhole g.setup s.log s.removed (s.starts inbox) (s.lists inbox))
     → (p : Passing) (m : Matter) (row : Row) (phase : Phase) (c : Consumer)
-    → IsKeptAt g.setup s c phase → IsHonestMatter g.setup s m → IsHonestRow g.setup s row
+    → c.core.start ≡ configured_start g.setup → IsKeptAt g.setup s c phase → IsHonestMatter g.setup s m → IsHonestRow g.setup s row
     → OpensAsAsked s phase (row_at g p m row phase (at_phase phase c)).outputs
-    → Keeps g.setup s c.stream_sequence (row_at g p m row phase (at_phase phase c))
-row_keeps g s whole p m Event phase c k matter honest opens = event_keeps g s whole p m phase c k matter
-row_keeps g s whole p m Start phase c k matter honest opens = start_keeps g s (at_phase phase c)
-row_keeps g s whole p m Try (Recreates r) c k matter honest opens = try_keeps g s p r c k
-row_keeps g s whole p m Create (Recreates r) c k matter honest opens = create_keeps g g.setup s p r c k opens
-row_keeps g s whole p m Ask (Recreates r) c k matter honest opens = ask_keeps g s p r c k
-row_keeps g s whole p m Await (Recreates r) c k matter honest opens = record { kept = k; rows = rows_of_stage g s p m r.stage; extends = refl }
-row_keeps g s whole p m (Answered reply) (Recreates r) c k matter honest opens = record { kept = k; rows = (answered_row g.setup s g.setup (pull.info_of_reply reply), tt); extends = refl }
-row_keeps g s whole p m Hold (Recreates r) c k matter honest opens = hold_row_keeps g s m r c k matter
-row_keeps g s whole p m (Succeed info) (Recreates r) c k matter honest opens = succeed_keeps g g.setup refl s p info r c k opens
-row_keeps g s whole p m Fail (Recreates r) c k matter honest opens = fail_keeps g s p r c k
-row_keeps g s whole p m CheckArrival (Pushes inbox heartbeat_timer) c k matter honest opens = record { kept = k; rows = push_rows_honest g.setup s inbox (message_on inbox m.arrival) (on_inbox g.setup s inbox m.arrival matter); extends = refl }
-row_keeps g s whole p m (Hear arrival) (Pushes inbox heartbeat_timer) c k matter honest opens = hear_keeps g s p arrival inbox heartbeat_timer c whole k.0 k.1 honest
-row_keeps g s whole p m CheckSilence (Pushes inbox heartbeat_timer) c k matter honest opens = silence_keeps g.setup s p heartbeat_timer inbox c k.0 k.1
-row_keeps g s whole p m Arm (Pushes inbox heartbeat_timer) c k matter honest opens = record { kept = k; rows = tt; extends = refl }
-row_keeps g s whole p m (Read row) (Pulls reader) c k matter honest opens = reader_keeps g s p m row reader c whole k.0 k.1 matter
-row_keeps g s whole p m _ phase c k matter honest opens = record { kept = k; rows = tt; extends = refl }
+    → KeepsRow g.setup s c.core (row_at g p m row phase (at_phase phase c))
+row_keeps g s whole p m Event phase c configured k matter honest opens = event_keeps g s whole p m phase c k matter
+row_keeps g s whole p m Start phase c configured k matter honest opens = start_keeps g s (at_phase phase c) configured
+row_keeps g s whole p m Try (Recreates r) c configured k matter honest opens = try_keeps g s p r c k
+row_keeps g s whole p m Create (Recreates r) c configured k matter honest opens = create_keeps g g.setup s p r c k opens
+row_keeps g s whole p m Ask (Recreates r) c configured k matter honest opens = ask_keeps g s p r c k
+row_keeps g s whole p m Await (Recreates r) c configured k matter honest opens = record { kept = k; rows = rows_of_stage g s p m r.stage; start = refl; extends = refl }
+row_keeps g s whole p m (Answered reply) (Recreates r) c configured k matter honest opens = record { kept = k; rows = (answered_row g.setup s g.setup (pull.info_of_reply reply), tt); start = refl; extends = refl }
+row_keeps g s whole p m Hold (Recreates r) c configured k matter honest opens = hold_row_keeps g s m r c k matter
+row_keeps g s whole p m (Succeed info) (Recreates r) c configured k matter honest opens = succeed_keeps g g.setup refl s p info r c k opens
+row_keeps g s whole p m Fail (Recreates r) c configured k matter honest opens = fail_keeps g s p r c k
+row_keeps g s whole p m CheckArrival (Pushes inbox heartbeat_timer) c configured k matter honest opens = record { kept = k; rows = push_rows_honest g.setup s inbox (message_on inbox m.arrival) (on_inbox g.setup s inbox m.arrival matter); start = refl; extends = refl }
+row_keeps g s whole p m (Hear arrival) (Pushes inbox heartbeat_timer) c configured k matter honest opens = hear_keeps g s p arrival inbox heartbeat_timer c whole k.0 k.1 honest
+row_keeps g s whole p m CheckSilence (Pushes inbox heartbeat_timer) c configured k matter honest opens = silence_keeps g.setup s p heartbeat_timer inbox c k.0 k.1
+row_keeps g s whole p m Arm (Pushes inbox heartbeat_timer) c configured k matter honest opens = record { kept = k; rows = tt; start = refl; extends = refl }
+row_keeps g s whole p m (Read row) (Pulls reader) c configured k matter honest opens = reader_keeps g s p m row reader c whole k.0 k.1 matter
+row_keeps g s whole p m _ phase c configured k matter honest opens = record { kept = k; rows = tt; start = refl; extends = refl }
 
 -- a row that is passed keeps what is known of its consumer
 pub pass_keeps : (g : ReplayInput) (s : Server) → ((inbox : ℕ) → IsWhole g.setup s.log s.removed (s.starts inbox) (s.lists inbox))
     → (p : Passing) (m : Matter) (row : Row) (c : Consumer)
     → IsKept g.setup s c → IsHonestMatter g.setup s m → IsHonestRow g.setup s row
     → OpensAsAsked s c.phase (pass g p m row c).outputs
-    → Keeps g.setup s c.stream_sequence (pass g p m row c)
-pass_keeps g s whole p m row c k matter honest opens = row_keeps g s whole p m row c.phase c k matter honest opens
+    → Keeps g.setup s c.core.stream_sequence (pass g p m row c)
+pass_keeps g s whole p m row c (k, configured) matter honest opens =
+    let one : KeepsRow g.setup s c.core (pass g p m row c) = row_keeps g s whole p m row c.phase c configured k matter honest opens in
+    record { kept = (one.kept, one.start ∙ configured); rows = one.rows; extends = one.extends }

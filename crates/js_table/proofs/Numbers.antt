@@ -79,53 +79,53 @@ sent_counts (goes.Subscribe inbox subject group ∷ sent) before after outputs c
 
 -- a row goes on from the last number, up to the number that it leaves
 abbrev GoesUp : ℕ → Passed → Type 0
-GoesUp before passed = Counts before passed.outputs passed.consumer.consumer_sequence
+GoesUp before passed = Counts before passed.outputs passed.consumer.core.consumer_sequence
 
-message_up : (o : Option Place) (message : Message) (c : Consumer) → GoesUp c.consumer_sequence (message_row o message c)
+message_up : (o : Option Place) (message : Message) (c : Consumer) → GoesUp c.core.consumer_sequence (message_row o message c)
 message_up None message c = refl
-message_up (Some place) message c = if_with (GoesUp c.consumer_sequence) (place.number == c.consumer_sequence + 1) _ _ (λ same. (eqb-true place.number (c.consumer_sequence + 1) same, refl)) refl
+message_up (Some place) message c = if_with (GoesUp c.core.consumer_sequence) (place.number == c.core.consumer_sequence + 1) _ _ (λ same. (eqb-true place.number (c.core.consumer_sequence + 1) same, refl)) refl
 
-told_up : (t : PullTold) (c : Consumer) → GoesUp c.consumer_sequence (told t c)
+told_up : (t : PullTold) (c : Consumer) → GoesUp c.core.consumer_sequence (told t c)
 told_up tells.Nothing c = refl
 told_up (tells.Hands message) c = message_up (readable_as message.reply) message (record c { missed = false })
 told_up (tells.Tells error.ConsumerDeleted) c = refl
 told_up (tells.Tells error.NoResponders) c = refl
 told_up (tells.Tells error.PushBasedConsumer) c = refl
-told_up (tells.Tells error.RequestLimitExceeded) c = if_both (GoesUp c.consumer_sequence) c.limited _ _ refl refl
-told_up (tells.Tells error.MissingHeartbeat) c = if_both (GoesUp c.consumer_sequence) c.missed _ _ refl refl
+told_up (tells.Tells error.RequestLimitExceeded) c = if_both (GoesUp c.core.consumer_sequence) c.limited _ _ refl refl
+told_up (tells.Tells error.MissingHeartbeat) c = if_both (GoesUp c.core.consumer_sequence) c.missed _ _ refl refl
 told_up (tells.Tells error.Pull) c = refl
 told_up (tells.Tells error.Other) c = refl
 
-reader_up : (p : Passing) (m : Matter) (row : PullRow) (reader : PullReader) (c : Consumer) → GoesUp c.consumer_sequence (reader_row p m row reader c)
+reader_up : (p : Passing) (m : Matter) (row : PullRow) (reader : PullReader) (c : Consumer) → GoesUp c.core.consumer_sequence (reader_row p m row reader c)
 reader_up p m row reader c =
     let passed : pull.Passed = pull.row p m.answer (message_on reader.source.inbox m.arrival) row reader in
     let inboxes_opened : Passed = told passed.told (at_phase (Pulls passed.reader) c) in
-    sent_counts passed.sent c.consumer_sequence inboxes_opened.consumer.consumer_sequence inboxes_opened.outputs (told_up passed.told (at_phase (Pulls passed.reader) c))
+    sent_counts passed.sent c.core.consumer_sequence inboxes_opened.consumer.core.consumer_sequence inboxes_opened.outputs (told_up passed.told (at_phase (Pulls passed.reader) c))
 
 beat_up : (up : Bool) (reply : Option (List ℕ)) (n : ℕ) → Counts n (beat_answer up reply) n
 beat_up up None n = refl
 beat_up true (Some reply) n = refl
 beat_up false (Some reply) n = refl
 
-hear_up : (p : Passing) (message : Message) (k : PushKind) (c : Consumer) → GoesUp c.consumer_sequence (hear_kind p message k c)
+hear_up : (p : Passing) (message : Message) (k : PushKind) (c : Consumer) → GoesUp c.core.consumer_sequence (hear_kind p message k c)
 hear_up p message Delivered c = message_up (readable_as message.reply) message c
 hear_up p message OtherStatus c = refl
 hear_up p message Bad c = refl
-hear_up p message (Beat last) c = beat_up p.up message.reply c.consumer_sequence
+hear_up p message (Beat last) c = beat_up p.up message.reply c.core.consumer_sequence
 
-create_up : (setup : OrderedSetup) (p : Passing) (r : Recreation) (c : Consumer) → GoesUp c.consumer_sequence (create_row setup p r c)
+create_up : (setup : OrderedSetup) (p : Passing) (r : Recreation) (c : Consumer) → GoesUp c.core.consumer_sequence (create_row setup p r c)
 create_up (Pull setup) p r c = refl
-create_up (Push setup) p r c = if_each (GoesUp c.consumer_sequence) p.up _ _ (λ _. refl) (λ _. refl)
+create_up (Push setup) p r c = if_each (GoesUp c.core.consumer_sequence) p.up _ _ (λ _. refl) (λ _. refl)
 
-push_up : (p : Passing) (opened : Option Opened) (c : Consumer) → GoesUp c.consumer_sequence (succeed_push p opened c)
+push_up : (p : Passing) (opened : Option Opened) (c : Consumer) → GoesUp c.core.consumer_sequence (succeed_push p opened c)
 push_up p None c = refl
 push_up p (Some opened) c = refl
 
-succeed_up : (setup : OrderedSetup) (g : ReplayInput) (p : Passing) (info : Info) (r : Recreation) (c : Consumer) → GoesUp c.consumer_sequence (succeed_row setup g p info r c)
-succeed_up (Pull setup) g p info r c = if_each (GoesUp c.consumer_sequence) p.up _ _ (λ _. refl) (λ _. refl)
+succeed_up : (setup : OrderedSetup) (g : ReplayInput) (p : Passing) (info : Info) (r : Recreation) (c : Consumer) → GoesUp c.core.consumer_sequence (succeed_row setup g p info r c)
+succeed_up (Pull setup) g p info r c = if_each (GoesUp c.core.consumer_sequence) p.up _ _ (λ _. refl) (λ _. refl)
 succeed_up (Push setup) g p info r c = push_up p r.opened c
 
-go_on_up : (g : ReplayInput) (p : Passing) (m : Matter) (phase : Phase) (c : Consumer) → GoesUp c.consumer_sequence (go_on g p m phase c)
+go_on_up : (g : ReplayInput) (p : Passing) (m : Matter) (phase : Phase) (c : Consumer) → GoesUp c.core.consumer_sequence (go_on g p m phase c)
 go_on_up g p m Idle c = refl
 go_on_up g p m (Recreates r) c = refl
 go_on_up g p m (Pulls reader) c = reader_up p m (read.Begin None) reader c
@@ -133,26 +133,26 @@ go_on_up g p m (Pushes inbox heartbeat_timer) c = refl
 go_on_up g p m Ended c = refl
 go_on_up g p m Exhausted c = refl
 
-changed_up : (g : ReplayInput) (p : Passing) (m : Matter) (old new : State) (phase : Phase) (c : Consumer) → GoesUp c.consumer_sequence (changed g p m old new phase c)
+changed_up : (g : ReplayInput) (p : Passing) (m : Matter) (old new : State) (phase : Phase) (c : Consumer) → GoesUp c.core.consumer_sequence (changed g p m old new phase c)
 changed_up g p m old new (Pulls reader) c = reader_up p m (read.Begin (Some new)) reader (record c { connection = new })
 changed_up g p m old new (Pushes inbox heartbeat_timer) c =
-    if_both (GoesUp c.consumer_sequence) (is_connected old || is_connected new) _ _ refl (go_on_up g p m (Pushes inbox heartbeat_timer) (record c { connection = new }))
+    if_both (GoesUp c.core.consumer_sequence) (is_connected old || is_connected new) _ _ refl (go_on_up g p m (Pushes inbox heartbeat_timer) (record c { connection = new }))
 changed_up g p m old new (Recreates r) c = go_on_up g p m (Recreates r) (record c { connection = new })
 changed_up g p m old new Idle c = go_on_up g p m Idle (record c { connection = new })
 changed_up g p m old new Ended c = go_on_up g p m Ended (record c { connection = new })
 changed_up g p m old new Exhausted c = go_on_up g p m Exhausted (record c { connection = new })
 
-watcher_up : (g : ReplayInput) (p : Passing) (m : Matter) (setup : OrderedSetup) (c : Consumer) → GoesUp c.consumer_sequence (watcher_ended g p m setup c)
+watcher_up : (g : ReplayInput) (p : Passing) (m : Matter) (setup : OrderedSetup) (c : Consumer) → GoesUp c.core.consumer_sequence (watcher_ended g p m setup c)
 watcher_up g p m (Pull setup) c = go_on_up g p m c.phase c
 watcher_up g p m (Push setup) c = refl
 
-change_up : (g : ReplayInput) (p : Passing) (m : Matter) (change : Change) (c : Consumer) → GoesUp c.consumer_sequence (event_change g p m change c)
+change_up : (g : ReplayInput) (p : Passing) (m : Matter) (change : Change) (c : Consumer) → GoesUp c.core.consumer_sequence (event_change g p m change c)
 change_up g p m Unchanged c = go_on_up g p m c.phase c
 change_up g p m (Becomes state) c =
-    if_both (GoesUp c.consumer_sequence) (same_state c.connection state) _ _ (go_on_up g p m c.phase c) (changed_up g p m c.connection state c.phase c)
+    if_both (GoesUp c.core.consumer_sequence) (same_state c.connection state) _ _ (go_on_up g p m c.phase c) (changed_up g p m c.connection state c.phase c)
 change_up g p m WatcherEnds c = watcher_up g p m g.setup c
 
-event_up : (g : ReplayInput) (p : Passing) (m : Matter) (phase : Phase) (c : Consumer) → GoesUp c.consumer_sequence (event_row g p m phase c)
+event_up : (g : ReplayInput) (p : Passing) (m : Matter) (phase : Phase) (c : Consumer) → GoesUp c.core.consumer_sequence (event_row g p m phase c)
 event_up g p m Ended c = refl
 event_up g p m Exhausted c = refl
 event_up g p m (Pulls reader) c = change_up g p m m.change c
@@ -160,21 +160,21 @@ event_up g p m (Pushes inbox heartbeat_timer) c = change_up g p m m.change c
 event_up g p m (Recreates r) c = change_up g p m m.change c
 event_up g p m Idle c = change_up g p m m.change c
 
-row_up : (g : ReplayInput) (p : Passing) (m : Matter) (row : Row) (phase : Phase) (c : Consumer) → GoesUp c.consumer_sequence (row_at g p m row phase c)
+row_up : (g : ReplayInput) (p : Passing) (m : Matter) (row : Row) (phase : Phase) (c : Consumer) → GoesUp c.core.consumer_sequence (row_at g p m row phase c)
 row_up g p m Event phase c = event_up g p m phase c
-row_up g p m Start phase c = if_each (GoesUp c.consumer_sequence) (c.stream_sequence == pull.u64_max) _ _ (λ _. refl) (λ _. refl)
-row_up g p m Try (Recreates r) c = if_each (GoesUp c.consumer_sequence) p.up _ _ (λ _. refl) (λ _. refl)
+row_up g p m Start phase c = if_each (GoesUp c.core.consumer_sequence) (c.core.stream_sequence == pull.u64_max) _ _ (λ _. refl) (λ _. refl)
+row_up g p m Try (Recreates r) c = if_each (GoesUp c.core.consumer_sequence) p.up _ _ (λ _. refl) (λ _. refl)
 row_up g p m Create (Recreates r) c = create_up g.setup p r c
-row_up g p m Ask (Recreates r) c = if_each (GoesUp c.consumer_sequence) p.up _ _ (λ _. refl) (λ _. refl)
+row_up g p m Ask (Recreates r) c = if_each (GoesUp c.core.consumer_sequence) p.up _ _ (λ _. refl) (λ _. refl)
 row_up g p m Await (Recreates r) c = refl
 row_up g p m (Answered reply) (Recreates r) c = refl
 row_up g p m Hold (Recreates r) c = refl
 row_up g p m (Succeed info) (Recreates r) c = succeed_up g.setup g p info r c
-row_up g p m Fail (Recreates r) c = if_each (GoesUp c.consumer_sequence) (nat_lt g.settings.retries (r.failures + 1)) _ _ (λ _. refl) (λ _. refl)
+row_up g p m Fail (Recreates r) c = if_each (GoesUp c.core.consumer_sequence) (nat_lt g.settings.retries (r.failures + 1)) _ _ (λ _. refl) (λ _. refl)
 row_up g p m CheckArrival (Pushes inbox heartbeat_timer) c = refl
 row_up g p m (Hear arrival) (Pushes inbox heartbeat_timer) c =
-    if_both (GoesUp c.consumer_sequence) (arrival.inbox == inbox) _ _ (hear_up p arrival.message (push_kind arrival.message) (at_phase (Pushes inbox (armed p.now)) c)) refl
-row_up g p m CheckSilence (Pushes inbox heartbeat_timer) c = if_each (GoesUp c.consumer_sequence) (is_due heartbeat_timer p.now) _ _ (λ _. refl) (λ _. refl)
+    if_both (GoesUp c.core.consumer_sequence) (arrival.inbox == inbox) _ _ (hear_up p arrival.message (push_kind arrival.message) (at_phase (Pushes inbox (armed p.now)) c)) refl
+row_up g p m CheckSilence (Pushes inbox heartbeat_timer) c = if_each (GoesUp c.core.consumer_sequence) (is_due heartbeat_timer p.now) _ _ (λ _. refl) (λ _. refl)
 row_up g p m Arm (Pushes inbox heartbeat_timer) c = refl
 row_up g p m (Read row) (Pulls reader) c = reader_up p m row reader c
 row_up g p m _ phase c = refl
@@ -182,35 +182,35 @@ row_up g p m _ phase c = refl
 -- ---- the runs
 
 abbrev RanUp : ℕ → Ran → Type 0
-RanUp before ran = Counts before ran.outputs ran.state.consumer.consumer_sequence
+RanUp before ran = Counts before ran.outputs ran.state.consumer.core.consumer_sequence
 
-each_up : (one : Row → ReplayState → Ran) → ((row : Row) (w : ReplayState) → RanUp w.consumer.consumer_sequence (one row w)) → (rows : List Row) (w : ReplayState) → RanUp w.consumer.consumer_sequence (pass_each one rows w)
+each_up : (one : Row → ReplayState → Ran) → ((row : Row) (w : ReplayState) → RanUp w.consumer.core.consumer_sequence (one row w)) → (rows : List Row) (w : ReplayState) → RanUp w.consumer.core.consumer_sequence (pass_each one rows w)
 each_up one up [] w = refl
 each_up one up (row ∷ rows) w =
     let ran : Ran = one row w in
     let rest : Ran = pass_each one rows ran.state in
-    counts_append w.consumer.consumer_sequence ran.state.consumer.consumer_sequence rest.state.consumer.consumer_sequence ran.outputs rest.outputs (up row w) (each_up one up rows ran.state)
+    counts_append w.consumer.core.consumer_sequence ran.state.consumer.core.consumer_sequence rest.state.consumer.core.consumer_sequence ran.outputs rest.outputs (up row w) (each_up one up rows ran.state)
 
-to_up : (g : ReplayInput) (now : ℕ) (m : Matter) (depth : ℕ) (row : Row) (w : ReplayState) → RanUp w.consumer.consumer_sequence (pass_to g now m depth row w)
+to_up : (g : ReplayInput) (now : ℕ) (m : Matter) (depth : ℕ) (row : Row) (w : ReplayState) → RanUp w.consumer.core.consumer_sequence (pass_to g now m depth row w)
 to_up g now m zero row w = refl
 to_up g now m (suc depth) row w =
     let passed : Passed = pass g (passing g now w) m row w.consumer in
     let rest : Ran = pass_each (pass_to g now m depth) passed.next (after w passed) in
-    counts_append w.consumer.consumer_sequence passed.consumer.consumer_sequence rest.state.consumer.consumer_sequence passed.outputs rest.outputs
+    counts_append w.consumer.core.consumer_sequence passed.consumer.core.consumer_sequence rest.state.consumer.core.consumer_sequence passed.outputs rest.outputs
     (row_up g (passing g now w) m row w.consumer.phase w.consumer) (each_up (pass_to g now m depth) (to_up g now m depth) passed.next (after w passed))
 
-all_up : (g : ReplayInput) (now : ℕ) (m : Matter) (rows : List Row) (w : ReplayState) → RanUp w.consumer.consumer_sequence (pass_all g now m rows w)
+all_up : (g : ReplayInput) (now : ℕ) (m : Matter) (rows : List Row) (w : ReplayState) → RanUp w.consumer.core.consumer_sequence (pass_all g now m rows w)
 all_up g now m rows w = each_up (λ row. pass_to g now m (suc (rank row)) row) (λ row. to_up g now m (suc (rank row)) row) rows w
 
-events_up : (g : ReplayInput) (es : List events.Event) (w : ReplayState) → (after : ℕ) × Counts w.consumer.consumer_sequence (joined (map step_of (run_events g es w))) after
+events_up : (g : ReplayInput) (es : List events.Event) (w : ReplayState) → (after : ℕ) × Counts w.consumer.core.consumer_sequence (joined (map step_of (run_events g es w))) after
 unfolding event run_events
-events_up g [] w = (w.consumer.consumer_sequence, refl)
+events_up g [] w = (w.consumer.core.consumer_sequence, refl)
 events_up g (e ∷ es) w =
     let ran : Ran = event g e w in
     let rest : List Output = joined (map step_of (run_events g es ran.state)) in
-    let more : (after : ℕ) × Counts ran.state.consumer.consumer_sequence rest after = events_up g es ran.state in (
+    let more : (after : ℕ) × Counts ran.state.consumer.core.consumer_sequence rest after = events_up g es ran.state in (
       more.0,
-      counts_append w.consumer.consumer_sequence ran.state.consumer.consumer_sequence more.0 ran.outputs rest
+      counts_append w.consumer.core.consumer_sequence ran.state.consumer.core.consumer_sequence more.0 ran.outputs rest
           (all_up g e.at (matter_of e.what) (Event ∷ []) (record w { link_up = link_after e.what w.link_up })) more.1,
     )
 
@@ -219,6 +219,6 @@ unfolding opening fold
 fold_counts_up g start es =
     let first : Ran = opening g start in
     let rest : List Output = joined (map step_of (run_events g es first.state)) in
-    let more : (after : ℕ) × Counts first.state.consumer.consumer_sequence rest after = events_up g es first.state in
+    let more : (after : ℕ) × Counts first.state.consumer.core.consumer_sequence rest after = events_up g es first.state in
     counts_up 0 more.0 (first.outputs ++ rest)
-    (counts_append 0 first.state.consumer.consumer_sequence more.0 first.outputs rest (all_up g start tick (opening_rows g.setup) (first_state g start)) more.1)
+    (counts_append 0 first.state.consumer.core.consumer_sequence more.0 first.outputs rest (all_up g start tick (opening_rows g.setup) (first_state g start)) more.1)

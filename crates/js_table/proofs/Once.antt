@@ -204,7 +204,7 @@ rests g p m _ phase c l s = record { none = refl; next = tt; still = s }
 
 message_leads : (o : Option Place) (message : Message) (c : Consumer) → Leads IsNext (message_row o message c)
 message_leads None message c = record { none = refl; next = tt }
-message_leads (Some place) message c = if_each (Leads IsNext) (place.number == c.consumer_sequence + 1) _ _ (λ _. record { none = refl; next = tt }) (λ _. record { none = refl; next = (tt, tt) })
+message_leads (Some place) message c = if_each (Leads IsNext) (place.number == c.core.consumer_sequence + 1) _ _ (λ _. record { none = refl; next = tt }) (λ _. record { none = refl; next = (tt, tt) })
 
 told_leads : (t : PullTold) (c : Consumer) → Leads IsNext (told t c)
 told_leads tells.Nothing c = record { none = refl; next = tt }
@@ -243,7 +243,7 @@ hear_kind_leads : (p : Passing) (message : Message) (kind : PushKind) (c : Consu
 hear_kind_leads p message Delivered c = message_leads (readable_as message.reply) message c
 hear_kind_leads p message OtherStatus c = record { none = refl; next = tt }
 hear_kind_leads p message Bad c = record { none = refl; next = tt }
-hear_kind_leads p message (Beat n) c = record { none = beat_none p.up message.reply; next = beat_next n c.consumer_sequence }
+hear_kind_leads p message (Beat n) c = record { none = beat_none p.up message.reply; next = beat_next n c.core.consumer_sequence }
 
 weaker : (passed : Passed) → Rests passed → Leads IsNext passed
 weaker passed r = record { none = r.none; next = later_heads passed.next r.next }
@@ -284,7 +284,7 @@ record Begins (passed : Passed) : Type 0 where
   still : IsStill passed.consumer.phase
 
 start_begins : (g : ReplayInput) (c : Consumer) → Begins (start_row g c)
-start_begins g c = if_each Begins (c.stream_sequence == pull.u64_max) _ _ (λ _. record { once = inl refl; next = tt; still = tt }) (λ _. record { once = inr refl; next = (tt, tt); still = tt })
+start_begins g c = if_each Begins (c.core.stream_sequence == pull.u64_max) _ _ (λ _. record { once = inl refl; next = tt; still = tt }) (λ _. record { once = inr refl; next = (tt, tt); still = tt })
 
 held_later : (inbox : ℕ) (held : List Message) → AreLater (map (λ (message : Message). Hear (record { inbox = inbox; message = message })) held ++ Arm ∷ [])
 held_later inbox [] = (tt, tt)

@@ -50,7 +50,7 @@ IsOpenPhase (Recreates r) = IfSome r.opened HoldsBelow
 IsOpenPhase _ = ⊤
 
 pub record IsOpen (c : Consumer) : Type 0 where
-  pub last : c.stream_sequence ≡ pull.u64_max → ⊥
+  pub last : c.core.stream_sequence ≡ pull.u64_max → ⊥
   pub phase : IsOpenPhase c.phase
 
 abbrev pub IsOpenRow : Row → Type 0
@@ -68,13 +68,13 @@ pub record Opens (passed : Passed) : Type 0 where
   pub rows : AreOpen passed.next
 
 abbrev Last : Consumer → Type 0
-Last c = c.stream_sequence ≡ pull.u64_max → ⊥
+Last c = c.core.stream_sequence ≡ pull.u64_max → ⊥
 
 -- ---- recreations
 
 start_opens : (g : ReplayInput) (c : Consumer) → Last c → Opens (start_row g c)
-start_opens g c k = if_with Opens (c.stream_sequence == pull.u64_max) _ _
-    (λ end. absurd (k (eqb-true c.stream_sequence pull.u64_max end)))
+start_opens g c k = if_with Opens (c.core.stream_sequence == pull.u64_max) _ _
+    (λ end. absurd (k (eqb-true c.core.stream_sequence pull.u64_max end)))
     (record { consumer = record { last = k; phase = tt }; rows = (tt, tt) })
 
 try_opens : (g : ReplayInput) (p : Passing) (r : Recreation) (c : Consumer) → Last c → IsOpenPhase (Recreates r) → Opens (try_row g p r (at_phase (Recreates r) c))
@@ -138,7 +138,7 @@ recreation_open (Some opened) = (tt, (tt, tt))
 -- at a phase that is no recreation
 message_opens : (phase : Phase) → IsOpenPhase phase → (c : Consumer) → Last c → (o : Option Place) (message : Message) → IfSome o (λ place. place.sequence ≡ pull.u64_max → ⊥) → Opens (message_row o message (at_phase phase c))
 message_opens phase kp c k None message h = record { consumer = record { last = k; phase = kp }; rows = tt }
-message_opens phase kp c k (Some place) message h = if_each Opens (place.number == c.consumer_sequence + 1) _ _
+message_opens phase kp c k (Some place) message h = if_each Opens (place.number == c.core.consumer_sequence + 1) _ _
     (λ _. record { consumer = record { last = h; phase = kp }; rows = tt }) (λ _. record { consumer = record { last = k; phase = kp }; rows = (tt, tt) })
 
 told_opens : (reader : PullReader) (c : Consumer) → Last c → (arrival : Option Message) → IfSome arrival IsBelowEnd → (t : PullTold) → HandsOnly arrival t → Opens (told t (at_phase (Pulls reader) c))
@@ -175,7 +175,7 @@ hear_kind_opens : (p : Passing) (inbox : ℕ) (heartbeat_timer : Timer) (c : Con
 hear_kind_opens p inbox heartbeat_timer c k message h Delivered = message_opens (Pushes inbox heartbeat_timer) tt c k (readable_as message.reply) message h
 hear_kind_opens p inbox heartbeat_timer c k message h OtherStatus = record { consumer = record { last = k; phase = tt }; rows = tt }
 hear_kind_opens p inbox heartbeat_timer c k message h Bad = record { consumer = record { last = k; phase = tt }; rows = tt }
-hear_kind_opens p inbox heartbeat_timer c k message h (Beat n) = record { consumer = record { last = k; phase = tt }; rows = beat_open n c.consumer_sequence }
+hear_kind_opens p inbox heartbeat_timer c k message h (Beat n) = record { consumer = record { last = k; phase = tt }; rows = beat_open n c.core.consumer_sequence }
 
 hear_opens : (p : Passing) (arrival : Arrival) (inbox : ℕ) (heartbeat_timer : Timer) (c : Consumer) → Last c → IsBelowEnd arrival.message → Opens (hear_row p arrival inbox (at_phase (Pushes inbox heartbeat_timer) c))
 hear_opens p arrival inbox heartbeat_timer c k h = if_each Opens (arrival.inbox == inbox) _ _

@@ -6,6 +6,7 @@ use Rattle.js_pull.specs.declared.reader.Source.{Source}
 use Rattle.js_pull.specs.declared.reader.Reader.{Reader}
 use Rattle.js_pull.specs.declared.reader.InfoRequest.TheVariants.{NoInfoRequest}
 use Rattle.js_table.specs.declared.consumer.Phase.{Phase}
+use Rattle.js_table.specs.declared.ordered_core.OrderedCore.{OrderedCore}
 use Rattle.js_table.specs.declared.consumer.Phase.TheVariants.{Pulls}
 use Rattle.js_table.specs.declared.replay_state.ReplayState.{ReplayState}
 
@@ -35,9 +36,7 @@ reader source l = record {
 
 -- what a consumer keeps of what it heard
 pub record Progress : Type 0 where
-  pub consumer_sequence : ℕ
-  pub stream_sequence : ℕ
-  pub recreation_count : ℕ
+  pub core : OrderedCore
   pub name : List ℕ
   pub missed : Bool
   pub limited : Bool
@@ -47,9 +46,7 @@ abbrev pub state_at : Phase → Progress → ℕ → ℕ → ReplayState
 state_at phase c requests_sent inboxes_opened = record {
   consumer = record {
     phase = phase;
-    consumer_sequence = c.consumer_sequence;
-    stream_sequence = c.stream_sequence;
-    recreation_count = c.recreation_count;
+    core = c.core;
     name = c.name;
     missed = c.missed;
     limited = c.limited;

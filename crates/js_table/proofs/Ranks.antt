@@ -89,7 +89,7 @@ recreation_falls (Some opened) = (omega arith, (omega arith, tt))
 
 message_falls : (n : ℕ) → 4 < n → (o : Option Place) (message : Message) (c : Consumer) → Leads n (message_row o message c)
 message_falls n below None message c = tt
-message_falls n below (Some place) message c = if_each (Leads n) (place.number == c.consumer_sequence + 1) _ _ (λ _. tt) (λ _. (omega arith, tt))
+message_falls n below (Some place) message c = if_each (Leads n) (place.number == c.core.consumer_sequence + 1) _ _ (λ _. tt) (λ _. (omega arith, tt))
 
 beat_falls : (beat : Option ℕ) (consumer_sequence : ℕ) → AreBelow 5 (beat_rows beat consumer_sequence)
 beat_falls None consumer_sequence = tt
@@ -99,7 +99,7 @@ hear_kind_falls : (p : Passing) (message : Message) (k : PushKind) (c : Consumer
 hear_kind_falls p message Delivered c = message_falls 5 (omega arith) (readable_as message.reply) message c
 hear_kind_falls p message OtherStatus c = tt
 hear_kind_falls p message Bad c = tt
-hear_kind_falls p message (Beat last) c = beat_falls last c.consumer_sequence
+hear_kind_falls p message (Beat last) c = beat_falls last c.core.consumer_sequence
 
 -- ---- the pull reader
 
@@ -212,7 +212,7 @@ event_falls g p m Idle c = change_falls g p m m.change c
 
 pub row_falls : (g : ReplayInput) (p : Passing) (m : Matter) (row : Row) (phase : Phase) (c : Consumer) → Leads (rank row) (row_at g p m row phase c)
 row_falls g p m Event phase c = event_falls g p m phase c
-row_falls g p m Start phase c = if_each (Leads 4) (c.stream_sequence == pull.u64_max) _ _ (λ _. tt) (λ _. (omega arith, tt))
+row_falls g p m Start phase c = if_each (Leads 4) (c.core.stream_sequence == pull.u64_max) _ _ (λ _. tt) (λ _. (omega arith, tt))
 row_falls g p m Try (Recreates r) c = if_each (Leads 3) p.up _ _ (λ _. tt) (λ _. (omega arith, tt))
 row_falls g p m Create (Recreates r) c = create_falls g.setup p r c
 row_falls g p m Ask (Recreates r) c = if_each (Leads 1) p.up _ _ (λ _. tt) (λ _. (omega arith, tt))

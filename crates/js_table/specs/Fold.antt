@@ -14,7 +14,8 @@ use Rattle.js_table.specs.declared.row.Row.TheVariants.{Event, Start, Try, Creat
 use Rattle.js_table.specs.declared.consumer.ReplayInput.{ReplayInput}
 use Rattle.js_table.specs.declared.consumer.Phase.{Phase}
 use Rattle.js_table.specs.declared.consumer.Phase.TheVariants.{Pulls, Pushes, Ended, Exhausted}
-use Rattle.js_table.specs.Texts.{inbox_subject, source_of}
+use Rattle.js_table.specs.OrderedCore.{new_core}
+use Rattle.js_table.specs.Texts.{configured_start, inbox_subject, source_of}
 use Rattle.js_table.specs.Reading.{armed}
 use Rattle.js_table.specs.Turn.{pass}
 use Rattle.js_table.specs.declared.setup.OrderedSetup.{OrderedSetup}
@@ -163,9 +164,7 @@ abbrev pub first_state : ReplayInput → ℕ → ReplayState
 first_state g start = record {
   consumer = record {
     phase = first_phase g start g.setup;
-    consumer_sequence = 0;
-    stream_sequence = 0;
-    recreation_count = 0;
+    core = new_core (configured_start g.setup);
     name = g.first.name;
     missed = false;
     limited = false;

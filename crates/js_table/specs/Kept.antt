@@ -7,7 +7,7 @@ use Rattle.js_table.specs.State.{Matter}
 use Rattle.js_table.specs.declared.consumer.Recreation.{Recreation}
 use Rattle.js_table.specs.declared.consumer.Opened.{Opened}
 use Rattle.js_table.specs.Texts.{configured_start}
-use Rattle.js_table.specs.Recreation.{start_after}
+use Rattle.js_table.specs.OrderedCore.{start_after}
 use Rattle.js_table.specs.Gapless.{Server, IsMatching, IsLogged, IsHonestArrival, start_sequence, FollowsStarts}
 use Rattle.js_table.specs.declared.consumer.Phase.{Phase}
 use Rattle.js_table.specs.declared.consumer.Phase.TheVariants.{Pulls, Pushes, Recreates, Idle, Ended, Exhausted}
@@ -86,16 +86,16 @@ IsPush (Push setup) = ⊤
 
 -- the kept fact at a phase
 abbrev pub IsKeptAt : OrderedSetup → Server → Consumer → Phase → Type 0
-IsKeptAt setup s c (Pulls reader) = IsPull setup × IsKeptOn setup s c.consumer_sequence c.stream_sequence c.recreation_count reader.source.inbox
-IsKeptAt setup s c (Pushes inbox heartbeat_timer) = IsPush setup × IsKeptOn setup s c.consumer_sequence c.stream_sequence c.recreation_count inbox
-IsKeptAt setup s c (Recreates r) = IsKeptIn setup s c.consumer_sequence c.stream_sequence c.recreation_count r
+IsKeptAt setup s c (Pulls reader) = IsPull setup × IsKeptOn setup s c.core.consumer_sequence c.core.stream_sequence c.core.recreation_count reader.source.inbox
+IsKeptAt setup s c (Pushes inbox heartbeat_timer) = IsPush setup × IsKeptOn setup s c.core.consumer_sequence c.core.stream_sequence c.core.recreation_count inbox
+IsKeptAt setup s c (Recreates r) = IsKeptIn setup s c.core.consumer_sequence c.core.stream_sequence c.core.recreation_count r
 IsKeptAt setup s c Idle = ⊤
 IsKeptAt setup s c Ended = ⊤
 IsKeptAt setup s c Exhausted = ⊤
 
--- the kept fact
+-- the kept fact: the consumer has the setup's start too
 abbrev pub IsKept : OrderedSetup → Server → Consumer → Type 0
-IsKept setup s c = IsKeptAt setup s c c.phase
+IsKept setup s c = IsKeptAt setup s c c.phase × (c.core.start ≡ configured_start setup)
 
 -- a row that waits to be passed with an arrival has an honest one
 abbrev pub IsHonestRow : OrderedSetup → Server → Row → Type 0

@@ -1,4 +1,5 @@
 pub mod State
+pub mod OrderedCore
 pub mod Texts
 pub mod Recreation
 pub mod Reading

@@ -1,5 +1,5 @@
 -- What passing rows comes to in a replay, as the functions that pass them say it.
-use Rattle.std.specs.Prelude.{ℕ, suc, ◌+◌, Bool, List, map, Option, Some, None, option_map, ◌==◌, false}
+use Rattle.std.specs.Prelude.{ℕ, suc, ◌+◌, Bool, List, map, Option, Some, None, option_map, ◌==◌, false, if◌then◌else◌}
 use Rattle.js_base.specs.declared.clock.Timer.{Timer}
 use Rattle.js_table.specs.Texts.{recreation_timeout, inbox_subject, source_of}
 use Rattle.js_table.specs.Recreation.{recreation, held_in}
@@ -15,7 +15,9 @@ use Rattle.js_table.specs.declared.consumer.Phase.TheVariants.{Pulls, Pushes, Re
 use Rattle.js_table.specs.declared.consumer.Stage.TheVariants.{Waiting}
 use Rattle.js_table.specs.State.{Matter, Passed, at_phase}
 use Rattle.js_table.specs.Fold.{Ran, rank, and_then, pass_each, pass_to, passing, after, matter_of}
+use Rattle.js_table.specs.OrderedCore.{after_yield}
 use Rattle.js_table.specs.State as state
+use Rattle.js_table.specs.declared.consumer.Consumer.{Consumer}
 use Rattle.js_table.specs.declared.answer.Change.{Change}
 use Rattle.js_table.specs.declared.answer.Change.TheVariants as change
 use Rattle.js_table.specs.declared.consumer.ReplayInput.{ReplayInput}
@@ -82,9 +84,12 @@ reply_shown (reply.Got message) = Some (Some message.now)
 abbrev pub place_shown : Place → ack.Place
 place_shown place = record { sequence = place.sequence; number = place.number }
 
--- the state whose consumer has yielded the message at this place
-abbrev pub accepting : ack.Place → ReplayState → ReplayState
-accepting place w = record w { consumer = record w.consumer { consumer_sequence = place.number; stream_sequence = place.sequence; limited = false } }
+-- the consumer that has yielded the message at this place, where it is its next one
+abbrev pub yielding : ack.Place → Consumer → Consumer
+yielding place c =
+    if place.number == c.core.consumer_sequence + 1
+    then record c { core = after_yield place.sequence place.number c.core; limited = false }
+    else c
 
 -- the reader that has heard a message
 abbrev pub heard : ℕ → Message → Reader → Reader

@@ -17,6 +17,7 @@ use Rattle.js_pull.specs.declared.reader.MessagesErrorKind.TheVariants as error
 use Rattle.js_table.specs.declared.kind.PushKind.{PushKind}
 use Rattle.js_table.specs.declared.kind.PushKind.TheVariants.{Delivered, OtherStatus, Bad, Beat}
 use Rattle.js_table.specs.declared.consumer.Consumer.{Consumer}
+use Rattle.js_table.specs.OrderedCore.{after_yield}
 use Rattle.js_table.specs.State.{Passed, quietly, at_phase, output_of}
 use Rattle.js_table.specs.declared.row.Arrival.{Arrival}
 use Rattle.js_table.specs.declared.row.Row.{Row}
@@ -32,7 +33,7 @@ use Rattle.js_table.specs.declared.run.Output.TheVariants as out
 -- a yield, after which its numbers are the last ones
 abbrev pub accepted : Place → Message → Consumer → Passed
 accepted place message c = record {
-  consumer = record c { consumer_sequence = place.number; stream_sequence = place.sequence; limited = false };
+  consumer = record c { core = after_yield place.sequence place.number c.core; limited = false };
   outputs = out.Yield place.sequence place.number message.subject message.payload ∷ [];
   next = [];
 }
@@ -41,7 +42,7 @@ accepted place message c = record {
 abbrev pub message_row : Option Place → Message → Consumer → Passed
 message_row None message c = record { consumer = c; outputs = out.Item item.Other ∷ []; next = [] }
 message_row (Some place) message c =
-    if place.number == c.consumer_sequence + 1 then accepted place message c else quietly c (Start ∷ [])
+    if place.number == c.core.consumer_sequence + 1 then accepted place message c else quietly c (Start ∷ [])
 
 -- an item
 abbrev pub put_item : ItemKind → Consumer → Passed
@@ -115,7 +116,7 @@ beat_rows (Some last) consumer_sequence = if last == consumer_sequence then [] e
 -- what push does with an arrival of a kind
 abbrev pub hear_kind : Passing → Message → PushKind → Consumer → Passed
 hear_kind p message Delivered c = message_row (readable_as message.reply) message c
-hear_kind p message (Beat last) c = record { consumer = c; outputs = beat_answer p.up message.reply; next = beat_rows last c.consumer_sequence }
+hear_kind p message (Beat last) c = record { consumer = c; outputs = beat_answer p.up message.reply; next = beat_rows last c.core.consumer_sequence }
 hear_kind p message Bad c = put_item item.Other c
 hear_kind p message OtherStatus c = quietly c []
 

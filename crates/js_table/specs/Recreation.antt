@@ -1,5 +1,5 @@
 -- The rows of a recreation.
-use Rattle.std.specs.Prelude.{ℕ, ◌+◌, Bool, true, min, List, [], ◌∷◌, ◌++◌, map, Option, Some, None, is_some, nat_lt, ◌==◌, codes, if◌then◌else◌}
+use Rattle.std.specs.Prelude.{ℕ, ◌+◌, Bool, true, List, [], ◌∷◌, ◌++◌, map, Option, Some, None, is_some, nat_lt, ◌==◌, codes, if◌then◌else◌}
 use Rattle.js_base.specs.declared.message.Message.{Message}
 use Rattle.js_base.specs.declared.clock.Timer.{Timer}
 use Rattle.js_base.specs.Clock.{is_due}
@@ -19,31 +19,21 @@ use Rattle.js_table.specs.declared.consumer.ReplayInput.{ReplayInput}
 use Rattle.js_table.specs.declared.consumer.Stage.{Stage}
 use Rattle.js_table.specs.declared.consumer.Stage.TheVariants.{Between, Deleting, Creating, Waiting}
 use Rattle.js_table.specs.declared.consumer.Phase.TheVariants.{Pulls, Pushes, Recreates, Idle, Exhausted}
-use Rattle.js_table.specs.Texts.{configured_start, consumer_name, delete_subject, create_subject, create_body, recreation_timeout, source_of}
+use Rattle.js_table.specs.OrderedCore.{after_restart, restart_at}
+use Rattle.js_table.specs.Texts.{consumer_name, delete_subject, create_subject, create_body, recreation_timeout, source_of}
 use Rattle.js_table.specs.declared.setup.OrderedSetup.{OrderedSetup}
 use Rattle.js_table.specs.declared.setup.OrderedSetup.TheVariants.{Pull, Push}
-use Rattle.js_table.specs.declared.run.Start as starts
-use Rattle.js_table.specs.declared.run.Start.TheVariants as start
 use Rattle.js_table.specs.declared.run.ItemKind.TheVariants as item
 use Rattle.js_table.specs.declared.run.Output.TheVariants as out
 
 -- ---- Start
 
--- without a yield: from the configured start, else all
-abbrev pub first_start : Option ℕ → starts.Start
-first_start None = start.All
-first_start (Some sequence) = start.From sequence
-
--- after the last yield, of which 0 is none
-abbrev pub start_after : Option ℕ → ℕ → starts.Start
-start_after configured last = if last == 0 then first_start configured else start.From (last + 1)
-
 -- a recreation begins with no tries
 abbrev pub recreation : ReplayInput → Consumer → Recreation
 recreation g c = record {
   old_name = c.name;
-  new_name = consumer_name g (min (c.recreation_count + 1) u64_max);
-  start = start_after (configured_start g.setup) c.stream_sequence;
+  new_name = consumer_name g (after_restart c.core).recreation_count;
+  start = restart_at c.core;
   failures = 0;
   opened = None;
   stage = Between;
@@ -52,11 +42,11 @@ recreation g c = record {
 -- the current inbox is dropped, and the first try follows
 abbrev pub start_row : ReplayInput → Consumer → Passed
 start_row g c =
-    if c.stream_sequence == u64_max then quietly (at_phase Exhausted c) [] else
-    (let recreation_count = min (c.recreation_count + 1) u64_max in
+    if c.core.stream_sequence == u64_max then quietly (at_phase Exhausted c) [] else
+    (let core = after_restart c.core in
     record {
-      consumer = record c { phase = Recreates (recreation g c); consumer_sequence = 0; recreation_count = recreation_count; name = consumer_name g recreation_count };
-      outputs = out.Recreate recreation_count (start_after (configured_start g.setup) c.stream_sequence) ∷ [];
+      consumer = record c { phase = Recreates (recreation g c); core = core; name = consumer_name g core.recreation_count };
+      outputs = out.Recreate core.recreation_count (restart_at c.core) ∷ [];
       next = Try ∷ [];
     })
 
@@ -129,7 +119,7 @@ abbrev pub succeed_pull : ReplayInput → Passing → Info → Consumer → Pass
 succeed_pull g p info c =
     if p.up
     then record {
-      consumer = at_phase (Pulls (new_reader (source_of g c.recreation_count p.inbox p.subject info))) c;
+      consumer = at_phase (Pulls (new_reader (source_of g c.core.recreation_count p.inbox p.subject info))) c;
       outputs = out.Subscribe p.inbox p.subject ∷ [];
       next = map Read pull.opening;
     }

@@ -1,4 +1,5 @@
 //! What an ordered consumer is made with, and what it is at.
+use crate::ordered_core::OrderedCore;
 use crate::run::Start;
 use crate::setup::{OrderedSetup, Settings};
 use js_base::{Items, Message, State, Subject, Text, Timer};
@@ -66,12 +67,8 @@ pub enum Phase {
 #[derive(Debug, PartialEq, Eq, Drop)]
 pub struct Consumer {
     pub phase: Phase,
-    /// The last accepted consumer sequence; 0 where nothing was accepted on the current inbox.
-    pub consumer_sequence: u64,
-    /// The last yielded stream sequence; 0 where nothing was yielded.
-    pub stream_sequence: u64,
-    /// The number of recreations.
-    pub recreation_count: u64,
+    /// What was yielded, and where it is made anew from.
+    pub core: OrderedCore,
     /// The name of the last consumer that was asked for.
     pub name: Text,
     /// Pull: a heartbeat is missing, and nothing was handed out since.

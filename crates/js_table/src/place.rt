@@ -1,9 +1,9 @@
 //! Where a message stands: in its stream, and among what its consumer was sent.
 ghost use Rattle.std.specs.Prelude.{◌≡◌, ◌+◌, ◌↔◌, IfOk, IsTrue, option_map};
 ghost use Rattle.js_message.specs.Ack.{readable_as};
-ghost use Rattle.js_table.specs.Passes.{accepting, place_shown};
+ghost use Rattle.js_table.specs.Passes.{place_shown, yielding};
 
-use crate::replay_state::ReplayState;
+use crate::consumer::Consumer;
 use crate::run::Output;
 use js_base::{Message, OutOfMemory, TryClone};
 use js_message::parse_info;
@@ -52,13 +52,14 @@ pub fn yield_of(message: &Message, place: Place) -> Result<Output, OutOfMemory>
     })
 }
 
-impl ReplayState {
-    /// The consumer has yielded the message at this place.
+impl Consumer {
+    /// The message at this place is yielded, where it is the next one.
+    #[inline]
     pub fn accept(&mut self, place: Place)
-        ensures { self.new ≡ accepting (place_shown place) self.old }
+        ensures { self.new ≡ yielding (place_shown place) self.old }
     {
-        self.consumer.consumer_sequence = place.number;
-        self.consumer.stream_sequence = place.sequence;
-        self.consumer.limited = false;
+        if self.core.accept(place.sequence, place.number) {
+            self.limited = false;
+        }
     }
 }

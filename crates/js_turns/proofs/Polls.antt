@@ -41,20 +41,20 @@ answer_joins setup s last Ends j = tt
 answer_joins setup s last Lacks j = tt
 
 closed_kept : (setup : OrderedSetup) (s : Server) (closed : Bool) (at : Position) → IsKeptPosition setup s at → IsKeptPosition setup s (closed_at closed at)
-closed_kept setup s true at k = record { consumer = tt; todo = tt }
+closed_kept setup s true at k = record { consumer = (tt, k.consumer.1); todo = tt }
 closed_kept setup s false at k = k
 
 -- what a poll's contract says of honest servers follows from the rows that it passed
 pub poll_gapless : (g : ReplayInput) (strides : List Stride) (closed : Bool) (old new : Position) (answer : Answer)
     → new ≡ closed_at closed (walk g strides old).position → handed (walk g strides old).outputs ≡ handed_by answer
     → (s : Server) → HasWholeLists g.setup s → IsKeptPosition g.setup s old → IsHonestWalk g s strides old
-    → KeepsPoll g.setup s old.consumer.stream_sequence new answer
+    → KeepsPoll g.setup s old.consumer.core.stream_sequence new answer
 poll_gapless g strides closed old new answer leads handed_is s whole k honest =
     let moved : Moved = walk g strides old in
-    let along : KeepsAlong g s old.consumer.stream_sequence moved = walk_keeps g s whole strides old k honest in
+    let along : KeepsAlong g s old.consumer.core.stream_sequence moved = walk_keeps g s whole strides old k honest in
     record {
       kept = subst (λ (at : Position). IsKeptPosition g.setup s at) (sym leads) (closed_kept g.setup s closed moved.position along.kept);
-      joins = answer_joins g.setup s old.consumer.stream_sequence answer
-          (subst (λ (outputs : List Output). JoinsFirst g.setup s old.consumer.stream_sequence outputs) handed_is
-          (first_joins g.setup s old.consumer.stream_sequence moved.position.consumer.stream_sequence moved.outputs along.extends));
+      joins = answer_joins g.setup s old.consumer.core.stream_sequence answer
+          (subst (λ (outputs : List Output). JoinsFirst g.setup s old.consumer.core.stream_sequence outputs) handed_is
+          (first_joins g.setup s old.consumer.core.stream_sequence moved.position.consumer.core.stream_sequence moved.outputs along.extends));
     }

@@ -50,7 +50,7 @@ nothing = record { handed = omega arith; sent = omega arith }
 
 message_single : (o : Option Place) (message : Message) (c : Consumer) → Single (message_row o message c)
 message_single None message c = record { handed = omega arith; sent = omega arith }
-message_single (Some place) message c = if_each Single (place.number == c.consumer_sequence + 1) _ _ (λ _. record { handed = omega arith; sent = omega arith }) (λ _. nothing)
+message_single (Some place) message c = if_each Single (place.number == c.core.consumer_sequence + 1) _ _ (λ _. record { handed = omega arith; sent = omega arith }) (λ _. nothing)
 
 create_single : (setup : OrderedSetup) (p : Passing) (r : Recreation) (c : Consumer) → Single (create_row setup p r c)
 create_single (Pull setup) p r c = nothing
@@ -164,7 +164,7 @@ hear_single p message (Beat last) c = beat_single p.up message.reply
 
 pub row_single : (g : ReplayInput) (p : Passing) (m : Matter) (row : Row) (phase : Phase) (c : Consumer) → Single (row_at g p m row phase c)
 row_single g p m Event phase c = first_single g p m phase c
-row_single g p m Start phase c = if_each Single (c.stream_sequence == pull.u64_max) _ _ (λ _. nothing) (λ _. record { handed = omega arith; sent = omega arith })
+row_single g p m Start phase c = if_each Single (c.core.stream_sequence == pull.u64_max) _ _ (λ _. nothing) (λ _. record { handed = omega arith; sent = omega arith })
 row_single g p m Try (Recreates r) c = if_each Single p.up _ _ (λ _. record { handed = omega arith; sent = omega arith }) (λ _. nothing)
 row_single g p m Create (Recreates r) c = create_single g.setup p r c
 row_single g p m Ask (Recreates r) c = if_each Single p.up _ _ (λ _. record { handed = omega arith; sent = omega arith }) (λ _. nothing)

@@ -23,23 +23,23 @@ later_honest setup s (row ∷ rows) honest = honest.1
 -- what a walk keeps
 pub record KeepsAlong (g : ReplayInput) (s : Server) (last : ℕ) (moved : Moved) : Type 0 where
   pub kept : IsKeptPosition g.setup s moved.position
-  pub extends : Extends g.setup s last moved.outputs moved.position.consumer.stream_sequence
+  pub extends : Extends g.setup s last moved.outputs moved.position.consumer.core.stream_sequence
 
 pub walk_keeps : (g : ReplayInput) (s : Server) → ((inbox : ℕ) → IsWhole g.setup s.log s.removed (s.starts inbox) (s.lists inbox))
     → (strides : List Stride) (at : Position) → IsKeptPosition g.setup s at → IsHonestWalk g s strides at
-    → KeepsAlong g s at.consumer.stream_sequence (walk g strides at)
+    → KeepsAlong g s at.consumer.core.stream_sequence (walk g strides at)
 walk_keeps g s whole [] at k honest = record { kept = k; extends = refl }
 walk_keeps g s whole (stride ∷ strides) at k honest =
     let moved : Moved = step g stride at in
-    let one : Keeps g.setup s at.consumer.stream_sequence (pass g stride.passing stride.matter (first_row at.todo) at.consumer) =
+    let one : Keeps g.setup s at.consumer.core.stream_sequence (pass g stride.passing stride.matter (first_row at.todo) at.consumer) =
     pass_keeps g s whole stride.passing stride.matter (first_row at.todo) at.consumer k.consumer honest.0 (first_honest g.setup s at.todo k.todo) honest.1 in
     let next : IsKeptPosition g.setup s moved.position = record {
       consumer = one.kept;
       todo = all_append (IsHonestRow g.setup s) (pass g stride.passing stride.matter (first_row at.todo) at.consumer).next (later_rows at.todo) one.rows (later_honest g.setup s at.todo k.todo);
     } in
-    let rest : KeepsAlong g s moved.position.consumer.stream_sequence (walk g strides moved.position) = walk_keeps g s whole strides moved.position next honest.2 in
+    let rest : KeepsAlong g s moved.position.consumer.core.stream_sequence (walk g strides moved.position) = walk_keeps g s whole strides moved.position next honest.2 in
     record {
       kept = rest.kept;
-      extends = extends_append g.setup s at.consumer.stream_sequence moved.position.consumer.stream_sequence (walk g strides moved.position).position.consumer.stream_sequence
+      extends = extends_append g.setup s at.consumer.core.stream_sequence moved.position.consumer.core.stream_sequence (walk g strides moved.position).position.consumer.core.stream_sequence
           moved.outputs (walk g strides moved.position).outputs one.extends rest.extends;
     }

@@ -80,7 +80,7 @@ no_more (x ∷ xs) = ap (λ (rest : List Output). x ∷ rest) (no_more xs)
 
 message_silent : (o : Option Place) (message : Message) (c : Consumer) → Silent (message_row o message c)
 message_silent None message c = refl
-message_silent (Some place) message c = if_each Silent (place.number == c.consumer_sequence + 1) _ _ (λ _. refl) (λ _. refl)
+message_silent (Some place) message c = if_each Silent (place.number == c.core.consumer_sequence + 1) _ _ (λ _. refl) (λ _. refl)
 
 told_silent : (t : PullTold) (c : Consumer) → Silent (told t c)
 told_silent tells.Nothing c = refl
@@ -185,7 +185,7 @@ kind_sends p message (Beat last) c = beat_sends p last message.reply
 -- what a row sends is what it asks to send
 pub row_sends : (g : ReplayInput) (p : Passing) (m : Matter) (row : Row) (phase : Phase) (c : Consumer) → Sends (wish_at g row phase) p (row_at g p m row phase c)
 row_sends g p m Event phase c = event_sends g p m phase c
-row_sends g p m Start phase c = quiet (start_row g c).outputs (sends_of (dropped phase) p) (if_each Silent (c.stream_sequence == pull.u64_max) _ _ (λ _. refl) (λ _. refl)) (dropped_silent phase p)
+row_sends g p m Start phase c = quiet (start_row g c).outputs (sends_of (dropped phase) p) (if_each Silent (c.core.stream_sequence == pull.u64_max) _ _ (λ _. refl) (λ _. refl)) (dropped_silent phase p)
 row_sends g p m Try (Recreates r) c = both (λ (passed : Passed). sent passed.outputs) (λ (xs : List Sent). map output_of xs) p.up _ _ _ _ refl refl
 row_sends g p m Create (Recreates r) c = create_sends g.setup p r c
 row_sends g p m Ask (Recreates r) c = both (λ (passed : Passed). sent passed.outputs) (λ (xs : List Sent). map output_of xs) p.up _ _ _ _ refl refl

@@ -152,4 +152,4 @@ pub record IsPoll {V : Type 0} (g : ReplayInput) (meets : Wish → Met → V →
   -- it waits only after a quiet turn, and where it can go on
   pub alive : answer ≡ Waits → new.consumer.phase ≢ Exhausted
   pub waits : answer ≡ Waits → (first : List Stride) × (last : List Stride) × (strides ≡ first ++ last) × IsQuietTurn g last (walk g first old).position
-  pub gapless : (s : Server) → HasWholeLists g.setup s → IsKeptPosition g.setup s old → IsHonestWalk g s strides old → KeepsPoll g.setup s old.consumer.stream_sequence new answer
+  pub gapless : (s : Server) → HasWholeLists g.setup s → IsKeptPosition g.setup s old → IsHonestWalk g s strides old → KeepsPoll g.setup s old.consumer.core.stream_sequence new answer

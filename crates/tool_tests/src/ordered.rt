@@ -6,8 +6,8 @@ use js_fields::ReadError;
 use js_json::consumer::Info;
 use js_json::{Response, pull, response_as};
 use js_ordered::{
-    Event, EventKind, IncrementalReplay, ItemKind, OrderedSetup, Output, ReplayError, ReplayInput,
-    Run, Settings, replay_ordered,
+    AtEnd, Event, EventKind, IncrementalReplay, ItemKind, OrderedCore, OrderedSetup, Output,
+    ReplayError, ReplayInput, Run, Settings, Start, replay_ordered,
 };
 use std::alloc::{AllocError, Global};
 
@@ -156,4 +156,22 @@ fn events_are_replayed_at_once_or_one_by_one(rt: HostRuntime) {
     let (one_by_one, end) = kinds_one_by_one(rt.alloc()).expect(&rt, "memory");
     assert_eq!(rt; one_by_one.as_slice(), b"p/y/o/rq/".as_slice());
     assert_eq!(rt; end, Ok(false));
+}
+
+#[test]
+fn a_core_accepts_the_next_message_and_starts_after_the_last(rt: HostRuntime) {
+    let mut core = OrderedCore::new(None);
+    assert_eq!(rt; core.restart(), Ok(Start::All));
+    assert_eq!(rt; core.accept(9, 1), true);
+    assert_eq!(rt; core.accept(9, 1), false);
+    assert_eq!(rt; core.restart(), Ok(Start::From(10)));
+    assert_eq!(rt; core.accept(u64::MAX, 1), true);
+    assert_eq!(rt; core.restart(), Err(AtEnd));
+    assert_eq!(rt; OrderedCore::new(Some(5)).restart(), Ok(Start::From(5)));
+    let mut last = OrderedCore {
+        consumer_sequence: u64::MAX,
+        ..core
+    };
+    assert_eq!(rt; last.accept(10, u64::MAX), false);
+    assert_eq!(rt; last.accept(10, 0), false);
 }

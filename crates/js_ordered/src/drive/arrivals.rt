@@ -27,10 +27,10 @@ struct Brought {
 /// What is put out of a message of the stream.
 #[inline]
 fn make_ready(state: &ReplayState, message: &Message) -> Result<Brought, OutOfMemory>
-    ensures heard { IfOk result (λ ready. IsHeardFrom state.now.consumer.consumer_sequence message.now ready.heard) }
+    ensures heard { IfOk result (λ ready. IsHeardFrom state.now.consumer.core.consumer_sequence message.now ready.heard) }
     ensures output { IfOk result (λ ready. option_to_list ready.output ≡ heard_outputs state.now.link_up message.now ready.heard) }
 {
-    let heard = heard_from(state.consumer.consumer_sequence, message);
+    let heard = heard_from(state.consumer.core.consumer_sequence, message);
     let output = output_of(state.link_up, message, heard)?;
     Ok(Brought { heard, output })
 }
@@ -63,7 +63,7 @@ fn hear_message(
 ) -> Result<NextTasks, OutOfMemory>
     requires arrives { Arrives (matter_now context.now) message.now state.old.consumer.phase }
     requires kind { kind_of message.now ≡ Kind.Delivered }
-    requires heard { IsHeardFrom state.old.consumer.consumer_sequence message.now ready.heard }
+    requires heard { IsHeardFrom state.old.consumer.core.consumer_sequence message.now ready.heard }
     requires output { option_to_list ready.output ≡ heard_outputs state.old.link_up message.now ready.heard }
     requires room { vec_len outputs.old + 1 ≤ vec_capacity outputs.old }
     ensures { PassesTo context.now (row.Read read.CheckArrival ∷ []) state.old state.new outputs.old.items outputs.new.items result }

@@ -150,7 +150,7 @@ pub(crate) fn hear(
     if !listens(state, inbox) {
         return Ok(NextTasks::Nothing);
     }
-    let heard = heard_as(state.consumer.consumer_sequence, message);
+    let heard = heard_as(state.consumer.core.consumer_sequence, message);
     let output = output_of(state.link_up, message, heard)?;
     let next = pass_hear(context, &mut state.consumer, inbox, heard);
     put(output, outputs);

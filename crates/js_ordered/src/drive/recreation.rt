@@ -42,7 +42,7 @@ pub(crate) fn start(
     let name = texts::consumer_name(
         alloc,
         context,
-        state.consumer.recreation_count.saturating_add(1),
+        state.consumer.core.recreation_count.saturating_add(1),
     )?;
     let again = name.try_clone()?;
     let Step { told, next } = pass_start(context, &mut state.consumer, name, again);

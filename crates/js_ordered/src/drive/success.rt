@@ -54,10 +54,10 @@ fn reading_for(
     state: &ReplayState,
     info: &Info,
 ) -> Result<Reading, OutOfMemory>
-    ensures source { IfOk result (λ reading. reading.source ≡ texts_of.source_of (given_of context.now) state.now.consumer.recreation_count 0 [] info.now) }
+    ensures source { IfOk result (λ reading. reading.source ≡ texts_of.source_of (given_of context.now) state.now.consumer.core.recreation_count 0 [] info.now) }
     ensures opening { IfOk result (λ reading. IsOpening state.now.link_up state.now.inboxes_opened (texts_of.inbox_subject (given_of context.now) state.now.inboxes_opened) reading.opening) }
 {
-    let source = source_for(alloc, context, state.consumer.recreation_count, info)?;
+    let source = source_for(alloc, context, state.consumer.core.recreation_count, info)?;
     let opening = create_inbox(alloc, context, state)?;
     Ok(Reading { source, opening })
 }

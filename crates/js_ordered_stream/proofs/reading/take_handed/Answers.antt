@@ -5,11 +5,11 @@ use Rattle.js_ordered_stream.proofs.Hearing.{takes_handed, yields_handed}
 use Rattle.js_ordered_stream.proofs.reading.take_handed.Goals as goal
 
 pub take_message-requires : goal.take_message-requires
-take_message-requires c = of_stream c.args.consumer.now.consumer_sequence c.args.message.now c.heard_from-heard.result c.heard_from-heard.ensures
+take_message-requires c = of_stream c.args.consumer.now.core.consumer_sequence c.args.message.now c.heard_from-heard.result c.heard_from-heard.ensures
 
 pub returns : goal.returns
 returns c = λ m.
     let p = passing_of 0 Unasked in
     takes_handed m p (reader_rows m c.args.due) c.args.message.now c.heard_from-heard.result c.args.consumer.now c.take_message.new.consumer (record { handed = c.handed_heard.result; next = c.take_message.result })
     c.heard_from-heard.ensures (c.take_message.ensures m p c.args.message.now)
-    (yields_handed c.args.consumer.now.consumer_sequence c.args.message.now p.up c.heard_from-heard.result c.handed_heard.result c.heard_from-heard.ensures c.handed_heard.ensures)
+    (yields_handed c.args.consumer.now.core.consumer_sequence c.args.message.now p.up c.heard_from-heard.result c.handed_heard.result c.heard_from-heard.ensures c.handed_heard.ensures)

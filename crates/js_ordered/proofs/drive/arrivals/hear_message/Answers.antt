@@ -35,4 +35,4 @@ returns-in_default c =
     reads_nowhere g now m (read.CheckArrival) w c.args.outputs.now.items c.in_default.not-Pulls
 
 pub take_message-next-requires : goal.take_message-next-requires
-take_message-next-requires c = of_stream c.args.state.now.consumer.consumer_sequence c.args.message.now c.args.ready.heard c.requires.heard
+take_message-next-requires c = of_stream c.args.state.now.consumer.core.consumer_sequence c.args.message.now c.args.ready.heard c.requires.heard

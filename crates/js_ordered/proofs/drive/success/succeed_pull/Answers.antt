@@ -16,4 +16,4 @@ returns-in-Ok c =
     let w = c.args.state.now in
     succeeds_pull g now m c.args.info.now c.args.recreation w _ c.subscribe-inbox.result c.subscribe-inbox.new.inboxes_opened c.args.outputs.now.items c.subscribe-inbox.new.outputs.items c.pass_succeed_pull.new.consumer c.pass_succeed_pull.result c.requires.pull
     (c.subscribe-inbox.ensures w.link_up (inbox_subject g w.inboxes_opened) (ok_holds (λ reading. IsOpening w.link_up w.inboxes_opened (inbox_subject g w.inboxes_opened) reading.opening) c.reading_for.result _ c.in-Ok.is c.reading_for.ensures.opening))
-    (c.pass_succeed_pull.ensures m (passing g now w) c.args.info.now (ok_holds (λ reading. reading.source ≡ source_of g w.consumer.recreation_count 0 [] c.args.info.now) c.reading_for.result _ c.in-Ok.is c.reading_for.ensures.source)) refl
+    (c.pass_succeed_pull.ensures m (passing g now w) c.args.info.now (ok_holds (λ reading. reading.source ≡ source_of g w.consumer.core.recreation_count 0 [] c.args.info.now) c.reading_for.result _ c.in-Ok.is c.reading_for.ensures.source)) refl
