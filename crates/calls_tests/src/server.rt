@@ -1,7 +1,6 @@
 //! A server that answers from a script, and what a call over it comes to.
 
 pub(crate) use crate::words::{Words, word};
-
 use bytes::Bytes;
 use js_base::{Error, Message, OutOfMemory, StatusCode, Subject, Text, Turn};
 use js_call::{ApiScope, State};

@@ -35,13 +35,14 @@
 //!
 //! **When to wake.** After `Pending`: when the answer to the state's `request` was brought or its request is gone, and at the latest at its `wakes_at`, when its wait is over ([`State::request`], [`State::wakes_at`]);
 //! a poll before that does nothing. The wait began when the request was sent and lasts for the timeout of its call, of the context or of the link. A [`publish::PublishAckFuture`] has both too, from its first
-//! poll on, when its wait begins; for detached acks [`Context::wakes_at`] is the moment at which `reap` has to be called at the latest. A reader tells it too: a poll before its `wakes_at`, as
-//! [`consumer::pull::Stream::wakes_at`], for which nothing came does nothing. [`link::OutboxLink::deliver`] answers which inbox or request wanted the message, so that a program that keeps many states
+//! poll on, when its wait begins; for detached acks [`Context::wakes_at`] is the moment at which `reap` has to be called at the latest. A reader, ordered or not, a list and a [`PublishQueue`] tell it
+//! too: a poll before its `wakes_at`, as [`consumer::pull::Stream::wakes_at`], for which nothing came does nothing. [`link::OutboxLink::deliver`] answers which inbox or request wanted the message, so that a program that keeps many states
 //! polls the one whose `request` it was.
 //!
 //! **Reading a consumer.** A call of the context answers the consumer: `get_consumer_from_stream` one that is there, `create_consumer_on_stream` a new one, each as the kind that its
 //! configuration names. `messages` of the consumer opens what reads it: [`consumer::pull::PullCalls`] for one that is asked for messages, [`consumer::push::PushCalls`] for one that delivers
-//! to a subject. An adapter brings what came under the number of the subscription that the link's `Outgoing::Subscribe` named.
+//! to a subject. What reads a whole stream in order, and makes its consumer anew where one was lost, is opened by [`consumer::pull::OrderedPullCalls`] or
+//! [`consumer::push::OrderedPushCalls`]. An adapter brings what came under the number of the subscription that the link's `Outgoing::Subscribe` named.
 //!
 //! **Before anything is sent,** a bad name or subject is answered by the first poll, with its own kind of error, and nothing goes out. What must not
 //! reach a wire is refused by the link itself.
