@@ -1,8 +1,6 @@
 -- What a row meets at its link.
-use Rattle.std.proofs.Common.{◌≡◌, ℕ, Bool, true, false, List, [], ◌∷◌, ◌++◌, map, Option, Some, None, refl, sym, ap, arith}
-use Rattle.std.proofs.lemmas.Bool.Decides.{nat_tests}
-use Rattle.std.specs.Prelude.{⊤, ◌==◌, if◌then◌else◌}
-use Rattle.js_base.specs.declared.message.Message.{Message}
+use Rattle.std.proofs.Common.{◌≡◌, ℕ, true, false, List, [], ◌∷◌, ◌++◌, map, Option, Some, None, refl, sym, ap}
+use Rattle.std.specs.Prelude.{⊤}
 use Rattle.js_link.specs.LinkView.{LinkView}
 use Rattle.js_link.specs.Meets.{Meets}
 use Rattle.js_link.specs.Met.{Wish, Met, Nothing, Opens_inbox, Watches, Publishes, Requests, Drops, Reads, Awaits, Refused, Requested, Opened, Shut, Took, passing_of, message_of, IsClosing}
@@ -28,6 +26,7 @@ use Rattle.js_table.specs.Recreation.{message_on}
 use Rattle.js_table.specs.State.{output_of}
 use Rattle.js_turns.specs.Turns.{handed}
 use Rattle.js_turns.specs.Wishes.{arrival_of, awaited, dropped, opened_dropped}
+use Rattle.js_turns.proofs.Walking.{arrives_here}
 
 -- ---- no message is taken
 
@@ -140,12 +139,6 @@ none_sent (goes.Subscribe inbox subject group ∷ sent) outputs = none_sent sent
 
 -- ---- what a reader's row takes
 
-eqb_same : (n : ℕ) → (n == n) ≡ true
-eqb_same n = grind (arith, nat_tests)
-
-took : (inbox : ℕ) (message : Message) → (if inbox == inbox then Some message else None) ≡ Some message
-took inbox message = ap (λ (b : Bool). if b then Some message else None) (eqb_same inbox)
-
 arrives_other : (inbox : ℕ) (wish : Wish) (met : Met) (v u : LinkView) → IsOther wish → Meets wish met v u → message_on inbox (arrival_of wish met) ≡ message_of met
 arrives_other inbox (Reads at) met v u other m = absurd other
 arrives_other inbox Nothing met v u other m = sym (untaken Nothing met v u tt m).message
@@ -155,10 +148,6 @@ arrives_other inbox (Publishes subject reply payload) met v u other m = sym (unt
 arrives_other inbox (Requests subject payload) met v u other m = sym (untaken (Requests subject payload) met v u tt m).message
 arrives_other inbox (Drops at) met v u other m = sym (untaken (Drops at) met v u tt m).message
 arrives_other inbox (Awaits request) met v u other m = sym (untaken (Awaits request) met v u tt m).message
-
-pub arrives_here : (inbox : ℕ) (met : Met) → message_on inbox (arrival_of (Reads inbox) met) ≡ message_of met
-arrives_here inbox (Took message) = took inbox message
-arrives_here inbox met = refl
 
 inquiry_other : (inquiry : InfoRequest) → IsOther (pull.awaited inquiry)
 inquiry_other info.NoInfoRequest = tt

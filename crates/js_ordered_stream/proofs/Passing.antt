@@ -48,6 +48,7 @@ use Rattle.js_table.specs.Texts.{create_body, create_subject, delete_subject}
 use Rattle.js_table.specs.Turn.{event_row, row_at}
 use Rattle.js_turns.specs.Polling.{poll_wish_at}
 use Rattle.js_turns.specs.Turns.{handed}
+use Rattle.js_turns.proofs.Walking.{eqb_same}
 use Rattle.js_turns.specs.Wishes.{awaited, change_of, create_wish, dropped, matter_of, opened_dropped, succeed_wish}
 use Rattle.js_ordered_stream.proofs.Meeting.{IsUntaken, untaken, opened_other, dropped_other, awaited_other, moment_met, requesting_met, opening_met, no_request, no_inbox}
 
@@ -156,9 +157,6 @@ fail_passes g now r c d met told rest done v u meets steps hands to =
     (ap (λ (p : Sends). fail_row g p r (at_phase (Recreates r) c)) (sym (moment_met now met))) steps hands to
 
 -- ---- an open recreation
-
-eqb_same : (n : ℕ) → (n == n) ≡ true
-eqb_same n = grind (arith, nat_tests)
 
 abbrev replying : ℕ → Option (Option Message) → Option Answer
 replying request reply = option_map (λ (message : Option Message). record { request = request; reply = message }) reply

@@ -1,7 +1,6 @@
 -- Push's rows of reading over a link: what is looked for, and what is heard.
-use Rattle.std.proofs.Common.{◌≡◌, ℕ, Bool, true, false, List, [], ◌∷◌, Option, Some, None, refl, sym, ap, ◌∙◌, subst, arith}
-use Rattle.std.proofs.lemmas.Bool.Decides.{nat_tests}
-use Rattle.std.specs.Prelude.{◌==◌, ◌||◌, IfSome, is_some, Result, Ok, Err, if◌then◌else◌}
+use Rattle.std.proofs.Common.{◌≡◌, ℕ, Bool, true, false, List, [], ◌∷◌, Option, Some, None, refl, sym, ap, ◌∙◌, subst}
+use Rattle.std.specs.Prelude.{◌||◌, IfSome, is_some, Result, Ok, Err, if◌then◌else◌}
 use Rattle.js_base.specs.declared.clock.Timer.{Timer}
 use Rattle.js_base.specs.declared.message.Message.{Message}
 use Rattle.js_link.specs.LinkView.{LinkView}
@@ -39,11 +38,9 @@ use Rattle.js_turns.specs.Polling.{poll_wish_at}
 use Rattle.js_turns.specs.Turns.{handed}
 use Rattle.js_turns.specs.Wishes.{arrival_of, beat_wish, matter_of}
 use Rattle.js_ordered_stream.proofs.Hearing.{yields_handed}
-use Rattle.js_ordered_stream.proofs.Meeting.{IsOther, arrives_here, moment_met, untaken}
+use Rattle.js_ordered_stream.proofs.Meeting.{IsOther, moment_met, untaken}
+use Rattle.js_turns.proofs.Walking.{arrives_here, eqb_same}
 use Rattle.js_ordered_stream.proofs.Passing.{row_passes, row_tells}
-
-eqb_same : (n : ℕ) → (n == n) ≡ true
-eqb_same n = grind (arith, nat_tests)
 
 -- ---- what is looked for
 

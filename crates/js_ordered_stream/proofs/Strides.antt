@@ -16,7 +16,6 @@ use Rattle.js_ordered_stream.specs.Rows.{seen_by}
 use Rattle.js_table.specs.declared.run.ItemKind.{ItemKind}
 use Rattle.js_table.specs.declared.run.ItemKind.TheVariants as item
 use Rattle.js_table.specs.declared.run.Output.{Output}
-use Rattle.js_table.specs.declared.run.Output.TheVariants as out
 use Rattle.js_table.specs.Fold.{is_over}
 use Rattle.js_ordered_stream.specs.declared.error.OrderedErrorKind.{OrderedErrorKind}
 use Rattle.js_ordered_stream.specs.declared.error.OrderedErrorKind.TheVariants as error
@@ -27,20 +26,9 @@ use Rattle.js_turns.specs.Polling.{Answer, Yields, Tells, HandsEnd, Waits, Ends,
 use Rattle.js_turns.specs.Turns.{Position, Stride, IsStride, step, walk, handed, first_row}
 use Rattle.js_turns.specs.Wishes.{arrival_of, matter_of}
 use Rattle.js_turns.proofs.Polls.{poll_gapless}
+use Rattle.js_turns.proofs.Walking.{handed_append, walk_append}
 
 -- ---- lists of strides
-
-handed_append : (xs ys : List Output) → handed (xs ++ ys) ≡ handed xs ++ handed ys
-handed_append [] ys = refl
-handed_append (out.Yield sequence number subject payload ∷ xs) ys = ap (λ (zs : List Output). out.Yield sequence number subject payload ∷ zs) (handed_append xs ys)
-handed_append (out.Item kind ∷ xs) ys = ap (λ (zs : List Output). out.Item kind ∷ zs) (handed_append xs ys)
-handed_append (out.Recreate recreation_count start ∷ xs) ys = handed_append xs ys
-handed_append (out.Request number subject payload ∷ xs) ys = handed_append xs ys
-handed_append (out.Publish subject reply payload ∷ xs) ys = handed_append xs ys
-handed_append (out.Subscribe inbox subject ∷ xs) ys = handed_append xs ys
-
-pub handed_both : (xs ys : List Output) → handed xs ≡ [] → handed ys ≡ [] → handed (xs ++ ys) ≡ []
-handed_both xs ys e f = handed_append xs ys ∙ ap (λ (zs : List Output). zs ++ handed ys) e ∙ f
 
 no_left : (xs ys : List Output) → xs ++ ys ≡ [] → xs ≡ []
 no_left [] ys e = refl
@@ -98,10 +86,6 @@ stops_more g (x ∷ strides) s at e = ((λ some. first_silent g x strides at e),
 stops_silent : (g : ReplayInput) (strides : List Stride) (at : Position) → handed (walk g strides at).outputs ≡ [] → StopsAtFirst g strides at
 stops_silent g [] at e = tt
 stops_silent g (x ∷ strides) at e = ((λ some. first_silent g x strides at e), stops_silent g strides (step g x at).position (rest_silent g x strides at e))
-
-pub walk_append : (g : ReplayInput) (xs ys : List Stride) (at : Position) → (walk g (xs ++ ys) at).position ≡ (walk g ys (walk g xs at).position).position
-walk_append g [] ys at = refl
-walk_append g (x ∷ xs) ys at = walk_append g xs ys (step g x at).position
 
 quiet_more : (g : ReplayInput) (strides : List Stride) (s : Stride) (at : Position) → AreQuiet g strides at → IsQuietRow g s (walk g strides at).position → AreQuiet g (strides ++ s ∷ []) at
 quiet_more g [] s at quiet row = (row, tt)

@@ -11,5 +11,6 @@ mod reading;
 mod recreation;
 mod rows;
 mod success;
+mod wakes;
 
 pub use error::{OrderedError, OrderedErrorKind};

@@ -1,16 +1,19 @@
 //! An ordered consumer over its link, by pull or by push: it passes row after row, and may stop between any two.
-ghost use Rattle.std.specs.Prelude.{◌≡◌, ◌||◌, ◌&&◌, ◌++◌, IfOk, OnErr, false, is_some, not, true};
+ghost use Rattle.std.specs.Prelude.{◌≡◌, ◌<◌, ◌^◌, ◌||◌, ◌&&◌, ◌++◌, IfOk, OnErr, false, is_some, not, true, ℕ};
 ghost use Rattle.js_link.specs.Meets.{Meets};
 ghost use Rattle.js_ordered_rows.specs.Tasks.{next_rows};
 ghost use Rattle.js_ordered_stream.specs.Rows.{Fits, answer_shown, later_of, left_rows, read_by};
 ghost use Rattle.js_ordered_stream.specs.Stream.{PassesFirst, TurnsTo, first_at, given_to, is_spent as has_no_sequence, poll_answer, position_of, silent_by, turned_by, with_retries};
+ghost use Rattle.js_pull_stream.specs.Wakes.{has_come};
 ghost use Rattle.js_table.specs.Fold.{is_over as has_ended};
 ghost use Rattle.js_table.specs.Passes.{given_of};
 ghost use Rattle.js_turns.specs.Polling.{IsPoll, closed_at, is_reading as reads_inbox};
+ghost use Rattle.js_turns.specs.Wakes.{phase_due};
 
 use crate::error::{OrderedError, error_of, sequence_end};
 use crate::left::{First, Left, Reply, Todo};
 use crate::rows::{Handed, Stepped, Stop, begin, pass};
+use crate::wakes::phase_end;
 use js_base::{Boxed, Message, Moment, Next, OutOfMemory, State, Text};
 use js_json::consumer::Info;
 use js_link::Link;
@@ -195,6 +198,13 @@ impl Ordered {
             return Next::End;
         }
         self.walk(alloc, link, now)
+    }
+
+    /// When it has something to do by itself.
+    pub(crate) fn wakes_at(&self) -> Option<Moment>
+        ensures { (now : ℕ) → now < 2 ^ 64 → has_come result now ≡ phase_due now (position_of self.now).consumer.phase }
+    {
+        phase_end(&self.consumer.phase)
     }
 
     /// Passes row after row, up to the first that hands something out.

@@ -1,9 +1,11 @@
 //! The stream of an ordered pull consumer.
-ghost use Rattle.std.specs.Prelude.{◌≡◌};
+ghost use Rattle.std.specs.Prelude.{◌≡◌, ◌<◌, ◌^◌, ℕ};
 ghost use Rattle.js_link.specs.Meets.{Meets};
 ghost use Rattle.js_ordered_stream.specs.Opening.{OpensConsumer, OpensOrdered, given_of_pull, position_of_pull};
 ghost use Rattle.js_ordered_stream.specs.Stream.{poll_answer};
+ghost use Rattle.js_pull_stream.specs.Wakes.{has_come};
 ghost use Rattle.js_turns.specs.Polling.{IsPoll};
+ghost use Rattle.js_turns.specs.Wakes.{SleepsIfLeftAlone, phase_due};
 
 use crate::error::OrderedError;
 use crate::left::Left;
@@ -75,6 +77,9 @@ impl Ordered {
     }
 
     /// Reads the next message or error. It waits after a turn in which nothing came.
+    ///
+    /// After `Pending` it may be left alone until something comes for it or `wakes_at` has come: a poll before that does nothing.
+    /// What comes is a message in its inbox, the end of its inbox, an answer that it waits for, and a change of the connection.
     pub fn poll_next<L: Link>(
         &mut self,
         alloc: Global,
@@ -83,7 +88,17 @@ impl Ordered {
     ) -> Next<Result<Message, OrderedError>>
         ensures given { given_of_pull self.new ≡ given_of_pull self.old }
         ensures polls { IsPoll (given_of_pull self.old) Meets now (position_of_pull self.old) (position_of_pull self.new) (L.view link.old) (L.view link.new) (poll_answer result) }
+        ensures sleeps { SleepsIfLeftAlone (given_of_pull self.old) now (position_of_pull self.old) (position_of_pull self.new) (L.view link.old) (L.view link.new) (poll_answer result) }
     {
         self.polled.poll_next(alloc, link, now)
+    }
+
+    /// The first moment at which it has something to do by itself, where there is one: a timer of its reader is due, or while its consumer
+    /// is made anew the answer that it waits for is overdue, or its next try is due. One that has neither an inbox nor a consumer that is
+    /// being made begins one at once. A stream that has ended has no such moment.
+    pub fn wakes_at(&self) -> Option<Moment>
+        ensures { (now : ℕ) → now < 2 ^ 64 → has_come result now ≡ phase_due now (position_of_pull self.now).consumer.phase }
+    {
+        self.polled.wakes_at()
     }
 }

@@ -1,0 +1,37 @@
+//! When an ordered stream has something to do by itself.
+ghost use Rattle.std.specs.Prelude.{◌≡◌, ◌<◌, ◌^◌, ℕ};
+ghost use Rattle.js_pull_stream.specs.Wakes.{has_come};
+ghost use Rattle.js_turns.specs.Wakes.{phase_due, stage_due};
+
+use js_base::Moment;
+use js_pull_stream::end_of;
+use js_table::{Phase, Stage};
+
+/// When an open recreation has something to do.
+fn stage_end(stage: &Stage) -> Option<Moment>
+    ensures { (now : ℕ) → now < 2 ^ 64 → has_come result now ≡ stage_due now stage.now }
+{
+    match stage {
+        Stage::Between => None,
+        Stage::Deleting { timeout, .. } => end_of(&Some(*timeout)),
+        Stage::Creating { timeout, .. } => end_of(&Some(*timeout)),
+        Stage::Waiting { wait } => end_of(&Some(*wait)),
+    }
+}
+
+/// The first moment at which a consumer has something to do.
+pub(crate) fn phase_end(phase: &Phase) -> Option<Moment>
+    ensures { (now : ℕ) → now < 2 ^ 64 → has_come result now ≡ phase_due now phase.now }
+{
+    match phase {
+        Phase::Pulls(reader) => js_pull_stream::wakes_at(reader),
+        Phase::Pushes {
+            heartbeat_timer,
+            ..
+        } => end_of(&Some(*heartbeat_timer)),
+        Phase::Recreates(recreation) => stage_end(&recreation.stage),
+        Phase::Idle => Some(0),
+        Phase::Ended => None,
+        Phase::Exhausted => None,
+    }
+}
