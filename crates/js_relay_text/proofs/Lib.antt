@@ -4,3 +4,9 @@ pub mod Pushing
 pub mod Configs
 pub mod Setups
 pub mod Transcripts
+pub mod StringsRead
+pub mod ValuesRead
+pub mod MembersRead
+pub mod FiltersRead
+pub mod MessagesYielded
+pub mod TranscriptsRead

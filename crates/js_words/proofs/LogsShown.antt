@@ -1,7 +1,8 @@
 -- What the written texts say of an honest server's log.
-use Rattle.std.proofs.Common.{◌≡◌, ℕ, ◌+◌, ◌-◌, ◌<◌, ◌≤◌, ◌==◌, nat_lt, Bool, true, false, cond, List, [], ◌∷◌, map, Option, Some, None, IfSome, refl, subst, sym, ap, ◌∙◌, arith}
+use Rattle.std.proofs.Common.{◌≡◌, ℕ, ◌+◌, ◌-◌, ◌<◌, ◌≤◌, ◌==◌, nat_lt, Bool, true, false, cond, List, [], ◌∷◌, map, Option, Some, None, IfSome, Ok, refl, subst, sym, ap, ◌∙◌, arith}
 use Rattle.std.proofs.lemmas.Bool.Decides.{nat_tests}
 use Rattle.std.specs.Io.KnownBytes.{Appends}
+use Rattle.std.specs.List.{AllByRecursion}
 use Rattle.js_base.specs.declared.message.Entry.{Entry}
 use Rattle.js_json.specs.declared.consumer.deliver_policy.DeliverPolicy.{DeliverPolicy}
 use Rattle.js_json.specs.declared.consumer.deliver_policy.DeliverPolicy.TheVariants as policy
@@ -14,6 +15,8 @@ use Rattle.js_project.specs.Table.{last_sequence}
 use Rattle.js_relay.specs.Copied.{IsCopy}
 use Rattle.js_relay.specs.Handed.{handed}
 use Rattle.js_relay.proofs.Shown.{shows_each_log}
+use Rattle.js_relay_text.specs.ReadsBack.{IsText}
+use Rattle.js_relay_text.proofs.TranscriptsRead.{IsTextMessage, texts_are}
 use Rattle.js_table.specs.declared.run.ReplayError.{ReplayError}
 use Rattle.js_table.specs.Gapless as gapless
 use Rattle.js_table.specs.Gapless.{yields, all_outputs}
@@ -24,14 +27,15 @@ use Rattle.js_tool.specs.declared.status.Status.{Status}
 use Rattle.js_tool.specs.declared.status.Status.TheVariants as status
 use Rattle.js_tool.specs.declared.transcript.Transcript.{Transcript}
 use Rattle.js_tool.specs.Program.{given}
+use Rattle.js_tool.specs.Transcripts.{transcript}
 use Rattle.js_words.specs.Commands.{Wanted, Project, Mirror, Relay}
 use Rattle.js_words.specs.declared.report.Report.{Report}
 use Rattle.js_words.specs.declared.report.Report.TheVariants as report
-use Rattle.js_words.specs.Gathered.{ends}
+use Rattle.js_words.specs.Gathered.{ends, ending_of}
 use Rattle.js_words.specs.LogTexts.{rows_text, table_text, mirror_text, served_text}
-use Rattle.js_words.specs.OnLogs.{run_of, yields_of, mirror_of, WritesLogsTable, WritesLogsMirror, WritesLogsRelay}
+use Rattle.js_words.specs.OnLogs.{WritesLogsTable, WritesLogsMirror, WritesLogsRelay}
 use Rattle.js_words.specs.Reports.{unless_falling, log_report, report_from, report_of}
-use Rattle.js_words.specs.Served.{HasTexts, IsServed, Serves, ServesFrom, ServesOf}
+use Rattle.js_words.specs.Served.{run_of, yields_of, mirror_of, HasTexts, IsServed, Serves, ServesFrom, ServesOf}
 use Rattle.js_words.specs.Told.{Reads, AnswersLog}
 
 -- ---- a text that was made
@@ -158,9 +162,20 @@ mirror_told (Some bytes) left_after taken taken_after faults faults_after s answ
 
 -- ---- the transcript
 
+-- the subjects and the payloads of yields, as those of entries
+all_texts : (ys : List gapless.Entry) → AllByRecursion (λ (y : gapless.Entry). IsTextMessage y.subject y.payload) ys → AllByRecursion IsText (map as_entry ys)
+all_texts [] are = tt
+all_texts (y ∷ ys) are = (record { subject = are.0.0; payload = are.0.1 }, all_texts ys are.1)
+
+-- what a transcript brings are texts
+has_texts : (bytes : List ℕ) (t : Transcript) → transcript bytes ≡ Ok t → HasTexts t.setup.setup (yields_of t)
+has_texts bytes t reads =
+    let are = texts_are bytes t reads in
+    record { one = are.0.0; more = are.0.1; all = all_texts (yields (all_outputs (run_of t))) are.1 }
+
 -- what is promised of a text that was made
-serves_made : (wanted : Wanted) (t : Transcript) (start : ℕ) (made : Report) → configured_start t.setup.setup ≡ Some start → refuse (given t.setup) t.setup.start t.events ≡ None → ServesOf wanted t made
-    → Serves wanted t.setup.setup start (yields_of t) made
+serves_made : (wanted : Wanted) (t : Transcript) (start : ℕ) (made : Report) → configured_start t.setup.setup ≡ Some start → refuse (given t.setup) t.setup.start t.events ≡ None
+    → ServesFrom wanted t.setup.setup (configured_start t.setup.setup) (ending_of (given t.setup) t.setup.start t.events) made → Serves wanted t.setup.setup start (yields_of t) made
 serves_made wanted t start made configured accepted more =
     by_cases (configured_start t.setup.setup) configured (refuse (given t.setup) t.setup.start t.events) accepted more
   where
@@ -175,13 +190,22 @@ serves_made wanted t start made configured accepted more =
         let same : found ≡ start = injected found start configured in
         subst (λ (n : ℕ). Serves wanted t.setup.setup n (yields_of t) made) same more
 
+-- so of a transcript that was read no more is asked
+pub serves_read : (wanted : Wanted) (bytes : List ℕ) (t : Transcript) (made : Report) → transcript bytes ≡ Ok t → made ≡ report_of wanted t
+    → ServesFrom wanted t.setup.setup (configured_start t.setup.setup) (ending_of (given t.setup) t.setup.start t.events) made → ServesOf wanted t made
+serves_read (Project filter sequence) bytes t made reads says more = tt
+serves_read Mirror bytes t made reads says more = tt
+serves_read (Relay stream name) bytes t (report.Refused line) reads says more = tt
+serves_read (Relay stream name) bytes t (report.Done text) reads says more = λ start configured.
+    let made : IsMade (Relay stream name) t text = made_of (Relay stream name) t text (sym says) in
+    serves_made (Relay stream name) t start (report.Done text) configured made.accepted more (has_texts bytes t reads)
+
 relay_on_log : (stream name bytes : List ℕ) (taken taken_after : Option (List ℕ)) (t : Transcript) (text : List ℕ) → Reads bytes t → report_of (Relay stream name) t ≡ report.Done text
     → Appends taken taken_after text → ServesOf (Relay stream name) t (report.Done text) → WritesLogsRelay stream name bytes taken taken_after
 relay_on_log stream name bytes taken taken_after t text reads is appends more =
     let made : IsMade (Relay stream name) t text = made_of (Relay stream name) t text is in
     let rose = risen (not_rising (made.start - 1) (yields_of t)) (served_text stream name t.setup.setup made.start (yields_of t)) text made.says in
-    let serves : HasTexts t.setup.setup (yields_of t) → IsServed stream name t.setup.setup (mirror_of made.start t) text =
-    serves_made (Relay stream name) t made.start (report.Done text) made.configured made.accepted more in
+    let serves : IsServed stream name t.setup.setup (mirror_of made.start t) text = more made.start made.configured in
     record {
       transcript = t;
       start = made.start;
@@ -191,8 +215,8 @@ relay_on_log stream name bytes taken taken_after t text reads is appends more =
       mirror = is_mirror t made.start made.configured rose.0;
       written = appends;
       served = serves;
-      honest = λ texts s honest run replay.
-          (serves texts).honest s (given t.setup) t.setup.start t.events (run_of t) refl (fold_replays (given t.setup) t.setup.start t.events (run_of t) made.accepted refl) honest
+      honest = λ s honest run replay.
+          serves.honest s (given t.setup) t.setup.start t.events (run_of t) refl (fold_replays (given t.setup) t.setup.start t.events (run_of t) made.accepted refl) honest
           (is_copy t made.start made.configured) run replay;
     }
 

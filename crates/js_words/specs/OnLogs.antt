@@ -1,31 +1,20 @@
 -- What the texts of a log say of the log of an honest server.
 use Rattle.std.specs.Prelude.{◌≡◌, ℕ, List, Option, Some}
 use Rattle.std.specs.Io.KnownBytes.{Appends}
-use Rattle.js_base.specs.declared.message.Entry.{Entry}
 use Rattle.js_log_table.specs.Honest.{matching_between, AreOvertaken}
-use Rattle.js_log_table.specs.Yielded.{yielded}
 use Rattle.js_mirror.specs.Mirrored.{Mirrored, IsMirror}
 use Rattle.js_project.specs.Table.{last_sequence, table, matched}
 use Rattle.js_relay.specs.Copied.{ShowsLog, server_of}
 use Rattle.js_relay_text.specs.ReadsBack.{ReadsAs}
 use Rattle.js_table.specs.declared.run.Run.{Run}
 use Rattle.js_table.specs.declared.setup.OrderedSetup.{OrderedSetup}
-use Rattle.js_table.specs.Fold.{fold}
-use Rattle.js_table.specs.Gapless.{Logged, Server, IsHonest, all_outputs}
+use Rattle.js_table.specs.Gapless.{Logged, Server, IsHonest}
 use Rattle.js_table.specs.Texts.{configured_start, filters}
 use Rattle.js_tool.specs.declared.transcript.Transcript.{Transcript}
-use Rattle.js_tool.specs.Program.{given, Replays}
+use Rattle.js_tool.specs.Program.{Replays}
 use Rattle.js_words.specs.LogTexts.{rows_text, mirror_text}
-use Rattle.js_words.specs.Served.{HasTexts, IsServed}
+use Rattle.js_words.specs.Served.{IsServed, run_of, yields_of, mirror_of}
 use Rattle.js_words.specs.Told.{Reads}
-
--- the run of a transcript
-abbrev pub run_of : Transcript → Run
-run_of t = fold (given t.setup) t.setup.start t.events
-
--- what it yields
-abbrev pub yields_of : Transcript → List Entry
-yields_of t = yielded (all_outputs (run_of t))
 
 -- the server is honest in the run
 abbrev pub IsHonestIn : Server → Transcript → Type 0
@@ -46,10 +35,6 @@ pub record WritesLogsTable (filter bytes : List ℕ) (taken taken_after : Option
       → Appends taken taken_after (logs_table_text filter transcript.setup.setup s.log start (last_sequence (yields_of transcript)))
 
 -- ---- the mirror
-
--- the mirror of what a transcript's run yields
-abbrev pub mirror_of : ℕ → Transcript → Mirrored
-mirror_of start t = record { start = start; entries = yields_of t }
 
 -- What was written is the text of the mirror that starts at the configured start and has what was yielded. For each honest server each of its messages is the log's, and each hole was removed or does not match.
 pub record WritesLogsMirror (bytes : List ℕ) (taken taken_after : Option (List ℕ)) : Type 0 where
@@ -77,5 +62,5 @@ pub record WritesLogsRelay (stream name bytes : List ℕ) (taken taken_after : O
   pub configured : configured_start transcript.setup.setup ≡ Some start
   pub mirror : IsMirror (mirror_of start transcript)
   pub written : Appends taken taken_after text
-  pub served : HasTexts transcript.setup.setup (yields_of transcript) → IsServed stream name transcript.setup.setup (mirror_of start transcript) text
-  pub honest : HasTexts transcript.setup.setup (yields_of transcript) → (s : Server) → IsHonestIn s transcript → KeepsHonest s transcript (mirror_of start transcript) text
+  pub served : IsServed stream name transcript.setup.setup (mirror_of start transcript) text
+  pub honest : (s : Server) → IsHonestIn s transcript → KeepsHonest s transcript (mirror_of start transcript) text

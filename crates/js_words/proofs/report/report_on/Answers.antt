@@ -1,5 +1,5 @@
 use Rattle.std.proofs.Common.{◌≡◌, ◌∷◌, ℕ, List, sym, ap, subst, ◌∙◌}
-use Rattle.std.specs.Prelude.{Result}
+use Rattle.std.specs.Prelude.{Result, Ok}
 use Rattle.js_lines.specs.Lines.{lines_of}
 use Rattle.js_table.specs.Texts.{configured_start}
 use Rattle.js_tool.specs.declared.transcript.Transcript.{Transcript}
@@ -7,8 +7,9 @@ use Rattle.js_tool.specs.Transcripts.{StopsAt, transcript, with_lines}
 use Rattle.js_tool.proofs.Passing.{with_setup}
 use Rattle.js_words.specs.Commands.{wanted}
 use Rattle.js_words.specs.declared.gathering.Ending.{Ending}
-use Rattle.js_words.specs.Reports.{report_from}
+use Rattle.js_words.specs.Reports.{report_from, report_of}
 use Rattle.js_words.specs.Served.{ServesFrom}
+use Rattle.js_words.proofs.LogsShown.{serves_read}
 use Rattle.js_words.proofs.Passing.{no_line, first_stops}
 use Rattle.js_words.proofs.report.report_on.Goals as goal
 
@@ -37,10 +38,14 @@ returns-in-Ok-report_ending c =
     sym c.new-lines.ensures.lines ∙ c.if-not-read.ensures ∙ ap (λ (line : List ℕ). line ∷ left) (sym c.line.ensures) in
     let read : transcript c.args.bytes ≡ with_lines c.in-Ok.setup left = with_setup c.args.bytes c.line.result.now left c.in-Ok.setup cut c.in-Ok.ensures in
     let gathered = c.in-Ok-gather.ensures in
+    let t : Transcript = record { setup = c.in-Ok.setup; events = gathered.0 } in
     let start = configured_start c.in-Ok.setup.setup in
-    let made = c.in-Ok-report_ending.ensures in (
-      _,
-      read ∙ gathered.1,
-      made.report ∙ ap (report_from (wanted c.args.command) c.in-Ok.setup.setup start) gathered.2,
-      subst (λ (end : Ending). ServesFrom (wanted c.args.command) c.in-Ok.setup.setup start end c.in-Ok-report_ending.report) gathered.2 made.serves,
+    let made = c.in-Ok-report_ending.ensures in
+    let reads : transcript c.args.bytes ≡ Ok t = read ∙ gathered.1 in
+    let says : c.in-Ok-report_ending.report ≡ report_of (wanted c.args.command) t = made.report ∙ ap (report_from (wanted c.args.command) c.in-Ok.setup.setup start) gathered.2 in (
+      t,
+      reads,
+      says,
+      serves_read (wanted c.args.command) c.args.bytes t c.in-Ok-report_ending.report reads says
+          (subst (λ (end : Ending). ServesFrom (wanted c.args.command) c.in-Ok.setup.setup start end c.in-Ok-report_ending.report) gathered.2 made.serves),
     )
