@@ -92,7 +92,7 @@ module _ (P : List ℕ → List ℕ → Type 0) where
   -- ---- recreations
 
   start_is : (g : ReplayInput) (c : Consumer) → Keeps P (start_row g c)
-  start_is g c = if_each (Keeps P) (c.stream_sequence == pull.u64_max) _ _
+  start_is g c = if_each (Keeps P) (c.core.stream_sequence == pull.u64_max) _ _
       (λ _. record { phase = tt; rows = tt; outputs = tt }) (λ _. record { phase = tt; rows = (tt, tt); outputs = (tt, tt) })
 
   try_is : (g : ReplayInput) (p : Passing) (r : Recreation) (c : Consumer) → IfSome r.opened (Holds P) → Keeps P (try_row g p r (at_phase (Recreates r) c))
@@ -170,7 +170,7 @@ module _ (P : List ℕ → List ℕ → Type 0) where
   message_is : (phase : Phase) (c : Consumer) (o : Option Place) (message : Message) → IsPhase P phase → IsOf P message → Keeps P (message_row o message (at_phase phase c))
   message_is phase c None message k is = record { phase = k; rows = tt; outputs = (tt, tt) }
   message_is phase c (Some place) message k is =
-      if_both (Keeps P) (place.number == c.consumer_sequence + 1) _ _ (record { phase = k; rows = tt; outputs = (is, tt) }) (record { phase = k; rows = (tt, tt); outputs = tt })
+      if_both (Keeps P) (place.number == c.core.consumer_sequence + 1) _ _ (record { phase = k; rows = tt; outputs = (is, tt) }) (record { phase = k; rows = (tt, tt); outputs = tt })
 
   -- ---- the pull reader
 
@@ -233,7 +233,7 @@ module _ (P : List ℕ → List ℕ → Type 0) where
   hear_kind_is p inbox heartbeat_timer c message Delivered is = message_is (Pushes inbox heartbeat_timer) c (readable_as message.reply) message tt is
   hear_kind_is p inbox heartbeat_timer c message OtherStatus is = record { phase = tt; rows = tt; outputs = tt }
   hear_kind_is p inbox heartbeat_timer c message Bad is = record { phase = tt; rows = tt; outputs = (tt, tt) }
-  hear_kind_is p inbox heartbeat_timer c message (Beat n) is = record { phase = tt; rows = beat_rows_are n c.consumer_sequence; outputs = beat_is p.up message.reply }
+  hear_kind_is p inbox heartbeat_timer c message (Beat n) is = record { phase = tt; rows = beat_rows_are n c.core.consumer_sequence; outputs = beat_is p.up message.reply }
 
   hear_is : (p : Passing) (arrival : Arrival) (inbox : ℕ) (heartbeat_timer : Timer) (c : Consumer) → IsOf P arrival.message
       → Keeps P (hear_row p arrival inbox (at_phase (Pushes inbox heartbeat_timer) c))
