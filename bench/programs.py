@@ -8,8 +8,6 @@ import sys
 HERE = os.path.dirname(os.path.abspath(__file__))
 TOP = os.path.dirname(HERE)
 PROVED = os.path.join(TOP, "crates", "wilfjodi", "out", "wilfjodi")
-INFO = os.path.join(TOP, "crates", "info_bench", "out", "info_bench")
-PUBLISH_MANY = os.path.join(TOP, "crates", "publish_many", "out", "publish_many")
 PLAIN = os.path.join(HERE, "plain", "target", "release", "plain")
 PERMITS = os.path.join(HERE, "permits", "target", "release", "permits")
 # Where Debian's packages of Rust crates lie (librust-serde-json-dev).
@@ -31,24 +29,29 @@ def proved(path):
     return PROVED
 
 
-def info(path):
-    """The path of the program that reads acknowledgement subjects, which is built here where no other was given."""
+def built(path, crate, what, words):
+    """The path of the program of a crate, which is built here where no other was given."""
     if path:
         return os.path.abspath(path)
-    say("building the proved reader of subjects")
-    folder = os.path.join(TOP, "crates", "info_bench")
-    subprocess.run(["rt", "run", "--", "0", "none"], check=True, cwd=folder, stdout=subprocess.DEVNULL)
-    return INFO
+    say(f"building {what}")
+    folder = os.path.join(TOP, "crates", crate)
+    subprocess.run(["rt", "run", "--", *words], check=True, cwd=folder, stdout=subprocess.DEVNULL)
+    return os.path.join(folder, "out", crate)
+
+
+def info(path):
+    """The path of the program that reads acknowledgement subjects."""
+    return built(path, "info_bench", "the proved reader of subjects", ["0", "none"])
 
 
 def publish_many(path):
-    """The path of the program that publishes many messages, which is built here where no other was given."""
-    if path:
-        return os.path.abspath(path)
-    say("building the program that publishes many messages")
-    folder = os.path.join(TOP, "crates", "publish_many")
-    subprocess.run(["rt", "run", "--", "1", "1"], check=True, cwd=folder, stdout=subprocess.DEVNULL)
-    return PUBLISH_MANY
+    """The path of the program that publishes many messages."""
+    return built(path, "publish_many", "the program that publishes many messages", ["1", "1"])
+
+
+def ordered_simulation(path):
+    """The path of the program that polls ordered consumers."""
+    return built(path, "ordered_simulation", "the program that polls ordered consumers", ["0", "0", "0", "0"])
 
 
 def plain():

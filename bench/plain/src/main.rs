@@ -1,5 +1,5 @@
 //! `replay`, `project FILTER`, `mirror` and `relay STREAM NAME` in plain Rust: each reads a transcript from standard input and writes its text. `info CALLS SUBJECT` reads
-//! an acknowledgement subject so many times, and prints whether it reads.
+//! an acknowledgement subject so many times, and prints whether it reads. `poll MODE MESSAGES` has an ordered consumer hear so many messages, and prints how many it yields.
 //!
 //! It is written from the repository's documents alone, with one `serde_json::Value` a line, and shares no line with the
 //! proved program. The bench measures the proved program against it, and compares what the two write.
@@ -76,6 +76,7 @@ fn main() -> ExitCode {
             relay(stream, name, &mut io::stdin().lock(), &mut io::stdout().lock())
         }
         [command, calls, subject] if command == "info" => info(calls, subject),
+        [command, mode, messages] if command == "poll" => poll(mode, messages),
         _ => Status::Usage,
     };
     if let Some(line) = status.line() {
@@ -95,6 +96,48 @@ fn info(calls: &str, subject: &str) -> Status {
     }
     println!("{reads}");
     Status::Done
+}
+
+/// How many messages a consumer of `poll` hears.
+const BATCH: u64 = 500;
+
+/// Has an ordered consumer hear the messages of a batch, which lie in memory; as often as so many messages have whole batches.
+fn poll(mode: &str, messages: &str) -> Status {
+    let Ok(messages) = messages.parse::<u64>() else {
+        return Status::Usage;
+    };
+    let batch = match transcript::read(batch(mode).as_bytes()) {
+        Ok(batch) => batch,
+        Err(line) => return Status::BadLine(line),
+    };
+    let mut yielded = 0;
+    for _ in 0..messages / BATCH {
+        match replay::replay_ordered(&batch.setup, black_box(&batch.events)) {
+            Ok(run) => yielded += yields(&run),
+            Err(_) => return Status::Refused,
+        }
+    }
+    println!("{yielded} read by {mode}");
+    Status::Done
+}
+
+/// The transcript of a batch.
+fn batch(mode: &str) -> String {
+    let config = r#""deliver_policy":"all","deliver_subject":"deliver""#;
+    let sequences = r#"{"consumer_seq":0,"stream_seq":0}"#;
+    let mut text = format!(
+        r#"{{"mode":"{mode}","start":0,"settings":{{}},"config":{{{config}}},"info":{{"stream_name":"log","name":"c1","created":"2026-01-01T00:00:00Z","config":{{{config}}},"delivered":{sequences},"ack_floor":{sequences},"num_ack_pending":0,"num_redelivered":0,"num_waiting":0,"num_pending":0}}}}"#
+    );
+    for number in 1..=BATCH {
+        text += &format!(
+            "\n{{\"at\":0,\"arrival\":{{\"inbox\":0,\"subject\":\"log.line\",\"reply\":\"$JS.ACK.log.c1.1.{number}.{number}.1790230470084404000.0\",\"payload\":\"0123456789abcdef\"}}}}"
+        );
+    }
+    text
+}
+
+fn yields(run: &replay::Run) -> usize {
+    run.outputs.iter().filter(|(_, output)| matches!(output, replay::Output::Yield { .. })).count()
 }
 
 /// Reads the input to its end as a transcript.

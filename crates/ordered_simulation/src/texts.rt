@@ -1,0 +1,89 @@
+//! What a reader is opened with, and what its server sends.
+
+use crate::reader::Kind;
+use bytes::Bytes;
+use js_base::{HeaderMap, Message, OutOfMemory, StatusCode, Subject, Text};
+use js_json::consumer::Info;
+use js_json::{Response, response_as};
+use js_table::Settings;
+use std::alloc::Global;
+
+/// The settings of every reader.
+pub fn settings(alloc: Global) -> Result<Settings, OutOfMemory> {
+    Ok(Settings {
+        api_prefix: Text::from_str(alloc, "$JS.API")?,
+        inbox_prefix: Text::from_str(alloc, "_INBOX.t")?,
+        context_timeout: None,
+        request_timeout: Some(10_000_000_000),
+        retries: 0,
+    })
+}
+
+/// How a consumer of the kind is configured.
+fn config_text(kind: Kind) -> &'static str {
+    match kind {
+        Kind::Pull => r#"{"deliver_policy":"all","max_batch":4}"#,
+        Kind::Push => r#"{"deliver_policy":"all","deliver_subject":"deliver"}"#,
+    }
+}
+
+/// What the server tells of a consumer.
+pub fn info_text(alloc: Global, name: &str, kind: Kind) -> Result<String, OutOfMemory> {
+    let config = config_text(kind);
+    Ok(format!(in alloc;
+        r#"{{"stream_name":"log","name":"{name}","created":"2026-01-01T00:00:00Z","config":{config},"delivered":{{"consumer_seq":0,"stream_seq":0}},"ack_floor":{{"consumer_seq":0,"stream_seq":0}},"num_ack_pending":0,"num_redelivered":0,"num_waiting":0,"num_pending":0}}"#
+    )?)
+}
+
+/// What the server tells of the first consumer.
+pub fn first_info(alloc: Global, kind: Kind) -> Result<Info, OutOfMemory> {
+    let text = info_text(alloc, "c1", kind)?;
+    match response_as::<Info>(alloc, text.as_bytes()) {
+        Ok(Response::Ok(info)) => Ok(info),
+        // The text is an info, so only memory can be missing.
+        _ => Err(OutOfMemory),
+    }
+}
+
+/// A message that is no more than its payload.
+pub fn plain(alloc: Global, payload: &str) -> Result<Message, OutOfMemory> {
+    Ok(Message {
+        subject: Subject::new(alloc, "log.line")?,
+        reply: None,
+        payload: Bytes::copy_from_slice(alloc, payload.as_bytes())?,
+        headers: None,
+        status: None,
+        description: None,
+        length: payload.len() as u64,
+    })
+}
+
+/// The log's entry with this sequence, as the message with this number of its consumer.
+pub fn entry(alloc: Global, sequence: u64, number: u64) -> Result<Message, OutOfMemory> {
+    let reply = format!(in alloc; "$JS.ACK.log.c1.1.{sequence}.{number}.1790230470084404000.0")?;
+    let mut entry = plain(alloc, "0123456789abcdef")?;
+    entry.reply = Some(Subject::from(reply));
+    Ok(entry)
+}
+
+/// What the server says in place of a message, with a number in a header.
+pub fn status(
+    alloc: Global,
+    code: StatusCode,
+    description: &str,
+    header: &str,
+    number: u64,
+) -> Result<Message, OutOfMemory> {
+    let mut message = plain(alloc, "")?;
+    message.status = Some(code);
+    message.description = Some(Text::from_str(alloc, description)?);
+    message.headers = Some(headers(alloc, header, number)?);
+    Ok(message)
+}
+
+fn headers(alloc: Global, name: &str, number: u64) -> Result<HeaderMap, OutOfMemory> {
+    let number = format!(in alloc; "{number}")?;
+    let mut headers = HeaderMap::new(alloc);
+    headers.insert(alloc, name, number.as_str())?;
+    Ok(headers)
+}
