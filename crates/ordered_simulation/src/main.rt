@@ -73,10 +73,15 @@ fn numbers(rt: &HostRuntime) -> io::Result<Asked> {
 fn complete(alloc: Global, kind: Kind, seeds: u64) -> Result<u64, OutOfMemory> {
     let mut complete: u64 = 0;
     for seed in 0..seeds {
-        let mut round = Round::new(alloc, kind, seed)?;
-        complete = complete.saturating_add(u64::from(round.is_complete(alloc)?));
+        complete = complete.saturating_add(u64::from(is_complete(alloc, kind, seed)?));
     }
     Ok(complete)
+}
+
+/// Whether the reader of a number yields its log.
+fn is_complete(alloc: Global, kind: Kind, seed: u64) -> Result<bool, OutOfMemory> {
+    let mut round = Round::new(alloc, kind, seed)?;
+    round.is_complete(alloc)
 }
 
 fn tell(rt: &impl Print, kind: &str, complete: u64, seeds: u64) -> io::Result<()> {
