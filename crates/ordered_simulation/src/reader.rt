@@ -35,6 +35,7 @@ impl Reader {
         }
     }
 
+    /// Reads the next message or error.
     pub fn poll_next(
         &mut self,
         alloc: Global,
