@@ -12,8 +12,8 @@ use std::alloc::Global;
 
 /// A call under way: it is polled until it is ready.
 ///
-/// After `Pending` it may be left alone until the answer to its `request` has come or its `wakes_at` has come: a poll before that
-/// changes nothing.
+/// After `Pending` it may be left alone until the answer to its `request` has come, that request is gone, or its `wakes_at` has come:
+/// a poll before that changes nothing.
 pub trait State: Drop {
     /// What the call answers in the end.
     type Answer: Drop;
