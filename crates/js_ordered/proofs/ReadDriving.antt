@@ -23,7 +23,7 @@ use Rattle.js_pull.specs.Kind.{pull_kind}
 use Rattle.js_pull.specs.Limits.{pull_body}
 use Rattle.js_table.specs.declared.run.Output.TheVariants as out
 use Rattle.js_pull.specs.declared.rows.Step.{Step as Read}
-use Rattle.js_ordered_rows.specs.Readings.{ReadsTo, brought}
+use Rattle.js_pull.specs.Steps.{ReadsTo, brought}
 use Rattle.js_pull.specs.Steps.{told_shown}
 use Rattle.js_pull.specs.declared.reader.Reader.{Reader}
 use Rattle.js_pull.specs.declared.reader.Row.{Row as PullRow}

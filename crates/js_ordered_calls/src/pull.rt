@@ -1,6 +1,8 @@
 //! The calls of an ordered pull consumer.
+ghost use Rattle.std.specs.Prelude.{IfOk};
 ghost use Rattle.js_json.specs.declared.pull.OrderedConfig.{OrderedConfig};
 ghost use Rattle.js_consumer_calls.specs.declared.consumer.Consumer.{Consumer};
+ghost use Rattle.js_ordered_stream.specs.Opening.{IsGaplessPull};
 ghost use Rattle.js_ordered_calls.specs.Opening.{OpensPull};
 
 use crate::settings::settings_of;
@@ -17,11 +19,13 @@ pub trait OrderedPullCalls: Drop {
     ghost reads: { Self → Consumer OrderedConfig };
 
     /// Opens an inbox, and what reads the consumer there: it asks for messages from its first poll on, and makes its consumer anew where a message is
-    /// missing. Its requests go where those of the consumer's scope go, and wait as long.
+    /// missing. Its requests go where those of the consumer's scope go, and wait as long. However it is polled from then on, what it yields is gapless
+    /// where the server is honest.
     ///
     /// `Other` comes where the link failed, and `OutOfMemory` where memory ran out. Nothing was sent then.
     fn messages<L: Link>(self, alloc: Global, link: &mut L) -> Result<Ordered, StreamError>
-        ensures { OpensPull result (reads self) (L.view link.old) (L.view link.new) };
+        ensures opens { OpensPull result (reads self) (L.view link.old) (L.view link.new) }
+        ensures gapless { IfOk result IsGaplessPull };
 }
 
 impl OrderedPullCalls for OrderedPullConsumer {

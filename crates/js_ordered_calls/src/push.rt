@@ -1,7 +1,8 @@
 //! The calls of an ordered push consumer.
-ghost use Rattle.std.specs.Prelude.{◌≡◌};
+ghost use Rattle.std.specs.Prelude.{◌≡◌, IfOk};
 ghost use Rattle.js_json.specs.declared.push.OrderedConfig.{OrderedConfig};
 ghost use Rattle.js_consumer_calls.specs.declared.consumer.Consumer.{Consumer};
+ghost use Rattle.js_ordered_stream.specs.Opening.{IsGaplessPush};
 ghost use Rattle.js_ordered_calls.specs.Opening.{OpensPush, open_refusal};
 
 use crate::settings::settings_of;
@@ -18,11 +19,13 @@ pub trait OrderedPushCalls: Drop {
     ghost reads: { Self → Consumer OrderedConfig };
 
     /// Subscribes to the subject that the consumer delivers to, as its cached info has it, and reads it there: it makes its consumer anew where a message is
-    /// missing. Its requests go where those of the consumer's scope go, and wait as long.
+    /// missing. Its requests go where those of the consumer's scope go, and wait as long. However it is polled from then on, what it yields is gapless
+    /// where the server is honest.
     ///
     /// `Other` comes where the info has no such subject, or where the link failed, and `OutOfMemory` where memory ran out. Nothing was sent then.
     fn messages<L: Link>(self, alloc: Global, link: &mut L) -> Result<Ordered, StreamError>
-        ensures { OpensPush result (reads self) (L.view link.old) (L.view link.new) };
+        ensures opens { OpensPush result (reads self) (L.view link.old) (L.view link.new) }
+        ensures gapless { IfOk result IsGaplessPush };
 }
 
 fn open_refusal(error: OpenError) -> StreamErrorKind

@@ -11,8 +11,7 @@ use Rattle.js_pull.specs.declared.rows.Due.{Due}
 use Rattle.js_pull.specs.declared.rows.Due.TheVariants as due
 use Rattle.js_pull.specs.declared.rows.Notice.TheVariants as notice
 use Rattle.js_pull.specs.declared.rows.Step.{Step as Read}
-use Rattle.js_ordered_rows.specs.Readings.{IsInquired, ReadsTo, brought}
-use Rattle.js_pull.specs.Steps.{row_list, told_shown}
+use Rattle.js_pull.specs.Steps.{ReadsTo, brought, row_list, told_shown}
 use Rattle.js_pull.specs.Steps.{StepsTo as PullStepsTo, informed_by as pull_informed, requesting as pull_requesting}
 use Rattle.js_pull.specs.declared.reader.InfoRequest.{InfoRequest}
 use Rattle.js_pull.specs.declared.reader.InfoRequest.TheVariants.{NoInfoRequest, Asked, Resting}
@@ -74,25 +73,6 @@ pub same_reason : (info : Option Info) → option_map (λ (i : Info). Informed (
 same_reason None = refl
 same_reason (Some info) = refl
 
--- ---- the consumer's info
-
--- the reply is there
-pub reply_there : (p : Passing) (answer : Option Answer) (request : ℕ) (timeout : Option Timer) (failures : ℕ) (r : Reader) → true ≡ is_some (reply_to request answer)
-    → pull.check_asked p timeout failures (reply_to request answer) r ≡ pull.quietly r (read.Answered (brought answer) failures ∷ [])
-reply_there p None request timeout failures r is = cc
-reply_there p (Some answer) request timeout failures r is = by_test (request == answer.request) is
-  where
-    by_test : (b : Bool) → true ≡ is_some (if b then Some answer.reply else None)
-        → pull.check_asked p timeout failures (if b then Some answer.reply else None) r ≡ pull.quietly r (read.Answered answer.reply failures ∷ [])
-    by_test true is = refl
-    by_test false is = cc
-
--- no reply is there
-pub reply_waits : (p : Passing) (reply : Option (Option Message)) (timeout : Option Timer) (failures : ℕ) (r : Reader) → false ≡ is_some reply
-    → pull.check_asked p timeout failures reply r ≡ pull.quietly r (if is_any_due timeout p.now then read.FailInfoRequest failures ∷ [] else [])
-reply_waits p None timeout failures r is = refl
-reply_waits p (Some reply) timeout failures r is = cc
-
 -- ---- what the consumer makes of what its reader tells
 
 -- what the reader sent goes out first
@@ -152,32 +132,3 @@ hear_sends message Limit r = refl
 hear_sends message Gone r = refl
 hear_sends message Bad r = refl
 hear_sends message (Ledger messages bytes) r = refl
-
--- ---- an open info
-
-pub asked_there : (p : Passing) (answer : Option Answer) (message : Option Message) (request : ℕ) (timeout : Option Timer) (failures : ℕ) (r : Reader) (step : Read) → true ≡ is_some (reply_to request answer)
-    → step ≡ record { told = notice.Nothing; next = Some (due.Answered failures) }
-    → ReadsTo (brought answer) message (pull.check_asked p timeout failures (reply_to request answer) r) r step
-asked_there p answer message request timeout failures r step is to =
-    subst (λ (x : pull.Passed). ReadsTo (brought answer) message x r step) (sym (reply_there p answer request timeout failures r is))
-    (subst (λ (x : Read). ReadsTo (brought answer) message (pull.quietly r (read.Answered (brought answer) failures ∷ [])) r x) (sym to) (record { reader = refl; told = refl; next = refl }))
-
-pub asked_waits : (p : Passing) (answer : Option Answer) (message : Option Message) (request : ℕ) (timeout : Option Timer) (failures : ℕ) (r : Reader) (is_due : Bool) (next : Option Due) (step : Read) → false ≡ is_some (reply_to request answer)
-    → is_due ≡ is_any_due timeout p.now → next ≡ (if is_due then Some (due.FailInfoRequest failures) else None) → step ≡ record { told = notice.Nothing; next = next }
-    → ReadsTo (brought answer) message (pull.check_asked p timeout failures (reply_to request answer) r) r step
-asked_waits p answer message request timeout failures r is_due next step is due_is next_is to =
-    subst (λ (x : pull.Passed). ReadsTo (brought answer) message x r step) (sym (reply_waits p (reply_to request answer) timeout failures r is))
-    (subst (λ (b : Bool). ReadsTo (brought answer) message (pull.quietly r (if b then read.FailInfoRequest failures ∷ [] else [])) r step) due_is
-    (subst (λ (x : Read). ReadsTo (brought answer) message (pull.quietly r (if is_due then read.FailInfoRequest failures ∷ [] else [])) r x) (sym (to ∙ ap (λ (n : Option Due). record { told = notice.Nothing; next = n }) next_is))
-    (by_due is_due)))
-  where
-    by_due : (b : Bool) → ReadsTo (brought answer) message (pull.quietly r (if b then read.FailInfoRequest failures ∷ [] else [])) r (record { told = notice.Nothing; next = (if b then Some (due.FailInfoRequest failures) else None) })
-    by_due true = record { reader = refl; told = refl; next = refl }
-    by_due false = record { reader = refl; told = refl; next = refl }
-
--- an open info that is known
-pub asked_at : (p : Passing) (answer : Option Answer) (message : Option Message) (inquiry known : InfoRequest) (replied : Bool) (r : Reader) (step : Read) → inquiry ≡ known
-    → (IsInquired answer known replied → ReadsTo (brought answer) message (pull.check_inquiry p answer known r) r step) → IsInquired answer inquiry replied
-    → ReadsTo (brought answer) message (pull.check_inquiry p answer inquiry r) r step
-asked_at p answer message inquiry known replied r step is reads there =
-    subst (λ (i : InfoRequest). IsInquired answer i replied → ReadsTo (brought answer) message (pull.check_inquiry p answer i r) r step) (sym is) reads there

@@ -4,8 +4,7 @@ use Rattle.js_base.specs.declared.message.Message.{Message}
 use Rattle.js_base.specs.declared.message.State.{State}
 use Rattle.js_link.specs.Passing.{Passing}
 use Rattle.js_message.specs.Ack.{readable_as}
-use Rattle.js_ordered_rows.specs.Readings.{brought}
-use Rattle.js_pull.specs.Steps.{row_list, row_of}
+use Rattle.js_pull.specs.Steps.{brought, row_list, row_of}
 use Rattle.js_pull.specs.declared.rows.Due.{Due}
 use Rattle.js_pull.specs.Reader.{reply_to}
 use Rattle.js_table.specs.Passes.{hearings, place_shown, yielding}

@@ -1,15 +1,11 @@
 //! The rows of a pull reader, and what the consumer makes of what its reader tells.
-ghost use Rattle.std.specs.Prelude.{ℕ, ◌≡◌, [], false, None, Some, Option, is_some, map, if◌then◌else◌};
+ghost use Rattle.std.specs.Prelude.{ℕ, ◌≡◌, [], false, None, Option, map};
 ghost use Rattle.js_base.specs.declared.message.Message.{Message as SpecMessage};
 ghost use Rattle.js_json.specs.declared.consumer.info.Info.{Info as SpecInfo};
 ghost use Rattle.js_link.specs.Passing.{Passing};
-ghost use Rattle.js_ordered_rows.specs.Readings.{IsInquired, ReadsTo, brought};
-ghost use Rattle.js_pull.specs.Steps.{told_shown};
+ghost use Rattle.js_pull.specs.Steps.{ReadsTo, brought, rows_with, told_shown};
 ghost use Rattle.js_ordered_rows.specs.Tasks.{IsOfStream, StepsTo, at_moment, heard_outputs, heard_row, next_rows, reader_rows, requesting, told_outputs};
-ghost use Rattle.js_pull.specs.Kind.{pull_kind as kind_of};
 ghost use Rattle.js_pull.specs.Reader as reads;
-ghost use Rattle.js_pull.specs.Reader.{Answer as SpecAnswer};
-ghost use Rattle.js_pull.specs.declared.reader.Reader.{Reader as SpecReader};
 ghost use Rattle.js_pull.specs.declared.reader.Row.TheVariants as read;
 ghost use Rattle.js_pull.specs.declared.reader.ReaderOutput.TheVariants as telling;
 ghost use Rattle.js_table.specs.Passes.{informed_by};
@@ -19,45 +15,23 @@ ghost use Rattle.js_table.specs.declared.row.Row.TheVariants as row;
 
 use crate::event;
 use crate::task::{Heard, NextTasks, RowOutput, Step, Task};
-use js_base::{Message, Moment, State, Timer};
-use js_pull::{
-    Due, InfoRequest, Kind, MessagesErrorKind, Notice, Reader, Reason, Step as Read, is_any_due,
-    is_asking, pull_kind,
-};
+use js_base::{Moment, State};
+use js_pull::{Due, MessagesErrorKind, Notice, Reader, Reason, Step as Read, Todo};
 use js_table::{Consumer, ItemKind, Phase};
 
-/// A row that tells nothing.
-#[inline]
-fn quietly(due: Option<Due>) -> Read
-    ensures { result ≡ record { told = Notice.Nothing; next = due } }
-{
-    Read {
-        told: Notice::Nothing,
-        next: due,
-    }
-}
-
-/// A row that tells an error.
-fn tells(kind: MessagesErrorKind, due: Option<Due>) -> Read
-    ensures { result ≡ record { told = Notice.Tells kind; next = due } }
-{
-    Read {
-        told: Notice::Tells(kind),
-        next: due,
-    }
-}
-
-/// An arrival was heard, after which the threshold is looked at.
-fn heard(notice: Notice) -> Read
-    ensures { result ≡ record { told = notice; next = Some Due.Threshold } }
-{
-    Read {
-        told: notice,
-        next: Some(Due::Threshold),
-    }
-}
-
 // ---- rows
+
+/// The reader's rows that are left of an event.
+#[inline]
+fn tasks_of(todo: Todo) -> NextTasks
+    ensures { (m : Matter) → next_rows m result ≡ map row.Read (rows_with (brought m.answer) (brought m.answer) todo) }
+{
+    match todo {
+        Todo::Nothing => NextTasks::Nothing,
+        Todo::One(due) => NextTasks::One(Task::Read(due)),
+        Todo::Two(due, later) => NextTasks::Two(Task::Read(due), Task::Read(later)),
+    }
+}
 
 /// What an event does first, with the connection's change.
 #[inline]
@@ -65,30 +39,7 @@ pub fn begin(reader: &mut Reader, now: Moment, change: Option<State>) -> NextTas
     ensures reader { (p : Passing) → reader.new ≡ (reads.begin_row (at_moment now p) change reader.old).reader }
     ensures next { (m : Matter) → (p : Passing) → next_rows m result ≡ map row.Read (reads.begin_row (at_moment now p) change reader.old).next }
 {
-    if reader.ended {
-        return NextTasks::Nothing;
-    }
-    if is_asking(&reader.inquiry) {
-        return NextTasks::Two(
-            Task::Read(Due::CheckInfoRequest),
-            Task::Read(Due::CheckArrival),
-        );
-    }
-    match change {
-        None => NextTasks::Two(Task::Read(Due::CheckExpiry), Task::Read(Due::CheckArrival)),
-        Some(State::Connected) => NextTasks::Two(
-            Task::Read(Due::Inquire { failures: 0 }),
-            Task::Read(Due::CheckArrival),
-        ),
-        Some(State::Pending) => {
-            reader.arm_expiry(now);
-            NextTasks::One(Task::Read(Due::CheckArrival))
-        }
-        Some(State::Disconnected) => {
-            reader.arm_expiry(now);
-            NextTasks::One(Task::Read(Due::CheckArrival))
-        }
-    }
+    tasks_of(reader.begin(now, change))
 }
 
 /// A pull request has gone out, or was refused, of which the user is told. The expiry is armed in both cases.
@@ -130,73 +81,13 @@ pub fn answered(reader: &mut Reader, failures: u64, informed: Option<Reason>) ->
     reader.pass_answered(failures, informed)
 }
 
-fn failed_if(is_due: bool, failures: u64) -> Option<Due>
-    ensures { result ≡ (if is_due then Some (Due.FailInfoRequest failures) else None) }
-{
-    if is_due {
-        Some(Due::FailInfoRequest { failures })
-    } else {
-        None
-    }
-}
-
-fn tried_if(is_due: bool, failures: u64) -> Option<Due>
-    ensures { result ≡ (if is_due then Some (Due.Inquire failures) else None) }
-{
-    if is_due {
-        Some(Due::Inquire { failures })
-    } else {
-        None
-    }
-}
-
-/// An open info that was asked for looks at its answer before its clock.
-fn check_asked(
-    now: Moment,
-    request: u64,
-    timeout: Option<Timer>,
-    failures: u64,
-    is_answered: bool,
-) -> Read
-    ensures { (p : Passing) → (answer : Option SpecAnswer) → (message : Option SpecMessage) → (reader : SpecReader) → is_answered ≡ is_some (reads.reply_to request answer)
-        → ReadsTo (brought answer) message (reads.check_asked (at_moment now p) timeout failures (reads.reply_to request answer) reader) reader result }
-{
-    if is_answered {
-        quietly(Some(Due::Answered { failures }))
-    } else {
-        quietly(failed_if(is_any_due(&timeout, now), failures))
-    }
-}
-
-/// An open info looks at its answer before its clock.
-pub fn check_inquiry(inquiry: InfoRequest, now: Moment, is_answered: bool) -> Read
-    ensures { (p : Passing) → (answer : Option SpecAnswer) → (message : Option SpecMessage) → (reader : SpecReader) → IsInquired answer inquiry is_answered
-        → ReadsTo (brought answer) message (reads.check_inquiry (at_moment now p) answer inquiry reader) reader result }
-{
-    match inquiry {
-        InfoRequest::NoInfoRequest => quietly(None),
-        InfoRequest::Asked {
-            request,
-            timeout,
-            failures,
-        } => check_asked(now, request, timeout, failures, is_answered),
-        InfoRequest::Resting { wait, failures } => quietly(tried_if(wait.is_due(now), failures)),
-    }
-}
-
 /// After a request has expired another one follows.
 #[inline]
-pub fn check_expiry(reader: &Reader, now: Moment) -> Read
+pub fn check_expiry(reader: &mut Reader, now: Moment) -> Read
     ensures { (p : Passing) → (reply : Option SpecMessage) → (message : Option SpecMessage)
-        → ReadsTo reply message (reads.row (at_moment now p) None None read.CheckExpiry reader.now) reader.now result }
+        → ReadsTo reply message (reads.row (at_moment now p) None None read.CheckExpiry reader.old) reader.new result }
 {
-    if is_any_due(&reader.expiry, now) {
-        quietly(Some(Due::Ask {
-            reason: Reason::Expired,
-        }))
-    } else {
-        quietly(None)
-    }
+    reader.pass_check_expiry(now)
 }
 
 /// A missing heartbeat is told, and armed anew.
@@ -206,39 +97,6 @@ pub fn check_silence(reader: &mut Reader, now: Moment) -> Read
         → ReadsTo reply message (reads.check_silence (at_moment now p) reader.old) reader.new result }
 {
     reader.pass_check_silence(now)
-}
-
-/// An error ends the reader: no row follows.
-fn end_with(reader: &mut Reader, kind: MessagesErrorKind) -> Read
-    ensures { (reply : Option SpecMessage) → (message : Option SpecMessage) → ReadsTo reply message (reads.end_with kind reader.old) reader.new result }
-{
-    reader.ended = true;
-    tells(kind, None)
-}
-
-/// What an arrival does, once its pin is kept and the heartbeat is armed.
-#[inline]
-pub fn hear(reader: &mut Reader, message: &Message) -> Read
-    ensures { (reply : Option SpecMessage) → ReadsTo reply (Some message.now) (reads.hear message.now (kind_of message.now) reader.old) reader.new result }
-{
-    match pull_kind(message) {
-        Kind::Delivered => {
-            reader.lower(1, message.length);
-            heard(Notice::Hands)
-        }
-        Kind::IdleHeartbeat => heard(Notice::Nothing),
-        Kind::Deleted => end_with(reader, MessagesErrorKind::ConsumerDeleted),
-        Kind::PushBased => end_with(reader, MessagesErrorKind::PushBasedConsumer),
-        Kind::Limit => end_with(reader, MessagesErrorKind::RequestLimitExceeded),
-        Kind::Gone => heard(Notice::Tells(MessagesErrorKind::NoResponders)),
-        Kind::Bad => heard(Notice::Tells(MessagesErrorKind::Other)),
-        Kind::Ledger { messages, bytes } => {
-            let messages = messages.unwrap_or(reader.source.config.batch);
-            let bytes = bytes.unwrap_or(reader.source.config.max_bytes);
-            reader.lower(messages, bytes);
-            heard(Notice::Nothing)
-        }
-    }
 }
 
 // ---- what the consumer makes of what its reader tells

@@ -9,7 +9,7 @@ use Rattle.js_message.specs.Ack.{Place}
 use Rattle.js_ordered_rows.specs.declared.task.Heard.{Heard}
 use Rattle.js_ordered_rows.specs.declared.task.Heard.TheVariants as hears
 use Rattle.js_ordered_rows.specs.declared.task.RowOutput.{RowOutput}
-use Rattle.js_ordered_rows.specs.Readings.{ReadsTo, brought}
+use Rattle.js_pull.specs.Steps.{ReadsTo, brought}
 use Rattle.js_ordered_rows.specs.Tasks.{IsHeardFrom, StepsTo, heard_outputs, heard_row, reader_rows, told_outputs}
 use Rattle.js_ordered_rows.proofs.ReaderSteps.{reads_row}
 use Rattle.js_ordered_rows.proofs.Stepping.{from_stream}

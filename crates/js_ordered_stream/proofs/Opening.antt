@@ -1,16 +1,17 @@
 -- The beginning of a stream.
-use Rattle.std.proofs.Common.{◌≡◌, ℕ, List, [], ◌∷◌, Option, Some, None, map, ap, sym, ◌∙◌, subst}
-use Rattle.std.specs.Prelude.{Result, Ok, Err}
+use Rattle.std.proofs.Common.{◌≡◌, ℕ, List, [], ◌∷◌, Option, Some, None, map, ap, refl, sym, ◌∙◌, subst, arith}
+use Rattle.std.specs.Prelude.{Result, Ok, Err, IfSome}
 use Rattle.js_json.specs.declared.consumer.info.Info.{Info}
 use Rattle.js_json.specs.declared.pull.OrderedConfig as pull_config
 use Rattle.js_json.specs.declared.push.OrderedConfig as push_config
 use Rattle.js_link.specs.Calls.{Opens, OpensOwn}
 use Rattle.js_link.specs.LinkView.{LinkView}
+use Rattle.js_link.specs.Meets.{Meets}
 use Rattle.js_ordered_stream.specs.declared.left.Left.{Left}
 use Rattle.js_ordered_stream.specs.declared.ordered.Ordered as polled
 use Rattle.js_ordered_stream.specs.declared.pull.Ordered as pulls
 use Rattle.js_ordered_stream.specs.declared.push.Ordered as pushes
-use Rattle.js_ordered_stream.specs.Opening.{ListensFirst, OpensConsumer, OpensDelivery, OpensOrdered, OpensPushed, listens_first, reads_first}
+use Rattle.js_ordered_stream.specs.Opening.{ListensFirst, OpensConsumer, OpensDelivery, OpensOrdered, OpensPushed, IsGaplessPull, IsGaplessPush, listens_first, opened_at, reads_first}
 use Rattle.js_ordered_stream.specs.Rows.{left_rows}
 use Rattle.js_ordered_stream.specs.Stream.{first_at, with_retries}
 use Rattle.js_pull.specs.Reader.{new_reader, opening}
@@ -22,12 +23,17 @@ use Rattle.js_table.specs.declared.consumer.Phase.TheVariants.{Pulls, Pushes, Id
 use Rattle.js_table.specs.declared.consumer.ReplayInput.{ReplayInput}
 use Rattle.js_table.specs.declared.row.Row.{Row}
 use Rattle.js_table.specs.declared.row.Row.TheVariants.{Arm, Read}
+use Rattle.js_table.specs.declared.setup.OrderedSetup.{OrderedSetup}
 use Rattle.js_table.specs.declared.setup.OrderedSetup.TheVariants.{Pull, Push}
 use Rattle.js_table.specs.declared.setup.Settings.{Settings}
+use Rattle.js_table.specs.Gapless.{Server}
+use Rattle.js_table.specs.Kept.{IsKeptOn}
 use Rattle.js_table.specs.Reading.{armed}
 use Rattle.js_table.specs.State.{at_phase}
 use Rattle.js_table.specs.Texts.{configured_start, source_of}
+use Rattle.js_turns.specs.Lifetime.{IsGaplessFrom}
 use Rattle.js_turns.specs.Turns.{Position}
+use Rattle.js_turns.proofs.Lifetime.{polls_gapless}
 
 abbrev position_at : Consumer → List Row → Position
 position_at c todo = record { consumer = c; todo = todo }
@@ -89,3 +95,37 @@ opens_pushed g given c left o settings config first old new (inbox, opens, is) s
       (ap (λ (x : Consumer). position_at x (left_rows left)) (is ∙ ap (λ (x : ReplayInput). listens_first x inbox) same)
           ∙ ap (position_at (listens_first given inbox)) rows),
     )
+
+-- ---- nothing was yielded yet
+
+-- a consumer that was just opened is kept
+fresh_kept : (setup : OrderedSetup) (s : Server) (inbox : ℕ) → IfSome (configured_start setup) (λ sequence. s.starts inbox ≡ sequence) → IsKeptOn setup s 0 0 0 inbox
+fresh_kept setup s inbox starts = record {
+  reached = λ some. absurd (omega arith);
+  first = λ fresh none. record { none = refl; start = starts };
+  later = λ fresh some. absurd (omega arith);
+}
+
+pub pull_gapless : (o : pulls.Ordered) (settings : Settings) (config : pull_config.OrderedConfig) (first : Info) (old new : LinkView)
+    → OpensOrdered (Ok o) settings config first old new → IsGaplessPull o
+pull_gapless o settings config first old new (inbox, subject, opens, given_is, at) = rw at (rw given_is from_there)
+  where
+    given : ReplayInput
+    given = record { settings = with_retries settings; setup = Pull config; first = first }
+
+    from_there : IsGaplessFrom given Meets (opened_at given inbox subject)
+    from_there = λ s whole starts answers polls.
+        polls_gapless given Meets s whole answers (opened_at given inbox subject)
+        (record { consumer = ((tt, fresh_kept (Pull config) s inbox starts), refl); todo = (tt, (tt, tt)) }) refl polls
+
+pub push_gapless : (o : pushes.Ordered) (settings : Settings) (config : push_config.OrderedConfig) (first : Info) (old new : LinkView)
+    → OpensPushed (Ok o) settings config first old new → IsGaplessPush o
+push_gapless o settings config first old new (inbox, opens, given_is, at) = rw at (rw given_is from_there)
+  where
+    given : ReplayInput
+    given = record { settings = with_retries settings; setup = Push config; first = first }
+
+    from_there : IsGaplessFrom given Meets (position_at (listens_first given inbox) (Arm ∷ []))
+    from_there = λ s whole starts answers polls.
+        polls_gapless given Meets s whole answers (position_at (listens_first given inbox) (Arm ∷ []))
+        (record { consumer = ((tt, fresh_kept (Push config) s inbox starts), refl); todo = (tt, tt) }) refl polls

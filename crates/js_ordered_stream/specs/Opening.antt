@@ -6,6 +6,7 @@ use Rattle.js_json.specs.declared.push.OrderedConfig as push_config
 use Rattle.js_link.specs.Calls.{Opens, OpensOwn, FailsToSend, RefusedSend}
 use Rattle.js_link.specs.declared.link.LinkError.{LinkError}
 use Rattle.js_link.specs.LinkView.{LinkView}
+use Rattle.js_link.specs.Meets.{Meets}
 use Rattle.js_ordered_stream.specs.declared.pull.Ordered as pulls
 use Rattle.js_ordered_stream.specs.declared.push.Ordered as pushes
 use Rattle.js_ordered_stream.specs.declared.push.OpenError.{OpenError}
@@ -20,6 +21,7 @@ use Rattle.js_table.specs.declared.setup.OrderedSetup.TheVariants.{Pull, Push}
 use Rattle.js_table.specs.declared.setup.Settings.{Settings}
 use Rattle.js_table.specs.Reading.{armed}
 use Rattle.js_table.specs.Texts.{configured_start, source_of}
+use Rattle.js_turns.specs.Lifetime.{IsGaplessFrom}
 use Rattle.js_turns.specs.Turns.{Position}
 
 -- ---- pull
@@ -52,6 +54,10 @@ OpensOrdered (Ok o) settings config first old new =
     × (given_of_pull o ≡ record { settings = with_retries settings; setup = Pull config; first = first })
     × (position_of_pull o ≡ opened_at (given_of_pull o) inbox subject)
 OpensOrdered (Err e) settings config first old new = RefusedSend e old new
+
+-- however it is polled from here on, what it yields is gapless where the server is honest
+abbrev pub IsGaplessPull : pulls.Ordered → Type 0
+IsGaplessPull o = IsGaplessFrom (given_of_pull o) Meets (position_of_pull o)
 
 -- ---- push
 
@@ -99,3 +105,7 @@ OpensPushed (Ok o) settings config first old new =
     × (given_of_push o ≡ record { settings = with_retries settings; setup = Push config; first = first })
     × (position_of_push o ≡ record { consumer = listens_first (given_of_push o) inbox; todo = Arm ∷ [] })
 OpensPushed (Err e) settings config first old new = RefusesOpen e first old new
+
+-- however it is polled from here on, what it yields is gapless where the server is honest
+abbrev pub IsGaplessPush : pushes.Ordered → Type 0
+IsGaplessPush o = IsGaplessFrom (given_of_push o) Meets (position_of_push o)

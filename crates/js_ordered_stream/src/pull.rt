@@ -1,7 +1,7 @@
 //! The stream of an ordered pull consumer.
-ghost use Rattle.std.specs.Prelude.{◌≡◌, ◌<◌, ◌^◌, ℕ};
+ghost use Rattle.std.specs.Prelude.{◌≡◌, ◌<◌, ◌^◌, ℕ, IfOk};
 ghost use Rattle.js_link.specs.Meets.{Meets};
-ghost use Rattle.js_ordered_stream.specs.Opening.{OpensConsumer, OpensOrdered, given_of_pull, position_of_pull};
+ghost use Rattle.js_ordered_stream.specs.Opening.{IsGaplessPull, OpensConsumer, OpensOrdered, given_of_pull, position_of_pull};
 ghost use Rattle.js_ordered_stream.specs.Stream.{poll_answer};
 ghost use Rattle.js_pull_stream.specs.Wakes.{has_come};
 ghost use Rattle.js_turns.specs.Polling.{IsPoll};
@@ -55,6 +55,9 @@ fn open_consumer<L: Link>(
 impl Ordered {
     /// Opens an inbox, and a stream that reads the consumer of this info there. It asks for nothing before its first poll.
     ///
+    /// However it is polled from here on, what it yields is gapless where the server is honest along its polls, and delivers to this inbox from the
+    /// configured start on, where there is one.
+    ///
     /// The settings' number of retries does not count: a consumer is tried to be made anew 4,294,967,295 times.
     ///
     /// # Errors
@@ -67,7 +70,8 @@ impl Ordered {
         config: OrderedConfig,
         first: Info,
     ) -> Result<Ordered, LinkError>
-        ensures { OpensOrdered result settings config first (L.view link.old) (L.view link.new) }
+        ensures opens { OpensOrdered result settings config first (L.view link.old) (L.view link.new) }
+        ensures gapless { IfOk result IsGaplessPull }
     {
         let given = ordered::given_with(alloc, settings, OrderedSetup::Pull(config), first)?;
         let consumer = open_consumer(alloc, link, given.get())?;

@@ -1,7 +1,7 @@
 //! The stream of an ordered push consumer.
-ghost use Rattle.std.specs.Prelude.{◌≡◌, ◌<◌, ◌^◌, Some, ℕ};
+ghost use Rattle.std.specs.Prelude.{◌≡◌, ◌<◌, ◌^◌, IfOk, Some, ℕ};
 ghost use Rattle.js_link.specs.Meets.{Meets};
-ghost use Rattle.js_ordered_stream.specs.Opening.{ListensFirst, OpensPushed, Subscribes, given_of_push, open_text, position_of_push};
+ghost use Rattle.js_ordered_stream.specs.Opening.{IsGaplessPush, ListensFirst, OpensPushed, Subscribes, given_of_push, open_text, position_of_push};
 ghost use Rattle.js_ordered_stream.specs.Stream.{poll_answer};
 ghost use Rattle.js_pull_stream.specs.Wakes.{has_come};
 ghost use Rattle.js_turns.specs.Polling.{IsPoll};
@@ -104,6 +104,9 @@ impl Ordered {
     /// Subscribes to the deliver subject of this info, in no group, and listens to its consumer there. The server is heard from the first poll on:
     /// then the heartbeat is armed.
     ///
+    /// However it is polled from here on, what it yields is gapless where the server is honest along its polls, and delivers to this inbox from the
+    /// configured start on, where there is one.
+    ///
     /// The settings' number of retries does not count: a consumer is tried to be made anew 4,294,967,295 times.
     ///
     /// # Errors
@@ -118,7 +121,8 @@ impl Ordered {
         config: OrderedConfig,
         first: Info,
     ) -> Result<Ordered, OpenError>
-        ensures { OpensPushed result settings config first (L.view link.old) (L.view link.new) }
+        ensures opens { OpensPushed result settings config first (L.view link.old) (L.view link.new) }
+        ensures gapless { IfOk result IsGaplessPush }
     {
         let given = ordered::given_with(alloc, settings, OrderedSetup::Push(config), first)?;
         let consumer = open_consumer(alloc, link, given.get())?;

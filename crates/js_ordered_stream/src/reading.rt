@@ -3,7 +3,7 @@ ghost use Rattle.std.specs.Prelude.{◌≡◌, false, IfOk, None, Ok, Option, So
 ghost use Rattle.js_base.specs.declared.message.Message.{Message as SpecMessage};
 ghost use Rattle.js_link.specs.LinkView.{LinkView};
 ghost use Rattle.js_link.specs.Met.{message_of};
-ghost use Rattle.js_ordered_rows.specs.Readings.{brought};
+ghost use Rattle.js_pull.specs.Steps.{brought};
 ghost use Rattle.js_ordered_rows.specs.Tasks.{reader_rows};
 ghost use Rattle.js_ordered_stream.specs.Rows.{IsReadMet, MeetsReader, PassesRow, TakesIn, answer_shown, handed_by_heard};
 ghost use Rattle.js_pull.specs.Asking.{met_shown, reply_met};

@@ -2,7 +2,6 @@
 use Rattle.std.proofs.Common.{◌≡◌, ℕ, Bool, true, false, List, [], ◌∷◌, Option, Some, None, refl, sym, ◌∙◌, ap, subst}
 use Rattle.std.proofs.lemmas.Bool.{eq-eqb}
 use Rattle.std.specs.Prelude.{Result, Ok, Err, IfOk, is_some, unwrap_or, option_map, if◌then◌else◌}
-use Rattle.js_base.specs.Clock.{is_due, is_any_due}
 use Rattle.js_base.specs.declared.clock.Timer.{Timer}
 use Rattle.js_base.specs.declared.message.Message.{Message}
 use Rattle.js_link.specs.Passing.{Passing}
@@ -12,16 +11,15 @@ use Rattle.js_pull.specs.declared.reader.Reason.{Reason}
 use Rattle.js_pull.specs.declared.reader.InfoRequest.{InfoRequest}
 use Rattle.js_pull.specs.declared.reader.InfoRequest.TheVariants.{NoInfoRequest, Asked, Resting}
 use Rattle.js_pull.specs.declared.reader.Row.{Row}
-use Rattle.js_pull.specs.declared.reader.Row.TheVariants.{Ask, Inquire, FailInfoRequest, Answered}
+use Rattle.js_pull.specs.declared.reader.Row.TheVariants.{Ask, Inquire}
 use Rattle.js_pull.specs.declared.rows.Due.{Due}
-use Rattle.js_pull.specs.declared.rows.Due.TheVariants as due
-use Rattle.js_pull.specs.declared.rows.Notice.TheVariants as notice
 use Rattle.js_pull.specs.declared.rows.Step.{Step}
 use Rattle.js_pull.specs.Asking.{GoesAs, reply_met, wish_shown}
 use Rattle.js_pull.specs.declared.asking.Wish as asking
 use Rattle.js_pull.specs.Passes.{publishing}
 use Rattle.js_pull.specs.Reader as rows
-use Rattle.js_pull.specs.Steps.{StepsTo, Steps, inquiry_row, passing_at, requesting, row_list, row_of}
+use Rattle.js_pull.specs.Steps.{StepsTo, Steps, brought, inquiry_row, inquiry_step, passing_at, requesting, row_of}
+use Rattle.js_pull.proofs.Inquiries.{nothing_read, asked_read, resting_read}
 
 -- ---- the moment of a row
 
@@ -83,69 +81,26 @@ inquire_steps now failures (Some request) met r new step goes steps =
 
 -- ---- the info that is open
 
-steps_quietly : (passed : rows.Passed) (met : Met) (step : Step) (next : Option Due) (r : Reader) → step ≡ record { told = notice.Nothing; next = next }
-    → rows.quietly r (row_list (reply_met met) next) ≡ passed → StepsTo passed met step r
-steps_quietly passed met step next r is e =
-    subst (λ (p : rows.Passed). StepsTo p met step r) e (rw is (record { reader = refl; told = refl; next = refl }))
+-- the reply that was met is that of the answer to the request
+met_brings : (request : ℕ) (o : Option (Option Message)) → unwrap_or o None ≡ brought (option_map (λ (reply : Option Message). record { request = request; reply = reply }) o)
+met_brings request None = refl
+met_brings request (Some reply) = refl
 
-info_known : (now : ℕ) (met : Met) (inquiry : InfoRequest) (step : Step) (next : Option Due) (r : Reader) → r.inquiry ≡ inquiry → step ≡ record { told = notice.Nothing; next = next }
-    → rows.quietly r (row_list (reply_met met) next) ≡ inquiry_row now met inquiry r → StepsTo (inquiry_row now met r.inquiry r) met step r
-info_known now met inquiry step next r at is e =
-    subst (λ (i : InfoRequest). StepsTo (inquiry_row now met i r) met step r) (sym at) (steps_quietly (inquiry_row now met inquiry r) met step next r is e)
+-- it is there where an answer was met
+met_replies : (request : ℕ) (o : Option (Option Message))
+    → is_some o ≡ is_some (rows.reply_to request (option_map (λ (reply : Option Message). record { request = request; reply = reply }) o))
+met_replies request None = refl
+met_replies request (Some reply) = rw (eq-eqb request request refl) refl
 
-pub no_info : (now : ℕ) (met : Met) (step : Step) (r : Reader) → r.inquiry ≡ NoInfoRequest → step ≡ record { told = notice.Nothing; next = None }
+inquiry_met : (now : ℕ) (met : Met) (inquiry : InfoRequest) (r : Reader) → StepsTo (inquiry_row now met inquiry r) met (inquiry_step now (is_some (reply_of met)) inquiry) r
+inquiry_met now met NoInfoRequest r = nothing_read (passing_at now met) (reply_met met) (message_of met) None (is_some (reply_of met)) r
+inquiry_met now met (Asked request timeout failures) r =
+    asked_read (passing_at now met) (reply_met met) (message_of met) _ request timeout failures _ r (met_brings request (reply_of met)) (met_replies request (reply_of met))
+inquiry_met now met (Resting wait failures) r = resting_read (passing_at now met) (reply_met met) (message_of met) None wait failures (is_some (reply_of met)) r
+
+pub inquiry_steps : (now : ℕ) (met : Met) (answered : Bool) (r : Reader) (step : Step) → answered ≡ is_some (reply_of met) → step ≡ inquiry_step now answered r.inquiry
     → StepsTo (inquiry_row now met r.inquiry r) met step r
-no_info now met step r at is = info_known now met NoInfoRequest step None r at is refl
-
--- an answer that was met is the answer to the request
-answer_read : (p : Passing) (timeout : Option Timer) (failures request : ℕ) (o : Option (Option Message)) (r : Reader) → true ≡ is_some o
-    → rows.quietly r (Answered (unwrap_or o None) failures ∷ [])
-    ≡ rows.check_asked p timeout failures (rows.reply_to request (option_map (λ (reply : Option Message). record { request = request; reply = reply }) o)) r
-answer_read p timeout failures request None r e = absurd (never e)
-  where
-    never : true ≡ false → ⊥
-    never e = cc
-answer_read p timeout failures request (Some reply) r e = rw (eq-eqb request request refl) refl
-
-pub info_answered : (now request failures : ℕ) (timeout : Option Timer) (met : Met) (b : Bool) (step : Step) (r : Reader) → r.inquiry ≡ Asked request timeout failures
-    → step ≡ record { told = notice.Nothing; next = Some (due.Answered failures) } → b ≡ is_some (reply_of met) → b ≡ true → StepsTo (inquiry_row now met r.inquiry r) met step r
-info_answered now request failures timeout met b step r at is told has =
-    info_known now met (Asked request timeout failures) step (Some (due.Answered failures)) r at is
-    (answer_read (passing_at now met) timeout failures request (reply_of met) r (sym has ∙ told))
-
--- a row that follows where a test is true
-follows_if : (b : Bool) (reply : Option Message) (due : Due) → row_list reply (if b then Some due else None) ≡ (if b then row_of reply due ∷ [] else [])
-follows_if true reply due = refl
-follows_if false reply due = refl
-
--- without an answer the timeout is looked at
-no_answer : (p : Passing) (timeout : Option Timer) (failures request : ℕ) (o : Option (Option Message)) (r : Reader) → false ≡ is_some o
-    → rows.quietly r (if is_any_due timeout p.now then FailInfoRequest failures ∷ [] else [])
-    ≡ rows.check_asked p timeout failures (rows.reply_to request (option_map (λ (reply : Option Message). record { request = request; reply = reply }) o)) r
-no_answer p timeout failures request None r e = refl
-no_answer p timeout failures request (Some reply) r e = absurd (never e)
-  where
-    never : false ≡ true → ⊥
-    never e = cc
-
-pub info_waits : (now request failures : ℕ) (timeout : Option Timer) (met : Met) (b over : Bool) (next : Option Due) (step : Step) (r : Reader) → r.inquiry ≡ Asked request timeout failures
-    → step ≡ record { told = notice.Nothing; next = next } → b ≡ is_some (reply_of met) → b ≡ false
-    → over ≡ is_any_due timeout now → next ≡ (if over then Some (due.FailInfoRequest failures) else None)
-    → StepsTo (inquiry_row now met r.inquiry r) met step r
-info_waits now request failures timeout met b over next step r at is told has due_now follows =
-    info_known now met (Asked request timeout failures) step next r at is
-    (ap (λ (x : Option Due). rows.quietly r (row_list (reply_met met) x)) (follows ∙ ap (λ (x : Bool). if x then Some (due.FailInfoRequest failures) else None) due_now)
-    ∙ ap (rows.quietly r) (follows_if (is_any_due timeout now) (reply_met met) (due.FailInfoRequest failures))
-    ∙ no_answer (passing_at now met) timeout failures request (reply_of met) r (sym has ∙ told))
-
-pub info_rests : (now failures : ℕ) (wait : Timer) (met : Met) (over : Bool) (next : Option Due) (step : Step) (r : Reader) → r.inquiry ≡ Resting wait failures
-    → step ≡ record { told = notice.Nothing; next = next }
-    → over ≡ is_due wait now → next ≡ (if over then Some (due.Inquire failures) else None)
-    → StepsTo (inquiry_row now met r.inquiry r) met step r
-info_rests now failures wait met over next step r at is due_now follows =
-    info_known now met (Resting wait failures) step next r at is
-    (ap (λ (x : Option Due). rows.quietly r (row_list (reply_met met) x)) (follows ∙ ap (λ (x : Bool). if x then Some (due.Inquire failures) else None) due_now)
-    ∙ ap (rows.quietly r) (follows_if (is_due wait now) (reply_met met) (due.Inquire failures)))
+inquiry_steps now met answered r step is to = rw to (rw is (inquiry_met now met r.inquiry r))
 
 -- ---- what a row wishes
 

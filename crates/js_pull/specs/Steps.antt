@@ -1,5 +1,6 @@
 -- How a row is passed with what it met, whoever answered what it asked: a link, or an event of a replay.
-use Rattle.std.specs.Prelude.{◌≡◌, ◌==◌, ℕ, Bool, true, false, List, [], ◌∷◌, Option, Some, None, ⊤, if◌then◌else◌}
+use Rattle.std.specs.Prelude.{◌≡◌, ◌==◌, ℕ, Bool, true, false, List, [], ◌∷◌, Option, Some, None, is_some, ⊤, if◌then◌else◌}
+use Rattle.js_base.specs.Clock.{is_due, is_any_due}
 use Rattle.js_base.specs.declared.message.Message.{Message}
 use Rattle.js_base.specs.declared.message.StatusCode.{StatusCode}
 use Rattle.js_base.specs.Headers.{last_value, all_headers}
@@ -18,6 +19,7 @@ use Rattle.js_pull.specs.Reader.{wish, answer_of, info_of_reply, pin_header}
 use Rattle.js_pull.specs.Reader as rows
 use Rattle.js_pull.specs.Passes.{publishing}
 use Rattle.js_pull.specs.declared.reader.InfoRequest.{InfoRequest}
+use Rattle.js_pull.specs.declared.reader.InfoRequest.TheVariants.{NoInfoRequest, Asked, Resting}
 use Rattle.js_pull.specs.declared.rows.Due.{Due}
 use Rattle.js_pull.specs.declared.rows.Due.TheVariants as due
 use Rattle.js_pull.specs.declared.rows.Todo.{Todo}
@@ -46,11 +48,15 @@ abbrev pub row_list : Option Message → Option Due → List Row
 row_list reply None = []
 row_list reply (Some due) = row_of reply due ∷ []
 
--- the rows that are left; only the first reads a reply
+-- the rows that are left, with the reply that each may read
+abbrev pub rows_with : Option Message → Option Message → Todo → List Row
+rows_with reply other todo.Nothing = []
+rows_with reply other (todo.One due) = row_of reply due ∷ []
+rows_with reply other (todo.Two due later) = row_of reply due ∷ row_of other later ∷ []
+
+-- the same, of which only the first reads a reply
 abbrev pub rows_of : Option Message → Todo → List Row
-rows_of reply todo.Nothing = []
-rows_of reply (todo.One due) = row_of reply due ∷ []
-rows_of reply (todo.Two due later) = row_of reply due ∷ row_of None later ∷ []
+rows_of reply todo = rows_with reply None todo
 
 -- what is told, with the message that was taken
 abbrev pub told_shown : Notice → Option Message → ReaderOutput
@@ -65,11 +71,15 @@ told_shown (notice.Tells kind) message = tells.Tells kind
 abbrev pub met_row : ℕ → Row → Met → Reader → rows.Passed
 met_row now row met r = rows.row (passing_of now met) (answer_of (wish row r) met) (message_of met) row r
 
--- a step is a row of the table: the reader after it, what it tells, and the row that follows at once
-pub record StepsTo (passed : rows.Passed) (met : Met) (step : Step) (new : Reader) : Type 0 where
+-- a step is a row of the table: the reader after it, what it tells of a message, and the row that follows at once, which may read a reply
+pub record ReadsTo (reply message : Option Message) (passed : rows.Passed) (new : Reader) (step : Step) : Type 0 where
   pub reader : new ≡ passed.reader
-  pub told : told_shown step.told (message_of met) ≡ passed.told
-  pub next : row_list (reply_met met) step.next ≡ passed.next
+  pub told : told_shown step.told message ≡ passed.told
+  pub next : row_list reply step.next ≡ passed.next
+
+-- the same, of a row that met this
+abbrev pub StepsTo : rows.Passed → Met → Step → Reader → Type 0
+StepsTo passed met step new = ReadsTo (reply_met met) (message_of met) passed new step
 
 -- the one clause of a row
 abbrev pub Steps : ℕ → Row → Met → Step → Reader → Reader → Type 0
@@ -87,6 +97,27 @@ requesting now (Some request) = record { now = now; up = true; request = request
 -- the row that looks at an open info
 abbrev pub inquiry_row : ℕ → Met → InfoRequest → Reader → rows.Passed
 inquiry_row now met inquiry r = rows.check_inquiry (passing_at now met) (answer_of (rows.awaited inquiry) met) inquiry r
+
+-- a row that tells nothing
+abbrev pub quiet_step : Option Due → Step
+quiet_step next = record { told = notice.Nothing; next = next }
+
+-- what follows from an open info: its answer is read, or else its clock may be over
+abbrev pub inquiry_step : ℕ → Bool → InfoRequest → Step
+inquiry_step now answered NoInfoRequest = quiet_step None
+inquiry_step now answered (Asked request timeout failures) =
+    quiet_step (if answered then Some (due.Answered failures) else (if is_any_due timeout now then Some (due.FailInfoRequest failures) else None))
+inquiry_step now answered (Resting wait failures) = quiet_step (if is_due wait now then Some (due.Inquire failures) else None)
+
+-- the reply that an event brings, which is none where the replier is gone
+abbrev pub brought : Option rows.Answer → Option Message
+brought None = None
+brought (Some answer) = answer.reply
+
+-- an open info was asked for, and this is whether its answer is there
+abbrev pub IsInquired : Option rows.Answer → InfoRequest → Bool → Type 0
+IsInquired answer (Asked request timeout failures) answered = answered ≡ is_some (rows.reply_to request answer)
+IsInquired answer _ answered = ⊤
 
 -- ---- what a row needs beside what it met
 

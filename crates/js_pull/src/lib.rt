@@ -20,4 +20,4 @@ pub use reader::{
     is_any_due, is_asking, retry_wait, timeout_from,
 };
 pub use replies::info_of_reply;
-pub use rows::{Due, Notice, Spare, Step, Todo};
+pub use rows::{Due, Notice, Spare, Step, Todo, check_inquiry};

@@ -11,7 +11,7 @@ ghost use Rattle.js_pull.specs.Kind.{pull_kind as kind_of};
 ghost use Rattle.js_pull.specs.Passes.{publishing};
 ghost use Rattle.js_pull.specs.Reader as rows;
 ghost use Rattle.js_pull.specs.declared.reader.Row.TheVariants as read;
-ghost use Rattle.js_pull.specs.Steps.{IsInformed, Steps, StepsTo, informed_by, inquiry_row, passing_at, pin_brought, requesting, row_of, rows_of};
+ghost use Rattle.js_pull.specs.Steps.{IsInformed, ReadsTo, Steps, StepsTo, informed_by, inquiry_step, passing_at, pin_brought, requesting, row_of, rows_with};
 
 use crate::asking::Met;
 use crate::kind::{Kind, pull_kind};
@@ -106,7 +106,7 @@ impl Reader {
     /// What an event does first, with the connection's change.
     pub fn begin(&mut self, now: Moment, change: Option<State>) -> Todo
         ensures reader { self.new ≡ (rows.begin_row (publishing now false) change self.old).reader }
-        ensures next { rows_of None result ≡ (rows.begin_row (publishing now false) change self.old).next }
+        ensures next { (reply : Option SpecMessage) → (other : Option SpecMessage) → rows_with reply other result ≡ (rows.begin_row (publishing now false) change self.old).next }
     {
         if self.ended {
             return Todo::Nothing;
@@ -204,30 +204,6 @@ impl Reader {
         quietly(None)
     }
 
-    /// An open info looks at its answer before its clock.
-    pub fn pass_check_inquiry(&mut self, now: Moment, met: &Met) -> Step
-        ensures { StepsTo (inquiry_row now (met_shown met.now) self.old.inquiry self.old) (met_shown met.now) result self.new }
-    {
-        match self.inquiry {
-            InfoRequest::NoInfoRequest => quietly(None),
-            InfoRequest::Asked {
-                timeout,
-                failures,
-                ..
-            } => {
-                if met.is_answer() {
-                    quietly(Some(Due::Answered { failures }))
-                } else {
-                    quietly(failed_if(is_any_due(&timeout, now), failures))
-                }
-            }
-            InfoRequest::Resting { wait, failures } => quietly(tried_if(
-                wait.is_due(now),
-                failures,
-            )),
-        }
-    }
-
     /// The answer was read.
     pub fn pass_answered(&mut self, failures: u64, informed: Option<Reason>) -> Step
         ensures { (reply : Option SpecMessage) → (met : LinkMet) → informed ≡ informed_by (rows.info_of_reply reply)
@@ -272,8 +248,8 @@ impl Reader {
     // ---- arrivals
 
     /// What an arrival does, once its pin is kept and the heartbeat is armed.
-    fn hear(&mut self, message: &Message) -> Step
-        ensures { StepsTo (rows.hear message.now (kind_of message.now) self.old) (Took message.now) result self.new }
+    pub fn hear(&mut self, message: &Message) -> Step
+        ensures { (reply : Option SpecMessage) → ReadsTo reply (Some message.now) (rows.hear message.now (kind_of message.now) self.old) self.new result }
     {
         match pull_kind(message) {
             Kind::Delivered => {
@@ -350,7 +326,7 @@ impl Reader {
             Due::Arm => self.pass_arm(now),
             Due::Inquire { failures } => self.pass_inquire(now, failures, met.request()),
             Due::FailInfoRequest { failures } => self.pass_fail_inquiry(now, failures),
-            Due::CheckInfoRequest => self.pass_check_inquiry(now, met),
+            Due::CheckInfoRequest => check_inquiry(self.inquiry, now, met.is_answer()),
             Due::Answered { failures } => self.pass_answered(failures, spare.informed),
             Due::CheckExpiry => self.pass_check_expiry(now),
             Due::CheckArrival => self.pass_check_arrival(now, met, spare.pin),
@@ -386,5 +362,23 @@ fn tried_if(is_due: bool, failures: u64) -> Option<Due>
         Some(Due::Inquire { failures })
     } else {
         None
+    }
+}
+
+/// What follows from an open info, where this is whether its answer is there: the answer goes before the clock.
+pub fn check_inquiry(inquiry: InfoRequest, now: Moment, is_answered: bool) -> Step
+    ensures { result ≡ inquiry_step now is_answered inquiry }
+{
+    match inquiry {
+        InfoRequest::NoInfoRequest => quietly(None),
+        InfoRequest::Asked { failures, .. } if is_answered => {
+            quietly(Some(Due::Answered { failures }))
+        }
+        InfoRequest::Asked {
+            timeout,
+            failures,
+            ..
+        } => quietly(failed_if(is_any_due(&timeout, now), failures)),
+        InfoRequest::Resting { wait, failures } => quietly(tried_if(wait.is_due(now), failures)),
     }
 }

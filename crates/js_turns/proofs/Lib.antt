@@ -1,5 +1,6 @@
 pub mod Walks
 pub mod Polls
+pub mod Lifetime
 pub mod Wishes
 pub mod Told
 pub mod Asked

@@ -100,7 +100,7 @@ fn hear_status(
     match &mut state.consumer.phase {
         Phase::Pulls(reader) => {
             note(alloc, context, reader, message)?;
-            let step = reading::hear(reader, message);
+            let step = reader.hear(message);
             Ok(finish(state, step, outputs))
         }
         _ => Ok(NextTasks::Nothing),

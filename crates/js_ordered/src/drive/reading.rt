@@ -3,9 +3,8 @@ ghost use Rattle.std.specs.Prelude.{◌≡◌, ◌+◌, ◌≤◌, ◌∷◌, []
 ghost use Rattle.std.specs.Option.{option_copied};
 ghost use Rattle.js_ordered.specs.Driven.{Finishes, LeadsOn, PassesTo};
 ghost use Rattle.js_ordered.specs.Giving.{IsPublishing, IsSending};
-ghost use Rattle.js_ordered_rows.specs.Readings.{IsInquired, brought};
 ghost use Rattle.js_ordered_rows.specs.Tasks.{next_rows};
-ghost use Rattle.js_pull.specs.Steps.{row_of};
+ghost use Rattle.js_pull.specs.Steps.{IsInquired, brought, row_of};
 ghost use Rattle.js_pull.specs.Reader.{info_subject};
 ghost use Rattle.js_pull.specs.declared.reader.Row.TheVariants as read;
 ghost use Rattle.js_table.specs.Fold.{matter_of};
@@ -20,7 +19,7 @@ use crate::drive::recreation::has_reply;
 use bytes::Bytes;
 use js_base::{Message, OutOfMemory, TryClone};
 use js_ordered_rows::{NextTasks, Step, reading};
-use js_pull::{Due, InfoRequest, Reader, Reason, Step as Read, info_of_reply};
+use js_pull::{Due, InfoRequest, Reader, Reason, Step as Read, check_inquiry, info_of_reply};
 use js_table::{EventContext, EventKind, Output, Phase, ReplayState};
 use std::alloc::Global;
 
@@ -181,7 +180,7 @@ fn is_answered(what: &EventKind, inquiry: InfoRequest) -> bool
 }
 
 /// An open info is looked at.
-fn check_inquiry(
+fn check_info(
     context: &EventContext<'_>,
     state: &mut ReplayState,
     outputs: &mut Vec<Output>,
@@ -192,7 +191,7 @@ fn check_inquiry(
     match &state.consumer.phase {
         Phase::Pulls(reader) => {
             let answered = is_answered(context.what, reader.inquiry);
-            let step = reading::check_inquiry(reader.inquiry, context.moment, answered);
+            let step = check_inquiry(reader.inquiry, context.moment, answered);
             finish(state, step, outputs)
         }
         _ => NextTasks::Nothing,
@@ -230,7 +229,7 @@ fn check_expiry(
     requires room { vec_len outputs.old + 1 ≤ vec_capacity outputs.old }
     ensures { LeadsOn context.now (row.Read read.CheckExpiry ∷ []) state.old outputs.old.items (next_rows (matter_now context.now) result) state.new outputs.new.items }
 {
-    match &state.consumer.phase {
+    match &mut state.consumer.phase {
         Phase::Pulls(reader) => {
             let step = reading::check_expiry(reader, context.moment);
             finish(state, step, outputs)
@@ -305,7 +304,7 @@ pub(crate) fn pass_read(
         Due::Inquire { failures } => inquire(alloc, context, state, failures, outputs),
         Due::Answered { failures } => answered(alloc, context, state, failures, outputs),
         Due::CheckArrival => check_arrival(alloc, context, state, outputs),
-        Due::CheckInfoRequest => Ok(check_inquiry(context, state, outputs)),
+        Due::CheckInfoRequest => Ok(check_info(context, state, outputs)),
         Due::FailInfoRequest { failures } => Ok(fail_inquiry(context, state, failures, outputs)),
         Due::CheckExpiry => Ok(check_expiry(context, state, outputs)),
         Due::CheckSilence => Ok(check_silence(context, state, outputs)),

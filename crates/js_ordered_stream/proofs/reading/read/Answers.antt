@@ -1,4 +1,4 @@
-use Rattle.js_ordered_rows.specs.Readings.{brought}
+use Rattle.js_pull.specs.Steps.{brought}
 use Rattle.js_ordered_stream.specs.Rows.{answer_shown}
 use Rattle.js_pull.specs.Steps.{row_of}
 use Rattle.js_table.specs.Passes.{given_of}

@@ -1,5 +1,5 @@
 use Rattle.std.proofs.Common.{sym, ◌∙◌}
-use Rattle.js_ordered_rows.specs.Readings.{brought}
+use Rattle.js_pull.specs.Steps.{brought}
 use Rattle.js_ordered_stream.specs.Rows.{answer_shown}
 use Rattle.js_pull.specs.Asking.{met_shown}
 use Rattle.js_pull.specs.Reader.{wish}

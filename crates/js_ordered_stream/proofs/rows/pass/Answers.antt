@@ -2,7 +2,7 @@ use Rattle.std.specs.Prelude.{Ok}
 use Rattle.js_ordered_rows.specs.declared.task.Task.TheVariants as task
 use Rattle.js_ordered_stream.specs.Rows.{read_by, answer_shown}
 use Rattle.js_table.specs.Passes.{given_of}
-use Rattle.js_ordered_rows.specs.Readings.{brought}
+use Rattle.js_pull.specs.Steps.{brought}
 use Rattle.js_pull.specs.Steps.{row_of}
 use Rattle.js_table.specs.declared.row.Row.TheVariants as row
 use Rattle.js_ordered_stream.proofs.Passing.{hold_passes, row_alone, rows_known}

@@ -1,6 +1,6 @@
 use Rattle.std.proofs.Common.{subst}
 use Rattle.js_ordered_rows.specs.Tasks.{next_rows}
-use Rattle.js_ordered_rows.specs.Readings.{brought}
+use Rattle.js_pull.specs.Steps.{brought}
 use Rattle.js_pull.specs.declared.reader.Row.TheVariants as read
 use Rattle.js_table.specs.Passes.{given_of, matter_now}
 use Rattle.js_ordered.specs.Driven.{Arrives}
@@ -18,7 +18,7 @@ returns-in_ok-note-in-Pulls c =
     let r = c.in-Pulls.reader in
     let arrives = subst (λ (q : Phase). Arrives m c.args.message.now q) c.in-Pulls.is c.requires.arrives in
     reads_here g now m read.CheckArrival r w _ c.args.outputs.now.items _ (next_rows m c.finish.result) c.in-Pulls.is
-    (leads_status g now m c.args.message.now r c.note.new.reader c.hear-step.new.reader w _ c.hear-step.result c.args.outputs.now.items _ c.finish.result arrives c.requires.kind c.in_ok-note-in-Pulls.ensures.heard
+    (leads_status g now m c.args.message.now r c.note.new.reader c.hear-step.new.self w _ c.hear-step.result c.args.outputs.now.items _ c.finish.result arrives c.requires.kind c.in_ok-note-in-Pulls.ensures.heard
     (c.hear-step.ensures (brought m.answer)) (c.finish.ensures m))
 
 pub returns-in_default : goal.returns-in_default

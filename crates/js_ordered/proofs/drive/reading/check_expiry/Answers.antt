@@ -1,12 +1,10 @@
-use Rattle.std.proofs.Common.{refl, subst, None}
+use Rattle.std.proofs.Common.{refl, None}
 use Rattle.js_ordered_rows.specs.Tasks.{next_rows}
-use Rattle.js_ordered_rows.specs.Readings.{brought}
+use Rattle.js_pull.specs.Steps.{brought}
 use Rattle.js_pull.specs.declared.reader.Row.TheVariants as read
 use Rattle.js_pull.specs.Reader as pull
 use Rattle.js_table.specs.Fold.{passing}
-use Rattle.js_table.specs.Passes.{at, given_of, matter_now}
-use Rattle.js_table.specs.declared.consumer.Phase.{Phase}
-use Rattle.js_ordered.specs.Driven.{Finishes}
+use Rattle.js_table.specs.Passes.{given_of, matter_now}
 use Rattle.js_ordered.proofs.ReadDriving.{leads_finish}
 use Rattle.js_ordered.proofs.Nowhere.{reads_here, reads_nowhere}
 use Rattle.js_ordered.proofs.drive.reading.check_expiry.Goals as goal
@@ -19,9 +17,8 @@ returns-in-Pulls c =
     let w = c.args.state.now in
     let r = c.in-Pulls.reader in
     reads_here g now m (read.CheckExpiry) r w _ c.args.outputs.now.items _ (next_rows m c.finish.result) c.in-Pulls.is
-    (leads_finish g now m (read.CheckExpiry) r r w _ (passing g now w) c.check_expiry-step.result (pull.row (passing g now w) None None read.CheckExpiry r) c.args.outputs.now.items _ c.finish.result refl refl
-    (c.check_expiry-step.ensures (passing g now w) (brought m.answer) None) refl
-    (subst (λ (q : Phase). Finishes m (at q w) c.finish.new.state c.check_expiry-step.result c.args.outputs.now.items c.finish.new.outputs.items c.finish.result) c.in-Pulls.is (c.finish.ensures m)))
+    (leads_finish g now m (read.CheckExpiry) r c.check_expiry-step.new.reader w _ (passing g now w) c.check_expiry-step.result (pull.row (passing g now w) None None read.CheckExpiry r) c.args.outputs.now.items _ c.finish.result refl refl
+    (c.check_expiry-step.ensures (passing g now w) (brought m.answer) None) refl (c.finish.ensures m))
 
 pub returns-in_default : goal.returns-in_default
 returns-in_default c =

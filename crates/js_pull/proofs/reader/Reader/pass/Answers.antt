@@ -1,5 +1,5 @@
 use Rattle.js_pull.specs.declared.reader.Row.TheVariants as row
-use Rattle.js_pull.proofs.Stepping.{ask_steps, at_moment, inquire_steps}
+use Rattle.js_pull.proofs.Stepping.{ask_steps, at_moment, inquire_steps, inquiry_steps}
 use Rattle.js_pull.proofs.reader.Reader.pass.Goals as goal
 
 pub returns-in-Ask : goal.returns-in-Ask
@@ -18,7 +18,8 @@ pub returns-in-FailInfoRequest : goal.returns-in-FailInfoRequest
 returns-in-FailInfoRequest c = λ reply informed. rw c.in-FailInfoRequest.is (at_moment c.args.now (row.FailInfoRequest c.in-FailInfoRequest.failures) _ c.args.self.now _ _ (c.pass_fail_inquiry.ensures _))
 
 pub returns-in-CheckInfoRequest : goal.returns-in-CheckInfoRequest
-returns-in-CheckInfoRequest c = λ reply informed. rw c.in-CheckInfoRequest.is (at_moment c.args.now row.CheckInfoRequest _ c.args.self.now _ _ c.pass_check_inquiry.ensures)
+returns-in-CheckInfoRequest c = λ reply informed.
+    rw c.in-CheckInfoRequest.is (at_moment c.args.now row.CheckInfoRequest _ c.args.self.now _ _ (inquiry_steps c.args.now _ c.is_answer.result c.args.self.now _ c.is_answer.ensures c.check_inquiry.ensures))
 
 pub returns-in-Answered : goal.returns-in-Answered
 returns-in-Answered c = λ reply informed.

@@ -8,8 +8,9 @@ use Rattle.js_table.specs.declared.consumer.Phase.{Phase}
 use Rattle.js_ordered.specs.Driven.{Finishes}
 use Rattle.js_ordered.proofs.ReadDriving.{leads_finish}
 use Rattle.js_ordered_rows.proofs.ReaderSteps.{inquiry_sends}
+use Rattle.js_pull.proofs.Inquiries.{inquiry_read}
 use Rattle.js_ordered.proofs.Nowhere.{reads_here, reads_nowhere}
-use Rattle.js_ordered.proofs.drive.reading.check_inquiry.Goals as goal
+use Rattle.js_ordered.proofs.drive.reading.check_info.Goals as goal
 
 pub returns-in-Pulls : goal.returns-in-Pulls
 returns-in-Pulls c =
@@ -19,9 +20,9 @@ returns-in-Pulls c =
     let w = c.args.state.now in
     let r = c.in-Pulls.reader in
     reads_here g now m (read.CheckInfoRequest) r w _ c.args.outputs.now.items _ (next_rows m c.finish.result) c.in-Pulls.is
-    (leads_finish g now m (read.CheckInfoRequest) r r w _ (passing g now w) c.check_inquiry-step.result (pull.check_inquiry (passing g now w) m.answer r.inquiry r) c.args.outputs.now.items _ c.finish.result refl refl
-    (c.check_inquiry-step.ensures (passing g now w) m.answer None r c.is_answered-answered.ensures) (inquiry_sends (passing g now w) m.answer r.inquiry r)
-    (subst (λ (q : Phase). Finishes m (at q w) c.finish.new.state c.check_inquiry-step.result c.args.outputs.now.items c.finish.new.outputs.items c.finish.result) c.in-Pulls.is (c.finish.ensures m)))
+    (leads_finish g now m (read.CheckInfoRequest) r r w _ (passing g now w) c.check_inquiry.result (pull.check_inquiry (passing g now w) m.answer r.inquiry r) c.args.outputs.now.items _ c.finish.result refl refl
+    (inquiry_read (passing g now w) None m.answer r.inquiry c.is_answered.result r c.check_inquiry.result c.is_answered.ensures c.check_inquiry.ensures) (inquiry_sends (passing g now w) m.answer r.inquiry r)
+    (subst (λ (q : Phase). Finishes m (at q w) c.finish.new.state c.check_inquiry.result c.args.outputs.now.items c.finish.new.outputs.items c.finish.result) c.in-Pulls.is (c.finish.ensures m)))
 
 pub returns-in_default : goal.returns-in_default
 returns-in_default c =
