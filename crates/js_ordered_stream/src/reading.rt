@@ -1,13 +1,10 @@
 //! The rows of a pull reader over a link, and what the consumer makes of what its reader tells.
 ghost use Rattle.std.specs.Prelude.{◌≡◌, false, IfOk, None, Ok, Option, Some};
-ghost use Rattle.js_base.specs.declared.message.Message.{Message as SpecMessage};
-ghost use Rattle.js_link.specs.LinkView.{LinkView};
 ghost use Rattle.js_link.specs.Met.{message_of};
-ghost use Rattle.js_pull.specs.Steps.{brought};
 ghost use Rattle.js_ordered_rows.specs.Tasks.{reader_rows};
 ghost use Rattle.js_ordered_stream.specs.Rows.{IsReadMet, MeetsReader, PassesRow, TakesIn, answer_shown, handed_by_heard};
 ghost use Rattle.js_pull.specs.Asking.{met_shown, reply_met};
-ghost use Rattle.js_pull.specs.Steps.{IsInformed, row_of, told_shown};
+ghost use Rattle.js_pull.specs.Steps.{IsInformed, brought, row_of, told_shown};
 ghost use Rattle.js_table.specs.Passes.{given_of};
 ghost use Rattle.js_table.specs.State.{Matter};
 ghost use Rattle.js_table.specs.declared.row.Row.TheVariants as row;
@@ -22,7 +19,6 @@ use js_ordered_rows::{Heard, NextTasks, Step};
 use js_pull::{Due, Met, Notice, Reader, Reason, Spare, ask, informed_of};
 use js_table::{Consumer, EventContext, ItemKind, Phase};
 use std::alloc::Global;
-use std::mem;
 
 // ---- what a row meets
 
@@ -160,62 +156,7 @@ fn parts_of(met: Met) -> Parts
     }
 }
 
-/// A row of the reader is passed with what it met.
-fn finish(
-    context: &EventContext<'_>,
-    consumer: &mut Consumer,
-    mut reader: Reader,
-    due: Due,
-    read: ReadMet,
-) -> Stepped
-    requires { reader.source.pinned ≡ false }
-    ensures { (reply : Option SpecMessage) → (before after : LinkView) → IsReadMet read (row_of reply due) reader before after
-        → PassesRow (given_of context.now) context.now.moment (row.Read (row_of reply due)) (record consumer.old { phase = Phase.Pulls reader }) consumer.new before after (Ok result) }
-{
-    let ReadMet { met, informed } = read;
-    let step = reader.pass(
-        context.moment,
-        due,
-        Spare {
-            informed,
-            pin: None,
-        },
-        &met,
-    );
-    consumer.phase = Phase::Pulls(reader);
-    let Parts { message, reply } = parts_of(met);
-    let Taken { handed, next } = take_in(consumer, step.told, &message, step.next);
-    Stepped {
-        handed,
-        next,
-        reply,
-        arrival: None,
-        message,
-    }
-}
-
-/// A row of this reader is passed.
-fn read<L: Link>(
-    alloc: Global,
-    context: &EventContext<'_>,
-    link: &mut L,
-    consumer: &mut Consumer,
-    reader: Reader,
-    due: Due,
-    reply: &Option<Reply>,
-) -> Result<Stepped, Stop>
-    ensures { PassesRow (given_of context.now) context.now.moment (row.Read (row_of (brought (answer_shown reply.now)) due)) (record consumer.old { phase = Phase.Pulls reader }) consumer.new (L.view link.old) (L.view link.new) result }
-{
-    match read_met(alloc, link, &reader, due, reply) {
-        Err(stop) => {
-            consumer.phase = Phase::Pulls(reader);
-            Err(stop)
-        }
-        Ok(read) => Ok(finish(context, consumer, reader, due, read)),
-    }
-}
-
-/// A row of a reader is passed. No such row is left where none reads.
+/// A row of a reader is passed with what it meets. No such row is left where none reads. The reader stays in its place, since it is large.
 pub(crate) fn pass_read<L: Link>(
     alloc: Global,
     context: &EventContext<'_>,
@@ -226,11 +167,22 @@ pub(crate) fn pass_read<L: Link>(
 ) -> Result<Stepped, Stop>
     ensures { PassesRow (given_of context.now) context.now.moment (row.Read (row_of (brought (answer_shown reply.now)) due)) consumer.old consumer.new (L.view link.old) (L.view link.new) result }
 {
-    match mem::replace(&mut consumer.phase, Phase::Idle) {
-        Phase::Pulls(reader) => read(alloc, context, link, consumer, reader, due, reply),
-        phase => {
-            consumer.phase = phase;
-            Err(Stop::OutOfMemory)
-        }
-    }
+    let Phase::Pulls(reader) = &mut consumer.phase else {
+        return Err(Stop::OutOfMemory);
+    };
+    let ReadMet { met, informed } = read_met(alloc, link, reader, due, reply)?;
+    let spare = Spare {
+        informed,
+        pin: None,
+    };
+    let step = reader.pass(context.moment, due, spare, &met);
+    let Parts { message, reply } = parts_of(met);
+    let Taken { handed, next } = take_in(consumer, step.told, &message, step.next);
+    Ok(Stepped {
+        handed,
+        next,
+        reply,
+        arrival: None,
+        message,
+    })
 }

@@ -1,5 +1,5 @@
 -- The row that looks at an open info, whoever brings its answer.
-use Rattle.std.proofs.Common.{◌≡◌, ℕ, Bool, true, false, [], ◌∷◌, Option, Some, None, refl, sym, ap, subst}
+use Rattle.std.proofs.Common.{◌≡◌, ℕ, Bool, true, false, [], ◌∷◌, Option, Some, None, refl, ap}
 use Rattle.std.specs.Prelude.{◌==◌, is_some, if◌then◌else◌}
 use Rattle.js_base.specs.Clock.{is_due, is_any_due}
 use Rattle.js_base.specs.declared.clock.Timer.{Timer}

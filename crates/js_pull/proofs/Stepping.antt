@@ -1,8 +1,7 @@
 -- Each row that the code has passed, as the row of the table at what was met.
-use Rattle.std.proofs.Common.{◌≡◌, ℕ, Bool, true, false, List, [], ◌∷◌, Option, Some, None, refl, sym, ◌∙◌, ap, subst}
+use Rattle.std.proofs.Common.{◌≡◌, ℕ, Bool, true, false, List, Option, Some, None, refl, sym, ◌∙◌, ap, subst}
 use Rattle.std.proofs.lemmas.Bool.{eq-eqb}
-use Rattle.std.specs.Prelude.{Result, Ok, Err, IfOk, is_some, unwrap_or, option_map, if◌then◌else◌}
-use Rattle.js_base.specs.declared.clock.Timer.{Timer}
+use Rattle.std.specs.Prelude.{Result, Ok, Err, IfOk, is_some, unwrap_or, option_map}
 use Rattle.js_base.specs.declared.message.Message.{Message}
 use Rattle.js_link.specs.Passing.{Passing}
 use Rattle.js_link.specs.Met.{Met, Wish, Unasked, Gone_out, Refused, Dropped, Requested, Opened, Empty, Shut, Took, Waiting, Gone, Got, Stands, Watch_over, passing_of, message_of, reply_of}
