@@ -11,6 +11,7 @@ use js_base::{Error, Moment, Nanos, Next, OutOfMemory, StatusCode, Timer, is_any
 use js_link::{InboxId, Link, Taken};
 use js_message::Message;
 use js_pull::armed_silence;
+use js_pull_stream::end_of;
 use std::alloc::Global;
 
 /// The messages of a push consumer, in the order in which they come.
@@ -186,10 +187,7 @@ impl Messages {
     {
         match &self.next {
             Row::Arm | Row::Answer(_) => Some(0),
-            Row::CheckArrival => match &self.heartbeat_timer {
-                None => None,
-                Some(timer) => timer.set.checked_add(timer.wait),
-            },
+            Row::CheckArrival => end_of(&self.heartbeat_timer),
             Row::Ended => None,
         }
     }
