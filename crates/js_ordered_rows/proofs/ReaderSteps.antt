@@ -1,15 +1,12 @@
 -- A row of a pull reader that was passed, where a case is not computed.
-use Rattle.std.proofs.Common.{◌≡◌, ℕ, Bool, true, false, List, [], ◌∷◌, ◌++◌, Option, Some, None, refl, sym, ap, ◌∙◌, subst}
-use Rattle.std.specs.Prelude.{◌==◌, ◌&&◌, ◌+◌, nat_lt, not, is_some, map, option_map, if◌then◌else◌}
+use Rattle.std.proofs.Common.{◌≡◌, ℕ, Bool, true, false, List, [], ◌∷◌, ◌++◌, Option, Some, None, refl, ap, subst}
+use Rattle.std.specs.Prelude.{◌==◌, ◌&&◌, ◌+◌, nat_lt, not, map, option_map, if◌then◌else◌}
 use Rattle.js_base.specs.declared.clock.Timer.{Timer}
 use Rattle.js_base.specs.Clock.{is_any_due}
 use Rattle.js_base.specs.declared.message.Message.{Message}
 use Rattle.js_json.specs.declared.consumer.info.Info.{Info}
 use Rattle.js_link.specs.Met.{Met, Empty, Took, Got, Gone}
 use Rattle.js_link.specs.Passing.{Passing}
-use Rattle.js_pull.specs.declared.rows.Due.{Due}
-use Rattle.js_pull.specs.declared.rows.Due.TheVariants as due
-use Rattle.js_pull.specs.declared.rows.Notice.TheVariants as notice
 use Rattle.js_pull.specs.declared.rows.Step.{Step as Read}
 use Rattle.js_pull.specs.Steps.{ReadsTo, brought, row_list, told_shown}
 use Rattle.js_pull.specs.Steps.{StepsTo as PullStepsTo, informed_by as pull_informed, requesting as pull_requesting}
@@ -18,7 +15,6 @@ use Rattle.js_pull.specs.declared.reader.InfoRequest.TheVariants.{NoInfoRequest,
 use Rattle.js_pull.specs.declared.kind.Kind.{Kind}
 use Rattle.js_pull.specs.declared.kind.Kind.TheVariants.{Delivered, IdleHeartbeat, Deleted, PushBased, Limit, Gone, Bad, Ledger}
 use Rattle.js_pull.specs.declared.reader.Reader.{Reader}
-use Rattle.js_pull.specs.declared.reader.Reason.{Reason}
 use Rattle.js_pull.specs.declared.reader.Reason.TheVariants.{Low, Informed}
 use Rattle.js_pull.specs.declared.reader.Row.{Row}
 use Rattle.js_pull.specs.declared.reader.Row.TheVariants as read

@@ -2,7 +2,7 @@
 use Rattle.std.proofs.Common.{◌≡◌, ℕ, Bool, true, false, List, [], ◌∷◌, refl, sym, ap, ◌∙◌, subst, arith}
 use Rattle.std.proofs.lemmas.Bool.{ne_eqb}
 use Rattle.std.proofs.lemmas.Bool.Decides.{nat_tests}
-use Rattle.std.specs.Prelude.{◌==◌, ◌+◌, ◌||◌, Option, Some, None, is_some, map, if◌then◌else◌}
+use Rattle.std.specs.Prelude.{◌==◌, ◌+◌, Option, Some, None, is_some, map, if◌then◌else◌}
 use Rattle.js_base.specs.declared.clock.Timer.{Timer}
 use Rattle.js_base.specs.declared.message.Message.{Message}
 use Rattle.js_base.specs.declared.message.State.{State}
@@ -41,7 +41,7 @@ use Rattle.js_table.specs.Passes.{listens_to, place_shown, yielding}
 use Rattle.js_table.specs.Reading.{accepted, armed, hear_kind, message_row, push_kind, read_row, restart}
 use Rattle.js_table.specs.Recreation.{created, stage_rows}
 use Rattle.js_table.specs.State.{Matter, Change, Unchanged, Becomes, WatcherEnds, Passed, quietly, at_phase}
-use Rattle.js_table.specs.Turn.{row_at, reader_row, go_on, is_connected, changed, watcher_ended, event_change, event_row, same_state}
+use Rattle.js_table.specs.Turn.{row_at, reader_row, go_on, changed, watcher_ended, event_change, event_row, same_state}
 
 -- nothing is put out
 pub steps_quietly : (m : Matter) (passed : Passed) (c d : Consumer) (rest : NextTasks) → passed ≡ quietly c (next_rows m rest) → d ≡ c → StepsTo m passed [] d rest

@@ -1,5 +1,5 @@
 -- The rows that are left of an event, as the code keeps them, and what a function says that passes one.
-use Rattle.std.specs.Prelude.{◌≡◌, ◌≢◌, ◌+◌, ℕ, Bool, true, false, ◌||◌, List, [], ◌∷◌, ◌++◌, map, drop, Option, Some, None, is_some, ⊤, if◌then◌else◌}
+use Rattle.std.specs.Prelude.{◌≡◌, ◌≢◌, ◌+◌, ℕ, Bool, true, false, ◌||◌, List, [], ◌∷◌, ◌++◌, map, drop, Option, Some, None, is_some, ⊤}
 use Rattle.js_base.specs.declared.message.Message.{Message}
 use Rattle.js_base.specs.declared.message.State.{State}
 use Rattle.js_link.specs.Passing.{Passing}

@@ -1,7 +1,6 @@
-use Rattle.std.proofs.Common.{refl, sym, subst, ◌≡◌}
-use Rattle.js_ordered_rows.specs.Tasks.{StepsTo, at_moment, goes_on}
+use Rattle.std.proofs.Common.{refl}
+use Rattle.js_ordered_rows.specs.Tasks.{at_moment}
 use Rattle.js_table.specs.Passes.{given_of}
-use Rattle.js_table.specs.declared.consumer.Phase.{Phase}
 use Rattle.js_ordered_rows.proofs.Stepping.{reader_begins, goes_at}
 use Rattle.js_ordered_rows.proofs.event.go_on.Goals as goal
 

@@ -1,4 +1,4 @@
-use Rattle.std.proofs.Common.{refl, sym, ap, ◌∙◌}
+use Rattle.std.proofs.Common.{sym, ap, ◌∙◌}
 use Rattle.js_ordered_rows.specs.Tasks.{at_moment}
 use Rattle.js_table.specs.Passes.{given_of, change_shown}
 use Rattle.js_ordered_rows.proofs.Stepping.{event_goes_on, event_same, event_changes, event_unwatched, watcher_pulls}
