@@ -20,9 +20,9 @@ returns-in-Pulls c =
     let w = c.args.state.now in
     let r = c.in-Pulls.reader in
     reads_here g now m (read.CheckInfoRequest) r w _ c.args.outputs.now.items _ (next_rows m c.finish.result) c.in-Pulls.is
-    (leads_finish g now m (read.CheckInfoRequest) r r w _ (passing g now w) c.check_inquiry.result (pull.check_inquiry (passing g now w) m.answer r.inquiry r) c.args.outputs.now.items _ c.finish.result refl refl
-    (inquiry_read (passing g now w) None m.answer r.inquiry c.is_answered.result r c.check_inquiry.result c.is_answered.ensures c.check_inquiry.ensures) (inquiry_sends (passing g now w) m.answer r.inquiry r)
-    (subst (λ (q : Phase). Finishes m (at q w) c.finish.new.state c.check_inquiry.result c.args.outputs.now.items c.finish.new.outputs.items c.finish.result) c.in-Pulls.is (c.finish.ensures m)))
+    (leads_finish g now m (read.CheckInfoRequest) r r w _ (passing g now w) c.check_inquiry-step.result (pull.check_inquiry (passing g now w) m.answer r.inquiry r) c.args.outputs.now.items _ c.finish.result refl refl
+    (inquiry_read (passing g now w) None m.answer r.inquiry c.is_answered-answered.result r c.check_inquiry-step.result c.is_answered-answered.ensures c.check_inquiry-step.ensures) (inquiry_sends (passing g now w) m.answer r.inquiry r)
+    (subst (λ (q : Phase). Finishes m (at q w) c.finish.new.state c.check_inquiry-step.result c.args.outputs.now.items c.finish.new.outputs.items c.finish.result) c.in-Pulls.is (c.finish.ensures m)))
 
 pub returns-in_default : goal.returns-in_default
 returns-in_default c =
