@@ -150,9 +150,3 @@ no_pin pinned (Some message) is = ap (λ (b : Bool). if b then pin_named message
 pub informed_as : {E : Type 0} (one : Due) (a b : Option Message) (told : Result (Option Reason) E) → a ≡ b → IfOk told (λ reason. IsInformed (row_of a one) reason)
     → IfOk told (λ reason. IsInformed (row_of b one) reason)
 informed_as one a b told is holds = subst (λ (m : Option Message). IfOk told (λ reason. IsInformed (row_of m one) reason)) is holds
-
--- a row that was not passed
-pub read_stops : (g : ReplayInput) (now : ℕ) (one : PullRow) (r : Reader) (c : Consumer) (v u : LinkView) (why : Stop) → MeetsReader (Err why) one r v u
-    → PassesRow g now (row.Read one) (at_phase (Pulls r) c) (at_phase (Pulls r) c) v u (Err why)
-read_stops g now one r c v u stop.Closed is = (refl, is)
-read_stops g now one r c v u stop.OutOfMemory is = (refl, is)

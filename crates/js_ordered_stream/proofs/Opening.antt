@@ -11,7 +11,7 @@ use Rattle.js_ordered_stream.specs.declared.left.Left.{Left}
 use Rattle.js_ordered_stream.specs.declared.ordered.Ordered as polled
 use Rattle.js_ordered_stream.specs.declared.pull.Ordered as pulls
 use Rattle.js_ordered_stream.specs.declared.push.Ordered as pushes
-use Rattle.js_ordered_stream.specs.Opening.{ListensFirst, OpensConsumer, OpensDelivery, OpensOrdered, OpensPushed, IsGaplessPull, IsGaplessPush, listens_first, opened_at, reads_first}
+use Rattle.js_ordered_stream.specs.Opening.{ListensFirst, OpensConsumer, OpensDelivery, OpensOrdered, OpensPushed, IsGaplessPull, IsGaplessPush, given_of_pull, given_of_push, listens_first, opened_at, reads_first}
 use Rattle.js_ordered_stream.specs.Rows.{left_rows}
 use Rattle.js_ordered_stream.specs.Stream.{first_at, with_retries}
 use Rattle.js_pull.specs.Reader.{new_reader, opening}
@@ -108,7 +108,9 @@ fresh_kept setup s inbox starts = record {
 
 pub pull_gapless : (o : pulls.Ordered) (settings : Settings) (config : pull_config.OrderedConfig) (first : Info) (old new : LinkView)
     → OpensOrdered (Ok o) settings config first old new → IsGaplessPull o
-pull_gapless o settings config first old new (inbox, subject, opens, given_is, at) = rw at (rw given_is from_there)
+pull_gapless o settings config first old new (inbox, subject, opens, given_is, at) =
+    subst (λ (p : Position). IsGaplessFrom (given_of_pull o) Meets p) (sym at)
+    (subst (λ (g : ReplayInput). IsGaplessFrom g Meets (opened_at g inbox subject)) (sym given_is) from_there)
   where
     given : ReplayInput
     given = record { settings = with_retries settings; setup = Pull config; first = first }
@@ -120,7 +122,9 @@ pull_gapless o settings config first old new (inbox, subject, opens, given_is, a
 
 pub push_gapless : (o : pushes.Ordered) (settings : Settings) (config : push_config.OrderedConfig) (first : Info) (old new : LinkView)
     → OpensPushed (Ok o) settings config first old new → IsGaplessPush o
-push_gapless o settings config first old new (inbox, opens, given_is, at) = rw at (rw given_is from_there)
+push_gapless o settings config first old new (inbox, opens, given_is, at) =
+    subst (λ (p : Position). IsGaplessFrom (given_of_push o) Meets p) (sym at)
+    (subst (λ (g : ReplayInput). IsGaplessFrom g Meets (position_at (listens_first g inbox) (Arm ∷ []))) (sym given_is) from_there)
   where
     given : ReplayInput
     given = record { settings = with_retries settings; setup = Push config; first = first }

@@ -1,5 +1,6 @@
 //! The rows of a pull reader over a link, and what the consumer makes of what its reader tells.
 ghost use Rattle.std.specs.Prelude.{◌≡◌, false, IfOk, None, Ok, Option, Some};
+ghost use Rattle.js_base.specs.declared.message.Message.{Message as SpecMessage};
 ghost use Rattle.js_link.specs.Met.{message_of};
 ghost use Rattle.js_ordered_rows.specs.Tasks.{reader_rows};
 ghost use Rattle.js_ordered_stream.specs.Rows.{IsReadMet, MeetsReader, PassesRow, TakesIn, answer_shown, handed_by_heard};
@@ -170,7 +171,8 @@ pub(crate) fn pass_read<L: Link>(
     let Phase::Pulls(reader) = &mut consumer.phase else {
         return Err(Stop::OutOfMemory);
     };
-    let ReadMet { met, informed } = read_met(alloc, link, reader, due, reply)?;
+    let read = read_met(alloc, link, reader, due, reply)?;
+    let ReadMet { met, informed } = read;
     let spare = Spare {
         informed,
         pin: None,
