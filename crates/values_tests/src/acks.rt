@@ -1,44 +1,17 @@
 //! Acks and double acks over the link in memory.
 
+use crate::received::{REPLY, WAIT, delivered, received, reply_of};
+use crate::tables::{same, says_at};
 use crate::words::word;
-use bytes::Bytes;
-use js_base::{Message as Received, Moment, OutOfMemory, Subject, Turn};
+use js_base::{Moment, OutOfMemory, Turn};
 use js_link::{InboxId, Link, MemoryLink, Sent};
 use js_message::{AckError, AckKind, Acker, DoubleAck, Message};
 use std::alloc::Global;
 
-const REPLY: &str = "$JS.ACK.events.c1.1.4.3.1790230470084404000.0";
-
 const START: Moment = 1_790_000_000_000_000_000;
 
-/// How long a double ack waits, in nanoseconds.
-const WAIT: u64 = 5_000_000_000;
-
-fn received(alloc: Global, reply: Option<Subject>) -> Result<Received, OutOfMemory> {
-    Ok(Received {
-        subject: Subject::new(alloc, "events.a")?,
-        reply,
-        payload: Bytes::copy_from_slice(alloc, b"a")?,
-        headers: None,
-        status: None,
-        description: None,
-        length: 0,
-    })
-}
-
-fn reply_subject(alloc: Global) -> Result<Option<Subject>, OutOfMemory> {
-    Ok(Some(Subject::new(alloc, REPLY)?))
-}
-
-fn delivered(alloc: Global) -> Result<Message, OutOfMemory> {
-    Ok(Message {
-        message: received(alloc, reply_subject(alloc)?)?,
-        timeout: WAIT,
-    })
-}
-
-fn acker(alloc: Global) -> Result<Acker, OutOfMemory> {
-    Ok(Acker::new(WAIT, reply_subject(alloc)?))
+fn acker(alloc: Global, reply: Option<&str>) -> Result<Acker, OutOfMemory> {
+    Ok(Acker::new(WAIT, reply_of(alloc, reply)?))
 }
 
 /// What acknowledges.
@@ -53,17 +26,34 @@ enum By {
 /// Acknowledges with a kind, or plainly.
 fn ack<L: Link>(alloc: Global, link: &mut L, by: By, kind: Option<AckKind>) -> Acked {
     match by {
-        By::Message => message_acks(alloc, link, kind),
-        By::Acker => acker_acks(alloc, link, &acker(alloc)?, kind),
-        By::Nobody => acker_acks(alloc, link, &Acker::new(WAIT, None), kind),
+        By::Message => ack_by_message(alloc, link, kind),
+        By::Acker => ack_by_acker(alloc, link, Some(REPLY), kind),
+        By::Nobody => ack_by_acker(alloc, link, None, kind),
     }
 }
 
 /// What has become of a call, in a word.
 type Acked = Result<String, OutOfMemory>;
 
-fn message_acks<L: Link>(alloc: Global, link: &mut L, kind: Option<AckKind>) -> Acked {
-    let message = delivered(alloc)?;
+fn ack_by_message<L: Link>(alloc: Global, link: &mut L, kind: Option<AckKind>) -> Acked {
+    message_acks(alloc, link, &delivered(alloc, Some(REPLY))?, kind)
+}
+
+fn ack_by_acker<L: Link>(
+    alloc: Global,
+    link: &mut L,
+    reply: Option<&str>,
+    kind: Option<AckKind>,
+) -> Acked {
+    acker_acks(alloc, link, &acker(alloc, reply)?, kind)
+}
+
+fn message_acks<L: Link>(
+    alloc: Global,
+    link: &mut L,
+    message: &Message,
+    kind: Option<AckKind>,
+) -> Acked {
     match kind {
         None => ended(alloc, message.ack(alloc, link)),
         Some(kind) => ended(alloc, message.ack_with(alloc, link, kind)),
@@ -87,14 +77,29 @@ fn ended(alloc: Global, found: Result<(), AckError>) -> Acked {
 /// A double ack with a kind, or a plain one.
 fn double_ack(alloc: Global, by: By, kind: Option<AckKind>) -> Result<DoubleAck, OutOfMemory> {
     match by {
-        By::Message => message_asks(alloc, kind),
-        By::Acker => acker_asks(alloc, &acker(alloc)?, kind),
-        By::Nobody => acker_asks(alloc, &Acker::new(WAIT, None), kind),
+        By::Message => ask_by_message(alloc, kind),
+        By::Acker => ask_by_acker(alloc, Some(REPLY), kind),
+        By::Nobody => ask_by_acker(alloc, None, kind),
     }
 }
 
-fn message_asks(alloc: Global, kind: Option<AckKind>) -> Result<DoubleAck, OutOfMemory> {
-    let message = delivered(alloc)?;
+fn ask_by_message(alloc: Global, kind: Option<AckKind>) -> Result<DoubleAck, OutOfMemory> {
+    message_asks(alloc, &delivered(alloc, Some(REPLY))?, kind)
+}
+
+fn ask_by_acker(
+    alloc: Global,
+    reply: Option<&str>,
+    kind: Option<AckKind>,
+) -> Result<DoubleAck, OutOfMemory> {
+    acker_asks(alloc, &acker(alloc, reply)?, kind)
+}
+
+fn message_asks(
+    alloc: Global,
+    message: &Message,
+    kind: Option<AckKind>,
+) -> Result<DoubleAck, OutOfMemory> {
     match kind {
         None => message.double_ack(alloc),
         Some(kind) => message.double_ack_with(alloc, kind),
@@ -159,7 +164,7 @@ fn befalls(alloc: Global, link: &mut MemoryLink, event: Event) -> Acked {
     match event {
         Event::Ack(by, kind) => ack(alloc, link, by, kind),
         Event::Deliver(inbox) => {
-            link.deliver(InboxId(inbox), received(alloc, None)?)?;
+            link.deliver(InboxId(inbox), received(alloc, "a", None, None)?)?;
             word(alloc, "")
         }
         Event::Close(inbox) => {
@@ -192,7 +197,7 @@ const TERM: Option<AckKind> = Some(AckKind::Term);
 
 const NEXT: Option<AckKind> = Some(AckKind::Next);
 
-const EVENTS: [(Event, &str); 43] = [
+const EVENTS: &[(Event, &str)] = &[
     // An ack sends its body once.
     (Event::Ack(By::Acker, None), "done"),
     (Event::Sent(""), "yes"),
@@ -249,16 +254,14 @@ fn acks_follow_what_befalls(rt: HostRuntime) {
     let mut link = MemoryLink::new(rt.alloc(), "_INBOX.t").expect(&rt, "a link");
     let mut call = None;
     for (place, (event, wanted)) in EVENTS.iter().enumerate() {
-        let found = told(rt.alloc(), &mut link, &mut call, *event).expect(&rt, wanted);
-        assert_eq!(rt; found.as_str(), *wanted, "at {place}");
+        let found = told(rt.alloc(), &mut link, &mut call, *event);
+        says_at(&rt, place, found, wanted);
     }
 }
 
 #[test]
 fn a_message_asks_as_its_acker_does(rt: HostRuntime) {
     let alloc = rt.alloc();
-    assert_eq!(rt;
-        double_ack(alloc, By::Message, TERM),
-        double_ack(alloc, By::Acker, TERM)
-    );
+    let asked = double_ack(alloc, By::Message, TERM);
+    same(&rt, "asks", asked, double_ack(alloc, By::Acker, TERM));
 }

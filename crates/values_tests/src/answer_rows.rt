@@ -3,7 +3,7 @@
 use crate::bodies::Body;
 
 /// Texts, what each is read as, and what it says.
-pub(crate) const ANSWERS: [(Body, &str, &str); 40] = [
+pub(crate) const ANSWERS: &[(Body, &str, &str)] = &[
     (
         Body::ConsumerInfo,
         r#"{"type":"io.nats.jetstream.api.v1.consumer_create_response","stream_name":"events","name":"c1_1","created":"2026-11-26T23:40:12.214345459Z","config":{"name":"c1_1","deliver_policy":"by_start_sequence","opt_start_seq":301,"ack_policy":"none","max_deliver":1,"replay_policy":"instant","idle_heartbeat":5000000000,"flow_control":true,"deliver_subject":"_INBOX.live.1","inactive_threshold":30000000000,"num_replicas":1,"mem_storage":true},"delivered":{"consumer_seq":0,"stream_seq":300},"ack_floor":{"consumer_seq":0,"stream_seq":0},"num_ack_pending":0,"num_redelivered":0,"num_waiting":0,"num_pending":300,"push_bound":true}"#,

@@ -1,15 +1,16 @@
 //! Subjects, headers, and what values print.
 
+use crate::tables::{printed, same, says};
 use bytes::Bytes;
 use js_base::{
     Boxed, ByName, Entry, Error, Header, HeaderMap, Items, Message, OutOfMemory, Source, State,
     StatusCode, Subject, Text, TextMap, TryClone, is_valid_subject, subject_matches,
 };
 use std::alloc::Global;
-use std::fmt::Display;
+use std::process::Abort;
 
 /// A filter, a subject, and whether it matches.
-const FILTERS: [(&str, &str, bool); 15] = [
+const FILTERS: &[(&str, &str, bool)] = &[
     ("a.*.>", "a.b", false),
     ("a.*.>", "a.b.c", true),
     ("a.*.>", "a.b.c.d", true),
@@ -28,7 +29,7 @@ const FILTERS: [(&str, &str, bool); 15] = [
 ];
 
 /// A text, and whether it may be a subject.
-const SUBJECTS: [(&str, bool); 9] = [
+const SUBJECTS: &[(&str, bool)] = &[
     ("a.b", true),
     ("a..b", true),
     ("a.*.>", true),
@@ -42,15 +43,11 @@ const SUBJECTS: [(&str, bool); 9] = [
 
 #[test]
 fn subjects_are_told(rt: HostRuntime) {
-    for (filter, subject, matches) in FILTERS {
-        assert_eq!(rt;
-            subject_matches(filter, subject),
-            matches,
-            "{filter} at {subject}"
-        );
+    for &(filter, subject, matches) in FILTERS {
+        same(&rt, filter, subject_matches(filter, subject), matches);
     }
-    for (subject, valid) in SUBJECTS {
-        assert_eq!(rt; is_valid_subject(subject), valid, "{subject:?}");
+    for &(subject, valid) in SUBJECTS {
+        same(&rt, subject, is_valid_subject(subject), valid);
     }
 }
 
@@ -62,7 +59,7 @@ enum Change {
 }
 
 /// Changes, what headers are afterwards, and how many bytes they take: the lengths and four for each header, and twelve.
-const CHANGES: [(Change, &str, u64); 5] = [
+const CHANGES: &[(Change, &str, u64)] = &[
     (Change::Append("A", "1"), "A=1;", 18),
     (Change::Append("B", "22"), "A=1;B=22;", 25),
     (Change::Append("A", "3"), "A=1;B=22;A=3;", 31),
@@ -89,27 +86,46 @@ fn pairs(alloc: Global, headers: &HeaderMap) -> Result<String, OutOfMemory> {
     Ok(text)
 }
 
+/// Makes a change: the names and values afterwards.
+fn changed(alloc: Global, headers: &mut HeaderMap, change: Change) -> Result<String, OutOfMemory> {
+    make(alloc, headers, change)?;
+    pairs(alloc, headers)
+}
+
+fn has_equal_copy(headers: &HeaderMap) -> Result<bool, OutOfMemory> {
+    Ok(headers.try_clone()? == *headers)
+}
+
+/// Headers after the changes, each of which is asserted.
+fn set_and_added(rt: &impl Abort, alloc: Global) -> HeaderMap {
+    let mut headers = HeaderMap::new(alloc);
+    same(rt, "none", headers.wire_len(), 0);
+    for &(change, wanted, length) in CHANGES {
+        says(rt, wanted, changed(alloc, &mut headers, change), wanted);
+        same(rt, wanted, headers.wire_len(), length);
+        same(rt, wanted, has_equal_copy(&headers), Ok(true));
+    }
+    headers
+}
+
+/// A name, its first value and its last one.
+const VALUES: &[(&str, Option<&str>, Option<&str>)] = &[
+    ("A", Some("4"), Some("5")),
+    ("a", None, None),
+];
+
 #[test]
 fn headers_are_set_and_added(rt: HostRuntime) {
-    let mut headers = HeaderMap::new(rt.alloc());
-    assert_eq!(rt; headers.wire_len(), 0);
-    for (step, wanted, length) in CHANGES {
-        make(rt.alloc(), &mut headers, step).expect(&rt, wanted);
-        let found = pairs(rt.alloc(), &headers).expect(&rt, wanted);
-        assert_eq!(rt; found.as_str(), wanted);
-        assert_eq!(rt; headers.wire_len(), length, "{wanted}");
-        let copy = headers.try_clone().expect(&rt, wanted);
-        assert!(rt; copy == headers, "{wanted}");
+    let headers = set_and_added(&rt, rt.alloc());
+    for &(name, first, last) in VALUES {
+        same(&rt, name, headers.get(name), first);
+        same(&rt, name, headers.get_last(name), last);
     }
-    assert_eq!(rt; headers.get("A"), Some("4"));
-    assert_eq!(rt; headers.get_last("A"), Some("5"));
-    assert_eq!(rt; headers.get("a"), None);
-    assert_eq!(rt; headers.get_last("a"), None);
     assert!(rt; headers != HeaderMap::new(rt.alloc()));
 }
 
 /// The name and the value of a header, and whether it arrives as the one header that it is.
-const SENDABLE: [(&str, &str, bool); 10] = [
+const SENDABLE: &[(&str, &str, bool)] = &[
     ("A", "1", true),
     ("A", "a: b", true),
     ("A", "", true),
@@ -132,20 +148,12 @@ fn is_sendable(alloc: Global, name: &str, value: &str) -> Result<bool, OutOfMemo
 #[test]
 fn headers_that_break_a_line_are_told(rt: HostRuntime) {
     assert!(rt; HeaderMap::new(rt.alloc()).is_sendable());
-    for (name, value, wanted) in SENDABLE {
-        assert_eq!(rt;
-            is_sendable(rt.alloc(), name, value),
-            Ok(wanted),
-            "{name:?} {value:?}"
-        );
+    for &(name, value, wanted) in SENDABLE {
+        same(&rt, value, is_sendable(rt.alloc(), name, value), Ok(wanted));
     }
 }
 
-fn printed<T: Display + Drop>(alloc: Global, value: T) -> Result<String, OutOfMemory> {
-    Ok(value.to_string(alloc)?)
-}
-
-const STATUSES: [(StatusCode, &str); 10] = [
+const STATUSES: &[(StatusCode, &str)] = &[
     (StatusCode(7), "007"),
     (StatusCode(99), "099"),
     (StatusCode(1000), "1000"),
@@ -158,7 +166,7 @@ const STATUSES: [(StatusCode, &str); 10] = [
     (StatusCode::NO_RESPONDERS, "503"),
 ];
 
-const STATES: [(State, &str); 3] = [
+const STATES: &[(State, &str)] = &[
     (State::Pending, "pending"),
     (State::Connected, "connected"),
     (State::Disconnected, "disconnected"),
@@ -173,7 +181,7 @@ enum Cause {
 }
 
 /// Where an error comes from, what it prints, and the server's error alone.
-const CAUSES: [(Cause, &str, &str); 4] = [
+const CAUSES: &[(Cause, &str, &str)] = &[
     (Cause::Unknown, "408", "none"),
     (Cause::Text("it rains"), "408: it rains", "none"),
     (
@@ -227,22 +235,22 @@ fn api_text(alloc: Global, cause: Cause) -> Result<String, OutOfMemory> {
 
 #[test]
 fn values_print(rt: HostRuntime) {
-    for (status, text) in STATUSES {
-        let found = printed(rt.alloc(), status).expect(&rt, text);
-        assert_eq!(rt; found.as_str(), text);
+    for &(status, text) in STATUSES {
+        says(&rt, text, printed(rt.alloc(), status), text);
     }
-    for (state, text) in STATES {
-        let found = printed(rt.alloc(), state).expect(&rt, text);
-        assert_eq!(rt; found.as_str(), text);
+    for &(state, text) in STATES {
+        says(&rt, text, printed(rt.alloc(), state), text);
     }
-    for (cause, text, api) in CAUSES {
-        let found = error_text(rt.alloc(), cause).expect(&rt, text);
-        assert_eq!(rt; found.as_str(), text);
-        let found = api_text(rt.alloc(), cause).expect(&rt, text);
-        assert_eq!(rt; found.as_str(), api);
+    for &(cause, text, api) in CAUSES {
+        says(&rt, text, error_text(rt.alloc(), cause), text);
+        says(&rt, text, api_text(rt.alloc(), cause), api);
     }
-    let memory = printed(rt.alloc(), OutOfMemory).expect(&rt, "printed");
-    assert_eq!(rt; memory.as_str(), "out of memory");
+    says(
+        &rt,
+        "memory",
+        printed(rt.alloc(), OutOfMemory),
+        "out of memory",
+    );
 }
 
 /// Whether a copy of a value is equal to it.
@@ -318,11 +326,11 @@ fn kept(alloc: Global) -> Result<usize, OutOfMemory> {
 #[test]
 fn values_are_copied(rt: HostRuntime) {
     let alloc = rt.alloc();
-    assert_eq!(rt; is_message_copied(alloc), Ok(true));
-    assert_eq!(rt; is_box_copied(alloc), Ok(true));
-    assert_eq!(rt; is_map_copied(alloc), Ok(true));
-    assert_eq!(rt; are_strings_copied(alloc), Ok(true));
-    assert_eq!(rt; is_entry_copied(alloc), Ok(true));
-    assert_eq!(rt; are_items_copied(alloc), Ok(true));
-    assert_eq!(rt; kept(alloc), Ok(2));
+    same(&rt, "message", is_message_copied(alloc), Ok(true));
+    same(&rt, "box", is_box_copied(alloc), Ok(true));
+    same(&rt, "map", is_map_copied(alloc), Ok(true));
+    same(&rt, "strings", are_strings_copied(alloc), Ok(true));
+    same(&rt, "entry", is_entry_copied(alloc), Ok(true));
+    same(&rt, "items", are_items_copied(alloc), Ok(true));
+    same(&rt, "kept", kept(alloc), Ok(2));
 }

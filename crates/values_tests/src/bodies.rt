@@ -1,5 +1,6 @@
 //! Bodies of the API as JSON texts: what is read of them, and what is written.
 
+use crate::tables::{same, says};
 use crate::{answer_rows, consumer_rows, stream_rows};
 use js_base::{Text, TryClone};
 use js_codes::errors::Error;
@@ -77,53 +78,59 @@ fn stream_word(alloc: Global, text: &str) -> Words {
 
 #[test]
 fn faults_of_consumers_are_told(rt: HostRuntime) {
-    for (text, wanted) in consumer_rows::FAULTS {
-        let found = consumer_word(rt.alloc(), text).expect(&rt, text);
-        assert_eq!(rt; found.as_str(), wanted, "{text}");
+    for &(text, wanted) in consumer_rows::FAULTS {
+        says(&rt, text, consumer_word(rt.alloc(), text), wanted);
     }
 }
 
 #[test]
 fn faults_of_streams_are_told(rt: HostRuntime) {
-    for (text, wanted) in stream_rows::FAULTS {
-        let found = stream_word(rt.alloc(), text).expect(&rt, text);
-        assert_eq!(rt; found.as_str(), wanted, "{text}");
+    for &(text, wanted) in stream_rows::FAULTS {
+        says(&rt, text, stream_word(rt.alloc(), text), wanted);
     }
 }
 
 #[test]
 fn consumers_are_written(rt: HostRuntime) {
-    for (text, wanted) in consumer_rows::CONFIGS {
-        let found = consumer_word(rt.alloc(), text).expect(&rt, text);
-        assert_eq!(rt; found.as_str(), wanted);
+    for &(text, wanted) in consumer_rows::CONFIGS {
+        says(&rt, text, consumer_word(rt.alloc(), text), wanted);
         let kept = is_kept::<consumer::Config>(rt.alloc(), text);
-        assert_eq!(rt; kept, Ok(true), "{text}");
+        same(&rt, text, kept, Ok(true));
     }
 }
 
 #[test]
 fn streams_are_written(rt: HostRuntime) {
-    for (text, wanted) in stream_rows::CONFIGS {
-        let found = stream_word(rt.alloc(), text).expect(&rt, text);
-        assert_eq!(rt; found.as_str(), wanted);
+    for &(text, wanted) in stream_rows::CONFIGS {
+        says(&rt, text, stream_word(rt.alloc(), text), wanted);
         let kept = is_kept::<stream::Config>(rt.alloc(), text);
-        assert_eq!(rt; kept, Ok(true), "{text}");
+        same(&rt, text, kept, Ok(true));
     }
 }
 
 /// How many messages the consumer has got and has to get, and its configuration.
-fn consumer_info(alloc: Global, info: consumer::Info) -> Words {
+fn consumer_info(alloc: Global, info: &consumer::Info) -> Words {
     let config = info.config.to_text(alloc)?;
     let delivered = info.delivered.stream_sequence;
     let pending = info.num_pending;
     Ok(format!(in alloc; "{delivered} {pending} {config}")?)
 }
 
-fn in_answer(alloc: Global, text: &str) -> Words {
-    match response_as::<consumer::Info>(alloc, text.as_bytes())? {
-        Response::Ok(info) => consumer_info(alloc, info.try_clone()?),
+/// The same of a copy.
+fn copied_consumer_info(alloc: Global, info: &consumer::Info) -> Words {
+    consumer_info(alloc, &info.try_clone()?)
+}
+
+/// The info, or the error.
+fn answered(alloc: Global, response: &Response<consumer::Info>) -> Words {
+    match response {
+        Response::Ok(info) => copied_consumer_info(alloc, info),
         Response::Err { error } => error.to_text(alloc),
     }
+}
+
+fn in_answer(alloc: Global, text: &str) -> Words {
+    answered(alloc, &response_as(alloc, text.as_bytes())?)
 }
 
 /// Messages, bytes, first and last sequence.
@@ -141,6 +148,15 @@ fn stream_info(alloc: Global, info: &stream::Info) -> Words {
     let created = info.created.as_nanosecond();
     let config = info.config.to_text(alloc)?;
     Ok(format!(in alloc; "{state} {created} {config}")?)
+}
+
+/// The same of a copy.
+fn copied_stream_info(alloc: Global, info: &stream::Info) -> Words {
+    stream_info(alloc, &info.try_clone()?)
+}
+
+fn in_stream_info(alloc: Global, text: &str) -> Words {
+    copied_stream_info(alloc, &read(alloc, text)?)
 }
 
 /// How many a list has in all, and how many stand in this page.
@@ -170,7 +186,7 @@ fn deletion(alloc: Global, text: &str) -> Words {
 }
 
 /// The sequence, or the code of the error.
-fn stored(alloc: Global, response: Response<PublishAck>) -> Words {
+fn stored(alloc: Global, response: &Response<PublishAck>) -> Words {
     match response {
         Response::Ok(ack) => {
             let sequence = ack.sequence;
@@ -183,8 +199,12 @@ fn stored(alloc: Global, response: Response<PublishAck>) -> Words {
     }
 }
 
+fn answer(alloc: Global, text: &str) -> Words {
+    stored(alloc, &response_as(alloc, text.as_bytes())?)
+}
+
 fn answer_value(alloc: Global, text: &str) -> Words {
-    stored(alloc, read(alloc, text)?)
+    stored(alloc, &read(alloc, text)?)
 }
 
 fn printed(alloc: Global, text: &str) -> Words {
@@ -219,11 +239,11 @@ fn cluster(alloc: Global, text: &str) -> Words {
 fn told(alloc: Global, body: Body, text: &str) -> Words {
     match body {
         Body::ConsumerInfo => in_answer(alloc, text),
-        Body::StreamInfo => stream_info(alloc, &read::<stream::Info>(alloc, text)?.try_clone()?),
+        Body::StreamInfo => in_stream_info(alloc, text),
         Body::Names => names(alloc, text),
         Body::Streams => streams(alloc, text),
         Body::Deletion => deletion(alloc, text),
-        Body::Answer => stored(alloc, response_as(alloc, text.as_bytes())?),
+        Body::Answer => answer(alloc, text),
         Body::AnswerValue => answer_value(alloc, text),
         Body::Printed => printed(alloc, text),
         Body::Written => rewritten::<Error>(alloc, text),
@@ -235,11 +255,14 @@ fn told(alloc: Global, body: Body, text: &str) -> Words {
     }
 }
 
+fn told_word(alloc: Global, body: Body, text: &str) -> Words {
+    word(alloc, told(alloc, body, text))
+}
+
 #[test]
 fn answers_are_read(rt: HostRuntime) {
-    for (body, text, wanted) in answer_rows::ANSWERS {
-        let found = word(rt.alloc(), told(rt.alloc(), body, text)).expect(&rt, text);
-        assert_eq!(rt; found.as_str(), wanted, "{text}");
+    for &(body, text, wanted) in answer_rows::ANSWERS {
+        says(&rt, text, told_word(rt.alloc(), body, text), wanted);
     }
 }
 
@@ -253,8 +276,20 @@ fn limits_of(alloc: Global, text: &str) -> Result<(Limits, u64, bool), ReadError
     ))
 }
 
+/// The limits that the account tells.
+fn limits() -> Limits {
+    Limits {
+        max_storage: Some(10),
+        max_streams: Some(0),
+        max_ack_pending: -1,
+        storage_max_stream_bytes: Some(-1),
+        max_bytes_required: true,
+        ..Limits::default()
+    }
+}
+
 /// A name, and whether a stream or a consumer may have it.
-const NAMES: [(&str, bool); 9] = [
+const NAMES: &[(&str, bool)] = &[
     ("stream", true),
     ("str>eam", false),
     ("str*eam", false),
@@ -268,19 +303,9 @@ const NAMES: [(&str, bool); 9] = [
 
 #[test]
 fn an_account_and_names_are_told(rt: HostRuntime) {
-    let limits = Limits {
-        max_storage: Some(10),
-        max_streams: Some(0),
-        max_ack_pending: -1,
-        storage_max_stream_bytes: Some(-1),
-        max_bytes_required: true,
-        ..Limits::default()
-    };
-    assert_eq!(rt;
-        limits_of(rt.alloc(), answer_rows::ACCOUNT),
-        Ok((limits, 7, false))
-    );
-    for (name, valid) in NAMES {
-        assert_eq!(rt; is_valid_name(name), valid, "{name}");
+    let found = limits_of(rt.alloc(), answer_rows::ACCOUNT);
+    same(&rt, "account", found, Ok((limits(), 7, false)));
+    for &(name, valid) in NAMES {
+        same(&rt, name, is_valid_name(name), valid);
     }
 }

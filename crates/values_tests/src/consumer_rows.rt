@@ -1,7 +1,7 @@
 //! Texts of consumer configurations.
 
 /// Texts that are no configuration, or one that has no text, and why.
-pub(crate) const FAULTS: [(&str, &str); 26] = [
+pub(crate) const FAULTS: &[(&str, &str)] = &[
     ("{}", "deliver_policy: missing"),
     ("[]", "deliver_policy: missing"),
     (
@@ -97,7 +97,7 @@ pub(crate) const FAULTS: [(&str, &str); 26] = [
 ];
 
 /// Texts of configurations, and what is written for each.
-pub(crate) const CONFIGS: [(&str, &str); 10] = [
+pub(crate) const CONFIGS: &[(&str, &str)] = &[
     (
         r#"{"deliver_policy":"all"}"#,
         r#"{"ack_policy":"explicit","deliver_policy":"all","replay_policy":"instant"}"#,

@@ -18,9 +18,13 @@ mod message;
 #[cfg(test)]
 mod project;
 #[cfg(test)]
+mod received;
+#[cfg(test)]
 mod requests;
 #[cfg(test)]
 mod stream_rows;
+#[cfg(test)]
+mod tables;
 mod words;
 
 pub use words::word;

@@ -1,8 +1,9 @@
 //! The link in memory, and the server that answers from its script.
 
+use crate::received::received;
+use crate::tables::{printed, same, says_at};
 use crate::words::word;
-use bytes::Bytes;
-use js_base::{HeaderMap, Message, OutOfMemory, Subject};
+use js_base::{HeaderMap, Message, OutOfMemory};
 use js_link::{
     Answer, InboxId, Link, LinkError, MemoryLink, RequestId, ScriptedServer, Sent, Taken, Watch,
 };
@@ -22,10 +23,6 @@ enum Step {
     State,
 }
 
-fn refusal(alloc: Global, error: LinkError) -> Result<String, OutOfMemory> {
-    Ok(error.to_string(alloc)?)
-}
-
 /// The body of a message.
 fn body(alloc: Global, message: &Message) -> Result<String, OutOfMemory> {
     Ok(String::from_utf8_lossy(alloc, message.payload.as_slice())?)
@@ -38,14 +35,14 @@ fn open_inbox<L: Link>(alloc: Global, link: &mut L) -> Result<String, OutOfMemor
             let subject = subject.as_str();
             Ok(format!(in alloc; "{number} {subject}")?)
         }
-        Err(error) => refusal(alloc, error),
+        Err(error) => printed(alloc, error),
     }
 }
 
 fn fresh_subject<L: Link>(alloc: Global, link: &mut L) -> Result<String, OutOfMemory> {
     match link.fresh_subject(alloc) {
         Ok(subject) => word(alloc, subject.as_str()),
-        Err(error) => refusal(alloc, error),
+        Err(error) => printed(alloc, error),
     }
 }
 
@@ -53,14 +50,14 @@ fn fresh_subject<L: Link>(alloc: Global, link: &mut L) -> Result<String, OutOfMe
 fn number(alloc: Global, found: Result<u64, LinkError>) -> Result<String, OutOfMemory> {
     match found {
         Ok(number) => Ok(format!(in alloc; "{number}")?),
-        Err(error) => refusal(alloc, error),
+        Err(error) => printed(alloc, error),
     }
 }
 
 fn publish<L: Link>(alloc: Global, link: &mut L, subject: &str) -> Result<String, OutOfMemory> {
     match link.publish(alloc, subject, Some("reply"), None, b"1") {
         Ok(()) => word(alloc, "sent"),
-        Err(error) => refusal(alloc, error),
+        Err(error) => printed(alloc, error),
     }
 }
 
@@ -124,25 +121,13 @@ enum Event {
     End,
 }
 
-fn message(alloc: Global, text: &str) -> Result<Message, OutOfMemory> {
-    Ok(Message {
-        subject: Subject::new(alloc, "events.a")?,
-        reply: None,
-        payload: Bytes::copy_from_slice(alloc, text.as_bytes())?,
-        headers: None,
-        status: None,
-        description: None,
-        length: 0,
-    })
-}
-
 fn deliver(
     alloc: Global,
     link: &mut MemoryLink,
     inbox: u64,
     text: &str,
 ) -> Result<(), OutOfMemory> {
-    link.deliver(InboxId(inbox), message(alloc, text)?)
+    link.deliver(InboxId(inbox), received(alloc, text, None, None)?)
 }
 
 fn respond(
@@ -151,7 +136,7 @@ fn respond(
     request: u64,
     text: &str,
 ) -> Result<(), OutOfMemory> {
-    link.respond(RequestId(request), Some(message(alloc, text)?))
+    link.respond(RequestId(request), Some(received(alloc, text, None, None)?))
 }
 
 /// What befalls a link, and nothing is told of it.
@@ -181,7 +166,7 @@ fn told(alloc: Global, link: &mut MemoryLink, event: Event) -> Result<String, Ou
 }
 
 /// What befalls one link after another, and what each call answers.
-const EVENTS: [(Event, &str); 44] = [
+const EVENTS: &[(Event, &str)] = &[
     // An inbox gives each message once, in order, until it is closed.
     (Event::Call(Step::OpenInbox), "0 _INBOX.t.0"),
     (Event::Deliver(0, "a"), ""),
@@ -236,8 +221,7 @@ const EVENTS: [(Event, &str); 44] = [
 fn a_link_does_what_it_is_told(rt: HostRuntime) {
     let mut link = MemoryLink::new(rt.alloc(), "_INBOX.t").expect(&rt, "a link");
     for (place, (event, wanted)) in EVENTS.iter().enumerate() {
-        let found = told(rt.alloc(), &mut link, *event).expect(&rt, wanted);
-        assert_eq!(rt; found.as_str(), *wanted, "at {place}");
+        says_at(&rt, place, told(rt.alloc(), &mut link, *event), wanted);
     }
 }
 
@@ -269,20 +253,28 @@ fn keeps(alloc: Global, link: &mut MemoryLink) -> Result<bool, LinkError> {
     Ok(is_kept(link, &headers))
 }
 
+/// How many bytes a link sends at most, and how long its requests wait.
+fn limits(link: &MemoryLink) -> (u64, Option<u64>) {
+    (link.max_payload(), link.request_timeout())
+}
+
 #[test]
 fn a_link_keeps_what_it_sends(rt: HostRuntime) {
     let mut link = MemoryLink::new(rt.alloc(), "_INBOX.t").expect(&rt, "a link");
-    assert_eq!(rt; keeps(rt.alloc(), &mut link), Ok(true));
-    assert_eq!(rt; link.sent().len(), 1);
-    assert_eq!(rt; link.max_payload(), u64::MAX);
-    assert_eq!(rt; link.request_timeout(), Some(10_000_000_000));
+    same(&rt, "kept", keeps(rt.alloc(), &mut link), Ok(true));
+    same(&rt, "sent", link.sent().len(), 1);
+    same(
+        &rt,
+        "limits",
+        limits(&link),
+        (u64::MAX, Some(10_000_000_000)),
+    );
     link.set_limits(5, None);
-    assert_eq!(rt; link.max_payload(), 5);
-    assert_eq!(rt; link.request_timeout(), None);
+    same(&rt, "limits", limits(&link), (5, None));
 }
 
 /// The replies of a script, each with its subject.
-const SCRIPT: [(&str, &str); 3] = [("a", "1"), ("b", "2"), ("a", "3")];
+const SCRIPT: &[(&str, &str)] = &[("a", "1"), ("b", "2"), ("a", "3")];
 
 fn scripted(
     alloc: Global,
@@ -290,11 +282,20 @@ fn scripted(
     subject: &str,
     reply: &str,
 ) -> Result<(), OutOfMemory> {
-    server.script(alloc, subject, message(alloc, reply)?)
+    server.script(alloc, subject, received(alloc, reply, None, None)?)
+}
+
+/// A server with that script.
+fn serving(alloc: Global) -> Result<ScriptedServer, OutOfMemory> {
+    let mut server = ScriptedServer::new(alloc, MemoryLink::new(alloc, "_INBOX.t")?);
+    for &(subject, reply) in SCRIPT {
+        scripted(alloc, &mut server, subject, reply)?;
+    }
+    Ok(server)
 }
 
 /// Whether the server is up, a call, and what it answers.
-const SERVED: [(bool, Step, &str); 16] = [
+const SERVED: &[(bool, Step, &str)] = &[
     (true, Step::Request("a"), "1"),
     (true, Step::Answer(1), "1"),
     (true, Step::Request("a"), "2"),
@@ -315,15 +316,10 @@ const SERVED: [(bool, Step, &str); 16] = [
 
 #[test]
 fn a_server_answers_from_its_script(rt: HostRuntime) {
-    let link = MemoryLink::new(rt.alloc(), "_INBOX.t").expect(&rt, "a link");
-    let mut server = ScriptedServer::new(rt.alloc(), link);
-    for (subject, reply) in SCRIPT {
-        scripted(rt.alloc(), &mut server, subject, reply).expect(&rt, reply);
-    }
+    let mut server = serving(rt.alloc()).expect(&rt, "a server");
     for (place, (up, call, wanted)) in SERVED.iter().enumerate() {
         server.link().set_up(*up);
-        let found = called(rt.alloc(), &mut server, *call).expect(&rt, wanted);
-        assert_eq!(rt; found.as_str(), *wanted, "at {place}");
+        says_at(&rt, place, called(rt.alloc(), &mut server, *call), wanted);
     }
-    assert_eq!(rt; server.link().sent().len(), 7);
+    same(&rt, "sent", server.link().sent().len(), 7);
 }

@@ -1,41 +1,43 @@
 //! Messages of a stream: their acknowledgement subjects, their acks, and how they are published and stored.
 
+use crate::received::{REPLY, WAIT, delivered, received, reply_of};
+use crate::tables::{printed, same, says};
 use bytes::Bytes;
-use js_base::{HeaderMap, OutOfMemory, Subject};
+use js_base::{HeaderMap, OutOfMemory};
 use js_message::{
     AckKind, Acker, Info, InfoError, Message, OutboundMessage, PublishMessage, StreamMessage,
     StreamMessageErrorKind, parse_info, read_u64,
 };
 use std::alloc::Global;
-use std::fmt::Display;
+use std::process::Abort;
 
-const REPLY: &str = "$JS.ACK.events.c1.1.4.3.1790230470084404000.0";
+/// Deliveries, the stream's sequence, the consumer's, the time in nanoseconds and what is pending.
+type Numbers = (i64, u64, u64, i128, u64);
 
-/// A subject, and its numbers: deliveries, the stream's sequence, the consumer's, the time and what is pending.
-const NUMBERS: [(&str, (i64, u64, u64, i128, u64)); 3] = [
+/// The domain, the account's hash, the stream, the consumer and the tenth token.
+type Texts = [&'static str; 5];
+
+/// Subjects, with the numbers and the texts of each.
+const READ: &[(&str, Numbers, Texts)] = &[
     (
         "$JS.ACK.events.c1.1.4.3.1790230470084404000.5",
         (1, 4, 3, 1790230470084404000, 5),
+        ["none", "none", "events", "c1", "none"],
     ),
     (
         "$JS.ACK.hub.szMpdrwD.events.durable.2.50.9.1790230470084404000.0.rand.future.more",
         (2, 50, 9, 1790230470084404000, 0),
+        ["hub", "szMpdrwD", "events", "durable", "rand"],
     ),
     (
         "$JS.ACK._.szMpdrwD.events.4z6UI6IG.1.1.+7.1790230470084404000.1",
         (1, 1, 7, 1790230470084404000, 1),
+        ["none", "szMpdrwD", "events", "4z6UI6IG", "none"],
     ),
 ];
 
-/// The texts of the same subjects: the domain, the account's hash, the stream, the consumer and the tenth token.
-const TEXTS: [[&str; 5]; 3] = [
-    ["none", "none", "events", "c1", "none"],
-    ["hub", "szMpdrwD", "events", "durable", "rand"],
-    ["none", "szMpdrwD", "events", "4z6UI6IG", "none"],
-];
-
 /// Subjects that are none, why, and what is printed of it.
-const REFUSED: [(&str, InfoError, &str); 10] = [
+const REFUSED: &[(&str, InfoError, &str)] = &[
     (
         "$JS.FC.events.x",
         InfoError::Prefix,
@@ -88,11 +90,7 @@ const REFUSED: [(&str, InfoError, &str); 10] = [
     ),
 ];
 
-fn printed<E: Display + Drop>(alloc: Global, error: E) -> Result<String, OutOfMemory> {
-    Ok(error.to_string(alloc)?)
-}
-
-fn numbers(subject: &str) -> Result<(i64, u64, u64, i128, u64), InfoError> {
+fn numbers(subject: &str) -> Result<Numbers, InfoError> {
     match parse_info(subject) {
         Ok(info) => Ok((
             info.delivered,
@@ -105,7 +103,7 @@ fn numbers(subject: &str) -> Result<(i64, u64, u64, i128, u64), InfoError> {
     }
 }
 
-fn texts_are(info: &Info<'_>, texts: [&str; 5]) -> bool {
+fn texts_are(info: &Info<'_>, texts: Texts) -> bool {
     info.domain.unwrap_or("none") == texts[0]
         && info.acc_hash.unwrap_or("none") == texts[1]
         && info.stream == texts[2]
@@ -113,7 +111,7 @@ fn texts_are(info: &Info<'_>, texts: [&str; 5]) -> bool {
         && info.token.unwrap_or("none") == texts[4]
 }
 
-fn has_texts(subject: &str, texts: [&str; 5]) -> bool {
+fn has_texts(subject: &str, texts: Texts) -> bool {
     match parse_info(subject) {
         Ok(info) => texts_are(&info, texts),
         Err(_) => false,
@@ -122,46 +120,15 @@ fn has_texts(subject: &str, texts: [&str; 5]) -> bool {
 
 #[test]
 fn acknowledgement_subjects_are_read(rt: HostRuntime) {
-    for (subject, wanted) in NUMBERS {
-        assert_eq!(rt; numbers(subject), Ok(wanted), "{subject}");
+    for &(subject, wanted, texts) in READ {
+        same(&rt, subject, numbers(subject), Ok(wanted));
+        same(&rt, subject, has_texts(subject, texts), true);
     }
-    for ((subject, _), texts) in NUMBERS.iter().zip(TEXTS) {
-        assert!(rt; has_texts(subject, texts), "{subject}");
+    for &(subject, error, text) in REFUSED {
+        same(&rt, subject, numbers(subject), Err(error));
+        says(&rt, subject, printed(rt.alloc(), error), text);
     }
-    for (subject, error, text) in REFUSED {
-        assert_eq!(rt; numbers(subject), Err(error), "{subject}");
-        let found = printed(rt.alloc(), error).expect(&rt, subject);
-        assert_eq!(rt; found.as_str(), text, "{subject}");
-    }
-    assert_eq!(rt; read_u64("+7"), Some(7));
-}
-
-fn message(alloc: Global, headers: Option<HeaderMap>) -> Result<js_base::Message, OutOfMemory> {
-    Ok(js_base::Message {
-        subject: Subject::new(alloc, "events.a")?,
-        reply: None,
-        payload: Bytes::copy_from_slice(alloc, b"a")?,
-        headers,
-        status: None,
-        description: None,
-        length: 0,
-    })
-}
-
-fn reply_of(alloc: Global, reply: Option<&str>) -> Result<Option<Subject>, OutOfMemory> {
-    match reply {
-        None => Ok(None),
-        Some(text) => Ok(Some(Subject::new(alloc, text)?)),
-    }
-}
-
-fn delivered(alloc: Global, reply: Option<&str>) -> Result<Message, OutOfMemory> {
-    let reply = reply_of(alloc, reply)?;
-    let message = message(alloc, None)?;
-    Ok(Message {
-        message: js_base::Message { reply, ..message },
-        timeout: 5_000_000_000,
-    })
+    same(&rt, "+7", read_u64("+7"), Some(7));
 }
 
 /// The sequence that a message tells, or what is printed of the refusal.
@@ -180,7 +147,7 @@ fn place(alloc: Global, reply: Option<&str>) -> Result<String, OutOfMemory> {
 }
 
 /// A reply subject, and the sequence that its message tells, or why it tells none.
-const PLACES: [(Option<&str>, &str); 3] = [
+const PLACES: &[(Option<&str>, &str)] = &[
     (Some(REPLY), "4"),
     (None, "no reply subject"),
     (
@@ -189,24 +156,31 @@ const PLACES: [(Option<&str>, &str); 3] = [
     ),
 ];
 
+/// Whether that acknowledges to the reply subject.
+fn acks_reply(alloc: Global, acker: &Acker) -> Result<bool, OutOfMemory> {
+    let reply = reply_of(alloc, Some(REPLY))?;
+    Ok(*acker == Acker::new(WAIT, reply))
+}
+
 /// Whether a message is split into one without its reply subject and what acknowledges to that.
 fn is_split(alloc: Global) -> Result<bool, OutOfMemory> {
     let (message, acker) = delivered(alloc, Some(REPLY))?.split();
-    let reply = reply_of(alloc, Some(REPLY))?;
-    Ok(message.reply.is_none() && acker == Acker::new(5_000_000_000, reply))
+    if message.reply.is_some() {
+        return Ok(false);
+    }
+    acks_reply(alloc, &acker)
 }
 
 #[test]
 fn a_message_tells_its_place(rt: HostRuntime) {
-    for (reply, wanted) in PLACES {
-        let found = place(rt.alloc(), reply).expect(&rt, wanted);
-        assert_eq!(rt; found.as_str(), wanted);
+    for &(reply, wanted) in PLACES {
+        says(&rt, wanted, place(rt.alloc(), reply), wanted);
     }
-    assert_eq!(rt; is_split(rt.alloc()), Ok(true));
+    same(&rt, "split", is_split(rt.alloc()), Ok(true));
 }
 
 /// What a consumer says, and the body that says so.
-const BODIES: [(AckKind, &str); 6] = [
+const BODIES: &[(AckKind, &str)] = &[
     (AckKind::Ack, "+ACK"),
     (AckKind::Nak(None), "-NAK"),
     (
@@ -246,57 +220,76 @@ fn set(
     }
 }
 
-/// Setters that are called one after another, each with the header that it sets.
-const SETTERS: [(Setter, (&str, &str)); 7] = [
-    (Setter::Id("id"), ("Nats-Msg-Id", "id")),
-    (
-        Setter::LastId("before"),
-        ("Nats-Expected-Last-Msg-Id", "before"),
-    ),
-    (
-        Setter::LastSequence(7),
-        ("Nats-Expected-Last-Sequence", "7"),
-    ),
-    (
-        Setter::LastSubjectSequence(8),
-        ("Nats-Expected-Last-Subject-Sequence", "8"),
-    ),
-    (Setter::Stream("events"), ("Nats-Expected-Stream", "events")),
-    (Setter::Ttl(1_500_000_000), ("Nats-TTL", "1")),
-    (Setter::Header("A", "1"), ("A", "1")),
+/// Setters that are called one after another.
+const SETTERS: &[Setter] = &[
+    Setter::Id("id"),
+    Setter::LastId("before"),
+    Setter::LastSequence(7),
+    Setter::LastSubjectSequence(8),
+    Setter::Stream("events"),
+    Setter::Ttl(1_500_000_000),
+    Setter::Header("A", "1"),
 ];
 
-/// A message whose name was set before, with all setters called.
-fn with_all(alloc: Global) -> Result<OutboundMessage, OutOfMemory> {
-    let mut message = PublishMessage::build()
+/// The headers that they set, one each.
+const SET: &[(&str, &str)] = &[
+    ("Nats-Msg-Id", "id"),
+    ("Nats-Expected-Last-Msg-Id", "before"),
+    ("Nats-Expected-Last-Sequence", "7"),
+    ("Nats-Expected-Last-Subject-Sequence", "8"),
+    ("Nats-Expected-Stream", "events"),
+    ("Nats-TTL", "1"),
+    ("A", "1"),
+];
+
+/// A message whose name is set.
+fn named(alloc: Global) -> Result<PublishMessage, OutOfMemory> {
+    PublishMessage::build()
         .headers(HeaderMap::new(alloc))
         .payload(Bytes::from_static(b"a"))
-        .message_id(alloc, "x")?;
-    for (setter, _) in SETTERS {
+        .message_id(alloc, "x")
+}
+
+/// The same with all setters called.
+fn with_all(alloc: Global) -> Result<PublishMessage, OutOfMemory> {
+    let mut message = named(alloc)?;
+    for &setter in SETTERS {
         message = set(alloc, message, setter)?;
     }
-    message.outbound_message(alloc, "events.a")
+    Ok(message)
+}
+
+fn outbound(alloc: Global) -> Result<OutboundMessage, OutOfMemory> {
+    with_all(alloc)?.outbound_message(alloc, "events.a")
 }
 
 fn has_all(message: &OutboundMessage) -> bool {
     match &message.headers {
-        Some(headers) => headers
-            .iter()
-            .eq(SETTERS.map(|(_, pair)| pair).iter().copied()),
+        Some(headers) => headers.iter().eq(SET.iter().copied()),
         None => false,
     }
 }
 
+/// The body of a kind.
+fn body(alloc: Global, kind: AckKind) -> Result<String, OutOfMemory> {
+    let body = kind.to_bytes(alloc)?;
+    Ok(String::from_utf8_lossy(alloc, body.as_slice())?)
+}
+
+/// Asserts what the message with all setters called is.
+fn says_all(rt: &impl Abort, message: &OutboundMessage) {
+    same(rt, "subject", message.subject.as_str(), "events.a");
+    same(rt, "payload", message.payload.as_slice(), b"a".as_slice());
+    same(rt, "headers", has_all(message), true);
+}
+
 #[test]
 fn bodies_and_headers_are_those_of_the_protocol(rt: HostRuntime) {
-    for (kind, wanted) in BODIES {
-        let body = kind.to_bytes(rt.alloc()).expect(&rt, wanted);
-        assert_eq!(rt; body.as_slice(), wanted.as_bytes());
+    for &(kind, wanted) in BODIES {
+        says(&rt, wanted, body(rt.alloc(), kind), wanted);
     }
-    let message = with_all(rt.alloc()).expect(&rt, "a message");
-    assert_eq!(rt; message.subject.as_str(), "events.a");
-    assert_eq!(rt; message.payload.as_slice(), b"a".as_slice());
-    assert!(rt; has_all(&message));
+    let message = outbound(rt.alloc()).expect(&rt, "a message");
+    says_all(&rt, &message);
 }
 
 /// Headers of a stored message. Of equal names the last counts.
@@ -304,7 +297,7 @@ type Headers = &'static [(&'static str, &'static str)];
 
 /// What a message with some headers is read as: its sequence, its time in nanoseconds and its subject, or what is printed of the
 /// refusal, which names the header.
-const STORED: [(Headers, &str); 6] = [
+const STORED: &[(Headers, &str)] = &[
     (
         &[
             ("Nats-Sequence", "x"),
@@ -364,7 +357,7 @@ fn read_word(alloc: Global, read: &StreamMessage) -> Result<String, OutOfMemory>
 }
 
 fn stored(alloc: Global, pairs: Headers) -> Result<String, OutOfMemory> {
-    let message = message(alloc, headers_of(alloc, pairs)?)?;
+    let message = received(alloc, "a", None, headers_of(alloc, pairs)?)?;
     match StreamMessage::try_from_message(alloc, message) {
         Ok(read) => read_word(alloc, &read),
         Err(error) => printed(alloc, error),
@@ -373,10 +366,9 @@ fn stored(alloc: Global, pairs: Headers) -> Result<String, OutOfMemory> {
 
 #[test]
 fn headers_tell_how_a_message_is_stored(rt: HostRuntime) {
-    for (pairs, wanted) in STORED {
-        let found = stored(rt.alloc(), pairs).expect(&rt, wanted);
-        assert_eq!(rt; found.as_str(), wanted);
+    for &(pairs, wanted) in STORED {
+        says(&rt, wanted, stored(rt.alloc(), pairs), wanted);
     }
-    let memory = printed(rt.alloc(), StreamMessageErrorKind::OutOfMemory).expect(&rt, "printed");
-    assert_eq!(rt; memory.as_str(), "out of memory");
+    let memory = printed(rt.alloc(), StreamMessageErrorKind::OutOfMemory);
+    says(&rt, "memory", memory, "out of memory");
 }

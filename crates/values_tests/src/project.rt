@@ -1,15 +1,17 @@
 //! The table of a log: its rows, now and at earlier sequences.
 
+use crate::tables::{same, says};
 use bytes::Bytes;
 use js_base::{Entry, OutOfMemory, Subject};
 use js_project::{ApplyError, Projection};
 use std::alloc::Global;
+use std::process::Abort;
 
 /// What is applied: a subject, a sequence and a payload.
 type Step = (&'static str, u64, &'static str);
 
 /// What is applied one after another, each with its answer and the sequence applied last afterwards.
-const STEPS: [(Step, Result<(), ApplyError>, u64); 5] = [
+const STEPS: &[(Step, Result<(), ApplyError>, u64)] = &[
     (("a.x", 1, "1"), Ok(()), 1),
     (("a.y", 2, "2"), Ok(()), 2),
     (("a.x", 3, "3"), Ok(()), 3),
@@ -18,7 +20,7 @@ const STEPS: [(Step, Result<(), ApplyError>, u64); 5] = [
 ];
 
 /// A sequence, or none for the present, a filter, and the rows of the table.
-const ROWS: [(Option<u64>, &str, &str); 8] = [
+const ROWS: &[(Option<u64>, &str, &str)] = &[
     (None, ">", "a.x 3 3;"),
     (None, "a.y", ""),
     (Some(0), ">", ""),
@@ -30,14 +32,14 @@ const ROWS: [(Option<u64>, &str, &str); 8] = [
 ];
 
 /// A sequence, and what was applied above it.
-const CHANGES: [(u64, &str); 3] = [
+const CHANGES: &[(u64, &str)] = &[
     (0, "a.x 1 1;a.y 2 2;a.x 3 3;a.y 4 ;"),
     (2, "a.x 3 3;a.y 4 ;"),
     (4, ""),
 ];
 
 /// A subject, and the sequence of its last entry.
-const LAST: [(&str, Option<u64>); 3] = [("a.x", Some(3)), ("a.y", None), ("a", None)];
+const LAST: &[(&str, Option<u64>)] = &[("a.x", Some(3)), ("a.y", None), ("a", None)];
 
 fn entry(alloc: Global, step: Step) -> Result<Entry, OutOfMemory> {
     Ok(Entry {
@@ -84,23 +86,34 @@ fn sequence_of(projection: &Projection, subject: &str) -> Option<u64> {
     Some(entry.sequence)
 }
 
+/// The table after the steps, each of which is asserted.
+fn stepped(rt: &impl Abort, alloc: Global) -> Projection {
+    let mut projection = Projection::new(alloc);
+    same(rt, "new", projection.last(), 0);
+    for &(step, wanted, last) in STEPS {
+        same(rt, step.0, apply(alloc, &mut projection, step), wanted);
+        same(rt, step.0, projection.last(), last);
+    }
+    projection
+}
+
+/// Asserts the rows and what was applied.
+fn says_rows(rt: &impl Abort, alloc: Global, projection: &Projection) {
+    for &(sequence, filter, wanted) in ROWS {
+        let found = rows(alloc, projection, sequence, filter);
+        says(rt, filter, found, wanted);
+    }
+    for &(sequence, wanted) in CHANGES {
+        let found = told(alloc, projection.changes_after(sequence));
+        says(rt, wanted, found, wanted);
+    }
+}
+
 #[test]
 fn a_table_is_kept_at_each_sequence(rt: HostRuntime) {
-    let mut projection = Projection::new(rt.alloc());
-    assert_eq!(rt; projection.last(), 0);
-    for (step, wanted, last) in STEPS {
-        assert_eq!(rt; apply(rt.alloc(), &mut projection, step), wanted, "{last}");
-        assert_eq!(rt; projection.last(), last);
-    }
-    for (sequence, filter, wanted) in ROWS {
-        let found = rows(rt.alloc(), &projection, sequence, filter).expect(&rt, wanted);
-        assert_eq!(rt; found.as_str(), wanted, "{filter} at {sequence:?}");
-    }
-    for (sequence, wanted) in CHANGES {
-        let found = told(rt.alloc(), projection.changes_after(sequence)).expect(&rt, wanted);
-        assert_eq!(rt; found.as_str(), wanted, "after {sequence}");
-    }
-    for (subject, wanted) in LAST {
-        assert_eq!(rt; sequence_of(&projection, subject), wanted, "{subject}");
+    let projection = stepped(&rt, rt.alloc());
+    says_rows(&rt, rt.alloc(), &projection);
+    for &(subject, wanted) in LAST {
+        same(&rt, subject, sequence_of(&projection, subject), wanted);
     }
 }

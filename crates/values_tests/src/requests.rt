@@ -1,5 +1,6 @@
 //! Bodies that the client writes, and consumers' configurations of each kind.
 
+use crate::tables::{same, says};
 use js_base::{Text, TryClone};
 use js_fields::{FromValue, ReadError, ToValue, value_of};
 use js_json::consumer::{
@@ -12,6 +13,8 @@ use js_stream_json::stream::{
     self, DiscardPolicy, ListRequest, NamesRequest, RetentionPolicy, StorageType,
 };
 use std::alloc::Global;
+use std::fmt::Debug;
+use std::process::Abort;
 
 type Words = Result<String, ReadError>;
 
@@ -77,37 +80,45 @@ fn pinned(alloc: Global, id: &str) -> Words {
 }
 
 fn ordered_pull(alloc: Global, start_sequence: u64) -> Result<pull::OrderedConfig, ReadError> {
-    let mut config = pull::OrderedConfig::new(alloc);
-    config.name = Some(Text::from_str(alloc, "c1_1")?);
-    config.deliver_policy = DeliverPolicy::ByStartSequence { start_sequence };
-    Ok(config)
+    let name = Text::from_str(alloc, "c1_1")?;
+    Ok(pull::OrderedConfig {
+        name: Some(name),
+        deliver_policy: DeliverPolicy::ByStartSequence { start_sequence },
+        ..pull::OrderedConfig::new(alloc)
+    })
 }
 
 fn ordered_push(alloc: Global, start_sequence: u64) -> Result<push::OrderedConfig, ReadError> {
-    let mut config = push::OrderedConfig::new(alloc);
-    config.deliver_subject = Text::from_str(alloc, "_INBOX.t.1")?;
-    config.name = Some(Text::from_str(alloc, "c1_1")?);
-    config.deliver_policy = DeliverPolicy::ByStartSequence { start_sequence };
-    Ok(config)
+    let deliver_subject = Text::from_str(alloc, "_INBOX.t.1")?;
+    let name = Text::from_str(alloc, "c1_1")?;
+    Ok(push::OrderedConfig {
+        deliver_subject,
+        name: Some(name),
+        deliver_policy: DeliverPolicy::ByStartSequence { start_sequence },
+        ..push::OrderedConfig::new(alloc)
+    })
 }
 
-fn create(alloc: Global, action: Action, config: Config) -> Words {
-    let request = CreateRequest {
+/// A request to make or change a consumer. Its texts are made before, since a configuration that is alive where memory may be
+/// wanting costs minutes to prove.
+fn request(action: Action, config: Config, stream_name: Text) -> CreateRequest {
+    CreateRequest {
         action,
         config,
-        stream_name: Text::from_str(alloc, "events")?,
-    };
-    request.to_text(alloc)
+        stream_name,
+    }
 }
 
 fn create_pull(alloc: Global, start_sequence: u64) -> Words {
+    let stream_name = Text::from_str(alloc, "events")?;
     let config = ordered_pull(alloc, start_sequence)?.into_consumer_config(alloc);
-    create(alloc, Action::CreateOrUpdate, config)
+    request(Action::CreateOrUpdate, config, stream_name).to_text(alloc)
 }
 
 fn update_push(alloc: Global, start_sequence: u64) -> Words {
+    let stream_name = Text::from_str(alloc, "events")?;
     let config = ordered_push(alloc, start_sequence)?.into_consumer_config(alloc);
-    create(alloc, Action::Update, config)
+    request(Action::Update, config, stream_name).to_text(alloc)
 }
 
 fn written(alloc: Global, body: Body) -> Words {
@@ -123,7 +134,7 @@ fn written(alloc: Global, body: Body) -> Words {
     }
 }
 
-const BODIES: [(Body, &str); 9] = [
+const BODIES: &[(Body, &str)] = &[
     (
         Body::Stream("events"),
         r#"{"discard":"old","name":"events","retention":"limits","storage":"file"}"#,
@@ -158,9 +169,8 @@ const BODIES: [(Body, &str); 9] = [
 
 #[test]
 fn requests_are_written(rt: HostRuntime) {
-    for (body, wanted) in BODIES {
-        let found = written(rt.alloc(), body).expect(&rt, wanted);
-        assert_eq!(rt; found.as_str(), wanted);
+    for &(body, wanted) in BODIES {
+        says(&rt, wanted, written(rt.alloc(), body), wanted);
     }
 }
 
@@ -229,7 +239,7 @@ const WITH_SUBJECT: &str = r#"{"deliver_policy":"all","deliver_subject":"d"}"#;
 const WITHOUT_SUBJECT: &str = r#"{"deliver_policy":"all"}"#;
 
 /// Kinds, general configurations, and why each is not of that kind.
-const REFUSALS: [(Kind, &str, &str); 6] = [
+const REFUSALS: &[(Kind, &str, &str)] = &[
     (
         Kind::Pull,
         WITH_SUBJECT,
@@ -253,14 +263,28 @@ const REFUSALS: [(Kind, &str, &str); 6] = [
 #[test]
 fn kinds_of_consumers_are_told_apart(rt: HostRuntime) {
     let alloc = rt.alloc();
-    assert_eq!(rt; ordered_pull_comes_back(alloc), Ok(true));
-    assert_eq!(rt; ordered_push_comes_back(alloc), Ok(true));
-    assert_eq!(rt; pull_comes_back(alloc), Ok(true));
-    assert_eq!(rt; push_comes_back(alloc), Ok(true));
-    for (kind, text, wanted) in REFUSALS {
-        let found = refused(alloc, kind, text).expect(&rt, wanted);
-        assert_eq!(rt; found.as_str(), wanted);
+    same(
+        &rt,
+        "ordered pull",
+        ordered_pull_comes_back(alloc),
+        Ok(true),
+    );
+    same(
+        &rt,
+        "ordered push",
+        ordered_push_comes_back(alloc),
+        Ok(true),
+    );
+    same(&rt, "pull", pull_comes_back(alloc), Ok(true));
+    same(&rt, "push", push_comes_back(alloc), Ok(true));
+    for &(kind, text, wanted) in REFUSALS {
+        says(&rt, text, refused(alloc, kind, text), wanted);
     }
+}
+
+/// Asserts that a policy is the default of its kind.
+fn is_default<P: Debug + Default + PartialEq + Drop>(rt: &impl Abort, policy: P) {
+    same(rt, "default", P::default(), policy);
 }
 
 #[test]
@@ -272,15 +296,15 @@ fn policies_have_their_numbers_and_defaults(rt: HostRuntime) {
         AckPolicy::FlowControl,
     ];
     for (number, policy) in acks.iter().enumerate() {
-        assert_eq!(rt; *policy as usize, number);
+        same(&rt, "acks", *policy as usize, number);
     }
     let replays = (ReplayPolicy::Instant as u8, ReplayPolicy::Original as u8);
-    assert_eq!(rt; replays, (0, 1));
-    assert_eq!(rt; AckPolicy::default(), AckPolicy::Explicit);
-    assert_eq!(rt; ReplayPolicy::default(), ReplayPolicy::Instant);
-    assert_eq!(rt; PriorityPolicy::default(), PriorityPolicy::None);
-    assert_eq!(rt; DeliverPolicy::default(), DeliverPolicy::All);
-    assert_eq!(rt; RetentionPolicy::default(), RetentionPolicy::Limits);
-    assert_eq!(rt; StorageType::default(), StorageType::File);
-    assert_eq!(rt; DiscardPolicy::default(), DiscardPolicy::Old);
+    same(&rt, "replays", replays, (0, 1));
+    is_default(&rt, AckPolicy::Explicit);
+    is_default(&rt, ReplayPolicy::Instant);
+    is_default(&rt, PriorityPolicy::None);
+    is_default(&rt, DeliverPolicy::All);
+    is_default(&rt, RetentionPolicy::Limits);
+    is_default(&rt, StorageType::File);
+    is_default(&rt, DiscardPolicy::Old);
 }

@@ -1,7 +1,7 @@
 //! Texts of stream configurations.
 
 /// Texts that are no configuration, and why.
-pub(crate) const FAULTS: [(&str, &str); 16] = [
+pub(crate) const FAULTS: &[(&str, &str)] = &[
     ("{}", "name: missing"),
     ("[]", "name: missing"),
     (r#"{"name":null}"#, "name: of the wrong kind"),
@@ -51,7 +51,7 @@ pub(crate) const FAULTS: [(&str, &str); 16] = [
 ];
 
 /// Texts of configurations, and what is written for each.
-pub(crate) const CONFIGS: [(&str, &str); 5] = [
+pub(crate) const CONFIGS: &[(&str, &str)] = &[
     (
         r#"{"name":"events"}"#,
         r#"{"discard":"old","name":"events","retention":"limits","storage":"file"}"#,

@@ -1,0 +1,47 @@
+//! Messages that the tests receive.
+
+use bytes::Bytes;
+use js_base::{HeaderMap, OutOfMemory, Subject};
+use js_message::Message;
+use std::alloc::Global;
+
+/// The reply subject of a message of a stream.
+pub(crate) const REPLY: &str = "$JS.ACK.events.c1.1.4.3.1790230470084404000.0";
+
+/// How long a double ack waits, in nanoseconds.
+pub(crate) const WAIT: u64 = 5_000_000_000;
+
+/// A reply subject of this text, where there is one.
+pub(crate) fn reply_of(alloc: Global, reply: Option<&str>) -> Result<Option<Subject>, OutOfMemory> {
+    match reply {
+        None => Ok(None),
+        Some(text) => Ok(Some(Subject::new(alloc, text)?)),
+    }
+}
+
+/// A message on `events.a`.
+pub(crate) fn received(
+    alloc: Global,
+    payload: &str,
+    reply: Option<Subject>,
+    headers: Option<HeaderMap>,
+) -> Result<js_base::Message, OutOfMemory> {
+    Ok(js_base::Message {
+        subject: Subject::new(alloc, "events.a")?,
+        reply,
+        payload: Bytes::copy_from_slice(alloc, payload.as_bytes())?,
+        headers,
+        status: None,
+        description: None,
+        length: 0,
+    })
+}
+
+/// The same as a message of a stream.
+pub(crate) fn delivered(alloc: Global, reply: Option<&str>) -> Result<Message, OutOfMemory> {
+    let reply = reply_of(alloc, reply)?;
+    Ok(Message {
+        message: received(alloc, "a", reply, None)?,
+        timeout: WAIT,
+    })
+}
