@@ -3,3 +3,4 @@ pub mod Ring
 pub mod Crossing
 pub mod Waiting
 pub mod Sleeping
+pub mod Permits

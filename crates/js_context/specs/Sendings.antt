@@ -19,7 +19,7 @@ use Rattle.js_context.specs.declared.sending.Attempt.TheVariants.{Barred, NoRoom
 use Rattle.js_context.specs.declared.sending.Sending.{Sending}
 use Rattle.js_context.specs.Acks.{IsAwaitedBy}
 use Rattle.js_context.specs.Messages.{size}
-use Rattle.js_context.specs.Contexts.{ContextView}
+use Rattle.js_context.specs.Contexts.{ContextView, Takes}
 
 -- what a poll of a message gives that is to be sent
 abbrev pub SendTurn : Type 0
@@ -75,6 +75,22 @@ pub record SendPolled (s : Sending) (turn : SendTurn) (c d : ContextView) (old n
   pub met : Attempt
   pub tries : Attempts s.message met c d old new
   pub answers : turn ≡ answer_to s c.settings.backpressure met
+
+-- the message can be sent but for a permit: this caller holds all permits of its window, so that none is free
+pub record LacksPermit (m : OutboundMessage) (c : ContextView) (v : LinkView) : Type 0 where
+  pub sendable : IsSendable m v
+  pub holds_all : c.pass.window.capacity ≤ held c.pass
+
+-- No permit was free: the message waits where backpressure is on, and is refused where it is off. Or memory ran out before that.
+abbrev pub GetsNone : Sending → SendTurn → ContextView → ContextView → Type 0
+GetsNone s (Pending next) c d = (next ≡ s) × (c.settings.backpressure ≡ true) × Takes None c d
+GetsNone s (Ready (Err error)) c d = (error ≡ plain kind.MaxAckPending) × (c.settings.backpressure ≡ false) × Takes None c d
+GetsNone s (OutOfMemory next) c d = (next ≡ s) × (d ≡ c)
+GetsNone s (Ready (Ok future)) c d = ⊥
+
+-- a poll of a message that lacks a permit sends nothing
+abbrev pub GetsNoneIfFull : Sending → SendTurn → ContextView → ContextView → LinkView → LinkView → Type 0
+GetsNoneIfFull s turn c d old new = LacksPermit s.message c old → GetsNone s turn c d × (new ≡ old)
 
 -- no permit more is held, and none less
 pub record HoldsAsMany (c d : ContextView) : Type 0 where

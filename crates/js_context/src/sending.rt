@@ -3,7 +3,7 @@ ghost use Rattle.std.specs.Prelude.{◌≡◌, ◌<◌, IsTrue, ◌↔◌};
 ghost use Rattle.js_link.specs.LinkView.{LinkView};
 ghost use Rattle.js_context.specs.Messages.{sending, size};
 ghost use Rattle.js_context.specs.Contexts.{ContextView};
-ghost use Rattle.js_context.specs.Sendings.{Attempts, HoldsAfter, HoldsAfterTry, SendPolled, answer_to};
+ghost use Rattle.js_context.specs.Sendings.{Attempts, GetsNoneIfFull, HoldsAfter, HoldsAfterTry, SendPolled, answer_to};
 
 use crate::ack_future::PublishAckFuture;
 use crate::context::Context;
@@ -104,6 +104,9 @@ impl Sending {
     /// It is pending only where no permit was free at this poll and backpressure is on; where it is off, that is
     /// `MaxAckPending`. `Other` comes where the subject is none, or where the link failed to send; `MaxPayloadExceeded` where
     /// payload and headers are longer than the link sends. After want of memory the next poll begins anew.
+    ///
+    /// While the context holds all permits of its window, none can be free: a poll of a message that can be sent then sends nothing, and changes nothing but
+    /// that its pass has asked once more. A permit that another caller holds may be free again at any time, so that only a poll can tell.
     pub fn poll<R: Wait, L: Link>(
         self,
         rt: &R,
@@ -114,6 +117,7 @@ impl Sending {
     ) -> Turn<Sending, Result<PublishAckFuture, PublishError>>
         ensures polled { SendPolled self result context.old context.new (L.view link.old) (L.view link.new) }
         ensures holds { HoldsAfter result context.old context.new }
+        ensures full { GetsNoneIfFull self result context.old context.new (L.view link.old) (L.view link.new) }
     {
         let backpressure = context.settings().backpressure;
         let met = try_to_send(&self.message, rt, alloc, context, link);

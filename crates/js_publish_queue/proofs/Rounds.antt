@@ -163,7 +163,7 @@ clocks_at (Over published) q r not on = tt
 
 -- ---- acks of which none is answered or due
 
-either_false : (a b : Bool) → (a || b) ≡ false → (a ≡ false) × (b ≡ false)
+pub either_false : (a b : Bool) → (a || b) ≡ false → (a ≡ false) × (b ≡ false)
 either_false true b e = absurd (never e)
   where
     never : true ≡ false → ⊥

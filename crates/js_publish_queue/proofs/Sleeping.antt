@@ -1,10 +1,11 @@
 -- A queue that is left alone is what it was.
-use Rattle.std.proofs.Common.{◌≡◌, ℕ, Bool, true, false, Option, Some, None, refl, sym, ◌∙◌, subst}
-use Rattle.std.specs.Prelude.{All, ◌||◌}
+use Rattle.std.proofs.Common.{◌≡◌, ℕ, false, Option, Some, None, List, [], ◌∷◌, length, inl, inr, refl, sym, ap, ◌∙◌, subst, arith}
+use Rattle.std.specs.Prelude.{All}
 use Rattle.js_base.specs.declared.message.Message.{Message}
 use Rattle.js_base.specs.declared.turn.Next.{Next}
 use Rattle.js_base.specs.declared.turn.Turn.TheVariants.{Pending, Ready}
 use Rattle.js_link.specs.LinkView.{LinkView}
+use Rattle.js_call.specs.declared.open_request.OpenRequest.{OpenRequest}
 use Rattle.js_call.specs.declared.open_request.Shown.{Shown}
 use Rattle.js_call.specs.declared.open_request.Shown.TheVariants.{Came, Gone, Due, Still}
 use Rattle.js_call.specs.Wakes.{IsLeftAlone, IsSent}
@@ -14,11 +15,14 @@ use Rattle.js_context.specs.Acks.{Acked, AckPolled, AckTurn, AckTurns, clock_at}
 use Rattle.js_context.specs.Contexts.{ContextView}
 use Rattle.js_context.specs.Wakes.{ack_waits_for, unless_kept}
 use Rattle.js_publish_queue.specs.declared.published.Published.{Published}
+use Rattle.js_publish_queue.specs.declared.queue.Step.{Step}
 use Rattle.js_publish_queue.specs.declared.queue.Step.TheVariants as steps
+use Rattle.js_publish_queue.specs.declared.unsent.Unsent.{Unsent}
 use Rattle.js_publish_queue.specs.Queue.{QueueView}
-use Rattle.js_publish_queue.specs.Rests.{IsQueueLeftAlone, LooksOnAtNothing, QueueSleeps, SendsNothing}
+use Rattle.js_publish_queue.specs.Rests.{CanSendNone, IsAsItWas, IsQueueLeftAlone, LooksOnAtNothing, QueueSleeps, SendsNothing}
+use Rattle.js_publish_queue.specs.Steps.{Sends}
 use Rattle.js_publish_queue.specs.Wakes.{is_first_over, is_one_due}
-use Rattle.js_publish_queue.proofs.Rounds.{alone_all}
+use Rattle.js_publish_queue.proofs.Rounds.{alone_all, either_false}
 
 -- ---- one ack
 
@@ -45,21 +49,43 @@ pub pending_is_sent : (f next : PublishAckFuture) (now : ℕ) (c d : ContextView
 pending_is_sent f next now c d old new (Some message) is (same, reads) = absurd reads
 pending_is_sent f next now c d old new None is (shown, shows, turns) = by_shown f next (clock_at f now c) shown c d is turns
 
+-- ---- a step that sends nothing
+
+-- nothing was done
+pub untouched : (unsent : List Unsent) (p q : QueueView) → q ≡ p → IsAsItWas unsent p q
+untouched [] p q same = same
+untouched (first ∷ more) p q same = inl same
+
+-- what such a step leaves
+pub left_as_it_was : (unsent : List Unsent) (p q : QueueView) → IsAsItWas unsent p q → (q.unsent ≡ p.unsent) × (q.waits ≡ p.waits)
+left_as_it_was [] p q same = (ap (λ (z : QueueView). z.unsent) same, ap (λ (z : QueueView). z.waits) same)
+left_as_it_was (first ∷ more) p q (inl same) = (ap (λ (z : QueueView). z.unsent) same, ap (λ (z : QueueView). z.waits) same)
+left_as_it_was (first ∷ more) p q (inr asked) = (ap (λ (z : QueueView). z.unsent) asked.same, ap (λ (z : QueueView). z.waits) asked.same)
+
+-- the same, of a step after which nothing had changed before
+pub steps_on : (now : ℕ) (step : Step) (old mid new : QueueView) (before between after : LinkView) → mid ≡ old → between ≡ before → SendsNothing now step mid new between after
+    → SendsNothing now step old new before after
+steps_on now step old mid new before between after same link sends = subst (λ (z : QueueView × LinkView). SendsNothing now step z.0 new z.1 after) (λ i. (same i, link i)) sends
+
+-- so that it is no step that sends the first message
+pub goes_not_on : (now : ℕ) (old mid new : QueueView) (before between after : LinkView) → mid ≡ old → between ≡ before → Sends steps.Made mid new → SendsNothing now steps.Made mid new between after
+    → CanSendNone old.unsent old.context before → is_first_over old.patience old.unsent now ≡ false → ⊥
+goes_not_on now old mid new before between after same link sent sends none early =
+    let (first, was, goes) = subst (λ (q : QueueView). Sends steps.Made q new) same sent in
+    let (quiet, still, stays) = steps_on now steps.Made old mid new before between after same link sends none early in
+    omega (arith, ap length was, ap length (left_as_it_was old.unsent old new stays).0)
+
 -- ---- a poll
 
-late_only : (a b : Bool) → (a || b) ≡ false → b ≡ false
-late_only true b e = absurd (never e)
-  where
-    never : true ≡ false → ⊥
-    never e = cc
-late_only false b e = e
+pub first_early : (now : ℕ) (q : QueueView) (v : LinkView) → IsQueueLeftAlone now q v → is_first_over q.patience q.unsent now ≡ false
+first_early now q v alone = (either_false (is_first_over q.patience q.unsent now) (is_one_due q.waits now) alone.early).0
 
-pub sleeps_on : (now : ℕ) (result : Next Published) (old mid new : QueueView) (before between after : LinkView) → IsQueueLeftAlone now old before → SendsNothing steps.Made old mid before between
+pub sleeps_on : (now : ℕ) (step : Step) (result : Next Published) (old mid new : QueueView) (before between after : LinkView) → IsQueueLeftAlone now old before → SendsNothing now step old mid before between
     → LooksOnAtNothing now result mid new between after → QueueSleeps old new before after result
-sleeps_on now result old mid new before between after alone sends looks =
-    let (made, link, stays) = sends alone.sent in
-    let acks = alone_all now before old.waits (late_only (is_first_over old.patience old.unsent now) (is_one_due old.waits now) alone.early) alone.unanswered in
+sleeps_on now step result old mid new before between after alone sends looks =
+    let (first, acks) = either_false (is_first_over old.patience old.unsent now) (is_one_due old.waits now) alone.early in
+    let (none, link, stays) = sends alone.sends_none first in
     let here = subst (λ (v : LinkView). All (λ sent. IsLeftAlone sent now v) mid.waits) (sym link)
-    (subst (λ (q : QueueView). All (λ sent. IsLeftAlone sent now before) q.waits) (sym stays) acks) in
+    (subst (λ (w : List (Option OpenRequest)). All (λ sent. IsLeftAlone sent now before) w) (sym (left_as_it_was old.unsent old mid stays).1) (alone_all now before old.waits acks alone.unanswered)) in
     let (quiet, still, same) = looks here in
-    record { quiet = quiet; link = still ∙ link; same = same ∙ stays }
+    record { quiet = quiet; link = still ∙ link; same = subst (λ (q : QueueView). IsAsItWas old.unsent old q) (sym same) stays }

@@ -1,12 +1,10 @@
 -- A message that is published and whose ack is awaited, in one call.
-use Rattle.std.specs.Prelude.{ℕ, ◌≡◌, ◌+◌, ⊤, Option, None, Result, Ok, Err}
-use Rattle.js_base.specs.declared.error.Error.{Error}
+use Rattle.std.specs.Prelude.{ℕ, ◌≡◌, ◌+◌, ⊤, Option, None, Ok, Err}
 use Rattle.js_base.specs.declared.turn.Turn.{Turn}
 use Rattle.js_base.specs.declared.turn.Turn.TheVariants.{Pending, Ready, OutOfMemory}
 use Rattle.js_link.specs.LinkView.{LinkView}
 use Rattle.js_call.specs.declared.open_request.OpenRequest.{OpenRequest}
 use Rattle.js_context.specs.declared.ack_future.PublishAckFuture.{PublishAckFuture}
-use Rattle.js_context.specs.declared.publish_error.PublishErrorKind.{PublishErrorKind}
 use Rattle.js_context.specs.declared.sending.Sending.{Sending}
 use Rattle.js_window.specs.Caller.{held}
 use Rattle.js_context.specs.Acks.{Acked, AckPolled, AckTurn, IsAwaitedBy}

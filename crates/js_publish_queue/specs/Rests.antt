@@ -1,24 +1,33 @@
 -- That a queue may be left alone until it wakes.
-use Rattle.std.specs.Prelude.{ℕ, ◌≡◌, ◌++◌, ⊤, false, Option, Some, None, List, [], ◌∷◌, All}
+use Rattle.std.specs.Prelude.{ℕ, ◌≡◌, ◌++◌, ◌⊎◌, ⊤, false, Option, Some, None, List, [], ◌∷◌, All}
 use Rattle.js_base.specs.declared.turn.Next.{Next}
 use Rattle.js_base.specs.declared.turn.Next.TheVariants as next
 use Rattle.js_link.specs.LinkView.{LinkView, Waits}
 use Rattle.js_call.specs.declared.open_request.OpenRequest.{OpenRequest}
 use Rattle.js_call.specs.Wakes.{IsLeftAlone, IsSent}
+use Rattle.js_context.specs.Contexts.{ContextView, Takes}
+use Rattle.js_context.specs.Sendings.{LacksPermit}
 use Rattle.js_publish_queue.specs.declared.published.Published.{Published}
+use Rattle.js_publish_queue.specs.declared.unsent.Unsent.{Unsent}
 use Rattle.js_publish_queue.specs.declared.queue.Step.{Step}
 use Rattle.js_publish_queue.specs.declared.queue.Step.TheVariants as steps
 use Rattle.js_publish_queue.specs.Queue.{QueueView, open_tags}
-use Rattle.js_publish_queue.specs.Wakes.{queue_due}
+use Rattle.js_publish_queue.specs.Steps.{outcome_of}
+use Rattle.js_publish_queue.specs.Wakes.{is_first_over, queue_due}
 
 -- no answer has come to a request
 abbrev pub IsUnanswered : LinkView → Option OpenRequest → Type 0
 IsUnanswered v None = ⊥
 IsUnanswered v (Some sent) = v.status sent.request.0 ≡ Waits
 
--- no message is left to be sent, each ack in flight has its clock, no answer to it has come, and it is not the time to wake
+-- the first of these messages, for which those behind it wait, lacks a permit, if there is one
+abbrev pub CanSendNone : List Unsent → ContextView → LinkView → Type 0
+CanSendNone [] c v = ⊤
+CanSendNone (first ∷ more) c v = LacksPermit first.message c v
+
+-- no message can be sent, each ack in flight has its clock, no answer to it has come, and it is not the time to wake
 pub record IsQueueLeftAlone (now : ℕ) (q : QueueView) (v : LinkView) : Type 0 where
-  pub sent : q.unsent ≡ []
+  pub sends_none : CanSendNone q.unsent q.context v
   pub unanswered : All (IsUnanswered v) q.waits
   pub early : queue_due q now ≡ false
 
@@ -29,11 +38,21 @@ IsQuiet next.OutOfMemory q = ⊤
 IsQuiet next.End q = open_tags q ≡ []
 IsQuiet (next.Item published) q = ⊥
 
+-- it asked for a permit, and none was free
+pub record AskedInVain (old new : QueueView) : Type 0 where
+  pub takes : Takes None old.context new.context
+  pub same : new ≡ record old { context = new.context }
+
+-- the queue is what it was, though where a message was to be sent it may have asked for a permit in vain
+abbrev pub IsAsItWas : List Unsent → QueueView → QueueView → Type 0
+IsAsItWas [] old new = new ≡ old
+IsAsItWas (first ∷ more) old new = (new ≡ old) ⊎ AskedInVain old new
+
 -- nothing was sent, nothing is handed out, and the queue is what it was
 pub record QueueSleeps (old new : QueueView) (before after : LinkView) (result : Next Published) : Type 0 where
   pub quiet : IsQuiet result new
   pub link : after ≡ before
-  pub same : new ≡ old
+  pub same : IsAsItWas old.unsent old new
 
 abbrev pub SleepsIfLeftAlone : ℕ → QueueView → QueueView → LinkView → LinkView → Next Published → Type 0
 SleepsIfLeftAlone now old new before after result = IsQueueLeftAlone now old before → QueueSleeps old new before after result
@@ -47,9 +66,11 @@ QueuePends (next.Item published) q = ⊤
 
 -- ---- the steps
 
--- without a message that is to be sent nothing is done
-abbrev pub SendsNothing : Step → QueueView → QueueView → LinkView → LinkView → Type 0
-SendsNothing step old new before after = old.unsent ≡ [] → (step ≡ steps.Made) × (after ≡ before) × (new ≡ old)
+-- where no message can be sent and the first is not over, nothing is sent and no outcome is known
+abbrev pub SendsNothing : ℕ → Step → QueueView → QueueView → LinkView → LinkView → Type 0
+SendsNothing now step old new before after =
+    CanSendNone old.unsent old.context before → is_first_over old.patience old.unsent now ≡ false
+    → (outcome_of step ≡ []) × (after ≡ before) × IsAsItWas old.unsent old new
 
 -- the first ack goes behind the others with its clock, unless it is known
 abbrev pub GoesOn : Step → QueueView → QueueView → Type 0

@@ -1,10 +1,11 @@
 -- One try to send a message.
-use Rattle.std.specs.Prelude.{◌≡◌, ◌+◌}
+use Rattle.std.specs.Prelude.{◌≡◌, ◌+◌, None}
 use Rattle.js_link.specs.LinkView.{LinkView}
 use Rattle.js_link.specs.Calls.{Asks}
 use Rattle.js_message.specs.declared.publish.OutboundMessage.{OutboundMessage}
-use Rattle.js_context.specs.Contexts.{ContextView}
+use Rattle.js_context.specs.Contexts.{ContextView, Takes}
 use Rattle.js_context.specs.Acks.{IsAwaitedBy}
+use Rattle.js_context.specs.Sendings.{LacksPermit}
 use Rattle.js_context.specs.declared.ack_future.PublishAckFuture.{PublishAckFuture}
 use Rattle.js_publish_queue.specs.declared.tries.Tried.{Tried}
 use Rattle.js_publish_queue.specs.declared.tries.Tried.TheVariants.{Went, Stays, Fails, NoMemory}
@@ -40,6 +41,17 @@ Tries m (Went future) c d old new = SendsIt m future c d old new
 Tries m (Stays kind) c d old new = SendsNone c d old new
 Tries m (Fails error) c d old new = SendsNone c d old new
 Tries m NoMemory c d old new = SendsNone c d old new
+
+-- no permit was free and a later try may send it, or memory ran out before that
+abbrev pub GetsNone : Tried → ContextView → ContextView → Type 0
+GetsNone (Stays kind) c d = Takes None c d
+GetsNone NoMemory c d = d ≡ c
+GetsNone (Went future) c d = ⊥
+GetsNone (Fails error) c d = ⊥
+
+-- a try of a message that lacks a permit sends nothing
+abbrev pub GetsNoneIfFull : OutboundMessage → Tried → ContextView → ContextView → LinkView → LinkView → Type 0
+GetsNoneIfFull m tried c d old new = LacksPermit m c old → GetsNone tried c d × (new ≡ old)
 
 -- a message that was not sent
 abbrev pub IsRefusal : Tried → Type 0

@@ -135,9 +135,11 @@ impl PublishQueue {
     ///
     /// `Pending` comes where no outcome is known and messages are left, `End` where none is left.
     ///
-    /// After `Pending`, where each message was sent, it may be left alone until an answer to one has come, the request of one is gone, or `wakes_at` has
-    /// come: a poll before that sends nothing, hands out nothing, and leaves the queue what it was. A message that was not sent waits for a permit, which an
-    /// outcome of this queue gives back, or another caller of its window, or for a link that is up again: each poll tries to send it.
+    /// After `Pending`, where each message was sent, or those in flight hold all permits of the window, it may be left alone until an answer to one has come,
+    /// the request of one is gone, or `wakes_at` has come: a poll before that sends nothing, hands out nothing, and leaves the queue what it was, though its
+    /// pass may have asked for a permit once more. `in_flight` tells whether they hold them all.
+    ///
+    /// Else a message that was not sent waits for a permit that another caller of the window holds, or for a link that is up again: each poll tries to send it.
     pub fn poll_next<R: Wait, L: Link>(
         &mut self,
         rt: &R,
@@ -194,7 +196,7 @@ impl PublishQueue {
 
     /// The first moment at which the clock of an ack is due, or the time of the first message is over that was not sent: those behind it wait for it. None
     /// where there is none such. It is of use after `Pending`, when each ack in flight has its clock; after a push, an outcome or want of memory the queue is
-    /// to be polled at once.
+    /// to be polled at once. It tells nothing of permits that another caller gives back: see `poll_next`.
     pub fn wakes_at(&self) -> Option<Moment>
         ensures { (now : ℕ) → now < 2 ^ 64 → has_come result now ≡ queue_due self.now now }
     {
@@ -239,7 +241,7 @@ impl PublishQueue {
     fn send<R: Wait, L: Link>(&mut self, rt: &R, alloc: Global, link: &mut L, now: Moment) -> Step
         ensures each { EachHasOne (outcome_of result) self.old self.new }
         ensures keeps { Keeps self.old self.new }
-        ensures sleeps { SendsNothing result self.old self.new (L.view link.old) (L.view link.new) }
+        ensures sleeps { SendsNothing now result self.old self.new (L.view link.old) (L.view link.new) }
     {
         let count = self.unsent_len();
         for tried in 0..count {
@@ -261,6 +263,7 @@ impl PublishQueue {
     ) -> Step
         ensures sends { Sends result self.old self.new }
         ensures keeps { Keeps self.old self.new }
+        ensures sleeps { SendsNothing now result self.old self.new (L.view link.old) (L.view link.new) }
     {
         if self.flying.reserve(1).is_err() {
             return Step::NoMemory;

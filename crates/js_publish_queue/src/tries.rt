@@ -1,7 +1,10 @@
 //! One try to send a message.
-ghost use Rattle.std.specs.Prelude.{◌≡◌};
+ghost use Rattle.std.specs.Prelude.{◌≡◌, true};
 ghost use Rattle.js_link.specs.LinkView.{LinkView};
-ghost use Rattle.js_publish_queue.specs.Tries.{IsRefusal, Tries};
+ghost use Rattle.js_base.specs.Errors.{plain};
+ghost use Rattle.js_context.specs.declared.publish_error.PublishErrorKind.TheVariants.{MaxAckPending};
+ghost use Rattle.js_publish_queue.specs.Tries.{GetsNoneIfFull, IsRefusal, Tries};
+ghost use Rattle.js_publish_queue.specs.declared.tries.Tried.TheVariants.{Stays};
 
 use crate::unsent::copy_of;
 use js_base::{Moment, Turn, is_valid_subject};
@@ -24,7 +27,9 @@ pub(crate) enum Tried {
 }
 
 /// Whether a later try may send what was refused like this.
-fn may_go_later(kind: PublishErrorKind, message: &OutboundMessage) -> bool {
+fn may_go_later(kind: PublishErrorKind, message: &OutboundMessage) -> bool
+    ensures { kind ≡ MaxAckPending → result ≡ true }
+{
     match kind {
         PublishErrorKind::Other => is_valid_subject(message.subject.as_str()),
         PublishErrorKind::MaxAckPending => true,
@@ -41,7 +46,8 @@ pub(crate) fn try_to_send<R: Wait, L: Link>(
     link: &mut L,
     now: Moment,
 ) -> Tried
-    ensures { Tries message.now result context.old context.new (L.view link.old) (L.view link.new) }
+    ensures tries { Tries message.now result context.old context.new (L.view link.old) (L.view link.new) }
+    ensures full { GetsNoneIfFull message.now result context.old context.new (L.view link.old) (L.view link.new) }
 {
     let copy = match copy_of(message) {
         Ok(copy) => copy,
@@ -56,7 +62,8 @@ pub(crate) fn try_to_send<R: Wait, L: Link>(
 }
 
 fn refused(error: PublishError, message: &OutboundMessage) -> Tried
-    ensures { IsRefusal result }
+    ensures refusal { IsRefusal result }
+    ensures full { error ≡ plain MaxAckPending → result ≡ Stays MaxAckPending }
 {
     let kind = *error.kind();
     if may_go_later(kind, message) {

@@ -3,9 +3,12 @@
 #![tactic(auto)]
 
 use jetstream::link::{OutboxLink, Outgoing, received};
-use jetstream::{AnyError, Context, Next, PublishQueue};
+use jetstream::{AnyError, Context, Moment, Nanos, Next, PublishQueue};
 use std::sync::Wait;
 use std::{cmp, env, io};
+
+/// How long the server takes to answer, in nanoseconds.
+const ANSWERS_AFTER: Nanos = 1_000_000;
 
 /// What became of the messages so far.
 #[derive(Clone, Copy)]
@@ -44,6 +47,24 @@ fn store_all(rt: &impl AllocGlobal, link: &mut OutboxLink, stored: u64) -> Resul
     Ok(())
 }
 
+/// The moment of the next poll: the server answers after [`ANSWERS_AFTER`], and stores what was sent, unless the queue wakes before.
+fn sleep(
+    rt: &impl AllocGlobal,
+    queue: &PublishQueue,
+    link: &mut OutboxLink,
+    stored: u64,
+    now: Moment,
+) -> Result<Moment, AnyError> {
+    let answered = now.saturating_add(ANSWERS_AFTER);
+    match queue.wakes_at() {
+        Some(wakes) if wakes < answered => Ok(wakes),
+        _ => {
+            store_all(rt, link, stored)?;
+            Ok(answered)
+        }
+    }
+}
+
 /// Publishes this many messages, and awaits what becomes of each.
 fn publish(
     rt: &(impl AllocGlobal + Wait),
@@ -52,18 +73,19 @@ fn publish(
     messages: u64,
     tally: &mut Tally,
 ) -> Result<(), AnyError> {
+    let mut now = 0;
     for _ in 0..messages {
-        queue.publish(rt.alloc(), "log.line", b"0123456789abcdef", 0)?;
+        queue.publish(rt.alloc(), "log.line", b"0123456789abcdef", now)?;
     }
     for _ in 0..u64::MAX {
-        match queue.poll_next(rt, rt.alloc(), link, 0) {
+        match queue.poll_next(rt, rt.alloc(), link, now) {
             Next::Item(published) => {
                 published.outcome?;
                 tally.stored = tally.stored.saturating_add(1);
             }
             Next::Pending => {
                 tally.most_in_flight = cmp::max(tally.most_in_flight, queue.in_flight());
-                store_all(rt, link, tally.stored)?;
+                now = sleep(rt, queue, link, tally.stored, now)?;
             }
             Next::OutOfMemory => return Err(io::Error::from(io::ErrorKind::OutOfMemory).into()),
             Next::End => break,

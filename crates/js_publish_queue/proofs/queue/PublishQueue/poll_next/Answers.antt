@@ -1,9 +1,10 @@
-use Rattle.std.proofs.Common.{◌≡◌}
+use Rattle.std.proofs.Common.{◌≡◌, []}
 use Rattle.js_publish_queue.specs.declared.published.Published.{Published}
-use Rattle.js_publish_queue.specs.declared.queue.Step.TheVariants.{Made, NoMemory, Over, Stays}
+use Rattle.js_publish_queue.specs.declared.queue.Step.TheVariants.{Made, Over, Stays}
 use Rattle.js_publish_queue.specs.Queue.{handed}
+use Rattle.js_publish_queue.specs.Steps.{outcome_of}
 use Rattle.js_publish_queue.proofs.Counts.{each_then}
-use Rattle.js_publish_queue.proofs.Sleeping.{sleeps_on}
+use Rattle.js_publish_queue.proofs.Sleeping.{first_early, sleeps_on}
 use Rattle.js_publish_queue.proofs.queue.PublishQueue.poll_next.Goals as goal
 
 pub returns-in-Made-clause-each : goal.returns-in-Made-clause-each
@@ -13,22 +14,18 @@ pub returns-in-Stays-clause-each : goal.returns-in-Stays-clause-each
 returns-in-Stays-clause-each g c = each_then (handed c.look_on-in-Stays.result) c.args.self.now c.send.new.self c.look_on-in-Stays.new.self c.in-Stays.ensures.each c.look_on-in-Stays.ensures.each
 
 pub returns-in-Made-clause-sleeps : goal.returns-in-Made-clause-sleeps
-returns-in-Made-clause-sleeps g c = λ alone. sleeps_on _ _ _ _ _ _ _ _ alone c.in-Made.ensures.sleeps c.look_on.ensures.sleeps
+returns-in-Made-clause-sleeps g c = λ alone. sleeps_on _ Made _ _ _ _ _ _ _ alone c.in-Made.ensures.sleeps c.look_on.ensures.sleeps
 
 pub returns-in-Stays-clause-sleeps : goal.returns-in-Stays-clause-sleeps
-returns-in-Stays-clause-sleeps g c = λ alone. absurd (never (c.in-Stays.ensures.sleeps alone.sent).0)
-  where
-    never : Stays ≡ Made → ⊥
-    never e = cc
+returns-in-Stays-clause-sleeps g c = λ alone. sleeps_on _ Stays _ _ _ _ _ _ _ alone c.in-Stays.ensures.sleeps c.look_on-in-Stays.ensures.sleeps
 
 pub returns-in-Over-clause-sleeps : goal.returns-in-Over-clause-sleeps
-returns-in-Over-clause-sleeps g c = λ alone. absurd (never c.in-Over.published (c.in-Over.ensures.sleeps alone.sent).0)
+returns-in-Over-clause-sleeps g c = λ alone. absurd (never c.in-Over.published (c.in-Over.ensures.sleeps alone.sends_none (first_early _ _ _ alone)).0)
   where
-    never : (published : Published) → Over published ≡ Made → ⊥
+    never : (published : Published) → outcome_of (Over published) ≡ [] → ⊥
     never published e = cc
 
 pub returns-in-NoMemory-clause-sleeps : goal.returns-in-NoMemory-clause-sleeps
-returns-in-NoMemory-clause-sleeps g c = λ alone. absurd (never (c.in-NoMemory.ensures.sleeps alone.sent).0)
-  where
-    never : NoMemory ≡ Made → ⊥
-    never e = cc
+returns-in-NoMemory-clause-sleeps g c = λ alone.
+    let (none, link, stays) = c.in-NoMemory.ensures.sleeps alone.sends_none (first_early _ _ _ alone) in
+    record { quiet = tt; link = link; same = stays }
