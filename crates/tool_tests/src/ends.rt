@@ -1,156 +1,166 @@
 //! Sources and sinks that fail, that take little at a time, or that give too much.
 
-use crate::steps::{ARRIVALS, ARRIVALS_TEXT, runs, words_of};
-use js_tool::{PlainSink, PlainSource, Status, run_plain};
+use crate::steps::{
+    ARRIVALS, ARRIVALS_TEXT, Faults, NO_FAULTS, Told, arrivals_told, told, words_of,
+};
+use crate::tables::same;
+use js_tool::{PlainSink, PlainSource, Sink, Source, Status, run_plain};
 use std::alloc::{AllocError, Global};
+use std::process::Abort;
 use std::sync::Wait;
-use std::test::Fail;
 use std::thread::Threads;
 
-// The status of a replay of two arrivals, and how many bytes it wrote, where this read fails.
-fn read_fails<R: Threads + Wait + Sync>(
-    rt: &R,
-    alloc: Global,
-    number: u64,
-) -> Result<(Status, usize), AllocError> {
-    let bytes = Vec::from_slice(alloc, ARRIVALS.as_bytes())?;
-    let (status, output) = runs(rt, alloc, "replay", bytes, number, (0, 65_536))?;
-    Ok((status, output.taken().len()))
+// Which read fails, how the replay of two arrivals ends then, and what it has written. The first read gives all, the second
+// tells the end, and there is no third.
+const READS: &[(u64, Status, &str)] = &[
+    (1, Status::ReadFault, ""),
+    (2, Status::ReadFault, ""),
+    (3, Status::Done, ARRIVALS_TEXT),
+];
+
+// The replay where this read fails.
+fn read_fails<R: Threads + Wait + Sync>(rt: &R, alloc: Global, read: u64, wanted: &str) -> Told {
+    let faults = Faults { read, ..NO_FAULTS };
+    arrivals_told(rt, alloc, "replay", faults, wanted.as_bytes())
 }
 
-// The first read gives all, the second tells the end, and there is no third.
 #[test]
-fn a_read_that_fails_is_told(rt: HostRuntime) -> Result<(), Fail> {
-    for (number, told) in [
-        (1, (Status::ReadFault, 0)),
-        (2, (Status::ReadFault, 0)),
-        (3, (Status::Done, ARRIVALS_TEXT.len())),
-    ] {
-        assert!(rt; read_fails(&rt, rt.alloc(), number)? == told);
+fn a_read_that_fails_is_told(rt: HostRuntime) {
+    for &(read, status, wanted) in READS {
+        let found = read_fails(&rt, rt.alloc(), read, wanted);
+        same(&rt, wanted, found, Ok((status, true)));
     }
-    Ok(())
 }
 
-// Whether the status is this one and just the front before the write that fails was written, where a write takes a byte.
-fn leaves_front<R: Threads + Wait + Sync>(
-    rt: &R,
-    alloc: Global,
-    line: &str,
-    front: &[u8],
-    status: Status,
-) -> Result<bool, AllocError> {
-    let bytes = Vec::from_slice(alloc, ARRIVALS.as_bytes())?;
-    let number = front.len() as u64 + 1;
-    let (told, output) = runs(rt, alloc, line, bytes, 0, (number, 1))?;
-    Ok(told == status && output.taken() == front)
+// Words, what is written for them, and how they end where a write fails.
+const WRITES: &[(&str, &str, Status)] = &[
+    ("replay", ARRIVALS_TEXT, Status::WriteFault),
+    (
+        "generate 0 12",
+        "[\"summary\",12,8,0,1,2,2,1,8]\n",
+        Status::WriteFault,
+    ),
+    (
+        "info $JS.ACK.events.durable.3.1.7.1790230470084404000.42",
+        "[\"info\",null,null,\"events\",\"durable\",3,1,7,\"1790230470084404000\",42,null]\n",
+        Status::WriteFault,
+    ),
+    (
+        "info $JS.ACK",
+        "[\"refused\",\"Prefix\"]\n",
+        Status::Refused,
+    ),
+    (
+        "window 1 1 3",
+        "[\"window\",1,1,3,3,0,true]\n",
+        Status::WriteFault,
+    ),
+];
+
+// The words of a line, where a write takes a byte and the one after this front fails.
+fn leaves_front<R: Threads + Wait + Sync>(rt: &R, alloc: Global, line: &str, front: &[u8]) -> Told {
+    let write = front.len() as u64 + 1;
+    let faults = Faults {
+        read: 0,
+        write,
+        most: 1,
+    };
+    arrivals_told(rt, alloc, line, faults, front)
 }
 
-fn leaves_each_front<R: Threads + Wait + Sync>(
+fn leaves_each_front<R: Threads + Wait + Sync + Abort>(
     rt: &R,
     alloc: Global,
     line: &str,
     text: &str,
     status: Status,
-) -> Result<bool, AllocError> {
+) {
     for taken in 0..text.len() {
-        if !leaves_front(rt, alloc, line, &text.as_bytes()[..taken], status)? {
-            return Ok(false);
-        }
+        let found = leaves_front(rt, alloc, line, &text.as_bytes()[..taken]);
+        same(rt, line, found, Ok((status, true)));
     }
-    Ok(true)
 }
 
 #[test]
-fn a_write_that_fails_leaves_a_front(rt: HostRuntime) -> Result<(), Fail> {
-    for (line, text, status) in [
-        ("replay", ARRIVALS_TEXT, Status::WriteFault),
-        (
-            "generate 0 12",
-            "[\"summary\",12,8,0,1,2,2,1,8]\n",
-            Status::WriteFault,
-        ),
-        (
-            "info $JS.ACK.events.durable.3.1.7.1790230470084404000.42",
-            "[\"info\",null,null,\"events\",\"durable\",3,1,7,\"1790230470084404000\",42,null]\n",
-            Status::WriteFault,
-        ),
-        (
-            "info $JS.ACK",
-            "[\"refused\",\"Prefix\"]\n",
-            Status::Refused,
-        ),
-        (
-            "window 1 1 3",
-            "[\"window\",1,1,3,3,0,true]\n",
-            Status::WriteFault,
-        ),
-    ] {
-        assert!(rt; leaves_each_front(&rt, rt.alloc(), line, text, status)?);
+fn a_write_that_fails_leaves_a_front(rt: HostRuntime) {
+    for &(line, text, status) in WRITES {
+        leaves_each_front(&rt, rt.alloc(), line, text, status);
     }
-    Ok(())
 }
 
-// The status of a replay of two arrivals, and how many bytes it wrote of their text, where a write takes at most so many.
-fn writes<R: Threads + Wait + Sync>(
-    rt: &R,
-    alloc: Global,
-    most: u64,
-) -> Result<(Status, usize), AllocError> {
-    let bytes = Vec::from_slice(alloc, ARRIVALS.as_bytes())?;
-    let (status, output) = runs(rt, alloc, "replay", bytes, 0, (0, most))?;
-    if !ARRIVALS_TEXT.as_bytes().starts_with(output.taken()) {
-        return Ok((status, usize::MAX));
-    }
-    Ok((status, output.taken().len()))
+// How many bytes a write takes at most, how the replay of two arrivals ends, and what it has written.
+const SMALL: &[(u64, Status, &str)] = &[
+    (0, Status::WriteFault, ""),
+    (1, Status::Done, ARRIVALS_TEXT),
+    (7, Status::Done, ARRIVALS_TEXT),
+];
+
+// The replay where a write takes so little.
+fn writes<R: Threads + Wait + Sync>(rt: &R, alloc: Global, most: u64, wanted: &str) -> Told {
+    let faults = Faults { most, ..NO_FAULTS };
+    arrivals_told(rt, alloc, "replay", faults, wanted.as_bytes())
 }
 
 #[test]
-fn small_writes_give_the_whole_text(rt: HostRuntime) -> Result<(), Fail> {
-    for (most, told) in [
-        (0, (Status::WriteFault, 0)),
-        (1, (Status::Done, ARRIVALS_TEXT.len())),
-        (7, (Status::Done, ARRIVALS_TEXT.len())),
-    ] {
-        assert!(rt; writes(&rt, rt.alloc(), most)? == told);
+fn small_writes_give_the_whole_text(rt: HostRuntime) {
+    for &(most, status, wanted) in SMALL {
+        let found = writes(&rt, rt.alloc(), most, wanted);
+        same(&rt, wanted, found, Ok((status, true)));
     }
-    Ok(())
 }
 
-// The status of a replay of so many line feeds.
-fn feeds<R: Threads + Wait + Sync>(
-    rt: &R,
-    alloc: Global,
-    count: usize,
-) -> Result<Status, AllocError> {
+// The replay of so many line feeds.
+fn feeds<R: Threads + Wait + Sync>(rt: &R, alloc: Global, count: usize) -> Told {
     let bytes = vec![in alloc; b'\n'; count]?;
-    let (status, _) = runs(rt, alloc, "replay", bytes, 0, (0, 65_536))?;
-    Ok(status)
+    told(rt, alloc, "replay", bytes, NO_FAULTS, b"")
 }
 
 #[test]
-fn a_byte_too_many_is_too_long(rt: HostRuntime) -> Result<(), Fail> {
-    let most = feeds(&rt, rt.alloc(), 67_108_864)?;
-    assert!(rt; most == Status::BadLine { line: 1 });
-    let more = feeds(&rt, rt.alloc(), 67_108_865)?;
-    assert!(rt; more == Status::TooLong);
-    Ok(())
+fn a_byte_too_many_is_too_long(rt: HostRuntime) {
+    let most = feeds(&rt, rt.alloc(), 67_108_864);
+    same(&rt, "most", most, Ok((Status::BadLine { line: 1 }, true)));
+    let more = feeds(&rt, rt.alloc(), 67_108_865);
+    same(&rt, "more", more, Ok((Status::TooLong, true)));
 }
 
-// What `run_plain` answers to the words of a line, and how much it writes.
-fn runs_plain(alloc: Global, line: &str) -> Result<(Status, usize), AllocError> {
+fn plain_answered<S: Source, K: Sink>(
+    alloc: Global,
+    line: &str,
+    input: &mut S,
+    output: &mut K,
+) -> Result<Status, AllocError> {
     let words = words_of(alloc, line)?;
-    let mut input = PlainSource::new(Vec::from_slice(alloc, ARRIVALS.as_bytes())?);
-    let mut output = PlainSink::new(alloc);
-    let status = run_plain(alloc, &words, &mut input, &mut output);
-    Ok((status, output.taken().len()))
+    Ok(run_plain(alloc, &words, input, output))
 }
 
-// Without threads there is no window; all else is as with them.
+fn plain_into<S: Source>(
+    alloc: Global,
+    line: &str,
+    input: &mut S,
+    output: &mut PlainSink,
+    wanted: &str,
+) -> Told {
+    let status = plain_answered(alloc, line, input, output)?;
+    Ok((status, output.taken() == wanted.as_bytes()))
+}
+
+// How `run_plain` ends for the words of a line over two arrivals, and whether it writes just what is wanted.
+fn plain_told(alloc: Global, line: &str, wanted: &str) -> Told {
+    let bytes = Vec::from_slice(alloc, ARRIVALS.as_bytes())?;
+    let mut input = PlainSource::new(bytes);
+    plain_into(alloc, line, &mut input, &mut PlainSink::new(alloc), wanted)
+}
+
+// Words, how they end without threads, and what is written. There is no window; all else is as with them.
+const PLAIN: &[(&str, Status, &str)] = &[
+    ("window 1 1 3", Status::Usage, ""),
+    ("replay", Status::Done, ARRIVALS_TEXT),
+];
+
 #[test]
-fn without_threads_there_is_no_window(rt: HostRuntime) -> Result<(), Fail> {
-    let window = runs_plain(rt.alloc(), "window 1 1 3")?;
-    assert!(rt; window == (Status::Usage, 0));
-    let replay = runs_plain(rt.alloc(), "replay")?;
-    assert!(rt; replay == (Status::Done, ARRIVALS_TEXT.len()));
-    Ok(())
+fn without_threads_there_is_no_window(rt: HostRuntime) {
+    for &(line, status, wanted) in PLAIN {
+        let found = plain_told(rt.alloc(), line, wanted);
+        same(&rt, line, found, Ok((status, true)));
+    }
 }

@@ -14,6 +14,8 @@ mod pull;
 #[cfg(test)]
 mod steps;
 #[cfg(test)]
+mod tables;
+#[cfg(test)]
 mod threads;
 
 pub use faults::failing;

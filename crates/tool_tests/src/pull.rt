@@ -1,12 +1,15 @@
 //! What the calls of a pull reader do that take memory, with enough of it.
 
+use crate::tables::same;
 use bytes::Bytes;
 use js_base::{HeaderMap, Message, OutOfMemory, StatusCode, Subject, Text};
 use js_fields::ReadError;
 use js_json::consumer::Info;
+use js_json::pull::BatchConfig;
 use js_json::{Response, response_as};
 use js_pull::{Reader, Source, info_of_reply, ordered_batch_config};
 use std::alloc::Global;
+use std::process::Abort;
 
 const INFO: &str =
     "{\"stream_name\":\"events\",\"name\":\"c1\",\"created\":\"2026-01-01T00:00:00Z\",\"config\":{\"deliver_policy\":\"all\",\"max_batch\":7},\"delivered\":{\"consumer_seq\":0,\"stream_seq\":0},\"ack_floor\":{\"consumer_seq\":0,\"stream_seq\":0},\"num_ack_pending\":0,\"num_redelivered\":0,\"num_waiting\":3,\"num_pending\":0}";
@@ -18,18 +21,89 @@ fn info(alloc: Global) -> Result<Info, ReadError> {
     }
 }
 
+// What is read of an info. What is generic over it does not open how so large a value is let go.
+trait Informed: Drop {
+    type Told: Drop;
+
+    fn told(&self) -> Self::Told;
+}
+
+// What its consumer's readers ask for.
+impl Informed for Info {
+    type Told = BatchConfig;
+
+    fn told(&self) -> BatchConfig {
+        ordered_batch_config(self)
+    }
+}
+
+// How many requests wait, where there is one.
+impl Informed for Option<Info> {
+    type Told = Option<u64>;
+
+    fn told(&self) -> Option<u64> {
+        match self {
+            Some(info) => Some(info.num_waiting),
+            None => None,
+        }
+    }
+}
+
+fn told_of<I: Informed, E: Drop>(info: Result<I, E>) -> Result<I::Told, E> {
+    match info {
+        Ok(info) => Ok(info.told()),
+        Err(error) => Err(error),
+    }
+}
+
+fn source(api: Text, stream: Text, name: Text, subject: Subject, config: BatchConfig) -> Source {
+    Source {
+        api,
+        stream,
+        name,
+        inbox: 0,
+        subject,
+        info_timeout: None,
+        config,
+        pinned: true,
+    }
+}
+
 // A reader of a consumer that caps its batches at 7 messages.
 fn reader(alloc: Global) -> Result<Reader, ReadError> {
-    Ok(Reader::new(Source {
-        api: Text::from_str(alloc, "$JS.API")?,
-        stream: Text::from_str(alloc, "events")?,
-        name: Text::from_str(alloc, "c1")?,
-        inbox: 0,
-        subject: Subject::new(alloc, "_INBOX.t.0")?,
-        info_timeout: None,
-        config: ordered_batch_config(&info(alloc)?),
-        pinned: true,
-    }))
+    let api = Text::from_str(alloc, "$JS.API")?;
+    let stream = Text::from_str(alloc, "events")?;
+    let name = Text::from_str(alloc, "c1")?;
+    let subject = Subject::new(alloc, "_INBOX.t.0")?;
+    let config = told_of(info(alloc))?;
+    Ok(Reader::new(source(api, stream, name, subject, config)))
+}
+
+// Asserts that a request is made on this subject.
+fn says_subject(rt: &impl Abort, found: Result<Subject, OutOfMemory>, wanted: &str) {
+    let found = found.expect(rt, wanted);
+    same(rt, wanted, found.as_str(), wanted);
+}
+
+// Asserts that it has this body.
+fn says_body(rt: &impl Abort, found: Result<Bytes, OutOfMemory>, wanted: &str) {
+    let found = found.expect(rt, wanted);
+    same(rt, wanted, found.as_slice(), wanted.as_bytes());
+}
+
+const PULL: &str = "$JS.API.CONSUMER.MSG.NEXT.events.c1";
+
+const INQUIRY: &str = "$JS.API.CONSUMER.INFO.events.c1";
+
+const BODY: &str =
+    "{\"batch\":7,\"expires\":30000000000,\"group\":null,\"idle_heartbeat\":15000000000,\"max_bytes\":0,\"min_ack_pending\":null,\"min_pending\":null,\"priority\":null}";
+
+#[test]
+fn requests_are_made(rt: HostRuntime) {
+    let reader = reader(rt.alloc()).expect(&rt, "memory");
+    says_subject(&rt, reader.source.pull_subject(rt.alloc()), PULL);
+    says_subject(&rt, reader.source.info_subject(rt.alloc()), INQUIRY);
+    says_body(&rt, reader.pull_body(rt.alloc()), BODY);
 }
 
 fn message(
@@ -38,10 +112,12 @@ fn message(
     status: Option<StatusCode>,
     headers: Option<HeaderMap>,
 ) -> Result<Message, OutOfMemory> {
+    let subject = Subject::new(alloc, "_INBOX.t.0")?;
+    let bytes = Bytes::copy_from_slice(alloc, payload.as_bytes())?;
     Ok(Message {
-        subject: Subject::new(alloc, "_INBOX.t.0")?,
+        subject,
         reply: None,
-        payload: Bytes::copy_from_slice(alloc, payload.as_bytes())?,
+        payload: bytes,
         headers,
         status,
         description: None,
@@ -49,23 +125,8 @@ fn message(
     })
 }
 
-// The subjects of both requests, and the body of a pull request.
-fn requests(alloc: Global) -> Result<(Subject, Subject, Bytes), ReadError> {
-    let reader = reader(alloc)?;
-    let pull = reader.source.pull_subject(alloc)?;
-    let info = reader.source.info_subject(alloc)?;
-    Ok((pull, info, reader.pull_body(alloc)?))
-}
-
-#[test]
-fn requests_are_made(rt: HostRuntime) {
-    let (pull, info, body) = requests(rt.alloc()).expect(&rt, "memory");
-    assert_eq!(rt; pull.as_str(), "$JS.API.CONSUMER.MSG.NEXT.events.c1");
-    assert_eq!(rt; info.as_str(), "$JS.API.CONSUMER.INFO.events.c1");
-    assert_eq!(rt;
-        body.as_slice(),
-        b"{\"batch\":7,\"expires\":30000000000,\"group\":null,\"idle_heartbeat\":15000000000,\"max_bytes\":0,\"min_ack_pending\":null,\"min_pending\":null,\"priority\":null}".as_slice()
-    );
+fn waiting_of(alloc: Global, reply: &Message) -> Result<Option<u64>, OutOfMemory> {
+    told_of(info_of_reply(alloc, Some(reply)))
 }
 
 fn waiting(
@@ -73,37 +134,49 @@ fn waiting(
     payload: &str,
     status: Option<StatusCode>,
 ) -> Result<Option<u64>, OutOfMemory> {
-    let reply = message(alloc, payload, status, None)?;
-    match info_of_reply(alloc, Some(&reply))? {
-        Some(info) => Ok(Some(info.num_waiting)),
-        None => Ok(None),
-    }
+    waiting_of(alloc, &message(alloc, payload, status, None)?)
 }
+
+// Answers, with the status of each, and how many requests wait where it holds an info.
+const ANSWERS: &[(&str, Option<StatusCode>, Option<u64>)] = &[
+    (INFO, None, Some(3)),
+    (INFO, Some(StatusCode::NO_RESPONDERS), None),
+    ("{}", None, None),
+];
 
 #[test]
 fn an_answer_may_hold_an_info(rt: HostRuntime) {
-    assert_eq!(rt; waiting(rt.alloc(), INFO, None), Ok(Some(3)));
-    assert_eq!(rt;
-        waiting(rt.alloc(), INFO, Some(StatusCode::NO_RESPONDERS)),
-        Ok(None)
-    );
-    assert_eq!(rt; waiting(rt.alloc(), "{}", None), Ok(None));
+    for &(payload, status, wanted) in ANSWERS {
+        same(
+            &rt,
+            payload,
+            waiting(rt.alloc(), payload, status),
+            Ok(wanted),
+        );
+    }
 }
 
-// The body of a pull request after an arrival that names a pin.
-fn pinned_body(alloc: Global) -> Result<Bytes, ReadError> {
+fn headers(alloc: Global) -> Result<HeaderMap, OutOfMemory> {
     let mut headers = HeaderMap::new(alloc);
     headers.insert(alloc, "Nats-Pin-Id", "p1")?;
-    let mut reader = reader(alloc)?;
-    reader.note_pin(alloc, &message(alloc, "a", None, Some(headers))?)?;
-    Ok(reader.pull_body(alloc)?)
+    Ok(headers)
 }
+
+// An arrival that names a pin.
+fn pinned(alloc: Global) -> Result<Message, OutOfMemory> {
+    message(alloc, "a", None, Some(headers(alloc)?))
+}
+
+fn note(alloc: Global, reader: &mut Reader) -> Result<(), OutOfMemory> {
+    reader.note_pin(alloc, &pinned(alloc)?)
+}
+
+const PINNED_BODY: &str =
+    "{\"batch\":7,\"expires\":30000000000,\"group\":null,\"id\":\"p1\",\"idle_heartbeat\":15000000000,\"max_bytes\":0,\"min_ack_pending\":null,\"min_pending\":null,\"priority\":null}";
 
 #[test]
 fn an_arrival_may_name_a_pin(rt: HostRuntime) {
-    let body = pinned_body(rt.alloc()).expect(&rt, "memory");
-    assert_eq!(rt;
-        body.as_slice(),
-        b"{\"batch\":7,\"expires\":30000000000,\"group\":null,\"id\":\"p1\",\"idle_heartbeat\":15000000000,\"max_bytes\":0,\"min_ack_pending\":null,\"min_pending\":null,\"priority\":null}".as_slice()
-    );
+    let mut reader = reader(rt.alloc()).expect(&rt, "memory");
+    same(&rt, "noted", note(rt.alloc(), &mut reader), Ok(()));
+    says_body(&rt, reader.pull_body(rt.alloc()), PINNED_BODY);
 }

@@ -1,7 +1,7 @@
 //! One run over ends in memory, from which the tests are made.
 
 use crate::faults::failing;
-use js_tool::{MemorySink, MemorySource, Status, run};
+use js_tool::{MemorySink, MemorySource, Sink, Source, Status, run};
 use std::alloc::{AllocError, Global};
 use std::sync::Wait;
 use std::thread::Threads;
@@ -21,42 +21,114 @@ pub(crate) const ARRIVALS_TEXT: &str =
 ["end",false,2]
 "#;
 
+/// Which read fails and which write, the first being 1, and how many bytes a write takes at most. With 0 none fails.
+#[derive(Clone, Copy)]
+pub(crate) struct Faults {
+    pub read: u64,
+    pub write: u64,
+    pub most: u64,
+}
+
+/// No end fails.
+pub(crate) const NO_FAULTS: Faults = Faults {
+    read: 0,
+    write: 0,
+    most: 65_536,
+};
+
+/// How a run ended, and whether it wrote just what is wanted.
+pub(crate) type Told = Result<(Status, bool), AllocError>;
+
+fn add_word(alloc: Global, words: &mut Vec<String>, word: &str) -> Result<(), AllocError> {
+    Ok(words.push(String::from_str(alloc, word)?)?)
+}
+
 /// The words of a line, which stand after single spaces.
 pub(crate) fn words_of(alloc: Global, line: &str) -> Result<Vec<String>, AllocError> {
     let mut words = Vec::new(alloc);
     for word in line.split(' ') {
-        words.push(String::from_str(alloc, word)?)?;
+        add_word(alloc, &mut words, word)?;
     }
     Ok(words)
 }
 
-/// What `run` answers to the words of a line, and what it wrote, where this read and this write fail and a write takes
-/// at most so many bytes.
-pub(crate) fn runs<R: Threads + Wait + Sync>(
+/// A source of these bytes.
+pub(crate) fn source(
+    alloc: Global,
+    bytes: Vec<u8>,
+    faults: Faults,
+) -> Result<MemorySource, AllocError> {
+    Ok(MemorySource::new(bytes, failing(alloc, faults.read)?))
+}
+
+/// A sink that has taken nothing.
+pub(crate) fn sink(alloc: Global, faults: Faults) -> Result<MemorySink, AllocError> {
+    let failing = failing(alloc, faults.write)?;
+    Ok(MemorySink::new(alloc, faults.most, failing))
+}
+
+/// What `run` answers to the words of a line.
+pub(crate) fn answered<R: Threads + Wait + Sync, S: Source, K: Sink>(
+    rt: &R,
+    alloc: Global,
+    line: &str,
+    input: &mut S,
+    output: &mut K,
+) -> Result<Status, AllocError> {
+    let words = words_of(alloc, line)?;
+    Ok(run(rt, alloc, &words, input, output))
+}
+
+fn told_into<R: Threads + Wait + Sync, S: Source>(
+    rt: &R,
+    alloc: Global,
+    line: &str,
+    input: &mut S,
+    output: &mut MemorySink,
+    wanted: &[u8],
+) -> Told {
+    let status = answered(rt, alloc, line, input, output)?;
+    Ok((status, output.taken() == wanted))
+}
+
+fn told_over<R: Threads + Wait + Sync, S: Source>(
+    rt: &R,
+    alloc: Global,
+    line: &str,
+    input: &mut S,
+    faults: Faults,
+    wanted: &[u8],
+) -> Told {
+    told_into(rt, alloc, line, input, &mut sink(alloc, faults)?, wanted)
+}
+
+/// How `run` ends for the words of a line, and whether it writes just what is wanted.
+pub(crate) fn told<R: Threads + Wait + Sync>(
     rt: &R,
     alloc: Global,
     line: &str,
     input: Vec<u8>,
-    read: u64,
-    write: (u64, u64),
-) -> Result<(Status, MemorySink), AllocError> {
-    let words = words_of(alloc, line)?;
-    let mut input = MemorySource::new(input, failing(alloc, read)?);
-    let mut output = MemorySink::new(alloc, write.1, failing(alloc, write.0)?);
-    let status = run(rt, alloc, &words, &mut input, &mut output);
-    Ok((status, output))
+    faults: Faults,
+    wanted: &[u8],
+) -> Told {
+    told_over(
+        rt,
+        alloc,
+        line,
+        &mut source(alloc, input, faults)?,
+        faults,
+        wanted,
+    )
 }
 
-/// Whether `run` answers this status to the words of a line and writes this text, where no end fails.
-pub(crate) fn answers<R: Threads + Wait + Sync>(
+/// The same for the words of a line over these two arrivals.
+pub(crate) fn arrivals_told<R: Threads + Wait + Sync>(
     rt: &R,
     alloc: Global,
     line: &str,
-    input: &[u8],
-    status: Status,
-    text: &str,
-) -> Result<bool, AllocError> {
-    let bytes = Vec::from_slice(alloc, input)?;
-    let (told, output) = runs(rt, alloc, line, bytes, 0, (0, 65_536))?;
-    Ok(told == status && output.taken() == text.as_bytes())
+    faults: Faults,
+    wanted: &[u8],
+) -> Told {
+    let bytes = Vec::from_slice(alloc, ARRIVALS.as_bytes())?;
+    told(rt, alloc, line, bytes, faults, wanted)
 }
