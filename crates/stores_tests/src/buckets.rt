@@ -1,11 +1,11 @@
 //! Calls on buckets of keys, and on the account.
 
 use crate::server::{
-    ABSENT, Asked, Case, DELETED, NOBODY, Reply, WRONG, Words, context, outcome, polled, serving,
-    still, turn_word, word,
+    ABSENT, Asked, Case, DELETED, NOBODY, Reply, Row, WRONG, Words, context, polled, polled_twice,
+    says_each, serving,
 };
+use crate::tables::says;
 use js_base::{OutOfMemory, Text};
-use js_call::State;
 use js_context::Context;
 use js_link::ScriptedServer;
 use js_store::{StoreCalls, kv};
@@ -91,31 +91,52 @@ fn config(alloc: Global, made: Made) -> Result<kv::Config, OutOfMemory> {
     })
 }
 
+fn created(alloc: Global, context: &Context, server: &mut ScriptedServer, made: Made) -> Words {
+    let config = config(alloc, made)?;
+    polled(alloc, server, context.create_key_value(alloc, config))
+}
+
+fn updated(alloc: Global, context: &Context, server: &mut ScriptedServer, made: Made) -> Words {
+    let config = config(alloc, made)?;
+    polled(alloc, server, context.update_key_value(alloc, config))
+}
+
+fn put(alloc: Global, context: &Context, server: &mut ScriptedServer, made: Made) -> Words {
+    let config = config(alloc, made)?;
+    polled(
+        alloc,
+        server,
+        context.create_or_update_key_value(alloc, config),
+    )
+}
+
+fn got(alloc: Global, context: &Context, server: &mut ScriptedServer, bucket: &str) -> Words {
+    polled(alloc, server, context.get_key_value(alloc, bucket))
+}
+
+fn removed(alloc: Global, context: &Context, server: &mut ScriptedServer, bucket: &str) -> Words {
+    polled(alloc, server, context.delete_key_value(alloc, bucket))
+}
+
+fn queried(alloc: Global, context: &Context, server: &mut ScriptedServer) -> Words {
+    polled(alloc, server, context.query_account(alloc))
+}
+
 impl Case for Call {
     fn told(self, alloc: Global, context: &Context, server: &mut ScriptedServer) -> Words {
         match self {
-            Call::Account => polled(alloc, server, context.query_account(alloc)),
-            Call::Get(bucket) => polled(alloc, server, context.get_key_value(alloc, bucket)),
-            Call::Delete(bucket) => polled(alloc, server, context.delete_key_value(alloc, bucket)),
-            Call::Create(made) => {
-                let config = config(alloc, made)?;
-                polled(alloc, server, context.create_key_value(alloc, config))
-            }
-            Call::Update(made) => {
-                let config = config(alloc, made)?;
-                polled(alloc, server, context.update_key_value(alloc, config))
-            }
-            Call::Put(made) => {
-                let config = config(alloc, made)?;
-                let call = context.create_or_update_key_value(alloc, config);
-                polled(alloc, server, call)
-            }
+            Call::Account => queried(alloc, context, server),
+            Call::Get(bucket) => got(alloc, context, server, bucket),
+            Call::Delete(bucket) => removed(alloc, context, server, bucket),
+            Call::Create(made) => created(alloc, context, server, made),
+            Call::Update(made) => updated(alloc, context, server, made),
+            Call::Put(made) => put(alloc, context, server, made),
         }
     }
 }
 
 /// Calls, what they ask and are replied, and what they come to.
-const CALLS: [(Call, &[(Asked, Reply)], &str); 31] = [
+const CALLS: &[Row<Call>] = &[
     (Call::Account, &[(ACCOUNT, LEVEL_0)], "96 0"),
     (Call::Account, &[(ACCOUNT, LEVEL_1)], "96 1"),
     (
@@ -240,14 +261,11 @@ const CALLS: [(Call, &[(Asked, Reply)], &str); 31] = [
 #[test]
 fn calls_on_keys_ask_and_answer(rt: HostRuntime) {
     let context = context(&rt, rt.alloc(), "$JS.API").expect(&rt, "context");
-    for (call, script, wanted) in CALLS {
-        let found = outcome(rt.alloc(), &context, call, script).expect(&rt, wanted);
-        assert_eq!(rt; found.as_str(), wanted);
-    }
+    says_each(&rt, rt.alloc(), &context, CALLS);
 }
 
 /// A bucket under another prefix of the API, which is told.
-const ELSEWHERE: [(Call, &[(Asked, Reply)], &str); 1] = [(
+const ELSEWHERE: &[Row<Call>] = &[(
     Call::Get("cfg"),
     &[(("$JS.hub.API.STREAM.INFO.KV_cfg", "null"), KNOWN)],
     "cfg KV_cfg $KV.cfg. - true KV_cfg",
@@ -256,29 +274,22 @@ const ELSEWHERE: [(Call, &[(Asked, Reply)], &str); 1] = [(
 #[test]
 fn another_api_is_told(rt: HostRuntime) {
     let context = context(&rt, rt.alloc(), "$JS.hub.API").expect(&rt, "context");
-    for (call, script, wanted) in ELSEWHERE {
-        let found = outcome(rt.alloc(), &context, call, script).expect(&rt, wanted);
-        assert_eq!(rt; found.as_str(), wanted);
-    }
+    says_each(&rt, rt.alloc(), &context, ELSEWHERE);
 }
 
 /// What the making of a bucket comes to whose account is told at once, and whose stream is not within 200 nanoseconds.
-fn late(alloc: Global, context: &Context) -> Words {
-    let mut server = serving(alloc, &[(ACCOUNT, LEVEL_0)])?;
+fn late_over(alloc: Global, context: &Context, server: &mut ScriptedServer) -> Words {
     let config = config(alloc, ("cfg", 0, None))?;
-    let call = context.create_key_value(alloc, config)?;
-    match still(alloc, &mut server, call, 0) {
-        Some(call) => turn_word(alloc, call.poll(alloc, &mut server, 200)),
-        None => word(alloc, "early"),
-    }
+    polled_twice(alloc, server, context.create_key_value(alloc, config))
+}
+
+fn late(alloc: Global, context: &Context) -> Words {
+    late_over(alloc, context, &mut serving(alloc, &[(ACCOUNT, LEVEL_0)])?)
 }
 
 #[test]
 fn a_stream_that_is_not_made_in_time_is_told(rt: HostRuntime) {
     let context = context(&rt, rt.alloc(), "$JS.API").expect(&rt, "context");
-    let found = late(rt.alloc(), &context).expect(&rt, "late");
-    assert_eq!(rt;
-        found.as_str(),
-        "timed out: jetstream request timed out: timed out"
-    );
+    let wanted = "timed out: jetstream request timed out: timed out";
+    says(&rt, late(rt.alloc(), &context), wanted);
 }

@@ -7,6 +7,8 @@ mod buckets;
 mod objects;
 #[cfg(test)]
 mod server;
+#[cfg(test)]
+mod tables;
 mod words;
 
 pub use words::{Words, word};

@@ -1,7 +1,7 @@
 //! Calls on buckets of objects.
 
 use crate::server::{
-    ABSENT, Asked, Case, DELETED, NOBODY, Reply, WRONG, Words, context, outcome, polled,
+    ABSENT, Asked, Case, DELETED, NOBODY, Reply, Row, WRONG, Words, context, polled, says_each,
 };
 use js_base::{OutOfMemory, Text};
 use js_context::Context;
@@ -39,23 +39,31 @@ fn config(alloc: Global, bucket: &str) -> Result<object_store::Config, OutOfMemo
     })
 }
 
+fn created(alloc: Global, context: &Context, server: &mut ScriptedServer, bucket: &str) -> Words {
+    let config = config(alloc, bucket)?;
+    polled(alloc, server, context.create_object_store(alloc, config))
+}
+
+fn got(alloc: Global, context: &Context, server: &mut ScriptedServer, bucket: &str) -> Words {
+    polled(alloc, server, context.get_object_store(alloc, bucket))
+}
+
+fn removed(alloc: Global, context: &Context, server: &mut ScriptedServer, bucket: &str) -> Words {
+    polled(alloc, server, context.delete_object_store(alloc, bucket))
+}
+
 impl Case for Call {
     fn told(self, alloc: Global, context: &Context, server: &mut ScriptedServer) -> Words {
         match self {
-            Call::Create(bucket) => {
-                let config = config(alloc, bucket)?;
-                polled(alloc, server, context.create_object_store(alloc, config))
-            }
-            Call::Get(bucket) => polled(alloc, server, context.get_object_store(alloc, bucket)),
-            Call::Delete(bucket) => {
-                polled(alloc, server, context.delete_object_store(alloc, bucket))
-            }
+            Call::Create(bucket) => created(alloc, context, server, bucket),
+            Call::Get(bucket) => got(alloc, context, server, bucket),
+            Call::Delete(bucket) => removed(alloc, context, server, bucket),
         }
     }
 }
 
 /// Calls, what they ask and are replied, and what they come to.
-const CALLS: [(Call, &[(Asked, Reply)], &str); 9] = [
+const CALLS: &[Row<Call>] = &[
     (Call::Create("files"), &[(CREATE, KNOWN)], "files OBJ_files"),
     (
         Call::Create("files"),
@@ -86,8 +94,5 @@ const CALLS: [(Call, &[(Asked, Reply)], &str); 9] = [
 #[test]
 fn calls_on_objects_ask_and_answer(rt: HostRuntime) {
     let context = context(&rt, rt.alloc(), "$JS.API").expect(&rt, "context");
-    for (call, script, wanted) in CALLS {
-        let found = outcome(rt.alloc(), &context, call, script).expect(&rt, wanted);
-        assert_eq!(rt; found.as_str(), wanted);
-    }
+    says_each(&rt, rt.alloc(), &context, CALLS);
 }

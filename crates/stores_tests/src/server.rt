@@ -1,5 +1,6 @@
 //! A server that answers from a script, and what a call over it comes to.
 
+use crate::tables::says;
 pub(crate) use crate::words::{Words, word};
 use bytes::Bytes;
 use js_base::{Error, Message, OutOfMemory, StatusCode, Subject, Text, Turn};
@@ -11,6 +12,7 @@ use js_store::{ObjectStore, Store};
 use js_stream_json::DeleteStatus;
 use std::alloc::Global;
 use std::fmt::Display;
+use std::process::Abort;
 use std::sync::Wait;
 
 /// The subject and the body of a request.
@@ -34,10 +36,12 @@ pub(crate) const WRONG: Reply = (
 pub(crate) const DELETED: Reply = (None, r#"{"success":true}"#);
 
 fn message(alloc: Global, reply: Reply) -> Result<Message, OutOfMemory> {
+    let subject = Subject::new(alloc, "_INBOX.t.0")?;
+    let payload = Bytes::copy_from_slice(alloc, reply.1.as_bytes())?;
     Ok(Message {
-        subject: Subject::new(alloc, "_INBOX.t.0")?,
+        subject,
         reply: None,
-        payload: Bytes::copy_from_slice(alloc, reply.1.as_bytes())?,
+        payload,
         headers: None,
         status: reply.0,
         description: None,
@@ -54,15 +58,30 @@ fn scripted(
     server.script(alloc, asked.0, message(alloc, reply)?)
 }
 
+/// A server without a script.
+fn silent(alloc: Global) -> Result<ScriptedServer, OutOfMemory> {
+    let link = MemoryLink::new(alloc, "_INBOX.t")?;
+    Ok(ScriptedServer::new(alloc, link))
+}
+
+fn add_all(
+    alloc: Global,
+    server: &mut ScriptedServer,
+    script: &[(Asked, Reply)],
+) -> Result<(), OutOfMemory> {
+    for &(asked, reply) in script {
+        scripted(alloc, server, asked, reply)?;
+    }
+    Ok(())
+}
+
 /// A server that answers these requests so.
 pub(crate) fn serving(
     alloc: Global,
     script: &[(Asked, Reply)],
 ) -> Result<ScriptedServer, OutOfMemory> {
-    let mut server = ScriptedServer::new(alloc, MemoryLink::new(alloc, "_INBOX.t")?);
-    for (asked, reply) in script {
-        scripted(alloc, &mut server, *asked, *reply)?;
-    }
+    let mut server = silent(alloc)?;
+    add_all(alloc, &mut server, script)?;
     Ok(server)
 }
 
@@ -153,7 +172,7 @@ fn answer_word<A: Answered + Drop, K: Display + Drop>(
 }
 
 /// What a poll comes to: its answer, its error as it is printed, or `pending`.
-pub(crate) fn turn_word<S: Drop, A: Answered + Drop, K: Display + Drop>(
+fn turn_word<S: Drop, A: Answered + Drop, K: Display + Drop>(
     alloc: Global,
     turn: Turn<S, Result<A, Error<K>>>,
 ) -> Words {
@@ -181,21 +200,42 @@ where
     }
 }
 
-/// The call after a poll that leaves it pending.
-pub(crate) fn still<S: State, L: Link>(
+/// What the second poll of a call comes to.
+fn polled_again<S, A, K, L: Link>(alloc: Global, link: &mut L, turn: Turn<S, S::Answer>) -> Words
+where
+    S: State<Answer = Result<A, Error<K>>>,
+    A: Answered + Drop,
+    K: Display + Drop,
+{
+    match turn {
+        Turn::Pending(call) => turn_word(alloc, call.poll(alloc, link, 200)),
+        Turn::Ready(_) => word(alloc, "early"),
+        Turn::OutOfMemory(_) => Err(OutOfMemory),
+    }
+}
+
+/// What a call comes to by its second poll, 200 nanoseconds after the first.
+pub(crate) fn polled_twice<S, A, K, L: Link>(
     alloc: Global,
     link: &mut L,
-    call: S,
-    now: u64,
-) -> Option<S> {
-    match call.poll(alloc, link, now) {
-        Turn::Pending(call) => Some(call),
-        _ => None,
+    call: Result<S, OutOfMemory>,
+) -> Words
+where
+    S: State<Answer = Result<A, Error<K>>>,
+    A: Answered + Drop,
+    K: Display + Drop,
+{
+    match call {
+        Ok(call) => {
+            let turn = call.poll(alloc, link, 0);
+            polled_again(alloc, link, turn)
+        }
+        Err(OutOfMemory) => Err(OutOfMemory),
     }
 }
 
 /// A call of a context that is made and polled over a server.
-pub(crate) trait Case: Drop {
+pub(crate) trait Case: Copy {
     fn told(self, alloc: Global, context: &Context, server: &mut ScriptedServer) -> Words;
 }
 
@@ -211,7 +251,7 @@ pub(crate) fn context<R: Wait>(
 }
 
 /// The word of a call, where it asked what it was to ask.
-pub(crate) fn asked_word(
+fn asked_word(
     alloc: Global,
     text: String,
     server: &mut ScriptedServer,
@@ -224,14 +264,33 @@ pub(crate) fn asked_word(
     }
 }
 
-/// What a call comes to over a server that answers so. Where it asks anything else, that is told too.
-pub(crate) fn outcome<C: Case>(
+fn told<C: Case>(
     alloc: Global,
     context: &Context,
     call: C,
     script: &[(Asked, Reply)],
+    server: &mut ScriptedServer,
 ) -> Words {
-    let mut server = serving(alloc, script)?;
-    let text = call.told(alloc, context, &mut server)?;
-    asked_word(alloc, text, &mut server, script)
+    let text = call.told(alloc, context, server)?;
+    asked_word(alloc, text, server, script)
+}
+
+/// What a call comes to over a server that answers so. Where it asks anything else, that is told too.
+fn outcome<C: Case>(alloc: Global, context: &Context, call: C, script: &[(Asked, Reply)]) -> Words {
+    told(alloc, context, call, script, &mut serving(alloc, script)?)
+}
+
+/// A call, what it asks and is replied, and what it comes to.
+pub(crate) type Row<C> = (C, &'static [(Asked, Reply)], &'static str);
+
+/// Asserts what calls of a context come to.
+pub(crate) fn says_each<C: Case>(
+    rt: &impl Abort,
+    alloc: Global,
+    context: &Context,
+    rows: &[Row<C>],
+) {
+    for &(call, script, wanted) in rows {
+        says(rt, outcome(alloc, context, call, script), wanted);
+    }
 }
