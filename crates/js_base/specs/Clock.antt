@@ -15,6 +15,11 @@ abbrev pub is_any_due : Option Timer → ℕ → Bool
 is_any_due None now = false
 is_any_due (Some timer) now = is_due timer now
 
+-- a moment has come, if there is one
+abbrev pub has_come : Option ℕ → ℕ → Bool
+has_come None now = false
+has_come (Some moment) now = nat_le moment now
+
 -- in nanoseconds
 abbrev pub second : ℕ
 second = 1_000_000_000

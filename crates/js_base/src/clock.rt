@@ -1,7 +1,7 @@
 //! Moments, lengths of time and waits, in whole nanoseconds.
 
-ghost use Rattle.std.specs.Prelude.{◌≡◌};
-ghost use Rattle.js_base.specs.Clock.{is_any_due, is_due, is_over};
+ghost use Rattle.std.specs.Prelude.{◌≡◌, ◌<◌, ◌^◌, ◌||◌, ℕ};
+ghost use Rattle.js_base.specs.Clock.{has_come, is_any_due, is_due, is_over};
 
 /// A length of time in whole nanoseconds.
 pub type Nanos = u64;
@@ -17,6 +17,26 @@ pub fn due(now: Moment, set: Moment, wait: Nanos) -> bool
     match set.checked_add(wait) {
         Some(end) => end <= now,
         None => false,
+    }
+}
+
+/// The moment from which on a wait of `wait` nanoseconds that was set at `set` is over. None where that is past `u64::MAX`.
+pub fn end_of(set: Moment, wait: Nanos) -> Option<Moment>
+    ensures { (now : ℕ) → now < 2 ^ 64 → has_come result now ≡ is_over set wait now }
+{
+    set.checked_add(wait)
+}
+
+/// The earlier of two moments, where there are any.
+pub fn earlier(first: Option<Moment>, second: Option<Moment>) -> Option<Moment>
+    ensures { (now : ℕ) → has_come result now ≡ (has_come first now || has_come second now) }
+{
+    match first {
+        None => second,
+        Some(moment) => match second {
+            None => Some(moment),
+            Some(other) => Some(moment.min(other)),
+        },
     }
 }
 
@@ -36,6 +56,13 @@ impl Timer {
     {
         due(now, self.set, self.wait)
     }
+
+    /// The moment from which on the wait is over. None where that is past `u64::MAX`.
+    pub fn ends_at(&self) -> Option<Moment>
+        ensures { (now : ℕ) → now < 2 ^ 64 → has_come result now ≡ is_due self.now now }
+    {
+        end_of(self.set, self.wait)
+    }
 }
 
 /// Whether there is a wait, and it is over at `now`.
@@ -45,5 +72,15 @@ pub fn is_any_due(timer: &Option<Timer>, now: Moment) -> bool
     match timer {
         None => false,
         Some(timer) => timer.is_due(now),
+    }
+}
+
+/// The moment from which on a wait is over, where one is set and it ends before a `u64` of nanoseconds does.
+pub fn any_ends_at(timer: &Option<Timer>) -> Option<Moment>
+    ensures { (now : ℕ) → now < 2 ^ 64 → has_come result now ≡ is_any_due timer.now now }
+{
+    match timer {
+        None => None,
+        Some(timer) => timer.ends_at(),
     }
 }

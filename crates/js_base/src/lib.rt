@@ -15,7 +15,7 @@ mod tokens;
 mod turn;
 
 pub use boxed::Boxed;
-pub use clock::{Moment, Nanos, Timer, due, is_any_due};
+pub use clock::{Moment, Nanos, Timer, any_ends_at, due, earlier, end_of, is_any_due};
 pub use error::{ApiError, Error, Source};
 pub use headers::{Header, HeaderIter, HeaderMap};
 pub use items::Items;

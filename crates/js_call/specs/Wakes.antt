@@ -1,5 +1,6 @@
 -- What a call under way waits for: an answer, and the moment when its time is over. Before both a poll changes nothing.
-use Rattle.std.specs.Prelude.{ℕ, ◌≡◌, ⊤, Bool, false, nat_le, Option, Some, None, refl}
+use Rattle.std.specs.Prelude.{ℕ, ◌≡◌, ⊤, Bool, false, Option, Some, None, refl}
+use Rattle.js_base.specs.Clock.{has_come}
 use Rattle.js_base.specs.declared.turn.Turn.{Turn}
 use Rattle.js_base.specs.declared.turn.Turn.TheVariants.{Pending, Ready, OutOfMemory}
 use Rattle.js_link.specs.LinkView.{LinkView, Waits}
@@ -12,11 +13,6 @@ use Rattle.js_call.specs.declared.then.Then.{Then}
 use Rattle.js_call.specs.declared.then.Then.TheVariants.{First, Second}
 use Rattle.js_call.specs.Raw.{times_out}
 use Rattle.js_call.specs.Table.{Table}
-
--- a moment has come, if there is one
-abbrev pub has_come : Option ℕ → ℕ → Bool
-has_come None now = false
-has_come (Some moment) now = nat_le moment now
 
 -- the request itself, without its clock
 abbrev pub request_of : Option OpenRequest → Option RequestId

@@ -2,9 +2,9 @@
 ghost use Rattle.std.specs.Prelude.{◌≡◌, ◌<◌, ◌^◌, ℕ};
 ghost use Rattle.js_link.specs.LinkView.{LinkView};
 ghost use Rattle.js_call.specs.Raw.{Shows, times_out};
-ghost use Rattle.js_call.specs.Wakes.{has_come};
+ghost use Rattle.js_base.specs.Clock.{has_come};
 
-use js_base::{Message, Moment, Nanos, due};
+use js_base::{Message, Moment, Nanos, due, end_of};
 use js_link::{Answer, Link, RequestId};
 
 /// A request that was sent, and has given no answer.
@@ -55,7 +55,7 @@ impl OpenRequest {
     {
         match self.timeout {
             None => None,
-            Some(wait) => self.since.checked_add(wait),
+            Some(wait) => end_of(self.since, wait),
         }
     }
 

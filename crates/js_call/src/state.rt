@@ -2,7 +2,8 @@
 ghost use Rattle.std.specs.Prelude.{◌≡◌, ◌<◌, ◌^◌, ℕ, Option};
 ghost use Rattle.js_base.specs.declared.turn.Turn.{Turn};
 ghost use Rattle.js_link.specs.LinkView.{LinkView};
-ghost use Rattle.js_call.specs.Wakes.{has_come, is_due, request_of, PendsOn, Sleeps};
+ghost use Rattle.js_base.specs.Clock.{has_come};
+ghost use Rattle.js_call.specs.Wakes.{is_due, request_of, PendsOn, Sleeps};
 ghost use Rattle.js_call.specs.declared.open_request.OpenRequest.{OpenRequest};
 
 use crate::open_request::OpenRequest;

@@ -3,7 +3,8 @@ ghost use Rattle.std.specs.Prelude.{◌≡◌, ◌+◌, ◌<◌, ◌^◌, ◌++�
 ghost use Rattle.js_link.specs.LinkView.{LinkView};
 ghost use Rattle.js_base.specs.Errors.{plain};
 ghost use Rattle.js_fields.specs.Reading.{Gives};
-ghost use Rattle.js_call.specs.Wakes.{Sleeps, has_come, is_due, request_of};
+ghost use Rattle.js_base.specs.Clock.{has_come};
+ghost use Rattle.js_call.specs.Wakes.{Sleeps, is_due, request_of};
 ghost use Rattle.js_context.specs.Contexts.{ContextView};
 ghost use Rattle.js_context.specs.Clocks.{started};
 ghost use Rattle.js_context.specs.Acks.{ack_in, meaning_of, meaning_read, unreadable, AckPolled, AckReads, AckTurns, Ends, IsAwaitedBy, PermitAfter};

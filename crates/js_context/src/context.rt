@@ -3,7 +3,7 @@ ghost use Rattle.std.specs.Prelude.{◌≡◌, ◌+◌, ◌<◌, ◌≤◌, ◌^
 ghost use Rattle.js_window.specs.Caller.{Makes, held};
 ghost use Rattle.js_window.specs.declared.history.Call.TheVariants.{AllFree, Give};
 ghost use Rattle.js_stream_calls.specs.Places.{domain_prefix};
-ghost use Rattle.js_call.specs.Wakes.{has_come};
+ghost use Rattle.js_base.specs.Clock.{has_come};
 ghost use Rattle.js_context.specs.Contexts.{GivesBack, IsNew, IsUsual, SplitsOff, Takes, timeout_of};
 ghost use Rattle.js_context.specs.Reaps.{GivesIf, clocked_ack, stays};
 ghost use Rattle.js_context.specs.Waits.{Settles};
@@ -12,8 +12,8 @@ ghost use Rattle.js_context.specs.declared.context.Detached.{Detached};
 
 use crate::build_error::BuildError;
 use crate::builder::ContextBuilder;
-use crate::wakes::{earlier, end_of};
-use js_base::{Moment, Nanos, OutOfMemory, TryClone};
+use crate::wakes::clock_end;
+use js_base::{Moment, Nanos, OutOfMemory, TryClone, earlier};
 use js_call::{ApiScope, OpenRequest};
 use js_link::RequestId;
 use js_window::{Pass, Permit, Take, Window};
@@ -207,7 +207,7 @@ impl Context {
     {
         let mut first = None;
         for ack in &self.detached {
-            first = earlier(first, end_of(ack.since, self.settings.ack_timeout));
+            first = earlier(first, clock_end(ack.since, self.settings.ack_timeout));
         }
         first
     }

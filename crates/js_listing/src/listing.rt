@@ -1,7 +1,8 @@
 //! A list of the API, item by item.
 ghost use Rattle.std.specs.Prelude.{◌≡◌, ◌<◌, ◌^◌, ℕ, IfOk, OnErr, None};
 ghost use Rattle.js_link.specs.LinkView.{LinkView};
-ghost use Rattle.js_call.specs.Wakes.{has_come, is_due, request_of};
+ghost use Rattle.js_base.specs.Clock.{has_come};
+ghost use Rattle.js_call.specs.Wakes.{is_due, request_of};
 ghost use Rattle.js_listing.specs.Polls.{Polls, Turned, Takes, fresh};
 ghost use Rattle.js_listing.specs.Wakes.{ListPends, ListSleeps, list_waits_for};
 ghost use Rattle.js_listing.specs.Whole.{HandsOutWhole};

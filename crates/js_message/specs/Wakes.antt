@@ -1,5 +1,5 @@
 -- When a double ack has something to do by itself, and that it may be left alone until then.
-use Rattle.std.specs.Prelude.{ℕ, ◌≡◌, Bool, false, nat_le, Option, Some, None}
+use Rattle.std.specs.Prelude.{ℕ, ◌≡◌, Bool, false, Option, Some, None}
 use Rattle.js_base.specs.Clock.{is_over}
 use Rattle.js_base.specs.declared.turn.Turn.TheVariants.{Pending}
 use Rattle.js_link.specs.LinkView.{LinkView}
@@ -8,11 +8,6 @@ use Rattle.js_message.specs.declared.double_ack.Outgoing.{Outgoing}
 use Rattle.js_message.specs.declared.double_ack.Stage.{Stage}
 use Rattle.js_message.specs.declared.double_ack.Stage.TheVariants.{Unsent, Opened, Waiting}
 use Rattle.js_message.specs.Acking.{FindsNone, Polled}
-
--- a moment has come, if there is one
-abbrev pub has_come : Option ℕ → ℕ → Bool
-has_come None now = false
-has_come (Some moment) now = nat_le moment now
 
 -- it was sent, and its timeout is over
 abbrev pub stage_due : Option Outgoing → Stage → ℕ → Bool

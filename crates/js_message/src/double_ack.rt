@@ -2,12 +2,13 @@
 ghost use Rattle.std.specs.Prelude.{◌≡◌, ◌<◌, ◌^◌, ℕ, IfOk};
 ghost use Rattle.std.specs.Option.{option_copied};
 ghost use Rattle.js_message.specs.Acking.{ack_body, unsent, opened, waiting, PollsOf, OpensAndSends, FailsToOpen, Sends, Looks};
-ghost use Rattle.js_message.specs.Wakes.{Sleeps, has_come, times_out};
+ghost use Rattle.js_base.specs.Clock.{has_come};
+ghost use Rattle.js_message.specs.Wakes.{Sleeps, times_out};
 
 use crate::ack_kind::AckKind;
 use crate::acker::AckError;
 use bytes::Bytes;
-use js_base::{Moment, Nanos, OutOfMemory, Subject, TryClone, Turn, due};
+use js_base::{Moment, Nanos, OutOfMemory, Subject, TryClone, Turn, due, end_of};
 use js_link::{InboxId, Link, LinkError, Taken};
 use std::alloc::Global;
 
@@ -103,7 +104,7 @@ impl DoubleAck {
         match self.stage {
             Stage::Unsent => None,
             Stage::Opened(..) => None,
-            Stage::Waiting(_, since) => since.checked_add(outgoing.timeout),
+            Stage::Waiting(_, since) => end_of(since, outgoing.timeout),
         }
     }
 }

@@ -4,7 +4,7 @@ ghost use Rattle.js_link.specs.Meets.{Meets};
 ghost use Rattle.js_ordered_rows.specs.Tasks.{next_rows};
 ghost use Rattle.js_ordered_stream.specs.Rows.{Fits, answer_shown, later_of, left_rows, read_by};
 ghost use Rattle.js_ordered_stream.specs.Stream.{PassesFirst, TurnsTo, first_at, given_to, is_spent as has_no_sequence, poll_answer, position_of, silent_by, turned_by, with_retries};
-ghost use Rattle.js_pull_stream.specs.Wakes.{has_come};
+ghost use Rattle.js_base.specs.Clock.{has_come};
 ghost use Rattle.js_table.specs.Fold.{is_over as has_ended};
 ghost use Rattle.js_table.specs.Passes.{given_of};
 ghost use Rattle.js_turns.specs.Polling.{IsPoll, closed_at, is_reading as reads_inbox};

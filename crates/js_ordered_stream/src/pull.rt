@@ -3,7 +3,7 @@ ghost use Rattle.std.specs.Prelude.{◌≡◌, ◌<◌, ◌^◌, ℕ, IfOk};
 ghost use Rattle.js_link.specs.Meets.{Meets};
 ghost use Rattle.js_ordered_stream.specs.Opening.{IsGaplessPull, OpensConsumer, OpensOrdered, given_of_pull, position_of_pull};
 ghost use Rattle.js_ordered_stream.specs.Stream.{poll_answer};
-ghost use Rattle.js_pull_stream.specs.Wakes.{has_come};
+ghost use Rattle.js_base.specs.Clock.{has_come};
 ghost use Rattle.js_turns.specs.Polling.{IsPoll};
 ghost use Rattle.js_turns.specs.Wakes.{SleepsIfLeftAlone, phase_due};
 

@@ -1,10 +1,9 @@
 //! When an ordered stream has something to do by itself.
 ghost use Rattle.std.specs.Prelude.{◌≡◌, ◌<◌, ◌^◌, ℕ};
-ghost use Rattle.js_pull_stream.specs.Wakes.{has_come};
+ghost use Rattle.js_base.specs.Clock.{has_come};
 ghost use Rattle.js_turns.specs.Wakes.{phase_due, stage_due};
 
 use js_base::Moment;
-use js_pull_stream::end_of;
 use js_table::{Phase, Stage};
 
 /// When an open recreation has something to do.
@@ -13,9 +12,9 @@ fn stage_end(stage: &Stage) -> Option<Moment>
 {
     match stage {
         Stage::Between => None,
-        Stage::Deleting { timeout, .. } => end_of(&Some(*timeout)),
-        Stage::Creating { timeout, .. } => end_of(&Some(*timeout)),
-        Stage::Waiting { wait } => end_of(&Some(*wait)),
+        Stage::Deleting { timeout, .. } => timeout.ends_at(),
+        Stage::Creating { timeout, .. } => timeout.ends_at(),
+        Stage::Waiting { wait } => wait.ends_at(),
     }
 }
 
@@ -28,7 +27,7 @@ pub(crate) fn phase_end(phase: &Phase) -> Option<Moment>
         Phase::Pushes {
             heartbeat_timer,
             ..
-        } => end_of(&Some(*heartbeat_timer)),
+        } => heartbeat_timer.ends_at(),
         Phase::Recreates(recreation) => stage_end(&recreation.stage),
         Phase::Idle => Some(0),
         Phase::Ended => None,

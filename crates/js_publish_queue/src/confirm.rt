@@ -1,7 +1,8 @@
 //! A message that is published, and whose ack is awaited, as one call.
 ghost use Rattle.std.specs.Prelude.{◌≡◌, ◌+◌, ◌<◌, ◌^◌, ℕ, IfOk, None};
 ghost use Rattle.js_message.specs.Publishing.{outbound};
-ghost use Rattle.js_call.specs.Wakes.{Sleeps, has_come, is_due, request_of};
+ghost use Rattle.js_base.specs.Clock.{has_come};
+ghost use Rattle.js_call.specs.Wakes.{Sleeps, is_due, request_of};
 ghost use Rattle.js_context.specs.Acks.{IsAwaitedBy};
 ghost use Rattle.js_context.specs.Messages.{sending};
 ghost use Rattle.js_context.specs.Wakes.{ack_waits_for};

@@ -18,7 +18,6 @@ mod published;
 mod queue;
 mod tries;
 mod unsent;
-mod wakes;
 
 pub use confirm::{Confirming, PublishCalls};
 pub use published::{Published, Tag};

@@ -2,7 +2,7 @@
 ghost use Rattle.std.specs.Prelude.{◌≡◌, ◌<◌, ◌≤◌, ◌+◌, ◌^◌, ◌++◌, ◌∷◌, [], ℕ, None, IfOk, OnOk, OnErr, length};
 ghost use Rattle.js_message.specs.Publishing.{outbound};
 ghost use Rattle.js_window.specs.Caller.{held};
-ghost use Rattle.js_call.specs.Wakes.{has_come};
+ghost use Rattle.js_base.specs.Clock.{has_come};
 ghost use Rattle.js_publish_queue.specs.Queue.{EachHasOne, EndsEmpty, Keeps, handed, open_tags, times};
 ghost use Rattle.js_publish_queue.specs.Flights.{Detaches};
 ghost use Rattle.js_publish_queue.specs.Steps.{Looks, Sends, outcome_of};
@@ -13,9 +13,8 @@ use crate::flying::{Flying, detach_all};
 use crate::published::{Published, Tag};
 use crate::tries::{Tried, try_to_send};
 use crate::unsent::Unsent;
-use crate::wakes::earlier;
 use bytes::Bytes;
-use js_base::{Error, Moment, Nanos, Next, OutOfMemory, Subject, Turn};
+use js_base::{Error, Moment, Nanos, Next, OutOfMemory, Subject, Turn, earlier, end_of};
 use js_context::Context;
 use js_link::Link;
 use js_message::OutboundMessage;
@@ -213,7 +212,7 @@ impl PublishQueue {
     {
         match self.unsent.front() {
             None => None,
-            Some(first) => first.since.checked_add(self.patience),
+            Some(first) => end_of(first.since, self.patience),
         }
     }
 

@@ -1,7 +1,7 @@
 //! One batch of messages.
 ghost use Rattle.std.specs.Prelude.{◌≡◌, ◌<◌, ◌==◌, ◌^◌, ℕ, Some};
 ghost use Rattle.js_link.specs.Calls.{Closes};
-ghost use Rattle.js_pull_stream.specs.Wakes.{has_come};
+ghost use Rattle.js_base.specs.Clock.{has_come};
 ghost use Rattle.js_pull_calls.specs.Arrivals.{arrival_of};
 ghost use Rattle.js_pull_calls.specs.Batches.{ClosesIf, PollsBatch, SleepsIfQuiet, batch_due, ended, given, heard, heard_message, new_batch};
 ghost use Rattle.js_pull_calls.specs.Runs.{KeepsItsNumber, StaysEnded};
@@ -167,7 +167,7 @@ impl Batch {
             (None, _) => None,
             (Some(_), _) if self.left == 0 => Some(0),
             (Some(_), None) => None,
-            (Some(_), Some(timer)) => timer.set.checked_add(timer.wait),
+            (Some(_), Some(timer)) => timer.ends_at(),
         }
     }
 }

@@ -1,8 +1,7 @@
 //! Batches one after the other.
 ghost use Rattle.std.specs.Prelude.{◌≡◌, ◌<◌, ◌^◌, ℕ, true};
 ghost use Rattle.js_pull.specs.Reader.{timer_from};
-ghost use Rattle.js_pull_stream.specs.Wakes.{has_come};
-ghost use Rattle.js_base.specs.Clock.{second};
+ghost use Rattle.js_base.specs.Clock.{has_come, second};
 ghost use Rattle.js_pull_calls.specs.Sequences.{OpensSequence, PollsSequence};
 
 use crate::batch::Batch;

@@ -3,7 +3,8 @@ ghost use Rattle.std.specs.Prelude.{◌≡◌, ◌<◌, ◌^◌, ℕ};
 ghost use Rattle.js_link.specs.Meets.{Meets};
 ghost use Rattle.js_pull_stream.specs.Stream.{IsPoll};
 ghost use Rattle.js_pull_stream.specs.Turns.{position_of, seen_by};
-ghost use Rattle.js_pull_stream.specs.Wakes.{SleepsIfLeftAlone, has_come, timer_due};
+ghost use Rattle.js_base.specs.Clock.{has_come};
+ghost use Rattle.js_pull_stream.specs.Wakes.{SleepsIfLeftAlone, timer_due};
 ghost use Rattle.js_pull_calls.specs.Streams.{IsTimed, OpensMessages, given_answer, stream_refusal};
 
 use crate::error::{StreamError, StreamErrorKind};

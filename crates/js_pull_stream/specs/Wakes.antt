@@ -1,5 +1,5 @@
 -- When a stream has something to do by itself, and that it may be left alone until then.
-use Rattle.std.specs.Prelude.{◌≡◌, ◌⊎◌, ⊤, ℕ, Bool, true, false, ◌||◌, [], Option, Some, None, nat_le, if◌then◌else◌}
+use Rattle.std.specs.Prelude.{◌≡◌, ◌⊎◌, ⊤, ℕ, Bool, true, false, ◌||◌, [], Option, Some, None, if◌then◌else◌}
 use Rattle.js_base.specs.Clock.{is_due, is_any_due}
 use Rattle.js_base.specs.declared.clock.Timer.{Timer}
 use Rattle.js_link.specs.LinkView.{LinkView}
@@ -9,11 +9,6 @@ use Rattle.js_pull.specs.declared.reader.Reader.{Reader}
 use Rattle.js_pull.specs.declared.reader.InfoRequest.{InfoRequest}
 use Rattle.js_pull.specs.declared.reader.InfoRequest.TheVariants.{NoInfoRequest, Asked, Resting}
 use Rattle.js_pull_stream.specs.Stream.{Position, PollAnswer, Waits, Lacks, change_met}
-
--- a moment has come, if there is one
-abbrev pub has_come : Option ℕ → ℕ → Bool
-has_come None now = false
-has_come (Some moment) now = nat_le moment now
 
 -- an open info looks at its clock; without one the expiry is looked at
 abbrev pub inquiry_due : ℕ → InfoRequest → Option Timer → Bool

@@ -7,4 +7,4 @@ mod stream;
 mod wakes;
 
 pub use stream::{Advance, Consumer, MessagesError, Stream};
-pub use wakes::{end_of, wakes_at};
+pub use wakes::wakes_at;

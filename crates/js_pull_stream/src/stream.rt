@@ -9,7 +9,8 @@ ghost use Rattle.js_pull.specs.Steps.{pin_brought};
 ghost use Rattle.js_pull.specs.declared.rows.Due.TheVariants as due_of;
 ghost use Rattle.js_pull_stream.specs.Stream.{IsAdvance, IsPoll, Fails, change_met, closed_at, description_of, same_state};
 ghost use Rattle.js_pull_stream.specs.Turns.{BeginsAt, FirstOf, IsMeeting, OpensStream, PassesAt, advance_answer, begun, fails_by, poll_answer, position_of, rows_empty, seen_by, text_of, turned_by};
-ghost use Rattle.js_pull_stream.specs.Wakes.{SleepsIfLeftAlone, has_come, timer_due};
+ghost use Rattle.js_base.specs.Clock.{has_come};
+ghost use Rattle.js_pull_stream.specs.Wakes.{SleepsIfLeftAlone, timer_due};
 
 use crate::arrivals::{Meeting, meet};
 use crate::left::Left;

@@ -1,17 +1,18 @@
 //! The reader of a push consumer.
 ghost use Rattle.std.specs.Prelude.{◌≡◌, ◌<◌, ◌^◌, ℕ};
-ghost use Rattle.js_pull_stream.specs.Wakes.{has_come};
+ghost use Rattle.js_base.specs.Clock.{has_come};
 ghost use Rattle.js_base.specs.Errors.{plain};
 ghost use Rattle.js_push_calls.specs.Rows.{arrival_row, armed, hear, new_messages, next_row, pass, silence_row};
 ghost use Rattle.js_push_calls.specs.Polls.{IsPoll, PassesRow, SleepsIfLeftAlone, met_of, something_due};
 
 use crate::error::{MessagesError, MessagesErrorKind};
 use crate::row::{Row, Told, answer};
-use js_base::{Error, Moment, Nanos, Next, OutOfMemory, StatusCode, Timer, is_any_due};
+use js_base::{
+    Error, Moment, Nanos, Next, OutOfMemory, StatusCode, Timer, any_ends_at, is_any_due,
+};
 use js_link::{InboxId, Link, Taken};
 use js_message::Message;
 use js_pull::armed_silence;
-use js_pull_stream::end_of;
 use std::alloc::Global;
 
 /// The messages of a push consumer, in the order in which they come.
@@ -187,7 +188,7 @@ impl Messages {
     {
         match &self.next {
             Row::Arm | Row::Answer(_) => Some(0),
-            Row::CheckArrival => end_of(&self.heartbeat_timer),
+            Row::CheckArrival => any_ends_at(&self.heartbeat_timer),
             Row::Ended => None,
         }
     }

@@ -1,6 +1,6 @@
 use Rattle.std.proofs.Common.{◌≡◌, ◌||◌, ◌<◌, ◌^◌, ℕ}
 use Rattle.std.specs.VecDeque.Iter.{deque_iter_rest}
-use Rattle.js_call.specs.Wakes.{has_come}
+use Rattle.js_base.specs.Clock.{has_come}
 use Rattle.js_context.specs.Wakes.{is_one_due}
 use Rattle.js_context.proofs.context.Context.wakes_at.Given as goal
 

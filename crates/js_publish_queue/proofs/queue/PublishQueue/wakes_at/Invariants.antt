@@ -1,6 +1,6 @@
 use Rattle.std.proofs.Common.{◌≡◌, ◌||◌, ◌<◌, ◌^◌, ℕ}
 use Rattle.std.specs.VecDeque.Iter.{deque_iter_rest}
-use Rattle.js_call.specs.Wakes.{has_come}
+use Rattle.js_base.specs.Clock.{has_come}
 use Rattle.js_publish_queue.specs.Flights.{waits_of}
 use Rattle.js_publish_queue.specs.Wakes.{is_one_due, queue_due}
 use Rattle.js_publish_queue.proofs.queue.PublishQueue.wakes_at.Given as goal
