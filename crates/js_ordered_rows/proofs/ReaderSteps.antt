@@ -1,6 +1,6 @@
 -- A row of a pull reader that was passed, where a case is not computed.
 use Rattle.std.proofs.Common.{◌≡◌, ℕ, Bool, true, false, List, [], ◌∷◌, ◌++◌, Option, Some, None, refl, ap, subst}
-use Rattle.std.specs.Prelude.{◌==◌, ◌&&◌, ◌+◌, nat_lt, not, map, option_map, if◌then◌else◌}
+use Rattle.std.specs.Prelude.{◌==◌, ◌&&◌, ◌+◌, nat_lt, not, map, if◌then◌else◌}
 use Rattle.js_base.specs.declared.clock.Timer.{Timer}
 use Rattle.js_base.specs.Clock.{is_any_due}
 use Rattle.js_base.specs.declared.message.Message.{Message}
@@ -9,13 +9,13 @@ use Rattle.js_link.specs.Met.{Met, Empty, Took, Got, Gone}
 use Rattle.js_link.specs.Passing.{Passing}
 use Rattle.js_pull.specs.declared.rows.Step.{Step as Read}
 use Rattle.js_pull.specs.Steps.{ReadsTo, brought, row_list, told_shown}
-use Rattle.js_pull.specs.Steps.{StepsTo as PullStepsTo, informed_by as pull_informed, requesting as pull_requesting}
+use Rattle.js_pull.specs.Steps.{StepsTo as PullStepsTo, requesting as pull_requesting}
 use Rattle.js_pull.specs.declared.reader.InfoRequest.{InfoRequest}
 use Rattle.js_pull.specs.declared.reader.InfoRequest.TheVariants.{NoInfoRequest, Asked, Resting}
 use Rattle.js_pull.specs.declared.kind.Kind.{Kind}
 use Rattle.js_pull.specs.declared.kind.Kind.TheVariants.{Delivered, IdleHeartbeat, Deleted, PushBased, Limit, Gone, Bad, Ledger}
 use Rattle.js_pull.specs.declared.reader.Reader.{Reader}
-use Rattle.js_pull.specs.declared.reader.Reason.TheVariants.{Low, Informed}
+use Rattle.js_pull.specs.declared.reader.Reason.TheVariants.{Low}
 use Rattle.js_pull.specs.declared.reader.Row.{Row}
 use Rattle.js_pull.specs.declared.reader.Row.TheVariants as read
 use Rattle.js_pull.specs.Reader as pull
@@ -63,11 +63,6 @@ inquired now None failures r s step steps p reply message = steps_read (pull.qui
 inquired now (Some request) failures r s step steps p reply message =
     let read : ReadsTo reply message (pull.inquire (pull_requesting now (Some request)) failures r) s step = steps_read (pull.inquire (pull_requesting now (Some request)) failures r) step s steps reply message in
     record { reader = read.reader; told = read.told; next = read.next }
-
--- both readings of an info give the same reason
-pub same_reason : (info : Option Info) → option_map (λ (i : Info). Informed (i.num_waiting == 0)) info ≡ pull_informed info
-same_reason None = refl
-same_reason (Some info) = refl
 
 -- ---- what the consumer makes of what its reader tells
 

@@ -3,12 +3,11 @@ ghost use Rattle.std.specs.Prelude.{ℕ, ◌≡◌, [], false, None, Option, map
 ghost use Rattle.js_base.specs.declared.message.Message.{Message as SpecMessage};
 ghost use Rattle.js_json.specs.declared.consumer.info.Info.{Info as SpecInfo};
 ghost use Rattle.js_link.specs.Passing.{Passing};
-ghost use Rattle.js_pull.specs.Steps.{ReadsTo, brought, rows_with, told_shown};
+ghost use Rattle.js_pull.specs.Steps.{ReadsTo, brought, informed_by, rows_with, told_shown};
 ghost use Rattle.js_ordered_rows.specs.Tasks.{IsOfStream, StepsTo, at_moment, heard_outputs, heard_row, next_rows, reader_rows, requesting, told_outputs};
 ghost use Rattle.js_pull.specs.Reader as reads;
 ghost use Rattle.js_pull.specs.declared.reader.Row.TheVariants as read;
 ghost use Rattle.js_pull.specs.declared.reader.ReaderOutput.TheVariants as telling;
-ghost use Rattle.js_table.specs.Passes.{informed_by};
 ghost use Rattle.js_table.specs.Reading.{told as told_by, with_sent};
 ghost use Rattle.js_table.specs.State.{Matter, at_phase};
 ghost use Rattle.js_table.specs.declared.row.Row.TheVariants as row;
@@ -75,7 +74,7 @@ pub fn fail_inquiry(reader: &mut Reader, now: Moment, failures: u64) -> Read
 
 /// The answer was read.
 pub fn answered(reader: &mut Reader, failures: u64, informed: Option<Reason>) -> Read
-    ensures { (reply : Option SpecMessage) → (message : Option SpecMessage) → informed ≡ informed_by reply
+    ensures { (reply : Option SpecMessage) → (message : Option SpecMessage) → informed ≡ informed_by (reads.info_of_reply reply)
         → ReadsTo reply message (reads.answered failures (reads.info_of_reply reply) reader.old) reader.new result }
 {
     reader.pass_answered(failures, informed)

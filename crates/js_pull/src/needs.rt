@@ -1,5 +1,6 @@
 //! What a row needs before it is passed: the texts of what it wishes, what its reply tells, and the pin that an arrival brings.
 ghost use Rattle.std.specs.Prelude.{◌≡◌, IfOk, Option};
+ghost use Rattle.std.specs.Option.{option_copied};
 ghost use Rattle.js_base.specs.declared.message.Message.{Message as SpecMessage};
 ghost use Rattle.js_link.specs.Met.{message_of};
 ghost use Rattle.js_pull.specs.Asking.{met_shown, wish_shown};
@@ -25,7 +26,7 @@ pub fn informed_of(
     ensures { IfOk result (λ reason. IsInformed (row_of reply.now due) reason) }
 {
     match due {
-        Due::Answered { .. } => informed(alloc, reply),
+        Due::Answered { .. } => reason_of(alloc, reply.as_ref()),
         Due::Ask { .. } => Ok(None),
         Due::Threshold => Ok(None),
         Due::Arm => Ok(None),
@@ -39,10 +40,10 @@ pub fn informed_of(
 }
 
 /// Why messages are asked for after this answer, where it is a good one: with a reset where no request waits at the server.
-fn informed(alloc: Global, reply: &Option<Message>) -> Result<Option<Reason>, OutOfMemory>
-    ensures { IfOk result (λ reason. reason ≡ informed_by (rows.info_of_reply reply.now)) }
+pub fn reason_of(alloc: Global, reply: Option<&Message>) -> Result<Option<Reason>, OutOfMemory>
+    ensures { IfOk result (λ reason. reason ≡ informed_by (rows.info_of_reply (option_copied reply.entry))) }
 {
-    match info_of_reply(alloc, reply.as_ref())? {
+    match info_of_reply(alloc, reply)? {
         None => Ok(None),
         Some(info) => Ok(Some(Reason::Informed {
             reset: info.num_waiting == 0,

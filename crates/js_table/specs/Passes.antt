@@ -1,12 +1,10 @@
 -- What passing rows comes to in a replay, as the functions that pass them say it.
-use Rattle.std.specs.Prelude.{ℕ, suc, ◌+◌, Bool, List, map, Option, Some, None, option_map, ◌==◌, false, if◌then◌else◌}
+use Rattle.std.specs.Prelude.{ℕ, suc, ◌+◌, Bool, List, map, Option, Some, None, ◌==◌, false, if◌then◌else◌}
 use Rattle.js_base.specs.declared.clock.Timer.{Timer}
 use Rattle.js_table.specs.Texts.{recreation_timeout, inbox_subject, source_of}
 use Rattle.js_table.specs.Recreation.{recreation, held_in}
 use Rattle.js_base.specs.declared.message.Message.{Message}
-use Rattle.js_pull.specs.Reader.{new_reader, retry_wait, info_of_reply, with_pin, with_silence}
-use Rattle.js_pull.specs.declared.reader.Reason.{Reason}
-use Rattle.js_pull.specs.declared.reader.Reason.TheVariants.{Informed}
+use Rattle.js_pull.specs.Reader.{new_reader, retry_wait, with_pin, with_silence}
 use Rattle.js_table.specs.declared.consumer.Recreation.{Recreation}
 use Rattle.js_pull.specs.declared.reader.Reader.{Reader}
 use Rattle.js_table.specs.declared.row.Row.TheVariants.{Hear}
@@ -57,10 +55,6 @@ timeout_at g now = record { set = now; wait = recreation_timeout g.settings }
 -- one row after what another came to
 abbrev pub then_row : ReplayInput → ℕ → Matter → Row → Ran → Ran
 then_row g now m row first = and_then first.outputs (ran g now m row first.state)
-
--- why messages are asked for after an answer that holds an info: with a reset where no request waits
-abbrev pub informed_by : Option Message → Option Reason
-informed_by reply = option_map (λ info. Informed (info.num_waiting == 0)) (info_of_reply reply)
 
 -- ---- what a recreation makes of a consumer
 

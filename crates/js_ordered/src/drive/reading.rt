@@ -8,7 +8,7 @@ ghost use Rattle.js_pull.specs.Steps.{IsInquired, brought, row_of};
 ghost use Rattle.js_pull.specs.Reader.{info_subject};
 ghost use Rattle.js_pull.specs.declared.reader.Row.TheVariants as read;
 ghost use Rattle.js_table.specs.Fold.{matter_of};
-ghost use Rattle.js_table.specs.Passes.{informed_by, matter_now};
+ghost use Rattle.js_table.specs.Passes.{matter_now};
 ghost use Rattle.js_table.specs.State.{Matter};
 ghost use Rattle.js_table.specs.declared.row.Row.TheVariants as row;
 ghost use Rattle.js_table.specs.declared.run.Output.{Output as SpecOutput};
@@ -19,7 +19,7 @@ use crate::drive::recreation::has_reply;
 use bytes::Bytes;
 use js_base::{Message, OutOfMemory, TryClone};
 use js_ordered_rows::{NextTasks, Step, reading};
-use js_pull::{Due, InfoRequest, Reader, Reason, Step as Read, check_inquiry, info_of_reply};
+use js_pull::{Due, InfoRequest, Reader, Reason, Step as Read, check_inquiry, reason_of};
 use js_table::{EventContext, EventKind, Output, Phase, ReplayState};
 use std::alloc::Global;
 
@@ -135,18 +135,6 @@ fn reply_in(what: &EventKind) -> Option<&Message>
     }
 }
 
-/// Why messages are asked for after the reply, where it is a good one: with a reset where no request waits at the server.
-fn informed(alloc: Global, what: &EventKind) -> Result<Option<Reason>, OutOfMemory>
-    ensures { IfOk result (λ reason. reason ≡ informed_by (brought (matter_of what.now).answer)) }
-{
-    match info_of_reply(alloc, reply_in(what))? {
-        None => Ok(None),
-        Some(info) => Ok(Some(Reason::Informed {
-            reset: info.num_waiting == 0,
-        })),
-    }
-}
-
 /// The reply is read.
 fn answered(
     alloc: Global,
@@ -160,7 +148,7 @@ fn answered(
 {
     match &mut state.consumer.phase {
         Phase::Pulls(reader) => {
-            let informed = informed(alloc, context.what)?;
+            let informed = reason_of(alloc, reply_in(context.what))?;
             let step = reading::answered(reader, failures, informed);
             Ok(finish(state, step, outputs))
         }
