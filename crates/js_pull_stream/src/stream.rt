@@ -1,5 +1,5 @@
 //! A pull stream over its link: it passes row after row, and may stop between any two.
-ghost use Rattle.std.specs.Prelude.{◌≡◌, ◌<◌, ◌^◌, ℕ, None, Some, false, true};
+ghost use Rattle.std.specs.Prelude.{◌≡◌, ◌<◌, ◌^◌, ℕ, IfOk, None, Some, false, true};
 ghost use Rattle.js_link.specs.LinkView.{LinkView};
 ghost use Rattle.js_link.specs.Meets.{Meets};
 ghost use Rattle.js_link.specs.Met.{message_of};
@@ -7,7 +7,7 @@ ghost use Rattle.js_pull.specs.Asking.{met_shown, watch_met};
 ghost use Rattle.js_pull.specs.Reader.{opening};
 ghost use Rattle.js_pull.specs.Steps.{pin_brought};
 ghost use Rattle.js_pull.specs.declared.rows.Due.TheVariants as due_of;
-ghost use Rattle.js_pull_stream.specs.Stream.{IsAdvance, IsPoll, Fails, change_met, closed_at, description_of, same_state};
+ghost use Rattle.js_pull_stream.specs.Stream.{IsAdvance, IsBoundedAt, IsPoll, Fails, change_met, closed_at, description_of, same_state};
 ghost use Rattle.js_pull_stream.specs.Turns.{BeginsAt, FirstOf, IsMeeting, OpensStream, PassesAt, advance_answer, begun, fails_by, poll_answer, position_of, rows_empty, seen_by, text_of, turned_by};
 ghost use Rattle.js_base.specs.Clock.{has_come};
 ghost use Rattle.js_pull_stream.specs.Wakes.{SleepsIfLeftAlone, timer_due};
@@ -171,7 +171,8 @@ impl Stream {
         }
     }
 
-    /// Opens an inbox, and a stream that reads it. It asks for nothing before its first call.
+    /// Opens an inbox, and a stream that reads it. It asks for nothing before its first call. One that asks for no number of bytes
+    /// keeps the bound on what is pending from here on, however it is polled.
     pub fn open<L: Link>(
         alloc: Global,
         link: &mut L,
@@ -179,7 +180,8 @@ impl Stream {
         config: BatchConfig,
         pinned: bool,
     ) -> Result<Stream, LinkError>
-        ensures { OpensStream result consumer.now config pinned (L.view link.old) (L.view link.new) }
+        ensures opens { OpensStream result consumer.now config pinned (L.view link.old) (L.view link.new) }
+        ensures bounded { IfOk result (λ stream. config.max_bytes ≡ 0 → IsBoundedAt (position_of stream)) }
     {
         let api = Text::from_str(alloc, consumer.api)?;
         let stream = Text::from_str(alloc, consumer.stream)?;
