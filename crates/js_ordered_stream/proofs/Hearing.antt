@@ -1,9 +1,10 @@
 -- A row of a pull reader that was passed over a link, with what the consumer makes of what the reader tells.
 use Rattle.std.proofs.Common.{◌≡◌, ℕ, Bool, true, false, List, [], ◌∷◌, ◌++◌, map, Option, Some, None, refl, sym, ap, ◌∙◌, subst}
-use Rattle.std.specs.Prelude.{is_some, ◌||◌, IfSome, unwrap_or, Result, Ok, Err, IfOk, if◌then◌else◌}
+use Rattle.std.specs.Prelude.{is_some, Result, Ok, Err, IfOk, if◌then◌else◌}
 use Rattle.js_base.specs.declared.message.Message.{Message}
 use Rattle.js_link.specs.LinkView.{LinkView}
-use Rattle.js_link.specs.Met.{Met, passing_of, message_of, reply_of}
+use Rattle.js_link.specs.Meets.{Meets}
+use Rattle.js_link.specs.Met.{Met, passing_of, message_of}
 use Rattle.js_link.specs.Passing.{Passing as Sends}
 use Rattle.js_message.specs.Ack.{Place}
 use Rattle.js_ordered_rows.specs.declared.task.Heard.{Heard}
@@ -13,15 +14,12 @@ use Rattle.js_pull.specs.Steps.{ReadsTo, brought}
 use Rattle.js_ordered_rows.specs.Tasks.{IsHeardFrom, StepsTo, heard_outputs, heard_row, reader_rows, told_outputs}
 use Rattle.js_ordered_rows.proofs.ReaderSteps.{reads_row}
 use Rattle.js_ordered_rows.proofs.Stepping.{from_stream}
-use Rattle.js_ordered_stream.specs.declared.left.Reply.{Reply}
-use Rattle.js_ordered_stream.specs.declared.reading.ReadMet.{ReadMet}
+use Rattle.js_ordered_stream.specs.declared.left.Seen.{Seen}
 use Rattle.js_ordered_stream.specs.declared.reading.Taken.{Taken}
 use Rattle.js_ordered_stream.specs.declared.rows.Handed.{Handed}
 use Rattle.js_ordered_stream.specs.declared.rows.Stepped.{Stepped}
-use Rattle.js_ordered_stream.specs.declared.rows.Stop.{Stop}
-use Rattle.js_ordered_stream.specs.declared.rows.Stop.TheVariants as stop
-use Rattle.js_ordered_stream.specs.Rows.{IsReadMet, MeetsReader, PassesRow, TakesIn, answer_shown, handed_by_heard, handed_list, read_by}
-use Rattle.js_pull.specs.Asking.{met_shown, reply_met}
+use Rattle.js_ordered_stream.specs.Rows.{PassesRow, TakesIn, answer_in, handed_by_heard, handed_list, has_message, is_something, message_in, read_in}
+use Rattle.js_pull.specs.Asking.{is_shut, reply_met}
 use Rattle.js_pull.specs.Reader as pull
 use Rattle.js_pull.specs.Steps.{IsInformed, met_row as reader_met, pin_brought, pin_named, row_list, row_of, told_shown}
 use Rattle.js_pull.specs.Steps.{StepsTo as ReaderStepsTo}
@@ -44,7 +42,7 @@ use Rattle.js_table.specs.State.{Matter, Passed, at_phase, output_of}
 use Rattle.js_turns.specs.Polling.{yielded}
 use Rattle.js_turns.specs.Turns.{handed}
 use Rattle.js_turns.specs.Wishes.{arrival_of}
-use Rattle.js_ordered_stream.proofs.Meeting.{arrives, none_sent}
+use Rattle.js_ordered_stream.proofs.Meeting.{arrives, looked_as, none_sent}
 
 -- ---- what is handed out of a message
 
@@ -85,36 +83,15 @@ takes_known m tells known message other rows c d taken is same takes =
 
 -- ---- a row
 
-pub reply_kept : (replied : Bool) (met : Met) (request : ℕ) (message : Option Message) (reply : Option Reply) → replied ≡ is_some (reply_of met) → message ≡ reply_met met
-    → replied ≡ true → reply ≡ Some (record { request = request; message = message }) → brought (answer_shown reply) ≡ reply_met met
-reply_kept replied met request message reply is same there to = ap (λ (o : Option Reply). brought (answer_shown o)) to ∙ same
-
-pub reply_none : (replied : Bool) (met : Met) (reply : Option Reply) → replied ≡ is_some (reply_of met) → replied ≡ false → reply ≡ None → brought (answer_shown reply) ≡ reply_met met
-reply_none replied met reply is not_there to = ap (λ (o : Option Reply). brought (answer_shown o)) to ∙ by_reply (reply_of met) (sym is ∙ not_there)
-  where
-    by_reply : (o : Option (Option Message)) → is_some o ≡ false → None ≡ unwrap_or o None
-    by_reply None e = refl
-    by_reply (Some x) e = cc
-
-or_none : (b : Bool) → (b || false) ≡ b
-or_none true = refl
-or_none false = refl
-
-looked : (message other : Option Message) → message ≡ other → IfSome message (λ x. other ≡ Some x)
-looked None other is = tt
-looked (Some x) other is = sym is
-
 -- a row of a reader was passed with what it met
-pub read_passes : (g : ReplayInput) (now : ℕ) (one : PullRow) (r s : Reader) (c d : Consumer) (read : ReadMet) (step : Read) (taken : Taken) (message : Option Message) (reply : Option Reply) (done : Stepped) (v u : LinkView)
-    → IsReadMet read one r v u
-    → ReaderStepsTo (reader_met now one (met_shown read.met) r) (met_shown read.met) step s
-    → message ≡ message_of (met_shown read.met) → brought (answer_shown reply) ≡ reply_met (met_shown read.met)
-    → TakesIn (read_by (answer_shown reply) None) (told_shown step.told message) (reader_rows (read_by (answer_shown reply) None) step.next) message (at_phase (Pulls s) c) d taken
-    → done ≡ record { handed = taken.handed; next = taken.next; reply = reply; arrival = None; message = message }
-    → PassesRow g now (row.Read one) (at_phase (Pulls r) c) d v u (Ok done)
-read_passes g now one r s c d read step taken message reply done v u is steps took kept takes to =
-    let met : Met = met_shown read.met in
-    let m : Matter = read_by (answer_shown reply) None in
+pub read_passes : (g : ReplayInput) (now : ℕ) (one : PullRow) (r s : Reader) (c d : Consumer) (met : Met) (step : Read) (taken : Taken) (seen : Seen) (done : Stepped) (v u : LinkView)
+    → Meets (pull.wish one r) met v u → is_shut met ≡ false → ReaderStepsTo (reader_met now one met r) met step s
+    → message_in seen ≡ message_of met → has_message seen ≡ is_some (message_of met) → brought (answer_in seen) ≡ reply_met met
+    → TakesIn (read_in seen) (told_shown step.told (message_in seen)) (reader_rows (read_in seen) step.next) (message_in seen) (at_phase (Pulls s) c) d taken
+    → done ≡ record { handed = taken.handed; looked = is_something seen; next = taken.next }
+    → PassesRow g now (row.Read one) (at_phase (Pulls r) c) d v u seen (Ok done)
+read_passes g now one r s c d met step taken seen done v u meets is_open steps took any kept takes to =
+    let m : Matter = read_in seen in
     let passed : pull.Passed = reader_met now one met r in
     let reads : ReadsTo (brought m.answer) (message_of met) passed s step = record {
       reader = steps.reader;
@@ -126,17 +103,18 @@ read_passes g now one r s c d read step taken message reply done v u is steps to
     let all : StepsTo m (read_row passed (at_phase (Pulls r) c)) (map output_of passed.sent ++ t.outputs) d taken.next =
     reads_row m (message_of met) passed passed.sent s step (at_phase (Pulls r) c) d t.outputs taken.next reads refl t.steps in
     let same : read_row (pull.row (passing_of now met) (pull.answer_of (pull.wish one r) met) (message_on r.source.inbox (arrival_of (pull.wish one r) met)) one r) (at_phase (Pulls r) c) ≡ read_row passed (at_phase (Pulls r) c) =
-    ap (λ (o : Option Message). read_row (pull.row (passing_of now met) (pull.answer_of (pull.wish one r) met) o one r) (at_phase (Pulls r) c)) (arrives one r met v u is.meets) in
-    subst (λ (x : Stepped). PassesRow g now (row.Read one) (at_phase (Pulls r) c) d v u (Ok x)) (sym to) (
+    ap (λ (o : Option Message). read_row (pull.row (passing_of now met) (pull.answer_of (pull.wish one r) met) o one r) (at_phase (Pulls r) c)) (arrives one r met v u meets) in
+    subst (λ (x : Stepped). PassesRow g now (row.Read one) (at_phase (Pulls r) c) d v u seen (Ok x)) (sym to) (
       met,
-      is.meets,
-      is.is_open,
+      meets,
+      is_open,
       record {
         consumer = all.consumer ∙ ap (λ (p : Passed). p.consumer) (sym same);
         shown = ap (λ (p : Passed). handed p.outputs) same ∙ ap handed all.outputs ∙ none_sent passed.sent t.outputs ∙ sym t.shown ∙ ap (λ (o : Option Message). handed_list taken.handed o) (sym took);
         next = all.next ∙ ap (λ (p : Passed). p.next) (sym same);
-        seen = or_none (is_some message) ∙ ap (λ (o : Option Message). is_some o) took;
-        message = looked message (message_of met) took;
+        looked = refl;
+        seen = any;
+        message = looked_as (message_in seen) (message_of met) took;
       },
     )
 

@@ -1,5 +1,6 @@
 mod Meeting
 mod Passing
+mod Keeping
 mod Hearing
 mod Pushing
 mod Turning

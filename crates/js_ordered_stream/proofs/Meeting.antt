@@ -1,15 +1,19 @@
 -- What a row meets at its link.
 use Rattle.std.proofs.Common.{◌≡◌, ℕ, true, false, List, [], ◌∷◌, ◌++◌, map, Option, Some, None, refl, sym, ap}
-use Rattle.std.specs.Prelude.{⊤}
+use Rattle.std.specs.Prelude.{⊤, IfSome, is_some, option_map}
+use Rattle.js_base.specs.declared.message.Message.{Message}
 use Rattle.js_link.specs.LinkView.{LinkView}
 use Rattle.js_link.specs.Meets.{Meets}
-use Rattle.js_link.specs.Met.{Wish, Met, Nothing, Opens_inbox, Watches, Publishes, Requests, Drops, Reads, Awaits, Refused, Requested, Opened, Shut, Took, passing_of, message_of, IsClosing}
+use Rattle.js_link.specs.Met.{Wish, Met, Nothing, Opens_inbox, Watches, Publishes, Requests, Drops, Reads, Awaits, Refused, Requested, Opened, Shut, Took, Got, Gone, passing_of, message_of, reply_of, IsClosing}
 use Rattle.js_link.specs.declared.sent.Sent.{Sent}
 use Rattle.js_link.specs.declared.sent.Sent.TheVariants as goes
 use Rattle.js_ordered_rows.specs.declared.task.Inbox.{Inbox}
 use Rattle.js_ordered_rows.specs.Tasks.{at_moment, opening_to, requested, requesting, subscribed}
-use Rattle.js_ordered_stream.specs.Rows.{inbox_in}
-use Rattle.js_pull.specs.Asking.{GoesAs, is_shut}
+use Rattle.js_link.specs.declared.link.Watch.{Watch}
+use Rattle.js_link.specs.declared.link.Watch.TheVariants as watch
+use Rattle.js_ordered_stream.specs.Rows.{answer_in, has_message, inbox_in, message_in, seen_met}
+use Rattle.js_pull.specs.Asking.{GoesAs, is_shut, reply_met, watch_met}
+use Rattle.js_pull.specs.Steps.{brought}
 use Rattle.js_pull.specs.Reader as pull
 use Rattle.js_pull.specs.declared.reader.InfoRequest.{InfoRequest}
 use Rattle.js_pull.specs.declared.reader.InfoRequest.TheVariants as info
@@ -80,6 +84,41 @@ awaited_other Between = tt
 awaited_other (Deleting request timeout) = tt
 awaited_other (Creating request timeout) = tt
 awaited_other (Waiting wait) = tt
+
+-- ---- what was met, as what a row looked at
+
+pub message_seen : (request : ℕ) (met : Met) → message_in (seen_met request met) ≡ message_of met
+message_seen request (Took message) = refl
+message_seen request (Got reply) = refl
+message_seen request Gone = refl
+message_seen request met = refl
+
+pub any_seen : (request : ℕ) (met : Met) → has_message (seen_met request met) ≡ is_some (message_of met)
+any_seen request (Took message) = refl
+any_seen request (Got reply) = refl
+any_seen request Gone = refl
+any_seen request met = refl
+
+pub answer_seen : (request : ℕ) (met : Met) → answer_in (seen_met request met) ≡ option_map (λ (message : Option Message). record { request = request; reply = message }) (reply_of met)
+answer_seen request (Took message) = refl
+answer_seen request (Got reply) = refl
+answer_seen request Gone = refl
+answer_seen request met = refl
+
+pub reply_seen : (request : ℕ) (met : Met) → brought (answer_in (seen_met request met)) ≡ reply_met met
+reply_seen request (Took message) = refl
+reply_seen request (Got reply) = refl
+reply_seen request Gone = refl
+reply_seen request met = refl
+
+pub looked_as : (message other : Option Message) → message ≡ other → IfSome message (λ x. other ≡ Some x)
+looked_as None other is = tt
+looked_as (Some x) other is = sym is
+
+-- the connection is looked at
+pub watched : (seen : Watch) (v u : LinkView) → seen ≡ v.watch → u ≡ v → Meets Watches (watch_met seen) v u
+watched (watch.State state) v u is same = (same, sym is)
+watched watch.Ended v u is same = (same, sym is)
 
 -- ---- a closed inbox
 

@@ -17,12 +17,14 @@ use Rattle.js_ordered_rows.specs.declared.task.Task.{Task}
 use Rattle.js_ordered_rows.specs.declared.task.Task.TheVariants as task
 use Rattle.js_ordered_rows.specs.Tasks.{IsAnswered, StepsTo, answered_rows, at_moment, create_outputs, next_rows, opening_to, requested, requesting, rows_of, subscribed, told_outputs}
 use Rattle.js_ordered_stream.specs.declared.left.Reply.{Reply}
+use Rattle.js_ordered_stream.specs.declared.left.Seen.{Seen}
+use Rattle.js_ordered_stream.specs.declared.left.Seen.TheVariants as sight
 use Rattle.js_ordered_stream.specs.declared.rows.Handed.{Handed}
 use Rattle.js_ordered_stream.specs.declared.rows.Handed.TheVariants as hands
 use Rattle.js_ordered_stream.specs.declared.rows.Stepped.{Stepped}
 use Rattle.js_ordered_stream.specs.declared.rows.Stop.{Stop}
 use Rattle.js_ordered_stream.specs.declared.rows.Stop.TheVariants as stop
-use Rattle.js_ordered_stream.specs.Rows.{IfAlone, PassesRow, PassesRows, answer_shown, handed_list, inbox_in, is_bare, met_row, read_by, replied, seen_by}
+use Rattle.js_ordered_stream.specs.Rows.{IfAlone, PassesRow, PassesRows, answer_in, arrival_in, handed_list, has_message, inbox_in, is_bare, is_something, message_in, met_row, read_by, replied, seen_by, seen_met}
 use Rattle.js_pull.specs.Asking.{GoesAs}
 use Rattle.js_pull.specs.Reader.{Answer, info_of_reply, reply_to}
 use Rattle.js_table.specs.declared.answer.Change.{Change as CodeChange}
@@ -34,6 +36,7 @@ use Rattle.js_table.specs.declared.consumer.Recreation.{Recreation}
 use Rattle.js_table.specs.declared.consumer.ReplayInput.{ReplayInput}
 use Rattle.js_table.specs.declared.consumer.Stage.{Stage}
 use Rattle.js_table.specs.declared.consumer.Stage.TheVariants.{Between, Deleting, Creating, Waiting}
+use Rattle.js_table.specs.declared.row.Arrival.{Arrival}
 use Rattle.js_table.specs.declared.row.Row.{Row}
 use Rattle.js_table.specs.declared.row.Row.TheVariants as row
 use Rattle.js_table.specs.declared.run.Output.{Output}
@@ -50,19 +53,19 @@ use Rattle.js_turns.specs.Polling.{poll_wish_at}
 use Rattle.js_turns.specs.Turns.{handed}
 use Rattle.js_turns.proofs.Walking.{eqb_same}
 use Rattle.js_turns.specs.Wishes.{awaited, change_of, create_wish, dropped, matter_of, opened_dropped, succeed_wish}
-use Rattle.js_ordered_stream.proofs.Meeting.{IsUntaken, untaken, opened_other, dropped_other, awaited_other, moment_met, requesting_met, opening_met, no_request, no_inbox}
+use Rattle.js_ordered_stream.proofs.Meeting.{IsUntaken, answer_seen, any_seen, looked_as, message_seen, untaken, opened_other, dropped_other, awaited_other, moment_met, requesting_met, opening_met, no_request, no_inbox}
 
 abbrev done_by : Handed → NextTasks → Stepped
-done_by handed rest = record { handed = handed; next = rest; reply = None; arrival = None; message = None }
+done_by handed rest = record { handed = handed; looked = false; next = rest }
 
 -- ---- a row that takes nothing
 
 pub row_passes : (g : ReplayInput) (now : ℕ) (row : Row) (c d : Consumer) (met : Met) (passed : Passed) (outputs : List Output) (hand : Handed) (rest : NextTasks) (done : Stepped) (v u : LinkView)
     → Meets (poll_wish_at g row c.phase) met v u → IsUntaken met → seen_by row met ≡ message_of met → met_row g now row met c ≡ passed
     → StepsTo (read_by None None) passed outputs d rest → handed outputs ≡ handed_list hand None → done ≡ done_by hand rest
-    → PassesRow g now row c d v u (Ok done)
+    → PassesRow g now row c d v u sight.Nothing (Ok done)
 row_passes g now row c d met passed outputs hand rest done v u meets none sees is steps hands to =
-    subst (λ (x : Stepped). PassesRow g now row c d v u (Ok x)) (sym to) (
+    subst (λ (x : Stepped). PassesRow g now row c d v u sight.Nothing (Ok x)) (sym to) (
       met,
       meets,
       none.is_open,
@@ -70,6 +73,7 @@ row_passes g now row c d met passed outputs hand rest done v u meets none sees i
         consumer = steps.consumer ∙ ap (λ (p : Passed). p.consumer) (sym is);
         shown = ap (λ (p : Passed). handed p.outputs) is ∙ ap handed steps.outputs ∙ hands;
         next = steps.next ∙ ap (λ (p : Passed). p.next) (sym is);
+        looked = refl;
         seen = ap (λ (o : Option Message). is_some o) (sym (sees ∙ none.message));
         message = tt;
       },
@@ -79,8 +83,8 @@ row_passes g now row c d met passed outputs hand rest done v u meets none sees i
 pub row_tells : (g : ReplayInput) (now : ℕ) (row : Row) (c d : Consumer) (met : Met) (passed : Passed) (told : RowOutput) (rest : NextTasks) (done : Stepped) (v u : LinkView)
     → Meets (poll_wish_at g row c.phase) met v u → IsUntaken met → seen_by row met ≡ message_of met → met_row g now row met c ≡ passed
     → StepsTo (read_by None None) passed (told_outputs told) d rest → handed_list done.handed None ≡ handed (told_outputs told)
-    → done ≡ record done { next = rest; reply = None; arrival = None; message = None }
-    → PassesRow g now row c d v u (Ok done)
+    → done ≡ record done { looked = false; next = rest }
+    → PassesRow g now row c d v u sight.Nothing (Ok done)
 row_tells g now row c d met passed told rest done v u meets none sees is steps hands to =
     row_passes g now row c d met passed (told_outputs told) done.handed rest done v u meets none sees is steps (sym hands) to
 
@@ -88,8 +92,8 @@ row_tells g now row c d met passed told rest done v u meets none sees is steps h
 
 pub start_passes : (g : ReplayInput) (now : ℕ) (c d : Consumer) (met : Met) (told : RowOutput) (rest : NextTasks) (done : Stepped) (v u : LinkView)
     → Meets (dropped c.phase) met v u → StepsTo (read_by None None) (start_row g c) (told_outputs told) d rest
-    → handed_list done.handed None ≡ handed (told_outputs told) → done ≡ record done { next = rest; reply = None; arrival = None; message = None }
-    → PassesRow g now row.Start c d v u (Ok done)
+    → handed_list done.handed None ≡ handed (told_outputs told) → done ≡ record done { looked = false; next = rest }
+    → PassesRow g now row.Start c d v u sight.Nothing (Ok done)
 start_passes g now c d met told rest done v u meets steps hands to =
     row_tells g now row.Start c d met (start_row g c) told rest done v u meets (untaken (dropped c.phase) met v u (dropped_other c.phase) meets) refl refl steps hands to
 
@@ -98,7 +102,7 @@ start_passes g now c d met told rest done v u meets steps hands to =
 pub try_passes : (g : ReplayInput) (now : ℕ) (r : Recreation) (c d : Consumer) (met : Met) (request : Option ℕ) (rest : NextTasks) (done : Stepped) (v u : LinkView)
     → Meets (Requests (delete_subject g r) (codes "{}")) met v u → GoesAs request met
     → StepsTo (read_by None None) (try_row g (requesting now request (passing_of now met)) r (at_phase (Recreates r) c)) (requested (delete_subject g r) (codes "{}") request) d rest
-    → done ≡ done_by hands.Nothing rest → PassesRow g now row.Try (at_phase (Recreates r) c) d v u (Ok done)
+    → done ≡ done_by hands.Nothing rest → PassesRow g now row.Try (at_phase (Recreates r) c) d v u sight.Nothing (Ok done)
 try_passes g now r c d met request rest done v u meets goes steps to =
     row_passes g now row.Try (at_phase (Recreates r) c) d met (try_row g (requesting now request (passing_of now met)) r (at_phase (Recreates r) c)) (requested (delete_subject g r) (codes "{}") request) hands.Nothing rest done v u meets
     (untaken (Requests (delete_subject g r) (codes "{}")) met v u tt meets) refl
@@ -108,7 +112,7 @@ try_passes g now r c d met request rest done v u meets goes steps to =
 pub ask_passes : (g : ReplayInput) (now : ℕ) (r : Recreation) (c d : Consumer) (met : Met) (request : Option ℕ) (rest : NextTasks) (done : Stepped) (v u : LinkView)
     → Meets (Requests (create_subject g r) (create_body g r)) met v u → GoesAs request met
     → StepsTo (read_by None None) (ask_row g (requesting now request (passing_of now met)) r (at_phase (Recreates r) c)) (requested (create_subject g r) (create_body g r) request) d rest
-    → done ≡ done_by hands.Nothing rest → PassesRow g now row.Ask (at_phase (Recreates r) c) d v u (Ok done)
+    → done ≡ done_by hands.Nothing rest → PassesRow g now row.Ask (at_phase (Recreates r) c) d v u sight.Nothing (Ok done)
 ask_passes g now r c d met request rest done v u meets goes steps to =
     row_passes g now row.Ask (at_phase (Recreates r) c) d met (ask_row g (requesting now request (passing_of now met)) r (at_phase (Recreates r) c)) (requested (create_subject g r) (create_body g r) request) hands.Nothing rest done v u meets
     (untaken (Requests (create_subject g r) (create_body g r)) met v u tt meets) refl
@@ -118,7 +122,7 @@ ask_passes g now r c d met request rest done v u meets goes steps to =
 -- pull opens nothing before its create
 pub create_passes : (g : ReplayInput) (now : ℕ) (setup : pull_config.OrderedConfig) (r : Recreation) (c d : Consumer) (rest : NextTasks) (done : Stepped) (v : LinkView) → g.setup ≡ Pull setup
     → StepsTo (read_by None None) (create_row g.setup (opening_to now None (passing_of now Unasked)) r (at_phase (Recreates r) c)) (create_outputs g.setup None) d rest
-    → done ≡ done_by hands.Nothing rest → PassesRow g now row.Create (at_phase (Recreates r) c) d v v (Ok done)
+    → done ≡ done_by hands.Nothing rest → PassesRow g now row.Create (at_phase (Recreates r) c) d v v sight.Nothing (Ok done)
 create_passes g now setup r c d rest done v pulls steps to =
     row_passes g now row.Create (at_phase (Recreates r) c) d Unasked (create_row g.setup (opening_to now None (passing_of now Unasked)) r (at_phase (Recreates r) c)) (create_outputs g.setup None) hands.Nothing rest done v v
     (subst (λ (s : OrderedSetup). Meets (create_wish s) Unasked v v) (sym pulls) refl)
@@ -130,7 +134,7 @@ create_passes g now setup r c d rest done v pulls steps to =
 pub create_push_passes : (g : ReplayInput) (now : ℕ) (r : Recreation) (c d : Consumer) (met : Met) (inbox : Option Inbox) (rest : NextTasks) (done : Stepped) (v u : LinkView) → IsPush g.setup
     → Meets Opens_inbox met v u → inbox ≡ inbox_in met
     → StepsTo (read_by None None) (create_row g.setup (opening_to now inbox (passing_of now met)) r (at_phase (Recreates r) c)) (create_outputs g.setup inbox) d rest
-    → done ≡ done_by hands.Nothing rest → PassesRow g now row.Create (at_phase (Recreates r) c) d v u (Ok done)
+    → done ≡ done_by hands.Nothing rest → PassesRow g now row.Create (at_phase (Recreates r) c) d v u sight.Nothing (Ok done)
 create_push_passes g now r c d met inbox rest done v u pushes meets opens steps to =
     row_passes g now row.Create (at_phase (Recreates r) c) d met (create_row g.setup (opening_to now inbox (passing_of now met)) r (at_phase (Recreates r) c)) (create_outputs g.setup inbox) hands.Nothing rest done v u
     (wished g.setup pushes)
@@ -149,8 +153,8 @@ create_push_passes g now r c d met inbox rest done v u pushes meets opens steps 
 pub fail_passes : (g : ReplayInput) (now : ℕ) (r : Recreation) (c d : Consumer) (met : Met) (told : RowOutput) (rest : NextTasks) (done : Stepped) (v u : LinkView)
     → Meets (opened_dropped r.opened) met v u
     → StepsTo (read_by None None) (fail_row g (at_moment now (passing_of now met)) r (at_phase (Recreates r) c)) (told_outputs told) d rest
-    → handed_list done.handed None ≡ handed (told_outputs told) → done ≡ record done { next = rest; reply = None; arrival = None; message = None }
-    → PassesRow g now row.Fail (at_phase (Recreates r) c) d v u (Ok done)
+    → handed_list done.handed None ≡ handed (told_outputs told) → done ≡ record done { looked = false; next = rest }
+    → PassesRow g now row.Fail (at_phase (Recreates r) c) d v u sight.Nothing (Ok done)
 fail_passes g now r c d met told rest done v u meets steps hands to =
     row_tells g now row.Fail (at_phase (Recreates r) c) d met (fail_row g (at_moment now (passing_of now met)) r (at_phase (Recreates r) c)) told rest done v u meets
     (untaken (opened_dropped r.opened) met v u (opened_other r.opened) meets) refl
@@ -206,43 +210,45 @@ next_same k a next.Nothing = refl
 next_same k a (next.One one) = task_same k a one
 next_same k a (next.Two one second) = ap (λ (rows : List Row). rows ++ rows_of (record { change = k; answer = a; arrival = None }) second) (task_same k a one) ∙ ap (λ (rows : List Row). rows_of (read_by a None) one ++ rows) (task_same k a second)
 
-stage_same : (g : ReplayInput) (p : Sends) (m : Matter) (a : Option Answer) (stage : Stage) → m.answer ≡ a → stage_rows g p (read_by a None) stage ≡ stage_rows g p m stage
-stage_same g p m a stage is = by_stage stage
+stage_same : (g : ReplayInput) (p : Sends) (m : Matter) (a : Option Answer) (o : Option Arrival) (stage : Stage) → m.answer ≡ a → stage_rows g p (read_by a o) stage ≡ stage_rows g p m stage
+stage_same g p m a o stage is = by_stage stage
   where
-    by_stage : (stage : Stage) → stage_rows g p (read_by a None) stage ≡ stage_rows g p m stage
+    by_stage : (stage : Stage) → stage_rows g p (read_by a o) stage ≡ stage_rows g p m stage
     by_stage Between = refl
-    by_stage (Deleting request timeout) = ap (λ (x : Option Answer). stage_rows g p (read_by x None) (Deleting request timeout)) (sym is)
-    by_stage (Creating request timeout) = ap (λ (x : Option Answer). stage_rows g p (read_by x None) (Creating request timeout)) (sym is)
+    by_stage (Deleting request timeout) = ap (λ (x : Option Answer). stage_rows g p (read_by x o) (Deleting request timeout)) (sym is)
+    by_stage (Creating request timeout) = ap (λ (x : Option Answer). stage_rows g p (read_by x o) (Creating request timeout)) (sym is)
     by_stage (Waiting wait) = refl
 
-answered_same : (m : Matter) (a : Option Answer) (stage : Stage) (replied : Bool) → m.answer ≡ a → IsAnswered m stage replied → IsAnswered (read_by a None) stage replied
-answered_same m a Between replied is there = tt
-answered_same m a (Deleting request timeout) replied is there = there ∙ ap (λ (x : Option Answer). is_some (reply_to request x)) is
-answered_same m a (Creating request timeout) replied is there = there ∙ ap (λ (x : Option Answer). is_some (reply_to request x)) is
-answered_same m a (Waiting wait) replied is there = tt
+answered_same : (m : Matter) (a : Option Answer) (o : Option Arrival) (stage : Stage) (replied : Bool) → m.answer ≡ a → IsAnswered m stage replied → IsAnswered (read_by a o) stage replied
+answered_same m a o Between replied is there = tt
+answered_same m a o (Deleting request timeout) replied is there = there ∙ ap (λ (x : Option Answer). is_some (reply_to request x)) is
+answered_same m a o (Creating request timeout) replied is there = there ∙ ap (λ (x : Option Answer). is_some (reply_to request x)) is
+answered_same m a o (Waiting wait) replied is there = tt
 
-pub await_passes : (g : ReplayInput) (now : ℕ) (r : Recreation) (c d : Consumer) (met : Met) (request : ℕ) (replied_is : Bool) (reply : Option Reply) (rest : NextTasks) (done : Stepped) (v u : LinkView)
-    → Meets (awaited r.stage) met v u → replied_is ≡ is_some (reply_of met) → request ≡ replied r.stage → answer_shown reply ≡ replying request (reply_of met)
+pub await_passes : (g : ReplayInput) (now : ℕ) (r : Recreation) (c d : Consumer) (met : Met) (request : ℕ) (replied_is : Bool) (rest : NextTasks) (seen : Seen) (done : Stepped) (v u : LinkView)
+    → Meets (awaited r.stage) met v u → replied_is ≡ is_some (reply_of met) → request ≡ replied r.stage
     → ((m : Matter) (p : Sends) → IsAnswered m r.stage replied_is → StepsTo m (quietly (at_phase (Recreates r) c) (stage_rows g (at_moment now p) m r.stage)) [] d rest)
-    → done ≡ record { handed = hands.Nothing; next = rest; reply = reply; arrival = None; message = None } → PassesRow g now row.Await (at_phase (Recreates r) c) d v u (Ok done)
-await_passes g now r c d met request replied_is reply rest done v u meets there number kept steps to =
+    → seen ≡ seen_met request met → done ≡ record { handed = hands.Nothing; looked = is_something seen; next = rest } → PassesRow g now row.Await (at_phase (Recreates r) c) d v u seen (Ok done)
+await_passes g now r c d met request replied_is rest seen done v u meets there number steps looks to =
     let w : Wish = awaited r.stage in
     let m : Matter = matter_of w met in
-    let a : Option Answer = answer_shown reply in
-    let same : m.answer ≡ a = sym (kept ∙ ap (λ (n : ℕ). replying n (reply_of met)) number ∙ met_reply r.stage met v u meets) in
+    let a : Option Answer = answer_in seen in
+    let o : Option Arrival = arrival_in seen in
+    let same : m.answer ≡ a = sym (ap answer_in looks ∙ answer_seen request met ∙ ap (λ (n : ℕ). replying n (reply_of met)) number ∙ met_reply r.stage met v u meets) in
     let none : IsUntaken met = untaken w met v u (awaited_other r.stage) meets in
-    let answers : IsAnswered (read_by a None) r.stage replied_is = subst (λ (b : Bool). IsAnswered (read_by a None) r.stage b) (sym there) (answered_same m a r.stage (is_some (reply_of met)) same (met_answered r.stage met)) in
-    let s = steps (read_by a None) (passing_of now met) answers in
-    subst (λ (x : Stepped). PassesRow g now row.Await (at_phase (Recreates r) c) d v u (Ok x)) (sym to) (
+    let answers : IsAnswered (read_by a o) r.stage replied_is = subst (λ (b : Bool). IsAnswered (read_by a o) r.stage b) (sym there) (answered_same m a o r.stage (is_some (reply_of met)) same (met_answered r.stage met)) in
+    let s = steps (read_by a o) (passing_of now met) answers in
+    subst (λ (x : Stepped). PassesRow g now row.Await (at_phase (Recreates r) c) d v u seen (Ok x)) (sym to) (
       met,
       meets,
       none.is_open,
       record {
         consumer = s.consumer;
         shown = refl;
-        next = s.next ∙ stage_same g (at_moment now (passing_of now met)) m a r.stage same ∙ ap (λ (p : Sends). stage_rows g p m r.stage) (moment_met now met);
-        seen = ap (λ (o : Option Message). is_some o) (sym none.message);
-        message = tt;
+        next = s.next ∙ stage_same g (at_moment now (passing_of now met)) m a o r.stage same ∙ ap (λ (p : Sends). stage_rows g p m r.stage) (moment_met now met);
+        looked = refl;
+        seen = ap has_message looks ∙ any_seen request met;
+        message = looked_as (message_in seen) (message_of met) (ap message_in looks ∙ message_seen request met);
       },
     )
 
@@ -250,10 +256,10 @@ await_passes g now r c d met request replied_is reply rest done v u meets there 
 pub answered_passes : (g : ReplayInput) (now : ℕ) (r : Recreation) (c d : Consumer) (request : ℕ) (a : Option Answer) (info : Option Info) (rest : NextTasks) (done : Stepped) (v : LinkView)
     → option_map info_of_reply (reply_to request a) ≡ Some info
     → StepsTo (read_by None None) (quietly (at_phase (Recreates r) c) (answered g.setup info ∷ [])) [] d rest → done ≡ done_by hands.Nothing rest
-    → PassesRows g now (rows_of (read_by a None) (task.Answered request)) (at_phase (Recreates r) c) d v v (Ok done)
+    → PassesRows g now (rows_of (read_by a None) (task.Answered request)) (at_phase (Recreates r) c) d v v sight.Nothing (Ok done)
 answered_passes g now r c d request a info rest done v reads steps to = by_reply (reply_to request a) reads
   where
-    by_reply : (reply : Option (Option Message)) → option_map info_of_reply reply ≡ Some info → IfAlone (answered_rows reply) (λ (one : Row). PassesRow g now one (at_phase (Recreates r) c) d v v (Ok done))
+    by_reply : (reply : Option (Option Message)) → option_map info_of_reply reply ≡ Some info → IfAlone (answered_rows reply) (λ (one : Row). PassesRow g now one (at_phase (Recreates r) c) d v v sight.Nothing (Ok done))
     by_reply None e = cc
     by_reply (Some message) e =
         let same : info_of_reply message ≡ info = cc in
@@ -264,7 +270,7 @@ answered_passes g now r c d request a info rest done v reads steps to = by_reply
 pub succeed_passes : (g : ReplayInput) (now : ℕ) (info : Info) (r : Recreation) (c d : Consumer) (met : Met) (inbox : Option Inbox) (rest : NextTasks) (done : Stepped) (v u : LinkView) → IsPull g.setup
     → Meets Opens_inbox met v u → inbox ≡ inbox_in met
     → StepsTo (read_by None None) (succeed_pull g (opening_to now inbox (passing_of now met)) info (at_phase (Recreates r) c)) (subscribed inbox) d rest
-    → done ≡ done_by hands.Nothing rest → PassesRow g now (row.Succeed info) (at_phase (Recreates r) c) d v u (Ok done)
+    → done ≡ done_by hands.Nothing rest → PassesRow g now (row.Succeed info) (at_phase (Recreates r) c) d v u sight.Nothing (Ok done)
 succeed_passes g now info r c d met inbox rest done v u pulls meets opens steps to =
     row_passes g now (row.Succeed info) (at_phase (Recreates r) c) d met (succeed_pull g (opening_to now inbox (passing_of now met)) info (at_phase (Recreates r) c)) (subscribed inbox) hands.Nothing rest done v u
     (wished g.setup pulls)
@@ -290,7 +296,7 @@ none_held (x ∷ held) e = absurd (never e)
 
 pub succeed_push_passes : (g : ReplayInput) (now : ℕ) (info : Info) (r : Recreation) (c d : Consumer) (rest : NextTasks) (done : Stepped) (v : LinkView) → IsPush g.setup → is_bare r.opened ≡ true
     → ((m : Matter) (p : Sends) → StepsTo m (succeed_push (at_moment now p) r.opened (at_phase (Recreates r) c)) [] d rest)
-    → done ≡ done_by hands.Nothing (next.One task.Arm) → PassesRow g now (row.Succeed info) (at_phase (Recreates r) c) d v v (Ok done)
+    → done ≡ done_by hands.Nothing (next.One task.Arm) → PassesRow g now (row.Succeed info) (at_phase (Recreates r) c) d v v sight.Nothing (Ok done)
 succeed_push_passes g now info r c d rest done v pushes bare steps to =
     let p : Sends = passing_of now Unasked in
     let s = steps (read_by None None) p in
@@ -313,7 +319,7 @@ succeed_push_passes g now info r c d rest done v pushes bare steps to =
     arms (Some opened) e = ap (λ (held : List Message). map (λ (message : Message). row.Hear (record { inbox = opened.inbox; message = message })) held ++ row.Arm ∷ []) (none_held opened.held e)
 
 -- a poll holds nothing
-pub hold_passes : (g : ReplayInput) (now : ℕ) (c : Consumer) (done : Stepped) (v : LinkView) → done ≡ done_by hands.Nothing next.Nothing → PassesRow g now row.Hold c c v v (Ok done)
+pub hold_passes : (g : ReplayInput) (now : ℕ) (c : Consumer) (done : Stepped) (v : LinkView) → done ≡ done_by hands.Nothing next.Nothing → PassesRow g now row.Hold c c v v sight.Nothing (Ok done)
 hold_passes g now c done v to =
     row_passes g now row.Hold c c Unasked (quietly c []) [] hands.Nothing next.Nothing done v v refl (record { message = refl; is_open = refl }) refl (stays c.phase refl) (record { consumer = refl; outputs = refl; next = refl }) refl to
   where
@@ -348,8 +354,8 @@ event_watches g Exhausted going = absurd (never going)
 pub event_passes : (g : ReplayInput) (now : ℕ) (c d : Consumer) (met : Met) (change : CodeChange) (told : RowOutput) (rest : NextTasks) (done : Stepped) (v u : LinkView)
     → is_over c.phase ≡ false → Meets Watches met v u → change_shown change ≡ change_of met
     → ((p : Sends) (m : Matter) → m.change ≡ change_shown change → StepsTo m (event_row g (at_moment now p) m c.phase c) (told_outputs told) d rest)
-    → handed_list done.handed None ≡ handed (told_outputs told) → done ≡ record done { next = rest; reply = None; arrival = None; message = None }
-    → PassesRow g now row.Event c d v u (Ok done)
+    → handed_list done.handed None ≡ handed (told_outputs told) → done ≡ record done { looked = false; next = rest }
+    → PassesRow g now row.Event c d v u sight.Nothing (Ok done)
 event_passes g now c d met change told rest done v u going meets shown steps hands to =
     let w : Wish = poll_wish_at g row.Event c.phase in
     let is : w ≡ Watches = event_watches g c.phase going in
@@ -358,28 +364,6 @@ event_passes g now c d met change told rest done v u going meets shown steps han
     (subst (λ (x : Wish). Meets x met v u) (sym is) meets) (untaken Watches met v u tt meets) refl
     (ap (λ (x : Wish). event_row g (passing_of now met) (matter_of x met) c.phase c) is ∙ ap (λ (p : Sends). event_row g p (matter_of Watches met) c.phase c) (sym (moment_met now met)))
     (record { consumer = s.consumer; outputs = s.outputs; next = sym (next_same (change_of met) None rest) ∙ s.next }) hands to
-
--- ---- any row
-
--- a row that a task stands for alone
-pub row_alone : (g : ReplayInput) (now : ℕ) (one : Row) (c d : Consumer) (v u : LinkView) (result : Result Stepped Stop) → PassesRow g now one c d v u result → PassesRows g now (one ∷ []) c d v u result
-row_alone g now one c d v u (Ok done) passes = passes
-row_alone g now one c d v u (Err stop.Closed) passes = passes
-row_alone g now one c d v u (Err stop.OutOfMemory) passes = passes
-
--- where the phase is known
-pub row_open : (g : ReplayInput) (now : ℕ) (rows : List Row) (phase : Phase) (c d : Consumer) (v u : LinkView) (result : Result Stepped Stop) → c.phase ≡ phase
-    → PassesRows g now rows (at_phase phase c) d v u result → PassesRows g now rows c d v u result
-row_open g now rows phase c d v u result is passes = subst (λ (q : Phase). PassesRows g now rows (at_phase q c) d v u result) (sym is) passes
-
-pub row_at_phase : (g : ReplayInput) (now : ℕ) (one : Row) (phase : Phase) (c d : Consumer) (v u : LinkView) (result : Result Stepped Stop) → c.phase ≡ phase
-    → PassesRow g now one (at_phase phase c) d v u result → PassesRow g now one c d v u result
-row_at_phase g now one phase c d v u result is passes = subst (λ (q : Phase). PassesRow g now one (at_phase q c) d v u result) (sym is) passes
-
--- a task that is known
-pub rows_known : (g : ReplayInput) (now : ℕ) (m : Matter) (one known : Task) (c d : Consumer) (v u : LinkView) (result : Result Stepped Stop) → one ≡ known
-    → PassesRows g now (rows_of m known) c d v u result → PassesRows g now (rows_of m one) c d v u result
-rows_known g now m one known c d v u result is passes = subst (λ (t : Task). PassesRows g now (rows_of m t) c d v u result) (sym is) passes
 
 -- ---- what the code asks is what the row asks
 
@@ -391,11 +375,11 @@ pub phase_kept : (c : Consumer) (phase : Phase) → phase ≡ c.phase → at_pha
 phase_kept c phase is = ap (λ (q : Phase). at_phase q c) is
 
 -- what a reply tells, to the request that it answers
-pub reply_told : {E : Type 0} (request : ℕ) (reply : Option Reply) (answer : Reply) (told : Result (Option Info) E) → reply ≡ Some answer → answer.request ≡ request
-    → IfOk told (λ info. info ≡ info_of_reply answer.message) → IfOk told (λ info. option_map info_of_reply (reply_to request (answer_shown reply)) ≡ Some info)
-reply_told request reply answer (Err e) is same tells = tt
-reply_told request reply answer (Ok info) is same tells =
-    ap (λ (o : Option Reply). option_map info_of_reply (reply_to request (answer_shown o))) is
-    ∙ ap (λ (n : ℕ). option_map info_of_reply (if request == n then Some answer.message else None)) same
-    ∙ ap (λ (b : Bool). option_map info_of_reply (if b then Some answer.message else None)) (eqb_same request)
+pub reply_told : {E : Type 0} (request : ℕ) (seen : Seen) (reply : Reply) (told : Result (Option Info) E) → seen ≡ sight.Reply reply → reply.request ≡ request
+    → IfOk told (λ info. info ≡ info_of_reply reply.message) → IfOk told (λ info. option_map info_of_reply (reply_to request (answer_in seen)) ≡ Some info)
+reply_told request seen reply (Err e) is same tells = tt
+reply_told request seen reply (Ok info) is same tells =
+    ap (λ (s : Seen). option_map info_of_reply (reply_to request (answer_in s))) is
+    ∙ ap (λ (n : ℕ). option_map info_of_reply (if request == n then Some reply.message else None)) same
+    ∙ ap (λ (b : Bool). option_map info_of_reply (if b then Some reply.message else None)) (eqb_same request)
     ∙ ap (λ (i : Option Info). Some i) (sym tells)

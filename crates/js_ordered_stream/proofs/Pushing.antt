@@ -1,6 +1,6 @@
 -- Push's rows of reading over a link: what is looked for, and what is heard.
 use Rattle.std.proofs.Common.{◌≡◌, ℕ, Bool, true, false, List, [], ◌∷◌, Option, Some, None, refl, sym, ap, ◌∙◌, subst}
-use Rattle.std.specs.Prelude.{◌||◌, IfSome, is_some, Result, Ok, Err, if◌then◌else◌}
+use Rattle.std.specs.Prelude.{IfSome, is_some, Result, Ok, Err, if◌then◌else◌}
 use Rattle.js_base.specs.declared.clock.Timer.{Timer}
 use Rattle.js_base.specs.declared.message.Message.{Message}
 use Rattle.js_link.specs.LinkView.{LinkView}
@@ -14,12 +14,14 @@ use Rattle.js_ordered_rows.specs.declared.task.NextTasks.TheVariants as next
 use Rattle.js_ordered_rows.specs.declared.task.RowOutput.{RowOutput}
 use Rattle.js_ordered_rows.specs.Tasks.{IsHeard, IsHeardAs, StepsTo, at_moment, heard_outputs, heard_row, heard_rows, next_rows, told_outputs}
 use Rattle.js_ordered_rows.proofs.Stepping.{hears_as, hears_here}
+use Rattle.js_ordered_stream.specs.declared.left.Seen.{Seen}
+use Rattle.js_ordered_stream.specs.declared.left.Seen.TheVariants as sight
 use Rattle.js_ordered_stream.specs.declared.rows.Handed.{Handed}
 use Rattle.js_ordered_stream.specs.declared.rows.Handed.TheVariants as hands
 use Rattle.js_ordered_stream.specs.declared.rows.Stepped.{Stepped}
 use Rattle.js_ordered_stream.specs.declared.rows.Stop.{Stop}
 use Rattle.js_ordered_stream.specs.declared.rows.Stop.TheVariants as stop
-use Rattle.js_ordered_stream.specs.Rows.{AnswersBeat, Looked, LooksInto, PassesRow, PassesRows, arrived, handed_by_heard, handed_list, met_row, read_by}
+use Rattle.js_ordered_stream.specs.Rows.{AnswersBeat, Looked, LooksInto, PassesRow, PassesRows, arrival_in, handed_by_heard, handed_list, has_message, kept_if, message_in, met_row, read_by, read_in, unheard_on}
 use Rattle.js_table.specs.declared.consumer.Consumer.{Consumer}
 use Rattle.js_table.specs.declared.consumer.Phase.{Phase}
 use Rattle.js_table.specs.declared.consumer.Phase.TheVariants.{Pulls, Pushes, Recreates, Idle, Ended, Exhausted}
@@ -45,73 +47,73 @@ use Rattle.js_ordered_stream.proofs.Passing.{row_passes, row_tells}
 -- ---- what is looked for
 
 -- what was taken is the message that is heard next
-pub taken_here : (inbox : ℕ) (message : Message) → message_on inbox (arrived inbox (Some message)) ≡ Some message
+pub taken_here : (inbox : ℕ) (message : Message) → message_on inbox (arrival_in (unheard_on inbox (Some message))) ≡ Some message
 taken_here inbox message = ap (λ (b : Bool). if b then Some message else None) (eqb_same inbox)
 
 -- a look that takes nothing
-pub looked_none : (inbox : ℕ) (message : Option Message) (rest : NextTasks) (done : Stepped) → message ≡ None
+pub looked_none : (inbox : ℕ) (rest : NextTasks) (seen : Seen) (done : Stepped)
     → ((m : Matter) → false ≡ is_some (message_on inbox m.arrival) → next_rows m rest ≡ push_rows inbox (message_on inbox m.arrival))
-    → done ≡ record { handed = hands.Nothing; next = rest; reply = None; arrival = None; message = None } → Looked inbox message done
-looked_none inbox message rest done is follows to =
-    subst (λ (o : Option Message). Looked inbox o done) (sym is)
-    (subst (λ (x : Stepped). Looked inbox None x) (sym to) (record { handed = refl; message = refl; arrival = refl; next = follows (read_by None None) refl }))
+    → done ≡ record { handed = hands.Nothing; looked = false; next = rest } → Looked inbox None (kept_if done.looked seen) done
+looked_none inbox rest seen done follows to =
+    subst (λ (x : Stepped). Looked inbox None (kept_if x.looked seen) x) (sym to) (record { handed = refl; looked = refl; seen = refl; next = follows (read_by None None) refl })
 
 -- and one that takes a message
-pub looked_some : (inbox : ℕ) (message : Option Message) (taken : Message) (rest : NextTasks) → message ≡ Some taken
+pub looked_some : (inbox : ℕ) (taken : Message) (rest : NextTasks)
     → ((m : Matter) → true ≡ is_some (message_on inbox m.arrival) → next_rows m rest ≡ push_rows inbox (message_on inbox m.arrival))
-    → Looked inbox message (record { handed = hands.Nothing; next = rest; reply = None; arrival = Some (record { inbox = inbox; message = taken }); message = None })
-looked_some inbox message taken rest is follows =
-    subst (λ (o : Option Message). Looked inbox o (record { handed = hands.Nothing; next = rest; reply = None; arrival = Some (record { inbox = inbox; message = taken }); message = None })) (sym is)
-    (record {
-      handed = refl;
-      message = refl;
-      arrival = refl;
-      next = follows (read_by None (arrived inbox (Some taken))) (sym (ap (λ (o : Option Message). is_some o) (taken_here inbox taken))) ∙ ap (push_rows inbox) (taken_here inbox taken);
-    })
+    → Looked inbox (Some taken) (sight.Message (Some inbox) taken) (record { handed = hands.Nothing; looked = true; next = rest })
+looked_some inbox taken rest follows = record {
+  handed = refl;
+  looked = refl;
+  seen = refl;
+  next = follows (read_in (sight.Message (Some inbox) taken)) (sym (ap (λ (o : Option Message). is_some o) (taken_here inbox taken))) ∙ ap (push_rows inbox) (taken_here inbox taken);
+}
 
-pub looked_as : (inbox : ℕ) (message other : Option Message) (done : Stepped) → message ≡ other → Looked inbox message done → Looked inbox other done
-looked_as inbox message other done is looks = subst (λ (o : Option Message). Looked inbox o done) is looks
+some_unheard : (inbox : ℕ) (taken : Option Message) → has_message (unheard_on inbox taken) ≡ is_some taken
+some_unheard inbox None = refl
+some_unheard inbox (Some message) = refl
 
-some_arrived : (inbox : ℕ) (message : Option Message) → is_some (arrived inbox message) ≡ is_some message
-some_arrived inbox None = refl
-some_arrived inbox (Some message) = refl
+none_unheard : (inbox : ℕ) (taken : Option Message) → message_in (unheard_on inbox taken) ≡ None
+none_unheard inbox None = refl
+none_unheard inbox (Some message) = refl
 
-pub looks_at : (g : ReplayInput) (now inbox : ℕ) (timer : Timer) (c : Consumer) (v u : LinkView) (result : Result Stepped Stop) → c.phase ≡ Pushes inbox timer
-    → LooksInto result inbox v u → PassesRow g now row.CheckArrival c c v u result
-looks_at g now inbox timer c v u result is looks =
-    subst (λ (q : Phase). PassesRow g now row.CheckArrival (at_phase q c) (at_phase q c) v u result) (sym is) (by_result result looks)
+pub looks_at : (g : ReplayInput) (now inbox : ℕ) (timer : Timer) (c : Consumer) (v u : LinkView) (kept : Seen) (result : Result Stepped Stop) → c.phase ≡ Pushes inbox timer
+    → LooksInto result inbox kept v u → PassesRow g now row.CheckArrival c c v u kept result
+looks_at g now inbox timer c v u kept result is looks =
+    subst (λ (q : Phase). PassesRow g now row.CheckArrival (at_phase q c) (at_phase q c) v u kept result) (sym is) (by_result result looks)
   where
-    by_result : (result : Result Stepped Stop) → LooksInto result inbox v u → PassesRow g now row.CheckArrival (at_phase (Pushes inbox timer) c) (at_phase (Pushes inbox timer) c) v u result
+    by_result : (result : Result Stepped Stop) → LooksInto result inbox kept v u → PassesRow g now row.CheckArrival (at_phase (Pushes inbox timer) c) (at_phase (Pushes inbox timer) c) v u kept result
     by_result (Err stop.Closed) shut = (refl, shut)
     by_result (Err stop.OutOfMemory) same = (refl, same)
-    by_result (Ok done) (met, meets, is_open, l) = (
-      met,
-      meets,
-      is_open,
-      record {
-        consumer = refl;
-        shown = sym (ap (λ (h : Handed). handed_list h done.message) l.handed);
-        next = l.next ∙ ap (push_rows inbox) (sym (arrives_here inbox met));
-        seen = ap (λ (o : Option Message). is_some o || is_some done.arrival) l.message ∙ ap (λ (a : Option Arrival). is_some a) l.arrival ∙ some_arrived inbox (message_of met);
-        message = subst (λ (o : Option Message). IfSome o (λ x. message_of met ≡ Some x)) (sym l.message) tt;
-      },
-    )
+    by_result (Ok done) (met, meets, is_open, l) =
+        let none : message_in kept ≡ None = ap message_in l.seen ∙ none_unheard inbox (message_of met) in (
+          met,
+          meets,
+          is_open,
+          record {
+            consumer = refl;
+            shown = sym (ap (λ (h : Handed). handed_list h (message_in kept)) l.handed);
+            next = l.next ∙ ap (push_rows inbox) (sym (arrives_here inbox met));
+            looked = l.looked;
+            seen = ap has_message l.seen ∙ some_unheard inbox (message_of met);
+            message = subst (λ (o : Option Message). IfSome o (λ x. message_of met ≡ Some x)) (sym none) tt;
+          },
+        )
 
 -- the heartbeat
 pub silence_passes : (g : ReplayInput) (now inbox : ℕ) (timer : Timer) (c : Consumer) (told : RowOutput) (rest : NextTasks) (done : Stepped) (v : LinkView) → c.phase ≡ Pushes inbox timer
     → ((m : Matter) (p : Sends) (x : Consumer) → StepsTo m (silence_row (at_moment now p) timer x) (told_outputs told) x rest)
-    → handed_list done.handed None ≡ handed (told_outputs told) → done ≡ record done { next = rest; reply = None; arrival = None; message = None }
-    → PassesRow g now row.CheckSilence c c v v (Ok done)
+    → handed_list done.handed None ≡ handed (told_outputs told) → done ≡ record done { looked = false; next = rest }
+    → PassesRow g now row.CheckSilence c c v v sight.Nothing (Ok done)
 silence_passes g now inbox timer c told rest done v is steps hands to =
-    subst (λ (q : Phase). PassesRow g now row.CheckSilence (at_phase q c) (at_phase q c) v v (Ok done)) (sym is)
+    subst (λ (q : Phase). PassesRow g now row.CheckSilence (at_phase q c) (at_phase q c) v v sight.Nothing (Ok done)) (sym is)
     (row_tells g now row.CheckSilence (at_phase (Pushes inbox timer) c) (at_phase (Pushes inbox timer) c) Unasked (silence_row (at_moment now (passing_of now Unasked)) timer (at_phase (Pushes inbox timer) c)) told rest done v v refl
     (record { message = refl; is_open = refl }) refl refl (steps (read_by None None) (passing_of now Unasked) (at_phase (Pushes inbox timer) c)) hands to)
 
 pub arm_passes : (g : ReplayInput) (now inbox : ℕ) (timer : Timer) (c d : Consumer) (done : Stepped) (v : LinkView) → c.phase ≡ Pushes inbox timer
-    → d ≡ at_phase (Pushes inbox (armed now)) c → done ≡ record { handed = hands.Nothing; next = next.Nothing; reply = None; arrival = None; message = None }
-    → PassesRow g now row.Arm c d v v (Ok done)
+    → d ≡ at_phase (Pushes inbox (armed now)) c → done ≡ record { handed = hands.Nothing; looked = false; next = next.Nothing }
+    → PassesRow g now row.Arm c d v v sight.Nothing (Ok done)
 arm_passes g now inbox timer c d done v is leads to =
-    subst (λ (q : Phase). PassesRow g now row.Arm (at_phase q c) d v v (Ok done)) (sym is)
+    subst (λ (q : Phase). PassesRow g now row.Arm (at_phase q c) d v v sight.Nothing (Ok done)) (sym is)
     (row_passes g now row.Arm (at_phase (Pushes inbox timer) c) d Unasked (quietly (at_phase (Pushes inbox (armed now)) c) []) [] hands.Nothing next.Nothing done v v refl
     (record { message = refl; is_open = refl }) refl refl (record { consumer = leads; outputs = refl; next = refl }) refl to)
 
@@ -182,7 +184,7 @@ pub hear_passes : (g : ReplayInput) (now : ℕ) (arrival : Arrival) (heard : Hea
     → IsHeard c.core.consumer_sequence arrival.message heard
     → ((m : Matter) (p : Sends) (message : Message) → StepsTo m (heard_row p message heard (at_phase (Pushes arrival.inbox (armed now)) c)) (heard_outputs p.up message heard) d rest)
     → hand ≡ handed_by_heard heard → AnswersBeat arrival.message v u
-    → PassesRow g now (row.Hear arrival) c d v u (Ok (record { handed = hand; next = rest; reply = None; arrival = None; message = Some arrival.message }))
+    → PassesRow g now (row.Hear arrival) c d v u (sight.Message None arrival.message) (Ok (record { handed = hand; looked = true; next = rest }))
 hear_passes g now arrival heard c d hand rest v u here is steps hands (met, meets) =
     let message : Message = arrival.message in
     let w : Wish = beat_wish (push_kind message) message.reply in
@@ -201,15 +203,23 @@ hear_passes g now arrival heard c d hand rest v u here is steps hands (met, meet
         shown = ap (λ (x : Passed). handed x.outputs) same ∙ ap handed s.outputs ∙ heard_shown c.core.consumer_sequence message p.up (push_kind message) heard is
             ∙ ap (λ (h : Handed). handed_list h (Some message)) (sym hands);
         next = s.next ∙ ap (λ (x : Passed). x.next) (sym same);
+        looked = refl;
         seen = refl;
         message = refl;
       },
     )
 
+-- a message of the stream is not answered
+pub unanswered : (number : ℕ) (message : Message) (heard known : Heard) (v : LinkView) → heard ≡ known → asked_by known message.reply ≡ Nothing → IsHeard number message heard → AnswersBeat message v v
+unanswered number message heard known v is none heard_is =
+    (Unasked, subst (λ (w : Wish). Meets w Unasked v v) (asks_nothing number message heard known is none heard_is) refl)
+
 -- what was taken is heard
-pub heard_alone : (g : ReplayInput) (now inbox : ℕ) (slot : Option Arrival) (taken : Arrival) (c d : Consumer) (done : Stepped) (v u : LinkView) → slot ≡ Some taken → inbox ≡ taken.inbox
-    → PassesRow g now (row.Hear taken) c d v u (Ok done) → PassesRows g now (heard_rows inbox (message_on inbox slot)) c d v u (Ok done)
-heard_alone g now inbox slot taken c d done v u is same passes =
-    subst (λ (o : Option Arrival). PassesRows g now (heard_rows inbox (message_on inbox o)) c d v u (Ok done)) (sym is)
-    (subst (λ (i : ℕ). PassesRows g now (heard_rows i (message_on i (Some taken))) c d v u (Ok done)) (sym same)
-    (subst (λ (o : Option Message). PassesRows g now (heard_rows taken.inbox o) c d v u (Ok done)) (sym (taken_here taken.inbox taken.message)) passes))
+pub heard_alone : (g : ReplayInput) (now inbox current : ℕ) (seen kept : Seen) (unheard : Option ℕ) (message : Message) (c d : Consumer) (done : Stepped) (v u : LinkView) → seen ≡ sight.Message unheard message
+    → unheard ≡ Some current → inbox ≡ current → PassesRow g now (row.Hear (record { inbox = inbox; message = message })) c d v u kept (Ok done)
+    → PassesRows g now (heard_rows inbox (message_on inbox (arrival_in seen))) c d v u kept (Ok done)
+heard_alone g now inbox current seen kept unheard message c d done v u is on same passes =
+    let here : seen ≡ unheard_on inbox (Some message) =
+    is ∙ ap (λ (o : Option ℕ). sight.Message o message) on ∙ ap (λ (i : ℕ). sight.Message (Some i) message) (sym same) in
+    subst (λ (s : Seen). PassesRows g now (heard_rows inbox (message_on inbox (arrival_in s))) c d v u kept (Ok done)) (sym here)
+    (subst (λ (o : Option Message). PassesRows g now (heard_rows inbox o) c d v u kept (Ok done)) (sym (taken_here inbox message)) passes)

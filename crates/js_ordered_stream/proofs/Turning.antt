@@ -14,8 +14,8 @@ use Rattle.js_pull.specs.declared.rows.Due.{Due}
 use Rattle.js_table.specs.declared.row.Row.TheVariants as row
 use Rattle.js_ordered_rows.specs.Tasks.{next_rows, rows_of}
 use Rattle.js_ordered_stream.specs.declared.left.Left.{Left}
-use Rattle.js_ordered_stream.specs.declared.left.Reply.{Reply}
-use Rattle.js_table.specs.declared.row.Arrival.{Arrival}
+use Rattle.js_ordered_stream.specs.declared.left.Seen.{Seen}
+use Rattle.js_ordered_stream.specs.declared.left.Seen.TheVariants as sight
 use Rattle.js_ordered_stream.specs.declared.left.Todo.{Todo}
 use Rattle.js_ordered_stream.specs.declared.left.Todo.TheVariants as todo
 use Rattle.js_ordered_stream.specs.declared.ordered.Turned.{Turned}
@@ -24,7 +24,7 @@ use Rattle.js_ordered_stream.specs.declared.rows.Handed.TheVariants as hands
 use Rattle.js_ordered_stream.specs.declared.rows.Stepped.{Stepped}
 use Rattle.js_ordered_stream.specs.declared.rows.Stop.{Stop}
 use Rattle.js_ordered_stream.specs.declared.rows.Stop.TheVariants as stop
-use Rattle.js_ordered_stream.specs.Rows.{Fits, IfAlone, IsPlain, ReadsNone, PassesRow, PassesRows, Steps, answer_shown, handed_list, is_rested, later_of, left_rows, met_row, read_by, seen_by, todo_rows}
+use Rattle.js_ordered_stream.specs.Rows.{Fits, IfAlone, IsPlain, ReadsNone, PassesRow, PassesRows, Steps, handed_list, has_message, is_rested, later_of, left_rows, message_in, met_row, read_in, seen_after, seen_by, todo_rows}
 use Rattle.js_ordered_stream.specs.Stream.{IsNext, PassesFirst, PassesNext, TurnsTo, is_spent, step_met, stirring, turned_by, silent_by}
 use Rattle.js_table.specs.declared.consumer.Consumer.{Consumer}
 use Rattle.js_table.specs.declared.consumer.ReplayInput.{ReplayInput}
@@ -33,6 +33,7 @@ use Rattle.js_table.specs.declared.row.Row.TheVariants.{Event}
 use Rattle.js_table.specs.State.{Matter}
 use Rattle.js_turns.specs.Polling.{closed_at, is_reading, poll_wish, poll_wish_at}
 use Rattle.js_turns.specs.Turns.{Position, first_row, handed, later_rows}
+use Rattle.js_ordered_stream.proofs.Keeping.{passes_blind}
 
 -- ---- the rows that are left
 
@@ -56,7 +57,7 @@ read_plain one false same = tt
 pub rested : (left : Left) (b : Bool) → b ≡ is_rested left.todo → b ≡ true → left_rows left ≡ []
 rested left b is e = by_todo left.todo (sym is ∙ e)
   where
-    by_todo : (t : Todo) → is_rested t ≡ true → todo_rows (read_by (answer_shown left.reply) left.arrival) t ≡ []
+    by_todo : (t : Todo) → is_rested t ≡ true → todo_rows (read_in left.seen) t ≡ []
     by_todo todo.Nothing e = refl
     by_todo (todo.One one) e = absurd (let h = e in cc)
     by_todo (todo.Two one second) e = absurd (let h = e in cc)
@@ -92,8 +93,8 @@ abbrev place : Consumer → List Row → Position
 place c rows = record { consumer = c; todo = rows }
 
 -- what is left, in its parts
-abbrev pub left_with : Todo → Option Reply → Option Arrival → Left
-left_with todo reply arrival = record { todo = todo; reply = reply; arrival = arrival }
+abbrev pub left_with : Todo → Seen → Left
+left_with todo seen = record { todo = todo; seen = seen }
 
 -- the row that it stands for comes next
 pub next_of : (left : Left) (rows later : List Row) (holds : Row → Type 0) → left_rows left ≡ rows ++ later → ((m : Matter) → later ≡ later_of m left.todo) → IfAlone rows holds → IsNext left holds
@@ -101,19 +102,19 @@ next_of left [] later holds is same alone = absurd alone
 next_of left (one ∷ []) later holds is same alone = (one, ap first_row is, (λ m. ap later_rows is ∙ same m), alone)
 next_of left (one ∷ second ∷ rows) later holds is same alone = absurd alone
 
-pub passes_first : (g : ReplayInput) (now : ℕ) (left : Left) (rows later : List Row) (c d : Consumer) (v u : LinkView) (result : Result Stepped Stop) → left_rows left ≡ rows ++ later
-    → ((m : Matter) → later ≡ later_of m left.todo) → Fits left.todo → PassesRows g now rows c d v u result → PassesFirst g now left c d v u result
-passes_first g now left rows later c d v u (Ok done) is same fits passes = (fits, next_of left rows later (λ one. PassesRow g now one c d v u (Ok done)) is same passes)
-passes_first g now left rows later c d v u (Err stop.Closed) is same fits passes = next_of left rows later (λ one. PassesRow g now one c d v u (Err stop.Closed)) is same passes
-passes_first g now left rows later c d v u (Err stop.OutOfMemory) is same fits passes = passes
+pub passes_first : (g : ReplayInput) (now : ℕ) (left : Left) (rows later : List Row) (c d : Consumer) (v u : LinkView) (kept : Seen) (result : Result Stepped Stop) → left_rows left ≡ rows ++ later
+    → ((m : Matter) → later ≡ later_of m left.todo) → Fits left.todo → PassesRows g now rows c d v u kept result → PassesFirst g now left c d v u kept result
+passes_first g now left rows later c d v u kept (Ok done) is same fits passes = (fits, next_of left rows later (λ one. PassesRow g now one c d v u kept (Ok done)) is same passes)
+passes_first g now left rows later c d v u kept (Err stop.Closed) is same fits passes = next_of left rows later (λ one. PassesRow g now one c d v u kept (Err stop.Closed)) is same passes
+passes_first g now left rows later c d v u kept (Err stop.OutOfMemory) is same fits passes = passes
 
 -- a turn begins
-pub begins_first : (g : ReplayInput) (now : ℕ) (left : Left) (c d : Consumer) (v u : LinkView) (result : Result Stepped Stop) → left.todo ≡ todo.Nothing
-    → PassesRow g now Event c d v u result → PassesFirst g now left c d v u result
-begins_first g now left c d v u result is passes = by_result result passes
+pub begins_first : (g : ReplayInput) (now : ℕ) (left : Left) (c d : Consumer) (v u : LinkView) (seen : Seen) (result : Result Stepped Stop) → left.todo ≡ todo.Nothing
+    → PassesRow g now Event c d v u sight.Nothing result → PassesFirst g now left c d v u (seen_after result seen) result
+begins_first g now left c d v u seen result is passes = by_result result (passes_blind g now Event c d v u seen result passes)
   where
     none : left_rows left ≡ []
-    none = ap (todo_rows (read_by (answer_shown left.reply) left.arrival)) is
+    none = ap (todo_rows (read_in left.seen)) is
 
     same : (m : Matter) → later_rows (left_rows left) ≡ later_of m left.todo
     same m = ap later_rows none ∙ sym (ap (later_of m) is)
@@ -121,7 +122,7 @@ begins_first g now left c d v u result is passes = by_result result passes
     fits : Fits left.todo
     fits = subst Fits (sym is) tt
 
-    by_result : (result : Result Stepped Stop) → PassesRow g now Event c d v u result → PassesFirst g now left c d v u result
+    by_result : (result : Result Stepped Stop) → PassesRow g now Event c d v u (seen_after result seen) result → PassesFirst g now left c d v u (seen_after result seen) result
     by_result (Ok done) passes = (fits, (Event, ap first_row none, same, passes))
     by_result (Err stop.Closed) passes = (Event, ap first_row none, same, passes)
     by_result (Err stop.OutOfMemory) passes = passes
@@ -141,46 +142,41 @@ turned_to g now met old new v u hands.Message None stirs spent passes took shows
 turned_to g now met old new v u hands.Message (Some message) stirs spent passes took shows stirred is = (met, passes, shows, took)
 turned_to g now met old new v u (hands.Error kind) message stirs spent passes took shows stirred is = (met, passes, shows)
 
--- what follows reads what the row met
-abbrev matter_left : Stepped → Matter
-matter_left done = read_by (answer_shown done.reply) done.arrival
-
 -- the next row was passed
-pub next_passed : (g : ReplayInput) (now : ℕ) (left after : Left) (c d e : Consumer) (done : Stepped) (was_reading : Bool) (turned : Turned) (v u : LinkView) → PassesFirst g now left c d v u (Ok done) → e ≡ d
+pub next_passed : (g : ReplayInput) (now : ℕ) (left after : Left) (c d e : Consumer) (kept : Seen) (done : Stepped) (was_reading : Bool) (turned : Turned) (v u : LinkView) → PassesFirst g now left c d v u kept (Ok done) → e ≡ d
     → was_reading ≡ is_reading c.phase
-    → left_rows after ≡ next_rows (matter_left done) done.next ++ later_of (matter_left done) left.todo
-    → turned ≡ turned_by done.handed done.message ((is_some done.message || is_some done.arrival) || (not was_reading && is_reading d.phase)) (is_spent d.phase)
+    → left_rows after ≡ next_rows (read_in kept) done.next ++ later_of (read_in kept) left.todo
+    → turned ≡ turned_by done.handed (message_in kept) (has_message kept || (not was_reading && is_reading d.phase)) (is_spent d.phase)
     → TurnsTo turned g now (place c (left_rows left)) (place e (left_rows after)) v u
-next_passed g now left after c d e done was_reading turned v u (fits, (one, first_is, later_is, (met, meets, is_open, steps))) kept was rows to =
+next_passed g now left after c d e kept done was_reading turned v u (fits, (one, first_is, later_is, (met, meets, is_open, steps))) stays was rows to =
     let old : Position = place c (left_rows left) in
     let new : Position = place d (left_rows after) in
-    let looks : Bool = is_some done.message || is_some done.arrival in
-    let known : Steps g now (first_row (left_rows left)) met c d done = subst (λ (x : Row). Steps g now x met c d done) (sym first_is) steps in
+    let known : Steps g now (first_row (left_rows left)) met c d kept done = subst (λ (x : Row). Steps g now x met c d kept done) (sym first_is) steps in
     let passes : PassesNext g now met old new v u = record {
       meets = subst (λ (x : Row). Meets (poll_wish_at g x c.phase) met v u) (sym first_is) meets;
       is_open = is_open;
       leads = ap (λ (x : Consumer). place x (left_rows after)) known.consumer
           ∙ ap (λ (xs : List Row). place (step_met g now met old).position.consumer xs)
-          (rows ∙ ap (λ (xs : List Row). xs ++ later_of (matter_left done) left.todo) known.next
-          ∙ ap (λ (xs : List Row). (met_row g now (first_row (left_rows left)) met c).next ++ xs) (sym (later_is (matter_left done))));
+          (rows ∙ ap (λ (xs : List Row). xs ++ later_of (read_in kept) left.todo) known.next
+          ∙ ap (λ (xs : List Row). (met_row g now (first_row (left_rows left)) met c).next ++ xs) (sym (later_is (read_in kept))));
     } in
-    let stirred : (looks || (not was_reading && is_reading d.phase)) ≡ stirring (first_row (left_rows left)) met c.phase d.phase =
+    let stirred : (has_message kept || (not was_reading && is_reading d.phase)) ≡ stirring (first_row (left_rows left)) met c.phase d.phase =
     ap (λ (b : Bool). b || (not was_reading && is_reading d.phase)) known.seen
     ∙ ap (λ (b : Bool). is_some (seen_by (first_row (left_rows left)) met) || (not b && is_reading d.phase)) was in
-    subst (λ (x : Consumer). TurnsTo turned g now old (place x (left_rows after)) v u) (sym kept)
+    subst (λ (x : Consumer). TurnsTo turned g now old (place x (left_rows after)) v u) (sym stays)
     (subst (λ (t : Turned). TurnsTo t g now old new v u) (sym to)
-    (turned_to g now met old new v u done.handed done.message (looks || (not was_reading && is_reading d.phase)) (is_spent d.phase) passes known.message
+    (turned_to g now met old new v u done.handed (message_in kept) (has_message kept || (not was_reading && is_reading d.phase)) (is_spent d.phase) passes known.message
     known.shown stirred refl))
 
 -- its inbox is closed
-pub next_closed : (g : ReplayInput) (now : ℕ) (left : Left) (c d : Consumer) (new : Position) (v u : LinkView) → PassesFirst g now left c d v u (Err stop.Closed)
+pub next_closed : (g : ReplayInput) (now : ℕ) (left : Left) (c d : Consumer) (new : Position) (v u : LinkView) (kept : Seen) → PassesFirst g now left c d v u kept (Err stop.Closed)
     → new ≡ closed_at true (place d (left_rows left))
     → (new ≡ closed_at true (place c (left_rows left))) × IsClosing Meets (poll_wish g (place c (left_rows left))) true v u
-next_closed g now left c d new v u (one, first_is, later_is, (same, closing)) leads = (
+next_closed g now left c d new v u kept (one, first_is, later_is, (same, closing)) leads = (
   leads ∙ ap (λ (x : Consumer). closed_at true (place x (left_rows left))) same,
   subst (λ (x : Row). IsClosing Meets (poll_wish_at g x c.phase) true v u) (sym first_is) closing,
 )
 
-pub next_lacks : (g : ReplayInput) (now : ℕ) (left after : Left) (c d : Consumer) (v u : LinkView) → PassesFirst g now left c d v u (Err stop.OutOfMemory) → after ≡ left
+pub next_lacks : (g : ReplayInput) (now : ℕ) (left after : Left) (c d : Consumer) (v u : LinkView) (kept : Seen) → PassesFirst g now left c d v u kept (Err stop.OutOfMemory) → after ≡ left
     → (place d (left_rows after) ≡ place c (left_rows left)) × (u ≡ v)
-next_lacks g now left after c d v u (same, view) kept = (ap (λ (x : Consumer). place x (left_rows after)) same ∙ ap (λ (l : Left). place c (left_rows l)) kept, view)
+next_lacks g now left after c d v u kept (same, view) stays = (ap (λ (x : Consumer). place x (left_rows after)) same ∙ ap (λ (l : Left). place c (left_rows l)) stays, view)

@@ -1,9 +1,9 @@
 -- The rows that are left of a turn, as the code keeps them, and what a function says that passes one over a link.
-use Rattle.std.specs.Prelude.{◌≡◌, ℕ, Bool, true, false, List, [], ◌∷◌, ◌++◌, Option, Some, None, IfSome, is_some, option_map, ◌||◌, ◌==◌, length, Result, Ok, Err, ⊤}
+use Rattle.std.specs.Prelude.{◌≡◌, ℕ, Bool, true, false, List, [], ◌∷◌, ◌++◌, Option, Some, None, IfSome, is_some, ◌==◌, length, Result, Ok, Err, ⊤, if◌then◌else◌}
 use Rattle.js_base.specs.declared.message.Message.{Message}
 use Rattle.js_link.specs.LinkView.{LinkView}
 use Rattle.js_link.specs.Meets.{Meets}
-use Rattle.js_link.specs.Met.{Met, Opened, Reads, Shut, passing_of, message_of, IsClosing}
+use Rattle.js_link.specs.Met.{Met, Nothing, Opened, Reads, Shut, Took, Got, Gone, passing_of, message_of, IsClosing}
 use Rattle.js_message.specs.Ack.{readable_as}
 use Rattle.js_ordered_rows.specs.declared.task.Heard.{Heard}
 use Rattle.js_ordered_rows.specs.declared.task.Heard.TheVariants as hears
@@ -13,7 +13,8 @@ use Rattle.js_ordered_rows.specs.Tasks.{StepsTo, next_rows, rows_of}
 use Rattle.js_ordered_stream.specs.declared.left.First.{First}
 use Rattle.js_ordered_stream.specs.declared.left.First.TheVariants as first
 use Rattle.js_ordered_stream.specs.declared.left.Left.{Left}
-use Rattle.js_ordered_stream.specs.declared.left.Reply.{Reply}
+use Rattle.js_ordered_stream.specs.declared.left.Seen.{Seen}
+use Rattle.js_ordered_stream.specs.declared.left.Seen.TheVariants as sight
 use Rattle.js_ordered_stream.specs.declared.left.Todo.{Todo}
 use Rattle.js_ordered_stream.specs.declared.left.Todo.TheVariants as todo
 use Rattle.js_ordered_stream.specs.declared.reading.ReadMet.{ReadMet}
@@ -49,15 +50,54 @@ use Rattle.js_turns.specs.Polling.{poll_wish_at, yielded}
 use Rattle.js_turns.specs.Turns.{handed}
 use Rattle.js_turns.specs.Wishes.{beat_wish, matter_of}
 
--- ---- the rows that are left
+-- ---- what a row has looked at
 
-abbrev pub answer_shown : Option Reply → Option Answer
-answer_shown None = None
-answer_shown (Some reply) = Some (record { request = reply.request; reply = reply.message })
+-- the answer that the next row reads
+abbrev pub answer_in : Seen → Option Answer
+answer_in (sight.Reply reply) = Some (record { request = reply.request; reply = reply.message })
+answer_in _ = None
+
+-- the message that push has still to hear
+abbrev pub arrival_in : Seen → Option Arrival
+arrival_in (sight.Message (Some inbox) message) = Some (record { inbox = inbox; message = message })
+arrival_in _ = None
+
+-- the message that no row has still to hear
+abbrev pub message_in : Seen → Option Message
+message_in (sight.Message None message) = Some message
+message_in _ = None
+
+abbrev pub has_message : Seen → Bool
+has_message (sight.Message unheard message) = true
+has_message _ = false
+
+abbrev pub is_something : Seen → Bool
+is_something sight.Nothing = false
+is_something _ = true
+
+-- what was met, where an answer is one to this request
+abbrev pub seen_met : ℕ → Met → Seen
+seen_met request (Took message) = sight.Message None message
+seen_met request (Got reply) = sight.Reply (record { request = request; message = Some reply })
+seen_met request Gone = sight.Reply (record { request = request; message = None })
+seen_met request met = sight.Nothing
+
+-- what is left in its place after a row: what an earlier row looked at is let go
+abbrev pub kept_if : Bool → Seen → Seen
+kept_if looked seen = if looked then seen else sight.Nothing
+
+abbrev pub seen_after : Result Stepped Stop → Seen → Seen
+seen_after (Ok done) seen = kept_if done.looked seen
+seen_after (Err e) seen = seen
+
+-- ---- the rows that are left
 
 -- what the rows read that are left
 abbrev pub read_by : Option Answer → Option Arrival → Matter
 read_by answer arrival = record { change = Unchanged; answer = answer; arrival = arrival }
+
+abbrev pub read_in : Seen → Matter
+read_in seen = read_by (answer_in seen) (arrival_in seen)
 
 -- in order
 abbrev pub todo_rows : Matter → Todo → List Row
@@ -78,7 +118,7 @@ later_list m None = []
 later_list m (Some one) = rows_of m one
 
 abbrev pub left_rows : Left → List Row
-left_rows left = todo_rows (read_by (answer_shown left.reply) left.arrival) left.todo
+left_rows left = todo_rows (read_in left.seen) left.todo
 
 abbrev pub is_rested : Todo → Bool
 is_rested todo.Nothing = true
@@ -130,20 +170,21 @@ seen_by row met = message_of met
 abbrev pub met_row : ReplayInput → ℕ → Row → Met → Consumer → Passed
 met_row g now row met c = pass g (passing_of now met) (matter_of (poll_wish_at g row c.phase) met) row c
 
--- the consumer after it, what it hands out, and the rows that follow at once; the message that it looked at is kept for the row that hears it, or let go
-pub record Steps (g : ReplayInput) (now : ℕ) (row : Row) (met : Met) (old new : Consumer) (done : Stepped) : Type 0 where
+-- the consumer after it, what it hands out, the rows that follow at once, and what it looked at; a message is kept for the row that hears it, or let go
+pub record Steps (g : ReplayInput) (now : ℕ) (row : Row) (met : Met) (old new : Consumer) (kept : Seen) (done : Stepped) : Type 0 where
   pub consumer : new ≡ (met_row g now row met old).consumer
-  pub shown : handed (met_row g now row met old).outputs ≡ handed_list done.handed done.message
-  pub next : next_rows (read_by (answer_shown done.reply) done.arrival) done.next ≡ (met_row g now row met old).next
-  pub seen : (is_some done.message || is_some done.arrival) ≡ is_some (seen_by row met)
-  pub message : IfSome done.message (λ message. seen_by row met ≡ Some message)
+  pub shown : handed (met_row g now row met old).outputs ≡ handed_list done.handed (message_in kept)
+  pub next : next_rows (read_in kept) done.next ≡ (met_row g now row met old).next
+  pub looked : done.looked ≡ is_something kept
+  pub seen : has_message kept ≡ is_some (seen_by row met)
+  pub message : IfSome (message_in kept) (λ message. seen_by row met ≡ Some message)
 
--- a row was passed with what it met; or its inbox is closed, or there was no memory, and it was not passed
-abbrev pub PassesRow : ReplayInput → ℕ → Row → Consumer → Consumer → LinkView → LinkView → Result Stepped Stop → Type 0
-PassesRow g now row old new before after (Ok done) =
-    (met : Met) × Meets (poll_wish_at g row old.phase) met before after × (is_shut met ≡ false) × Steps g now row met old new done
-PassesRow g now row old new before after (Err stop.Closed) = (new ≡ old) × IsClosing Meets (poll_wish_at g row old.phase) true before after
-PassesRow g now row old new before after (Err stop.OutOfMemory) = (new ≡ old) × (after ≡ before)
+-- a row was passed with what it met, and looked at this; or its inbox is closed, or there was no memory, and it was not passed
+abbrev pub PassesRow : ReplayInput → ℕ → Row → Consumer → Consumer → LinkView → LinkView → Seen → Result Stepped Stop → Type 0
+PassesRow g now row old new before after kept (Ok done) =
+    (met : Met) × Meets (poll_wish_at g row old.phase) met before after × (is_shut met ≡ false) × Steps g now row met old new kept done
+PassesRow g now row old new before after kept (Err stop.Closed) = (new ≡ old) × IsClosing Meets (poll_wish_at g row old.phase) true before after
+PassesRow g now row old new before after kept (Err stop.OutOfMemory) = (new ≡ old) × (after ≡ before)
 
 -- where there is one row
 abbrev pub IfAlone : List Row → (Row → Type 0) → Type 0
@@ -151,10 +192,10 @@ IfAlone (row ∷ []) holds = holds row
 IfAlone rows holds = ⊥
 
 -- what a task stands for was passed
-abbrev pub PassesRows : ReplayInput → ℕ → List Row → Consumer → Consumer → LinkView → LinkView → Result Stepped Stop → Type 0
-PassesRows g now rows old new before after (Ok done) = IfAlone rows (λ row. PassesRow g now row old new before after (Ok done))
-PassesRows g now rows old new before after (Err stop.Closed) = IfAlone rows (λ row. PassesRow g now row old new before after (Err stop.Closed))
-PassesRows g now rows old new before after (Err stop.OutOfMemory) = (new ≡ old) × (after ≡ before)
+abbrev pub PassesRows : ReplayInput → ℕ → List Row → Consumer → Consumer → LinkView → LinkView → Seen → Result Stepped Stop → Type 0
+PassesRows g now rows old new before after kept (Ok done) = IfAlone rows (λ row. PassesRow g now row old new before after kept (Ok done))
+PassesRows g now rows old new before after kept (Err stop.Closed) = IfAlone rows (λ row. PassesRow g now row old new before after kept (Err stop.Closed))
+PassesRows g now rows old new before after kept (Err stop.OutOfMemory) = (new ≡ old) × (after ≡ before)
 
 -- ---- what is met
 
@@ -175,6 +216,11 @@ pub record IsReadMet (read : ReadMet) (one : PullRow) (r : Reader) (before after
   pub is_open : is_shut (met_shown read.met) ≡ false
   pub informed : IsInformed one read.informed
 
+-- a reader's row asks its link for nothing, and is told nothing
+abbrev pub AsksNothing : Due → Bool → Type 0
+AsksNothing due true = (reply : Option Message) → (r : Reader) → (pull.wish (row_of reply due) r ≡ Nothing) × IsInformed (row_of reply due) None
+AsksNothing due false = ⊤
+
 abbrev pub MeetsReader : Result ReadMet Stop → PullRow → Reader → LinkView → LinkView → Type 0
 MeetsReader (Ok read) one r before after = IsReadMet read one r before after × (r.source.pinned ≡ false)
 MeetsReader (Err stop.Closed) one r before after = IsClosing Meets (pull.wish one r) true before after
@@ -182,30 +228,26 @@ MeetsReader (Err stop.OutOfMemory) one r before after = after ≡ before
 
 -- ---- what push hears
 
--- a message on an inbox
-abbrev pub arrived : ℕ → Option Message → Option Arrival
-arrived inbox message = option_map (λ message. record { inbox = inbox; message = message }) message
+-- a message that came on an inbox, which is heard next
+abbrev pub unheard_on : ℕ → Option Message → Seen
+unheard_on inbox None = sight.Nothing
+unheard_on inbox (Some message) = sight.Message (Some inbox) message
 
 -- a look into an inbox: what was taken is heard next, and without it the heartbeat is looked at
-pub record Looked (inbox : ℕ) (taken : Option Message) (done : Stepped) : Type 0 where
+pub record Looked (inbox : ℕ) (taken : Option Message) (kept : Seen) (done : Stepped) : Type 0 where
   pub handed : done.handed ≡ hands.Nothing
-  pub message : done.message ≡ None
-  pub arrival : done.arrival ≡ arrived inbox taken
-  pub next : next_rows (read_by (answer_shown done.reply) done.arrival) done.next ≡ push_rows inbox taken
+  pub looked : done.looked ≡ is_something kept
+  pub seen : kept ≡ unheard_on inbox taken
+  pub next : next_rows (read_in kept) done.next ≡ push_rows inbox taken
 
-abbrev pub LooksInto : Result Stepped Stop → ℕ → LinkView → LinkView → Type 0
-LooksInto (Ok done) inbox before after = (met : Met) × Meets (Reads inbox) met before after × (is_shut met ≡ false) × Looked inbox (message_of met) done
-LooksInto (Err stop.Closed) inbox before after = Meets (Reads inbox) Shut before after
-LooksInto (Err stop.OutOfMemory) inbox before after = after ≡ before
+abbrev pub LooksInto : Result Stepped Stop → ℕ → Seen → LinkView → LinkView → Type 0
+LooksInto (Ok done) inbox kept before after = (met : Met) × Meets (Reads inbox) met before after × (is_shut met ≡ false) × Looked inbox (message_of met) kept done
+LooksInto (Err stop.Closed) inbox kept before after = Meets (Reads inbox) Shut before after
+LooksInto (Err stop.OutOfMemory) inbox kept before after = after ≡ before
 
 -- a beat was answered, where it asks for that
 abbrev pub AnswersBeat : Message → LinkView → LinkView → Type 0
 AnswersBeat message before after = (met : Met) × Meets (beat_wish (push_kind message) message.reply) met before after
-
--- an arrival was heard, or is handed back
-abbrev pub HearsTaken : ReplayInput → ℕ → Arrival → Consumer → Consumer → LinkView → LinkView → Result Stepped Arrival → Type 0
-HearsTaken g now arrival old new before after (Ok done) = PassesRow g now (Hear arrival) old new before after (Ok done)
-HearsTaken g now arrival old new before after (Err back) = (back ≡ arrival) × (new ≡ old) × (after ≡ before)
 
 -- an inbox was opened for a create, and nothing is held for it
 abbrev pub is_bare : Option OpenedInbox → Bool

@@ -21,6 +21,7 @@ use Rattle.js_ordered_stream.specs.declared.ordered.Turned.TheVariants as turns
 use Rattle.js_ordered_stream.specs.declared.rows.Handed.{Handed}
 use Rattle.js_ordered_stream.specs.declared.rows.Handed.TheVariants as hands
 use Rattle.js_ordered_stream.specs.declared.left.Left.{Left}
+use Rattle.js_ordered_stream.specs.declared.left.Seen.{Seen}
 use Rattle.js_ordered_stream.specs.declared.rows.Stepped.{Stepped}
 use Rattle.js_ordered_stream.specs.declared.rows.Stop.{Stop}
 use Rattle.js_ordered_stream.specs.declared.rows.Stop.TheVariants as stop
@@ -140,12 +141,12 @@ TurnsTo turns.Exhausted g now old new before after =
 TurnsTo turns.Closed g now old new before after = (new ≡ closed_at true old) × IsClosing Meets (poll_wish g old) true before after
 TurnsTo turns.OutOfMemory g now old new before after = (new ≡ old) × (after ≡ before)
 
--- the first row that is left was passed over a link
-abbrev pub PassesFirst : ReplayInput → ℕ → Left → Consumer → Consumer → LinkView → LinkView → Result Stepped Stop → Type 0
-PassesFirst g now left old new before after (Ok done) =
-    Fits left.todo × IsNext left (λ row. PassesRow g now row old new before after (Ok done))
-PassesFirst g now left old new before after (Err stop.Closed) = IsNext left (λ row. PassesRow g now row old new before after (Err stop.Closed))
-PassesFirst g now left old new before after (Err stop.OutOfMemory) = (new ≡ old) × (after ≡ before)
+-- the first row that is left was passed over a link, and looked at this
+abbrev pub PassesFirst : ReplayInput → ℕ → Left → Consumer → Consumer → LinkView → LinkView → Seen → Result Stepped Stop → Type 0
+PassesFirst g now left old new before after kept (Ok done) =
+    Fits left.todo × IsNext left (λ row. PassesRow g now row old new before after kept (Ok done))
+PassesFirst g now left old new before after kept (Err stop.Closed) = IsNext left (λ row. PassesRow g now row old new before after kept (Err stop.Closed))
+PassesFirst g now left old new before after kept (Err stop.OutOfMemory) = (new ≡ old) × (after ≡ before)
 
 -- what a row comes to, by what it hands out
 abbrev pub silent_by : Bool → Bool → Turned

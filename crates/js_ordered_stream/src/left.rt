@@ -1,15 +1,16 @@
 //! The rows that are left of a turn.
+ghost use Rattle.std.specs.Option.{option_copied};
 ghost use Rattle.std.specs.Prelude.{◌≡◌, ◌++◌, ◌∷◌, [], map};
 ghost use Rattle.js_ordered_rows.specs.Tasks.{next_rows};
-ghost use Rattle.js_ordered_stream.specs.Rows.{FirstOf, Fits, IsPlain, ReadsNone, answer_shown, is_rested, later_list, later_of, left_rows, read_by, todo_rows};
+ghost use Rattle.js_ordered_stream.specs.Rows.{FirstOf, Fits, IsPlain, ReadsNone, has_message, is_rested, is_something as has_seen, kept_if, later_list, later_of, left_rows, message_in, read_in, seen_met, todo_rows};
+ghost use Rattle.js_pull.specs.Asking.{met_shown};
 ghost use Rattle.js_pull.specs.Reader.{opening};
 ghost use Rattle.js_table.specs.State.{Matter};
 ghost use Rattle.js_table.specs.declared.row.Row.TheVariants as row;
 
 use js_base::Message;
 use js_ordered_rows::{NextTasks, Task};
-use js_pull::Due;
-use js_table::Arrival;
+use js_pull::{Due, Met};
 use std::mem;
 
 /// An answer that a row has met, which the row after it reads.
@@ -18,6 +19,20 @@ pub(crate) struct Reply {
     pub request: u64,
     /// None where the replier is gone.
     pub message: Option<Message>,
+}
+
+/// What a row has looked at. It lies in one place from row to row, since a message is large.
+#[derive(Drop)]
+pub(crate) enum Seen {
+    Nothing,
+    /// An answer, which the next row reads.
+    Reply(Reply),
+    /// A message that was taken.
+    Message {
+        /// The inbox on which push has still to hear it.
+        unheard: Option<u64>,
+        message: Message,
+    },
 }
 
 /// The rows that are left, in order.
@@ -29,13 +44,11 @@ pub(crate) enum Todo {
     Three(Task, Task, Task),
 }
 
-/// The rows that are left of a turn, with what they read.
+/// The rows that are left of a turn, with what the last row has looked at.
 #[derive(Drop)]
 pub(crate) struct Left {
     pub todo: Todo,
-    pub reply: Option<Reply>,
-    /// An arrival that push has taken, and has still to hear.
-    pub arrival: Option<Arrival>,
+    pub seen: Seen,
 }
 
 /// The row that comes next.
@@ -111,6 +124,106 @@ fn before(next: NextTasks, later: Option<Task>) -> Todo
     }
 }
 
+/// What was met, where an answer is one to this request.
+pub(crate) fn seen_of(request: u64, met: Met) -> Seen
+    ensures { result ≡ seen_met request (met_shown met) }
+{
+    match met {
+        Met::Took(message) => Seen::Message {
+            unheard: None,
+            message,
+        },
+        Met::Got(message) => Seen::Reply(Reply {
+            request,
+            message: Some(message),
+        }),
+        Met::Gone => Seen::Reply(Reply {
+            request,
+            message: None,
+        }),
+        Met::Unasked
+        | Met::GoneOut
+        | Met::Refused
+        | Met::Dropped
+        | Met::Requested { .. }
+        | Met::Opened { .. }
+        | Met::Empty
+        | Met::Shut
+        | Met::Waiting
+        | Met::Stands(_)
+        | Met::WatchOver => Seen::Nothing,
+    }
+}
+
+impl Seen {
+    pub(crate) fn is_something(&self) -> bool
+        ensures { result ≡ has_seen self.now }
+    {
+        match self {
+            Seen::Nothing => false,
+            Seen::Reply(_) => true,
+            Seen::Message { .. } => true,
+        }
+    }
+
+    pub(crate) fn is_message(&self) -> bool
+        ensures { result ≡ has_message self.now }
+    {
+        match self {
+            Seen::Nothing => false,
+            Seen::Reply(_) => false,
+            Seen::Message { .. } => true,
+        }
+    }
+
+    /// The message that no row has still to hear.
+    pub(crate) fn message(&self) -> Option<&Message>
+        ensures { option_copied result ≡ message_in self.now }
+    {
+        match self {
+            Seen::Nothing => None,
+            Seen::Reply(_) => None,
+            Seen::Message { unheard, message } => match unheard {
+                None => Some(message),
+                Some(_) => None,
+            },
+        }
+    }
+
+    /// It is let go where the last row looked at nothing.
+    fn keep_if(&mut self, looked: bool)
+        ensures { self.new ≡ kept_if looked self.old }
+    {
+        if !looked {
+            *self = Seen::Nothing;
+        }
+    }
+
+    /// The message that no row has still to hear is taken out.
+    fn take_message(&mut self) -> Option<Message>
+        ensures message { result ≡ message_in self.old }
+        ensures rest { read_in self.new ≡ read_in self.old }
+    {
+        match mem::replace(self, Seen::Nothing) {
+            Seen::Nothing => None,
+            Seen::Reply(reply) => {
+                *self = Seen::Reply(reply);
+                None
+            }
+            Seen::Message { unheard, message } => match unheard {
+                None => Some(message),
+                Some(inbox) => {
+                    *self = Seen::Message {
+                        unheard: Some(inbox),
+                        message,
+                    };
+                    None
+                }
+            },
+        }
+    }
+}
+
 impl Todo {
     /// Whether the last turn is over.
     pub(crate) fn is_empty(&self) -> bool
@@ -141,6 +254,28 @@ impl Todo {
             Todo::Three(_, _, _) => First::Blocked,
         }
     }
+
+    /// What is left after the next row.
+    fn take_later(&mut self) -> Option<Task>
+        requires { Fits self.old }
+        ensures { (m : Matter) → later_list m result ≡ later_of m self.old }
+    {
+        match mem::replace(self, Todo::Nothing) {
+            Todo::Nothing => None,
+            Todo::One(_) => None,
+            Todo::Two(_, later) => Some(later),
+            Todo::Three(_, _, _) => None,
+        }
+    }
+
+    /// The next row was passed: what follows it at once takes its place.
+    fn follow(&mut self, next: NextTasks)
+        requires { Fits self.old }
+        ensures { (m : Matter) → todo_rows m self.new ≡ next_rows m next ++ later_of m self.old }
+    {
+        let later = self.take_later();
+        *self = before(next, later);
+    }
 }
 
 impl Left {
@@ -150,8 +285,7 @@ impl Left {
     {
         Left {
             todo: Todo::Two(Task::Read(Due::Threshold), Task::Read(Due::Arm)),
-            reply: None,
-            arrival: None,
+            seen: Seen::Nothing,
         }
     }
 
@@ -161,33 +295,26 @@ impl Left {
     {
         Left {
             todo: Todo::One(Task::Arm),
-            reply: None,
-            arrival: None,
+            seen: Seen::Nothing,
         }
     }
 
-    /// What is left after the next row.
-    fn take_later(&mut self) -> Option<Task>
+    /// The next row was passed, which has looked at something or at nothing: what follows it at once takes its place.
+    pub(crate) fn follow(&mut self, next: NextTasks, looked: bool)
         requires { Fits self.old.todo }
-        ensures { (m : Matter) → later_list m result ≡ later_of m self.old.todo }
+        ensures seen { self.new.seen ≡ kept_if looked self.old.seen }
+        ensures rows { left_rows self.new ≡ next_rows (read_in (kept_if looked self.old.seen)) next ++ later_of (read_in (kept_if looked self.old.seen)) self.old.todo }
     {
-        match mem::replace(&mut self.todo, Todo::Nothing) {
-            Todo::Nothing => None,
-            Todo::One(_) => None,
-            Todo::Two(_, later) => Some(later),
-            Todo::Three(_, _, _) => None,
-        }
+        self.todo.follow(next);
+        self.seen.keep_if(looked);
     }
 
-    /// The next row was passed: what follows it at once takes its place, with what it met for it.
-    pub(crate) fn follow(&mut self, next: NextTasks, reply: Option<Reply>, arrival: Option<Arrival>)
-        requires { Fits self.old.todo }
-        ensures { left_rows self.new ≡ next_rows (read_by (answer_shown reply) arrival) next ++ later_of (read_by (answer_shown reply) arrival) self.old.todo }
+    /// The message that no row has still to hear is taken out.
+    pub(crate) fn take_message(&mut self) -> Option<Message>
+        ensures message { result ≡ message_in self.old.seen }
+        ensures rows { left_rows self.new ≡ left_rows self.old }
     {
-        let later = self.take_later();
-        self.todo = before(next, later);
-        self.reply = reply;
-        self.arrival = arrival;
+        self.seen.take_message()
     }
 
     /// Nothing is left.

@@ -1,8 +1,8 @@
 //! The rows by which push reads its inbox, over a link.
-ghost use Rattle.std.specs.Prelude.{◌≡◌, ℕ, [], IfOk, Ok, OnErr, true};
+ghost use Rattle.std.specs.Prelude.{◌≡◌, ℕ, [], IfOk, None, OnErr};
 ghost use Rattle.js_link.specs.LinkView.{LinkView};
 ghost use Rattle.js_ordered_rows.specs.Tasks.{IsHeard, heard_rows};
-ghost use Rattle.js_ordered_stream.specs.Rows.{AnswersBeat, HearsTaken, Looked, LooksInto, PassesRow, PassesRows};
+ghost use Rattle.js_ordered_stream.specs.Rows.{AnswersBeat, LooksInto, PassesRow, PassesRows, arrival_in, seen_after};
 ghost use Rattle.js_pull.specs.Asking.{wish_shown};
 ghost use Rattle.js_table.specs.Passes.{given_of, listens_to};
 ghost use Rattle.js_table.specs.Reading.{push_kind as kind_of};
@@ -10,44 +10,40 @@ ghost use Rattle.js_table.specs.Recreation.{message_on};
 ghost use Rattle.js_table.specs.declared.row.Row.TheVariants as row;
 ghost use Rattle.js_turns.specs.Wishes as wishes;
 
+use crate::left::Seen;
 use crate::reading::handed_heard;
 use crate::rows::{Handed, Stepped, Stop, quietly, untaken};
 use bytes::Bytes;
 use js_base::{Message, OutOfMemory, TryClone};
-use js_link::Link;
+use js_link::{InboxId, Link, Taken};
 use js_ordered_rows::listening::{arrival_next, heard_as, listen, pass_hear, pass_silence};
 use js_ordered_rows::{Heard, NextTasks};
-use js_pull::{Wish, ask, take};
-use js_table::{Arrival, Consumer, EventContext, Phase};
+use js_pull::{Wish, ask};
+use js_table::{Consumer, EventContext, Phase};
 use std::alloc::Global;
 
 // ---- what is looked for
 
-/// What a look into this inbox comes to: a message that was taken is heard next.
-fn looked(inbox: u64, message: Option<Message>) -> Stepped
-    ensures { Looked inbox message result }
+/// This inbox is looked into. A message that is taken is heard next.
+fn look_into<L: Link>(link: &mut L, inbox: u64, seen: &mut Seen) -> Result<Stepped, Stop>
+    ensures looks { LooksInto result inbox (seen_after result seen.new) (L.view link.old) (L.view link.new) }
+    ensures kept { OnErr result (seen.new ≡ seen.old) }
 {
-    match message {
-        None => quietly(arrival_next(inbox, false)),
-        Some(message) => Stepped {
-            handed: Handed::Nothing,
-            next: arrival_next(inbox, true),
-            reply: None,
-            arrival: Some(Arrival { inbox, message }),
-            message: None,
-        },
+    match link.take(InboxId(inbox)) {
+        Taken::Closed => Err(Stop::Closed),
+        Taken::Empty => Ok(quietly(arrival_next(inbox, false))),
+        Taken::Message(message) => {
+            *seen = Seen::Message {
+                unheard: Some(inbox),
+                message,
+            };
+            Ok(Stepped {
+                handed: Handed::Nothing,
+                looked: true,
+                next: arrival_next(inbox, true),
+            })
+        }
     }
-}
-
-/// This inbox is looked into.
-fn look_into<L: Link>(link: &mut L, inbox: u64) -> Result<Stepped, Stop>
-    ensures { LooksInto result inbox (L.view link.old) (L.view link.new) }
-{
-    let met = take(link, inbox);
-    if met.is_shut() {
-        return Err(Stop::Closed);
-    }
-    Ok(looked(inbox, met.into_message()))
 }
 
 /// Push looks for an arrival. No such row is left where it does not listen.
@@ -55,11 +51,13 @@ pub(crate) fn look<L: Link>(
     context: &EventContext<'_>,
     link: &mut L,
     consumer: &Consumer,
+    seen: &mut Seen,
 ) -> Result<Stepped, Stop>
-    ensures { PassesRow (given_of context.now) context.now.moment row.CheckArrival consumer.now consumer.now (L.view link.old) (L.view link.new) result }
+    ensures passes { PassesRow (given_of context.now) context.now.moment row.CheckArrival consumer.now consumer.now (L.view link.old) (L.view link.new) (seen_after result seen.new) result }
+    ensures kept { OnErr result (seen.new ≡ seen.old) }
 {
     match consumer.phase {
-        Phase::Pushes { inbox, .. } => look_into(link, inbox),
+        Phase::Pushes { inbox, .. } => look_into(link, inbox, seen),
         _ => Err(Stop::OutOfMemory),
     }
 }
@@ -69,7 +67,7 @@ pub(crate) fn look_at_silence(
     context: &EventContext<'_>,
     consumer: &Consumer,
 ) -> Result<Stepped, Stop>
-    ensures { (v : LinkView) → PassesRow (given_of context.now) context.now.moment row.CheckSilence consumer.now consumer.now v v result }
+    ensures { (v : LinkView) → PassesRow (given_of context.now) context.now.moment row.CheckSilence consumer.now consumer.now v v Seen.Nothing result }
 {
     match consumer.phase {
         Phase::Pushes {
@@ -82,7 +80,7 @@ pub(crate) fn look_at_silence(
 
 /// Push arms its heartbeat. No such row is left where it does not listen.
 pub(crate) fn arm(context: &EventContext<'_>, consumer: &mut Consumer) -> Result<Stepped, Stop>
-    ensures { (v : LinkView) → PassesRow (given_of context.now) context.now.moment row.Arm consumer.old consumer.new v v result }
+    ensures { (v : LinkView) → PassesRow (given_of context.now) context.now.moment row.Arm consumer.old consumer.new v v Seen.Nothing result }
 {
     match consumer.phase {
         Phase::Pushes { inbox, .. } => {
@@ -143,82 +141,61 @@ fn answer<L: Link>(
     ensures refused { OnErr result (L.view link.new ≡ L.view link.old) }
 {
     let heard = heard_as(number, message);
+    // Most arrivals are messages of the stream, which want no answer.
+    if let Heard::Yields(_) = heard {
+        return Ok(heard);
+    }
     let wish = answer_wish(heard, message)?;
     let _met = ask(alloc, link, &wish)?;
     Ok(heard)
 }
 
-/// An arrival on the current inbox was answered, and is heard.
-fn finish(
-    context: &EventContext<'_>,
-    consumer: &mut Consumer,
-    arrival: Arrival,
-    heard: Heard,
-) -> Stepped
-    requires here { listens_to arrival.inbox consumer.old.phase ≡ true }
-    requires heard { IsHeard consumer.old.core.consumer_sequence arrival.message heard }
-    ensures { (before after : LinkView) → AnswersBeat arrival.message before after → PassesRow (given_of context.now) context.now.moment (row.Hear arrival) consumer.old consumer.new before after (Ok result) }
-{
-    let Arrival { inbox, message } = arrival;
-    Stepped {
-        handed: handed_heard(heard),
-        next: pass_hear(context, consumer, inbox, heard),
-        reply: None,
-        arrival: None,
-        message: Some(message),
-    }
-}
-
-/// Push hears an arrival, or hands it back where it does not listen to its inbox, or has no memory to answer.
-fn hear_taken<L: Link>(
+/// Push hears a message that came on this inbox, where it listens there.
+fn hear_message<L: Link>(
     alloc: Global,
     context: &EventContext<'_>,
     link: &mut L,
     consumer: &mut Consumer,
-    arrival: Arrival,
-) -> Result<Stepped, Arrival>
-    ensures { HearsTaken (given_of context.now) context.now.moment arrival consumer.old consumer.new (L.view link.old) (L.view link.new) result }
+    inbox: u64,
+    message: &Message,
+) -> Result<Stepped, Stop>
+    ensures { PassesRow (given_of context.now) context.now.moment (row.Hear (record { inbox = inbox; message = message.now })) consumer.old consumer.new (L.view link.old) (L.view link.new) (Seen.Message None message.now) result }
 {
-    if !listens(&consumer.phase, arrival.inbox) {
-        return Err(arrival);
+    if !listens(&consumer.phase, inbox) {
+        return Err(Stop::OutOfMemory);
     }
-    match answer(
-        alloc,
-        link,
-        consumer.core.consumer_sequence,
-        &arrival.message,
-    ) {
-        Err(_) => Err(arrival),
-        Ok(heard) => Ok(finish(context, consumer, arrival, heard)),
-    }
+    let heard = answer(alloc, link, consumer.core.consumer_sequence, message)?;
+    Ok(Stepped {
+        handed: handed_heard(heard),
+        looked: true,
+        next: pass_hear(context, consumer, inbox, heard),
+    })
 }
 
-/// What was taken from this inbox is heard, and let go. No such row is left where nothing was taken, or where push does not listen.
+/// What was taken from this inbox is heard, and stays in its place. No such row is left where nothing was taken, or where push does not listen.
 pub(crate) fn hear<L: Link>(
     alloc: Global,
     context: &EventContext<'_>,
     link: &mut L,
     consumer: &mut Consumer,
     inbox: u64,
-    arrival: &mut Option<Arrival>,
+    seen: &mut Seen,
 ) -> Result<Stepped, Stop>
-    ensures passes { PassesRows (given_of context.now) context.now.moment (heard_rows inbox (message_on inbox arrival.old)) consumer.old consumer.new (L.view link.old) (L.view link.new) result }
-    ensures kept { OnErr result (arrival.new ≡ arrival.old) }
+    ensures passes { PassesRows (given_of context.now) context.now.moment (heard_rows inbox (message_on inbox (arrival_in seen.old))) consumer.old consumer.new (L.view link.old) (L.view link.new) (seen_after result seen.new) result }
+    ensures kept { OnErr result (seen.new ≡ seen.old) }
 {
-    match arrival.take() {
+    let Seen::Message { unheard, message } = seen else {
+        return Err(Stop::OutOfMemory);
+    };
+    match *unheard {
         None => Err(Stop::OutOfMemory),
-        Some(taken) => {
-            if inbox != taken.inbox {
-                *arrival = Some(taken);
+        Some(current) => {
+            if inbox != current {
                 return Err(Stop::OutOfMemory);
             }
-            match hear_taken(alloc, context, link, consumer, taken) {
-                Ok(done) => Ok(done),
-                Err(taken) => {
-                    *arrival = Some(taken);
-                    Err(Stop::OutOfMemory)
-                }
-            }
+            let done = hear_message(alloc, context, link, consumer, inbox, message)?;
+            *unheard = None;
+            Ok(done)
         }
     }
 }

@@ -1,8 +1,8 @@
 //! An ordered consumer over its link, by pull or by push: it passes row after row, and may stop between any two.
-ghost use Rattle.std.specs.Prelude.{◌≡◌, ◌<◌, ◌^◌, ◌||◌, ◌&&◌, ◌++◌, IfOk, OnErr, false, is_some, not, true, ℕ};
+ghost use Rattle.std.specs.Prelude.{◌≡◌, ◌<◌, ◌^◌, ◌||◌, ◌&&◌, ◌++◌, IfOk, OnErr, false, not, true, ℕ};
 ghost use Rattle.js_link.specs.Meets.{Meets};
 ghost use Rattle.js_ordered_rows.specs.Tasks.{next_rows};
-ghost use Rattle.js_ordered_stream.specs.Rows.{Fits, answer_shown, later_of, left_rows, read_by};
+ghost use Rattle.js_ordered_stream.specs.Rows.{Fits, has_message, kept_if, later_of, left_rows, message_in, read_in, seen_after};
 ghost use Rattle.js_ordered_stream.specs.Stream.{PassesFirst, TurnsTo, first_at, given_to, is_spent as has_no_sequence, poll_answer, position_of, silent_by, turned_by, with_retries};
 ghost use Rattle.js_base.specs.Clock.{has_come};
 ghost use Rattle.js_table.specs.Fold.{is_over as has_ended};
@@ -11,7 +11,7 @@ ghost use Rattle.js_turns.specs.Polling.{IsPoll, closed_at, is_reading as reads_
 ghost use Rattle.js_turns.specs.Wakes.{phase_due};
 
 use crate::error::{OrderedError, error_of, sequence_end};
-use crate::left::{First, Left, Reply, Todo};
+use crate::left::{First, Left, Seen, Todo};
 use crate::rows::{Handed, Stepped, Stop, begin, pass};
 use crate::wakes::phase_end;
 use js_base::{Boxed, Message, Moment, Next, OutOfMemory, State, Text};
@@ -19,8 +19,8 @@ use js_json::consumer::Info;
 use js_link::Link;
 use js_ordered_rows::event::is_over;
 use js_table::{
-    Arrival, Consumer, EventContext, EventKind, ItemKind, OrderedCore, OrderedSetup, Phase,
-    ReplayInput, Settings,
+    Consumer, EventContext, EventKind, ItemKind, OrderedCore, OrderedSetup, Phase, ReplayInput,
+    Settings,
 };
 use std::alloc::Global;
 
@@ -82,17 +82,13 @@ fn silently(stirs: bool, spent: bool) -> Turned
     }
 }
 
-/// What a row comes to, by what it hands out.
-fn turn_of(handed: Handed, message: Option<Message>, stirs: bool, spent: bool) -> Turned
-    ensures { result ≡ turned_by handed message stirs spent }
+/// A message is handed out, where there is one.
+fn hands(message: Option<Message>, stirs: bool, spent: bool) -> Turned
+    ensures { result ≡ turned_by Handed.Message message stirs spent }
 {
-    match handed {
-        Handed::Nothing => silently(stirs, spent),
-        Handed::Message => match message {
-            Some(message) => Turned::Hands(message),
-            None => silently(stirs, spent),
-        },
-        Handed::Error(kind) => Turned::Tells(kind),
+    match message {
+        Some(message) => Turned::Hands(message),
+        None => silently(stirs, spent),
     }
 }
 
@@ -152,22 +148,21 @@ pub(crate) fn given_with(
     )
 }
 
-/// Passes the first of the rows that are left, which read this. A turn begins where none is left.
+/// Passes the first of the rows that are left, which read this, and keeps there what it looked at. A turn begins where none is left.
 fn pass_first<L: Link>(
     alloc: Global,
     context: &EventContext<'_>,
     link: &mut L,
     consumer: &mut Consumer,
     todo: &Todo,
-    reply: &Option<Reply>,
-    arrival: &mut Option<Arrival>,
+    seen: &mut Seen,
 ) -> Result<Stepped, Stop>
-    ensures passes { PassesFirst (given_of context.now) context.now.moment (record { todo = todo.now; reply = reply.now; arrival = arrival.old }) consumer.old consumer.new (L.view link.old) (L.view link.new) result }
-    ensures kept { OnErr result (arrival.new ≡ arrival.old) }
+    ensures passes { PassesFirst (given_of context.now) context.now.moment (record { todo = todo.now; seen = seen.old }) consumer.old consumer.new (L.view link.old) (L.view link.new) (seen_after result seen.new) result }
+    ensures kept { OnErr result (seen.new ≡ seen.old) }
 {
     match todo.first() {
-        First::Rests => begin(alloc, context, link, consumer),
-        First::Next(task) => pass(alloc, context, link, consumer, task, reply, arrival),
+        First::Rests => begin(context, link, consumer),
+        First::Next(task) => pass(alloc, context, link, consumer, task, seen),
         First::Blocked => Err(Stop::OutOfMemory),
     }
 }
@@ -248,7 +243,7 @@ impl Ordered {
         ensures given { given_to self.new ≡ given_to self.old }
         ensures todo { self.new.left.todo ≡ self.old.left.todo }
         ensures kept { OnErr result (self.new.left ≡ self.old.left) }
-        ensures passes { PassesFirst (given_to self.old) now self.old.left self.old.consumer self.new.consumer (L.view link.old) (L.view link.new) result }
+        ensures passes { PassesFirst (given_to self.old) now self.old.left self.old.consumer self.new.consumer (L.view link.old) (L.view link.new) (seen_after result self.new.left.seen) result }
     {
         let given = self.given.get();
         let tick = EventKind::Tick;
@@ -265,8 +260,7 @@ impl Ordered {
             link,
             &mut self.consumer,
             &self.left.todo,
-            &self.left.reply,
-            &mut self.left.arrival,
+            &mut self.left.seen,
         )
     }
 
@@ -295,24 +289,30 @@ impl Ordered {
         }
     }
 
-    /// Keeps what is left after a row.
+    /// Keeps what is left after a row. A message that is handed out is taken out of its place.
     fn settle(&mut self, done: Stepped, was_reading: bool) -> Turned
         requires { Fits self.old.left.todo }
         ensures given { given_to self.new ≡ given_to self.old }
         ensures consumer { self.new.consumer ≡ self.old.consumer }
-        ensures left { left_rows self.new.left ≡ next_rows (read_by (answer_shown done.reply) done.arrival) done.next ++ later_of (read_by (answer_shown done.reply) done.arrival) self.old.left.todo }
-        ensures turned { result ≡ turned_by done.handed done.message ((is_some done.message || is_some done.arrival) || (not was_reading && reads_inbox self.old.consumer.phase)) (has_no_sequence self.old.consumer.phase) }
+        ensures left { left_rows self.new.left ≡ next_rows (read_in (kept_if done.looked self.old.left.seen)) done.next ++ later_of (read_in (kept_if done.looked self.old.left.seen)) self.old.left.todo }
+        ensures turned { result ≡ turned_by done.handed (message_in (kept_if done.looked self.old.left.seen)) (has_message (kept_if done.looked self.old.left.seen) || (not was_reading && reads_inbox self.old.consumer.phase)) (has_no_sequence self.old.consumer.phase) }
     {
         let Stepped {
             handed,
+            looked,
             next,
-            reply,
-            arrival,
-            message,
         } = done;
-        let looked = message.is_some() || arrival.is_some();
-        self.left.follow(next, reply, arrival);
-        let stirs = stirs(looked, was_reading, &self.consumer.phase);
-        turn_of(handed, message, stirs, is_spent(&self.consumer.phase))
+        self.left.follow(next, looked);
+        let stirs = stirs(
+            self.left.seen.is_message(),
+            was_reading,
+            &self.consumer.phase,
+        );
+        let spent = is_spent(&self.consumer.phase);
+        match handed {
+            Handed::Nothing => silently(stirs, spent),
+            Handed::Message => hands(self.left.take_message(), stirs, spent),
+            Handed::Error(kind) => Turned::Tells(kind),
+        }
     }
 }

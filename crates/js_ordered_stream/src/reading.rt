@@ -1,19 +1,19 @@
 //! The rows of a pull reader over a link, and what the consumer makes of what its reader tells.
-ghost use Rattle.std.specs.Prelude.{◌≡◌, false, IfOk, None, Ok, Option, Some};
+ghost use Rattle.std.specs.Prelude.{◌≡◌, IfOk, None, OnErr, Option, Some, true};
 ghost use Rattle.js_base.specs.declared.message.Message.{Message as SpecMessage};
-ghost use Rattle.js_link.specs.Met.{message_of};
+ghost use Rattle.js_link.specs.LinkView.{LinkView};
 ghost use Rattle.js_ordered_rows.specs.Tasks.{reader_rows};
-ghost use Rattle.js_ordered_stream.specs.Rows.{IsReadMet, MeetsReader, PassesRow, TakesIn, answer_shown, handed_by_heard};
-ghost use Rattle.js_pull.specs.Asking.{met_shown, reply_met};
+ghost use Rattle.js_ordered_stream.specs.Rows.{AsksNothing, IsReadMet, MeetsReader, PassesRow, TakesIn, answer_in, handed_by_heard, message_in, seen_after};
 ghost use Rattle.js_pull.specs.Steps.{IsInformed, brought, row_of, told_shown};
+ghost use Rattle.js_pull.specs.declared.reader.Row.TheVariants as read;
 ghost use Rattle.js_table.specs.Passes.{given_of};
 ghost use Rattle.js_table.specs.State.{Matter};
 ghost use Rattle.js_table.specs.declared.row.Row.TheVariants as row;
 
-use crate::left::Reply;
+use crate::left::{Seen, seen_of};
 use crate::rows::{Handed, Stepped, Stop, handed_of};
 use js_base::{Message, OutOfMemory};
-use js_link::Link;
+use js_link::{InboxId, Link, Taken as Found};
 use js_ordered_rows::listening::heard_from;
 use js_ordered_rows::reading::{take_message, take_notice};
 use js_ordered_rows::{Heard, NextTasks, Step};
@@ -31,12 +31,13 @@ pub(crate) struct ReadMet {
 }
 
 /// What the reply tells to the row that reads it.
-fn told_by(alloc: Global, due: Due, reply: &Option<Reply>) -> Result<Option<Reason>, OutOfMemory>
-    ensures { IfOk result (λ reason. IsInformed (row_of (brought (answer_shown reply.now)) due) reason) }
+fn told_by(alloc: Global, due: Due, seen: &Seen) -> Result<Option<Reason>, OutOfMemory>
+    ensures { IfOk result (λ reason. IsInformed (row_of (brought (answer_in seen.now)) due) reason) }
 {
-    match reply {
-        Some(reply) => informed_of(alloc, due, &reply.message),
-        None => informed_of(alloc, due, &None),
+    match seen {
+        Seen::Reply(reply) => informed_of(alloc, due, &reply.message),
+        Seen::Nothing => informed_of(alloc, due, &None),
+        Seen::Message { .. } => informed_of(alloc, due, &None),
     }
 }
 
@@ -46,15 +47,15 @@ fn read_met<L: Link>(
     link: &mut L,
     reader: &Reader,
     due: Due,
-    reply: &Option<Reply>,
+    seen: &Seen,
 ) -> Result<ReadMet, Stop>
-    ensures { MeetsReader result (row_of (brought (answer_shown reply.now)) due) reader.now (L.view link.old) (L.view link.new) }
+    ensures { MeetsReader result (row_of (brought (answer_in seen.now)) due) reader.now (L.view link.old) (L.view link.new) }
 {
     // No ordered reader is pinned: an arrival brings no pin, for which memory would be needed.
     if reader.source.pinned {
         return Err(Stop::OutOfMemory);
     }
-    let informed = told_by(alloc, due, reply)?;
+    let informed = told_by(alloc, due, seen)?;
     let wish = reader.wish(alloc, due)?;
     let met = ask(alloc, link, &wish)?;
     if met.is_shut() {
@@ -108,16 +109,11 @@ fn take_handed(consumer: &mut Consumer, message: &Message, due: Option<Due>) -> 
 }
 
 /// What the reader tells, with the message that was taken.
-fn take_in(
-    consumer: &mut Consumer,
-    told: Notice,
-    message: &Option<Message>,
-    due: Option<Due>,
-) -> Taken
-    ensures { (m : Matter) → TakesIn m (told_shown told message.now) (reader_rows m due) message.now consumer.old consumer.new result }
+fn take_in(consumer: &mut Consumer, told: Notice, seen: &Seen, due: Option<Due>) -> Taken
+    ensures { (m : Matter) → TakesIn m (told_shown told (message_in seen.now)) (reader_rows m due) (message_in seen.now) consumer.old consumer.new result }
 {
     match told {
-        Notice::Hands => match message {
+        Notice::Hands => match seen.message() {
             Some(message) => take_handed(consumer, message, due),
             None => take_told(consumer, Notice::Nothing, due),
         },
@@ -128,63 +124,144 @@ fn take_in(
 
 // ---- a row
 
-/// What was met, in parts.
-#[derive(Drop)]
-pub(crate) struct Parts {
-    pub message: Option<Message>,
-    pub reply: Option<Reply>,
-}
-
-fn parts_of(met: Met) -> Parts
-    ensures message { result.message ≡ message_of (met_shown met) }
-    ensures reply { brought (answer_shown result.reply) ≡ reply_met (met_shown met) }
+/// A row asks its link for nothing, and reads no answer.
+fn asks_nothing(due: Due) -> bool
+    ensures { AsksNothing due result }
 {
-    let is_answer = met.is_answer();
-    let (message, reply) = met.into_parts();
-    if is_answer {
-        // A reader reads its answer without the number of its request.
-        return Parts {
-            message,
-            reply: Some(Reply {
-                request: 0,
-                message: reply,
-            }),
-        };
-    }
-    Parts {
-        message,
-        reply: None,
+    match due {
+        Due::Threshold => true,
+        Due::Arm => true,
+        Due::FailInfoRequest { .. } => true,
+        Due::CheckExpiry => true,
+        Due::CheckSilence => true,
+        Due::Ask { .. } => false,
+        Due::Inquire { .. } => false,
+        Due::CheckInfoRequest => false,
+        Due::Answered { .. } => false,
+        Due::CheckArrival => false,
     }
 }
 
-/// A row of a reader is passed with what it meets. No such row is left where none reads. The reader stays in its place, since it is large.
+/// A row is passed that asks its link for nothing.
+fn pass_alone(
+    context: &EventContext<'_>,
+    consumer: &mut Consumer,
+    due: Due,
+) -> Result<Stepped, Stop>
+    requires { AsksNothing due true }
+    ensures { (reply : Option SpecMessage) → (v : LinkView) → PassesRow (given_of context.now) context.now.moment (row.Read (row_of reply due)) consumer.old consumer.new v v Seen.Nothing result }
+{
+    let Phase::Pulls(reader) = &mut consumer.phase else {
+        return Err(Stop::OutOfMemory);
+    };
+    let spare = Spare {
+        informed: None,
+        pin: None,
+    };
+    let step = reader.pass(context.moment, due, spare, &Met::Unasked);
+    let Taken { handed, next } = take_told(consumer, step.told, step.next);
+    Ok(Stepped {
+        handed,
+        looked: false,
+        next,
+    })
+}
+
+/// The reader looks for an arrival. No such row is left where none reads.
+fn pass_arrival<L: Link>(
+    context: &EventContext<'_>,
+    link: &mut L,
+    consumer: &mut Consumer,
+    seen: &mut Seen,
+) -> Result<Stepped, Stop>
+    ensures passes { PassesRow (given_of context.now) context.now.moment (row.Read read.CheckArrival) consumer.old consumer.new (L.view link.old) (L.view link.new) (seen_after result seen.new) result }
+    ensures kept { OnErr result (seen.new ≡ seen.old) }
+{
+    let Phase::Pulls(reader) = &mut consumer.phase else {
+        return Err(Stop::OutOfMemory);
+    };
+    // No ordered reader is pinned: an arrival brings no pin, for which memory would be needed.
+    if reader.source.pinned {
+        return Err(Stop::OutOfMemory);
+    }
+    match link.take(InboxId(reader.source.inbox)) {
+        Found::Closed => Err(Stop::Closed),
+        Found::Empty => {
+            let step = reader.pass_check_arrival(context.moment, &Met::Empty, None);
+            let Taken { handed, next } = take_told(consumer, step.told, step.next);
+            Ok(Stepped {
+                handed,
+                looked: false,
+                next,
+            })
+        }
+        Found::Message(message) => {
+            let step = reader.hear_arrival(context.moment, &message, None);
+            *seen = Seen::Message {
+                unheard: None,
+                message,
+            };
+            let Taken { handed, next } = take_in(consumer, step.told, seen, step.next);
+            Ok(Stepped {
+                handed,
+                looked: true,
+                next,
+            })
+        }
+    }
+}
+
+/// A row is passed with what it meets at its link. The reader stays in its place, since it is large.
+fn pass_asking<L: Link>(
+    alloc: Global,
+    context: &EventContext<'_>,
+    link: &mut L,
+    consumer: &mut Consumer,
+    due: Due,
+    seen: &mut Seen,
+) -> Result<Stepped, Stop>
+    ensures passes { PassesRow (given_of context.now) context.now.moment (row.Read (row_of (brought (answer_in seen.old)) due)) consumer.old consumer.new (L.view link.old) (L.view link.new) (seen_after result seen.new) result }
+    ensures kept { OnErr result (seen.new ≡ seen.old) }
+{
+    let Phase::Pulls(reader) = &mut consumer.phase else {
+        return Err(Stop::OutOfMemory);
+    };
+    let found = read_met(alloc, link, reader, due, seen)?;
+    let ReadMet { met, informed } = found;
+    let spare = Spare {
+        informed,
+        pin: None,
+    };
+    let step = reader.pass(context.moment, due, spare, &met);
+    // A reader reads its answer without the number of its request.
+    *seen = seen_of(0, met);
+    let Taken { handed, next } = take_in(consumer, step.told, seen, step.next);
+    Ok(Stepped {
+        handed,
+        looked: seen.is_something(),
+        next,
+    })
+}
+
+/// A row of a reader is passed. No such row is left where none reads.
 pub(crate) fn pass_read<L: Link>(
     alloc: Global,
     context: &EventContext<'_>,
     link: &mut L,
     consumer: &mut Consumer,
     due: Due,
-    reply: &Option<Reply>,
+    seen: &mut Seen,
 ) -> Result<Stepped, Stop>
-    ensures { PassesRow (given_of context.now) context.now.moment (row.Read (row_of (brought (answer_shown reply.now)) due)) consumer.old consumer.new (L.view link.old) (L.view link.new) result }
+    ensures passes { PassesRow (given_of context.now) context.now.moment (row.Read (row_of (brought (answer_in seen.old)) due)) consumer.old consumer.new (L.view link.old) (L.view link.new) (seen_after result seen.new) result }
+    ensures kept { OnErr result (seen.new ≡ seen.old) }
 {
-    let Phase::Pulls(reader) = &mut consumer.phase else {
-        return Err(Stop::OutOfMemory);
-    };
-    let read = read_met(alloc, link, reader, due, reply)?;
-    let ReadMet { met, informed } = read;
-    let spare = Spare {
-        informed,
-        pin: None,
-    };
-    let step = reader.pass(context.moment, due, spare, &met);
-    let Parts { message, reply } = parts_of(met);
-    let Taken { handed, next } = take_in(consumer, step.told, &message, step.next);
-    Ok(Stepped {
-        handed,
-        next,
-        reply,
-        arrival: None,
-        message,
-    })
+    match due {
+        Due::CheckArrival => pass_arrival(context, link, consumer, seen),
+        _ => {
+            if asks_nothing(due) {
+                return pass_alone(context, consumer, due);
+            }
+            pass_asking(alloc, context, link, consumer, due, seen)
+        }
+    }
 }

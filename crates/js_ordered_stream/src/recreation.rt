@@ -1,20 +1,19 @@
 //! The rows of a recreation over a link.
-ghost use Rattle.std.specs.Prelude.{◌≡◌, IfOk, None, OnErr, Option, Some, codes, option_map};
+ghost use Rattle.std.specs.Prelude.{◌≡◌, IfOk, OnErr, Some, codes, option_map};
 ghost use Rattle.js_link.specs.Meets.{Meets};
 ghost use Rattle.js_link.specs.LinkView.{LinkView};
-ghost use Rattle.js_link.specs.Met.{Requests, reply_of};
+ghost use Rattle.js_link.specs.Met.{Requests};
 ghost use Rattle.js_ordered_rows.specs.Tasks.{rows_of};
-ghost use Rattle.js_ordered_stream.specs.Rows.{PassesRow, PassesRows, answer_shown, read_by, replied};
+ghost use Rattle.js_ordered_stream.specs.Rows.{PassesRow, PassesRows, answer_in, read_in, replied, seen_after};
 ghost use Rattle.js_pull.specs.Asking.{met_shown, wish_shown};
 ghost use Rattle.js_pull.specs.Reader.{info_of_reply as info_in, reply_to};
 ghost use Rattle.js_table.specs.Kept.{IsPush};
 ghost use Rattle.js_table.specs.Passes.{given_of};
 ghost use Rattle.js_table.specs.Texts as texts_of;
-ghost use Rattle.js_table.specs.declared.row.Arrival.{Arrival as SpecArrival};
 ghost use Rattle.js_table.specs.declared.row.Row.TheVariants as row;
 ghost use Rattle.js_turns.specs.Wishes as wishes;
 
-use crate::left::Reply;
+use crate::left::{Seen, seen_of};
 use crate::rows::{Handed, Stepped, Stop, quietly, untaken};
 use crate::success::{inbox_met, succeed};
 use bytes::Bytes;
@@ -80,7 +79,7 @@ pub(crate) fn start<L: Link>(
     link: &mut L,
     consumer: &mut Consumer,
 ) -> Result<Stepped, Stop>
-    ensures { PassesRow (given_of context.now) context.now.moment row.Start consumer.old consumer.new (L.view link.old) (L.view link.new) result }
+    ensures { PassesRow (given_of context.now) context.now.moment row.Start consumer.old consumer.new (L.view link.old) (L.view link.new) Seen.Nothing result }
 {
     let name = texts::consumer_name(
         alloc,
@@ -119,7 +118,7 @@ fn begin_try<L: Link>(
     consumer: &mut Consumer,
     recreation: Recreation,
 ) -> Result<Stepped, Stop>
-    ensures { PassesRow (given_of context.now) context.now.moment row.Try (record consumer.old { phase = Phase.Recreates recreation }) consumer.new (L.view link.old) (L.view link.new) result }
+    ensures { PassesRow (given_of context.now) context.now.moment row.Try (record consumer.old { phase = Phase.Recreates recreation }) consumer.new (L.view link.old) (L.view link.new) Seen.Nothing result }
 {
     match try_met(alloc, context, link, &recreation) {
         Err(_) => {
@@ -139,7 +138,7 @@ fn create_push<L: Link>(
     recreation: Recreation,
 ) -> Result<Stepped, Stop>
     requires push { IsPush context.now.setup.now }
-    ensures { PassesRow (given_of context.now) context.now.moment row.Create (record consumer.old { phase = Phase.Recreates recreation }) consumer.new (L.view link.old) (L.view link.new) result }
+    ensures { PassesRow (given_of context.now) context.now.moment row.Create (record consumer.old { phase = Phase.Recreates recreation }) consumer.new (L.view link.old) (L.view link.new) Seen.Nothing result }
 {
     match ask(alloc, link, &Wish::OpensInbox) {
         Err(_) => {
@@ -161,7 +160,7 @@ fn create<L: Link>(
     consumer: &mut Consumer,
     recreation: Recreation,
 ) -> Result<Stepped, Stop>
-    ensures { PassesRow (given_of context.now) context.now.moment row.Create (record consumer.old { phase = Phase.Recreates recreation }) consumer.new (L.view link.old) (L.view link.new) result }
+    ensures { PassesRow (given_of context.now) context.now.moment row.Create (record consumer.old { phase = Phase.Recreates recreation }) consumer.new (L.view link.old) (L.view link.new) Seen.Nothing result }
 {
     match context.setup {
         OrderedSetup::Pull(_) => {
@@ -196,7 +195,7 @@ fn ask_create<L: Link>(
     consumer: &mut Consumer,
     recreation: Recreation,
 ) -> Result<Stepped, Stop>
-    ensures { PassesRow (given_of context.now) context.now.moment row.Ask (record consumer.old { phase = Phase.Recreates recreation }) consumer.new (L.view link.old) (L.view link.new) result }
+    ensures { PassesRow (given_of context.now) context.now.moment row.Ask (record consumer.old { phase = Phase.Recreates recreation }) consumer.new (L.view link.old) (L.view link.new) Seen.Nothing result }
 {
     match ask_met(alloc, context, link, &recreation) {
         Err(_) => {
@@ -215,7 +214,7 @@ fn fail<L: Link>(
     consumer: &mut Consumer,
     recreation: Recreation,
 ) -> Result<Stepped, Stop>
-    ensures { PassesRow (given_of context.now) context.now.moment row.Fail (record consumer.old { phase = Phase.Recreates recreation }) consumer.new (L.view link.old) (L.view link.new) result }
+    ensures { PassesRow (given_of context.now) context.now.moment row.Fail (record consumer.old { phase = Phase.Recreates recreation }) consumer.new (L.view link.old) (L.view link.new) Seen.Nothing result }
 {
     match ask(alloc, link, &opened_dropped(&recreation.opened)) {
         Err(_) => {
@@ -240,17 +239,6 @@ fn request_of(stage: Stage) -> u64
     }
 }
 
-/// The answer that was met, to this request.
-pub(crate) fn reply_met(request: u64, met: Met) -> Option<Reply>
-    ensures { answer_shown result ≡ option_map (λ reply. record { request = request; reply = reply }) (reply_of (met_shown met)) }
-{
-    if !met.is_answer() {
-        return None;
-    }
-    let (_, message) = met.into_parts();
-    Some(Reply { request, message })
-}
-
 /// What an open recreation waits for is looked at.
 fn look_on<L: Link>(
     alloc: Global,
@@ -258,8 +246,10 @@ fn look_on<L: Link>(
     link: &mut L,
     consumer: &mut Consumer,
     recreation: Recreation,
+    seen: &mut Seen,
 ) -> Result<Stepped, Stop>
-    ensures { PassesRow (given_of context.now) context.now.moment row.Await (record consumer.old { phase = Phase.Recreates recreation }) consumer.new (L.view link.old) (L.view link.new) result }
+    ensures passes { PassesRow (given_of context.now) context.now.moment row.Await (record consumer.old { phase = Phase.Recreates recreation }) consumer.new (L.view link.old) (L.view link.new) (seen_after result seen.new) result }
+    ensures kept { OnErr result (seen.new ≡ seen.old) }
 {
     let stage = recreation.stage;
     match ask(alloc, link, &awaited(stage)) {
@@ -269,22 +259,13 @@ fn look_on<L: Link>(
         }
         Ok(met) => {
             let next = pass_await(context, consumer, recreation, met.is_answer());
-            let reply = reply_met(request_of(stage), met);
-            Ok(answered_by(next, reply))
+            *seen = seen_of(request_of(stage), met);
+            Ok(Stepped {
+                handed: Handed::Nothing,
+                looked: seen.is_something(),
+                next,
+            })
         }
-    }
-}
-
-/// A row that hands nothing out, with the answer that it met.
-fn answered_by(next: NextTasks, reply: Option<Reply>) -> Stepped
-    ensures { result ≡ record { handed = Handed.Nothing; next = next; reply = reply; arrival = None; message = None } }
-{
-    Stepped {
-        handed: Handed::Nothing,
-        next,
-        reply,
-        arrival: None,
-        message: None,
     }
 }
 
@@ -302,19 +283,20 @@ fn told_by(alloc: Global, message: &Option<Message>) -> Result<Option<Boxed<Info
 fn info_met(
     alloc: Global,
     request: u64,
-    reply: &Option<Reply>,
+    seen: &Seen,
 ) -> Result<Option<Boxed<Info>>, OutOfMemory>
-    ensures { IfOk result (λ info. option_map info_in (reply_to request (answer_shown reply.now)) ≡ Some info) }
+    ensures { IfOk result (λ info. option_map info_in (reply_to request (answer_in seen.now)) ≡ Some info) }
 {
-    match reply {
-        Some(reply) => {
+    match seen {
+        Seen::Reply(reply) => {
             if reply.request == request {
                 return told_by(alloc, &reply.message);
             }
             Err(OutOfMemory)
         }
         // An answer is read only where it was met.
-        None => Err(OutOfMemory),
+        Seen::Nothing => Err(OutOfMemory),
+        Seen::Message { .. } => Err(OutOfMemory),
     }
 }
 
@@ -325,11 +307,11 @@ fn answered(
     consumer: &mut Consumer,
     recreation: Recreation,
     request: u64,
-    reply: &Option<Reply>,
+    seen: &Seen,
 ) -> Result<Stepped, Stop>
-    ensures { (v : LinkView) → PassesRows (given_of context.now) context.now.moment (rows_of (read_by (answer_shown reply.now) None) (Task.Answered request)) (record consumer.old { phase = Phase.Recreates recreation }) consumer.new v v result }
+    ensures { (v : LinkView) → PassesRows (given_of context.now) context.now.moment (rows_of (read_in seen.now) (Task.Answered request)) (record consumer.old { phase = Phase.Recreates recreation }) consumer.new v v Seen.Nothing result }
 {
-    match info_met(alloc, request, reply) {
+    match info_met(alloc, request, seen) {
         Err(_) => {
             consumer.phase = Phase::Recreates(recreation);
             Err(Stop::OutOfMemory)
@@ -348,17 +330,18 @@ fn pass_recreating<L: Link>(
     consumer: &mut Consumer,
     recreation: Recreation,
     task: &Task,
-    reply: &Option<Reply>,
+    seen: &mut Seen,
 ) -> Result<Stepped, Stop>
-    ensures { (arrival : Option SpecArrival) → PassesRows (given_of context.now) context.now.moment (rows_of (read_by (answer_shown reply.now) arrival) task.now) (record consumer.old { phase = Phase.Recreates recreation }) consumer.new (L.view link.old) (L.view link.new) result }
+    ensures passes { PassesRows (given_of context.now) context.now.moment (rows_of (read_in seen.old) task.now) (record consumer.old { phase = Phase.Recreates recreation }) consumer.new (L.view link.old) (L.view link.new) (seen_after result seen.new) result }
+    ensures kept { OnErr result (seen.new ≡ seen.old) }
 {
     match task {
         Task::Try => begin_try(alloc, context, link, consumer, recreation),
         Task::Create => create(alloc, context, link, consumer, recreation),
         Task::Ask => ask_create(alloc, context, link, consumer, recreation),
-        Task::Await => look_on(alloc, context, link, consumer, recreation),
+        Task::Await => look_on(alloc, context, link, consumer, recreation, seen),
         Task::Answered { request } => {
-            answered(alloc, context, consumer, recreation, *request, reply)
+            answered(alloc, context, consumer, recreation, *request, seen)
         }
         Task::Succeed(info) => succeed(alloc, context, link, consumer, recreation, info.get()),
         Task::Fail => fail(alloc, context, link, consumer, recreation),
@@ -376,13 +359,14 @@ pub(crate) fn pass_open<L: Link>(
     link: &mut L,
     consumer: &mut Consumer,
     task: &Task,
-    reply: &Option<Reply>,
+    seen: &mut Seen,
 ) -> Result<Stepped, Stop>
-    ensures { (arrival : Option SpecArrival) → PassesRows (given_of context.now) context.now.moment (rows_of (read_by (answer_shown reply.now) arrival) task.now) consumer.old consumer.new (L.view link.old) (L.view link.new) result }
+    ensures passes { PassesRows (given_of context.now) context.now.moment (rows_of (read_in seen.old) task.now) consumer.old consumer.new (L.view link.old) (L.view link.new) (seen_after result seen.new) result }
+    ensures kept { OnErr result (seen.new ≡ seen.old) }
 {
     match mem::replace(&mut consumer.phase, Phase::Idle) {
         Phase::Recreates(recreation) => {
-            pass_recreating(alloc, context, link, consumer, recreation, task, reply)
+            pass_recreating(alloc, context, link, consumer, recreation, task, seen)
         }
         phase => {
             consumer.phase = phase;

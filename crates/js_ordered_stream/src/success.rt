@@ -11,6 +11,7 @@ ghost use Rattle.js_table.specs.Passes.{given_of};
 ghost use Rattle.js_table.specs.Texts as texts_of;
 ghost use Rattle.js_table.specs.declared.row.Row.TheVariants as row;
 
+use crate::left::Seen;
 use crate::rows::{Stepped, Stop, quietly};
 use js_base::{OutOfMemory, Subject};
 use js_json::consumer::Info;
@@ -92,7 +93,7 @@ pub(crate) fn succeed<L: Link>(
     recreation: Recreation,
     info: &Info,
 ) -> Result<Stepped, Stop>
-    ensures { PassesRow (given_of context.now) context.now.moment (row.Succeed info.now) (record consumer.old { phase = Phase.Recreates recreation }) consumer.new (L.view link.old) (L.view link.new) result }
+    ensures { PassesRow (given_of context.now) context.now.moment (row.Succeed info.now) (record consumer.old { phase = Phase.Recreates recreation }) consumer.new (L.view link.old) (L.view link.new) Seen.Nothing result }
 {
     match context.setup {
         OrderedSetup::Pull(_) => { succeed_pull(alloc, context, link, consumer, recreation, info) }
@@ -110,7 +111,7 @@ fn succeed_pull<L: Link>(
     info: &Info,
 ) -> Result<Stepped, Stop>
     requires pull { IsPull context.now.setup.now }
-    ensures { PassesRow (given_of context.now) context.now.moment (row.Succeed info.now) (record consumer.old { phase = Phase.Recreates recreation }) consumer.new (L.view link.old) (L.view link.new) result }
+    ensures { PassesRow (given_of context.now) context.now.moment (row.Succeed info.now) (record consumer.old { phase = Phase.Recreates recreation }) consumer.new (L.view link.old) (L.view link.new) Seen.Nothing result }
 {
     match reading_for(alloc, context, link, consumer.core.recreation_count, info) {
         Err(_) => {
@@ -142,7 +143,7 @@ fn succeed_push(
     recreation: Recreation,
 ) -> Result<Stepped, Stop>
     requires push { IsPush context.now.setup.now }
-    ensures { (info : SpecInfo) → (v : LinkView) → PassesRow (given_of context.now) context.now.moment (row.Succeed info) (record consumer.old { phase = Phase.Recreates recreation }) consumer.new v v result }
+    ensures { (info : SpecInfo) → (v : LinkView) → PassesRow (given_of context.now) context.now.moment (row.Succeed info) (record consumer.old { phase = Phase.Recreates recreation }) consumer.new v v Seen.Nothing result }
 {
     // Only a consumer that has opened an inbox comes here, and a poll holds nothing.
     if !is_bare(&recreation.opened) {

@@ -1,6 +1,14 @@
+use Rattle.std.proofs.Common.{refl}
+use Rattle.js_ordered_rows.specs.declared.task.Heard.TheVariants as hears
 use Rattle.js_pull.specs.Asking.{met_shown}
 use Rattle.js_ordered_stream.proofs.Passing.{meets_as}
+use Rattle.js_ordered_stream.proofs.Pushing.{unanswered}
 use Rattle.js_ordered_stream.proofs.listening.answer.Goals as goal
+
+pub returns-in-Yields-clause-heard : goal.returns-in-Yields-clause-heard
+returns-in-Yields-clause-heard g c =
+    let heard = c.heard_as-heard.ensures in
+    (heard, unanswered c.args.number c.args.message.now c.heard_as-heard.result (hears.Yields c.in-Yields.field-0) (g.L.Link.view c.args.link.now) c.in-Yields.is refl heard)
 
 pub returns-clause-heard : goal.returns-clause-heard
 returns-clause-heard g c =

@@ -1,10 +1,22 @@
-use Rattle.std.proofs.Common.{sym}
+use Rattle.std.proofs.Common.{None}
+use Rattle.js_ordered_stream.specs.declared.left.Seen.{Seen}
+use Rattle.js_ordered_stream.specs.declared.left.Seen.TheVariants as sight
+use Rattle.js_ordered_stream.specs.Rows.{kept_if}
 use Rattle.js_table.specs.Passes.{given_of}
+use Rattle.js_table.specs.declared.row.Row.TheVariants as row
+use Rattle.js_ordered_stream.proofs.Keeping.{seen_kept}
 use Rattle.js_ordered_stream.proofs.Pushing.{heard_alone}
 use Rattle.js_ordered_stream.proofs.listening.hear.Goals as goal
 
-pub returns-in-Ok-clause-passes : goal.returns-in-Ok-clause-passes
-returns-in-Ok-clause-passes g c =
-    let view = g.L.Link.view in
-    heard_alone (given_of c.args.context.now) c.args.context.now.moment c.args.inbox c.args.arrival.now c.in-Some.taken c.args.consumer.now c.hear_taken.new.consumer c.in-Ok.done (view c.args.link.now) (view c.hear_taken.new.link)
-    (sym c.in-Some.ensures.value) c.if-inbox-taken.false c.in-Ok.ensures
+pub returns-in_ok-done-in-Some-clause-passes : goal.returns-in_ok-done-in-Some-clause-passes
+returns-in_ok-done-in-Some-clause-passes g c =
+    let old = g.L.Link.view c.args.link.now in
+    let new = g.L.Link.view c.hear_message.new.link in
+    let given = given_of c.args.context.now in
+    let now = c.args.context.now.moment in
+    let message = c.in-Message.message in
+    let done = c.in_ok-done-in-Some.done in
+    let seen : Seen = sight.Message None message in
+    heard_alone given now c.args.inbox c.in-Some.current c.args.seen.now (kept_if done.looked seen) c.in-Message.unheard message c.args.consumer.now c.hear_message.new.consumer done old new
+    c.in-Message.is c.in-Some.is c.if-inbox-current.false
+    (seen_kept given now (row.Hear (record { inbox = c.args.inbox; message = message })) c.args.consumer.now c.hear_message.new.consumer old new seen done c.in_ok-done-in-Some.ensures)

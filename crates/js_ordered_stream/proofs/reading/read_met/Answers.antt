@@ -1,6 +1,6 @@
 use Rattle.std.proofs.Common.{sym, ◌∙◌}
 use Rattle.js_pull.specs.Steps.{brought}
-use Rattle.js_ordered_stream.specs.Rows.{answer_shown}
+use Rattle.js_ordered_stream.specs.Rows.{answer_in}
 use Rattle.js_pull.specs.Asking.{met_shown}
 use Rattle.js_pull.specs.Reader.{wish}
 use Rattle.js_pull.specs.Steps.{row_of}
@@ -11,7 +11,7 @@ use Rattle.js_ordered_stream.proofs.reading.read_met.Goals as goal
 pub returns-then-is_shut : goal.returns-then-is_shut
 returns-then-is_shut g c =
     let view = g.L.Link.view in
-    let reply = brought (answer_shown c.args.reply.now) in
+    let reply = brought (answer_in c.args.seen.now) in
     let met = met_shown c.in_ok-met.met in
     let asked = wish (row_of reply c.args.due) c.args.reader.now in
     closing asked met (view c.args.link.now) (view c.ask.new.link)
@@ -20,7 +20,7 @@ returns-then-is_shut g c =
 pub returns : goal.returns
 returns g c =
     let view = g.L.Link.view in
-    let reply = brought (answer_shown c.args.reply.now) in
+    let reply = brought (answer_in c.args.seen.now) in
     let met = met_shown c.in_ok-met.met in
     let asked = wish (row_of reply c.args.due) c.args.reader.now in (
       record {

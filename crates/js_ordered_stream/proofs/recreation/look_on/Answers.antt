@@ -1,11 +1,23 @@
+use Rattle.js_ordered_stream.specs.declared.rows.Handed.TheVariants as hands
+use Rattle.js_ordered_stream.specs.declared.rows.Stepped.{Stepped}
 use Rattle.js_pull.specs.Asking.{met_shown}
 use Rattle.js_table.specs.Passes.{given_of}
+use Rattle.js_table.specs.State.{at_phase}
+use Rattle.js_table.specs.declared.consumer.Phase.TheVariants.{Recreates}
+use Rattle.js_table.specs.declared.row.Row.TheVariants as row
+use Rattle.std.proofs.Common.{ap}
+use Rattle.js_ordered_stream.proofs.Keeping.{seen_kept}
 use Rattle.js_ordered_stream.proofs.Passing.{await_passes, meets_as}
 use Rattle.js_ordered_stream.proofs.recreation.look_on.Goals as goal
 
-pub returns : goal.returns
-returns g c =
-    let view = g.L.Link.view in
+pub returns-clause-passes : goal.returns-clause-passes
+returns-clause-passes g c =
+    let old = g.L.Link.view c.args.link.now in
+    let new = g.L.Link.view c.ask.new.link in
+    let given = given_of c.args.context.now in
+    let now = c.args.context.now.moment in
     let met = met_shown c.in-Ok.met in
-    await_passes (given_of c.args.context.now) c.args.context.now.moment c.args.recreation c.args.consumer.now c.pass_await-next.new.consumer met c.request_of.result c.is_answer.result c.reply_met-reply.result c.pass_await-next.result c.answered_by.result (view c.args.link.now) (view c.ask.new.link)
-    (meets_as _ _ met (view c.args.link.now) (view c.ask.new.link) c.awaited.ensures c.in-Ok.ensures.met) c.is_answer.ensures c.request_of.ensures c.reply_met-reply.ensures c.pass_await-next.ensures c.answered_by.ensures
+    let done : Stepped = record { handed = hands.Nothing; looked = c.is_something.result; next = c.pass_await-next.result } in
+    seen_kept given now row.Await (at_phase (Recreates c.args.recreation) c.args.consumer.now) c.pass_await-next.new.consumer old new c.seen_of.result done
+    (await_passes given now c.args.recreation c.args.consumer.now c.pass_await-next.new.consumer met c.request_of.result c.is_answer.result c.pass_await-next.result c.seen_of.result done old new
+    (meets_as _ _ met old new c.awaited.ensures c.in-Ok.ensures.met) c.is_answer.ensures c.request_of.ensures c.pass_await-next.ensures c.seen_of.ensures (ap (λ b. record done { looked = b }) c.is_something.ensures))

@@ -1,10 +1,8 @@
-use Rattle.std.proofs.Common.{List, ◌++◌, ap, ◌∙◌}
-use Rattle.js_ordered_rows.specs.Tasks.{next_rows}
-use Rattle.js_ordered_stream.specs.Rows.{answer_shown, read_by}
-use Rattle.js_table.specs.declared.row.Row.{Row}
+use Rattle.std.proofs.Common.{ap, ◌∙◌}
+use Rattle.js_ordered_stream.specs.declared.left.Seen.{Seen}
+use Rattle.js_ordered_stream.specs.Rows.{kept_if, read_in, todo_rows}
 use Rattle.js_ordered_stream.proofs.left.Left.follow.Goals as goal
 
-pub returns : goal.returns
-returns c =
-    let m = read_by (answer_shown c.args.reply) c.args.arrival in
-    c.before-2.ensures m ∙ ap (λ (rows : List Row). next_rows m c.args.next ++ rows) (c.take_later-later.ensures m)
+pub returns-clause-rows : goal.returns-clause-rows
+returns-clause-rows c =
+    ap (λ (s : Seen). todo_rows (read_in s) c.follow.new.self) c.keep_if.ensures ∙ c.follow.ensures (read_in (kept_if c.args.looked c.args.self.now.seen))

@@ -1,7 +1,7 @@
 use Rattle.std.proofs.Common.{sym, subst, ap, ◌∙◌, ◌++◌}
 use Rattle.js_ordered_rows.specs.Tasks.{next_rows}
 use Rattle.js_ordered_stream.specs.declared.left.Todo.{Todo}
-use Rattle.js_ordered_stream.specs.Rows.{Fits, answer_shown, later_of, read_by}
+use Rattle.js_ordered_stream.specs.Rows.{Fits, kept_if, later_of, read_in}
 use Rattle.js_ordered_stream.specs.Stream.{given_to, position_of}
 use Rattle.js_ordered_stream.proofs.Turning.{next_passed, next_closed, next_lacks}
 use Rattle.js_ordered_stream.proofs.ordered.Ordered.pass_next.Goals as goal
@@ -14,8 +14,9 @@ returns-in-Ok-clause-turns g c =
     let view = g.L.Link.view in
     let old = c.args.self.now in
     let done = c.in-Ok.done in
-    let m = read_by (answer_shown done.reply) done.arrival in
-    next_passed (given_to old) c.args.now old.left c.settle.new.self.left old.consumer c.pass_over.new.self.consumer c.settle.new.self.consumer done c.is_reading-was_reading.result c.settle.result (view c.args.link.now) (view c.pass_over.new.link)
+    let kept = kept_if done.looked c.pass_over.new.self.left.seen in
+    let m = read_in kept in
+    next_passed (given_to old) c.args.now old.left c.settle.new.self.left old.consumer c.pass_over.new.self.consumer c.settle.new.self.consumer kept done c.is_reading-was_reading.result c.settle.result (view c.args.link.now) (view c.pass_over.new.link)
     c.in-Ok.ensures.passes c.settle.ensures.consumer c.is_reading-was_reading.ensures
     (c.settle.ensures.left ∙ ap (λ (t : Todo). next_rows m done.next ++ later_of m t) c.in-Ok.ensures.todo) c.settle.ensures.turned
 
@@ -23,10 +24,10 @@ pub returns-in-Err-Closed-clause-turns : goal.returns-in-Err-Closed-clause-turns
 returns-in-Err-Closed-clause-turns g c =
     let view = g.L.Link.view in
     let old = c.args.self.now in
-    next_closed (given_to old) c.args.now old.left old.consumer c.pass_over.new.self.consumer (position_of c.close.new.self) (view c.args.link.now) (view c.pass_over.new.link) (rw c.in-Err-Closed.field-0-is at c.in-Err-Closed.ensures.passes) c.close.ensures.place
+    next_closed (given_to old) c.args.now old.left old.consumer c.pass_over.new.self.consumer (position_of c.close.new.self) (view c.args.link.now) (view c.pass_over.new.link) c.pass_over.new.self.left.seen (rw c.in-Err-Closed.field-0-is at c.in-Err-Closed.ensures.passes) c.close.ensures.place
 
 pub returns-in-Err-OutOfMemory-clause-turns : goal.returns-in-Err-OutOfMemory-clause-turns
 returns-in-Err-OutOfMemory-clause-turns g c =
     let view = g.L.Link.view in
     let old = c.args.self.now in
-    next_lacks (given_to old) c.args.now old.left c.pass_over.new.self.left old.consumer c.pass_over.new.self.consumer (view c.args.link.now) (view c.pass_over.new.link) (rw c.in-Err-OutOfMemory.field-0-is at c.in-Err-OutOfMemory.ensures.passes) c.in-Err-OutOfMemory.ensures.kept
+    next_lacks (given_to old) c.args.now old.left c.pass_over.new.self.left old.consumer c.pass_over.new.self.consumer (view c.args.link.now) (view c.pass_over.new.link) c.pass_over.new.self.left.seen (rw c.in-Err-OutOfMemory.field-0-is at c.in-Err-OutOfMemory.ensures.passes) c.in-Err-OutOfMemory.ensures.kept

@@ -1,4 +1,5 @@
 use Rattle.std.proofs.Common.{subst}
+use Rattle.js_ordered_stream.specs.Rows.{seen_after}
 use Rattle.js_ordered_stream.specs.Stream.{PassesFirst}
 use Rattle.js_table.specs.declared.consumer.ReplayInput.{ReplayInput}
 use Rattle.js_ordered_stream.proofs.ordered.Ordered.pass_over.Goals as goal
@@ -6,4 +7,4 @@ use Rattle.js_ordered_stream.proofs.ordered.Ordered.pass_over.Goals as goal
 pub returns-clause-passes : goal.returns-clause-passes
 returns-clause-passes g c =
     let view = g.L.Link.view in
-    subst (λ (x : ReplayInput). PassesFirst x c.args.now c.args.self.now.left c.args.self.now.consumer c.pass_first.new.consumer (view c.args.link.now) (view c.pass_first.new.link) c.pass_first.result) c.get-given.ensures c.pass_first.ensures.passes
+    subst (λ (x : ReplayInput). PassesFirst x c.args.now c.args.self.now.left c.args.self.now.consumer c.pass_first.new.consumer (view c.args.link.now) (view c.pass_first.new.link) (seen_after c.pass_first.result c.pass_first.new.seen) c.pass_first.result) c.get-given.ensures c.pass_first.ensures.passes

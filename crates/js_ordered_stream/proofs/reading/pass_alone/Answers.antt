@@ -1,0 +1,26 @@
+use Rattle.std.proofs.Common.{None, false, refl, sym}
+use Rattle.std.specs.Prelude.{Ok}
+use Rattle.js_link.specs.Met.{Wish, Unasked}
+use Rattle.js_link.specs.Meets.{Meets}
+use Rattle.js_ordered_stream.specs.declared.left.Seen.TheVariants as sight
+use Rattle.js_ordered_stream.specs.declared.rows.Stepped.{Stepped}
+use Rattle.js_ordered_stream.specs.Rows.{read_by}
+use Rattle.js_pull.specs.Steps.{row_of}
+use Rattle.js_table.specs.Passes.{given_of}
+use Rattle.js_table.specs.declared.consumer.Phase.TheVariants.{Pulls}
+use Rattle.js_table.specs.declared.row.Row.TheVariants as row
+use Rattle.js_ordered_stream.proofs.Hearing.{read_passes}
+use Rattle.js_ordered_stream.proofs.Keeping.{row_at_phase}
+use Rattle.js_ordered_stream.proofs.Passing.{meets_as}
+use Rattle.js_ordered_stream.proofs.reading.pass_alone.Goals as goal
+
+pub returns : goal.returns
+returns c = λ reply v.
+    let given = given_of c.args.context.now in
+    let now = c.args.context.now.moment in
+    let one = row_of reply c.args.due in
+    let asks = c.requires reply c.in-Pulls.reader in
+    let done : Stepped = record { handed = c.take_told-handed.result.handed; looked = false; next = c.take_told-handed.result.next } in
+    row_at_phase given now (row.Read one) (Pulls c.in-Pulls.reader) c.args.consumer.now c.take_told-handed.new.consumer v v sight.Nothing (Ok done) c.in-Pulls.is
+    (read_passes given now one c.in-Pulls.reader c.pass-step.new.self c.args.consumer.now c.take_told-handed.new.consumer Unasked c.pass-step.result c.take_told-handed.result sight.Nothing done v v
+    (meets_as _ _ Unasked v v (sym asks.0) refl) refl (c.pass-step.ensures reply asks.1) refl refl refl (c.take_told-handed.ensures (read_by None None) None refl) refl)

@@ -1,0 +1,47 @@
+use Rattle.std.proofs.Common.{Some, None, true, false, refl}
+use Rattle.std.specs.Prelude.{Ok, Err}
+use Rattle.js_link.specs.Met.{Empty, Took}
+use Rattle.js_ordered_stream.specs.declared.left.Seen.{Seen}
+use Rattle.js_ordered_stream.specs.declared.left.Seen.TheVariants as sight
+use Rattle.js_ordered_stream.specs.declared.rows.Stop.TheVariants as stop
+use Rattle.js_ordered_stream.specs.declared.rows.Stepped.{Stepped}
+use Rattle.js_ordered_stream.specs.Rows.{read_by}
+use Rattle.js_pull.specs.declared.reader.Row.TheVariants as read
+use Rattle.js_table.specs.Passes.{given_of}
+use Rattle.js_table.specs.declared.consumer.Phase.TheVariants.{Pulls}
+use Rattle.js_table.specs.declared.row.Row.TheVariants as row
+use Rattle.js_ordered_stream.proofs.Hearing.{no_pin, read_passes}
+use Rattle.js_ordered_stream.proofs.Keeping.{row_at_phase}
+use Rattle.js_ordered_stream.proofs.reading.pass_arrival.Goals as goal
+
+pub returns-in-Closed-clause-passes : goal.returns-in-Closed-clause-passes
+returns-in-Closed-clause-passes g c =
+    let view = g.L.Link.view in
+    row_at_phase (given_of c.args.context.now) c.args.context.now.moment (row.Read read.CheckArrival) (Pulls c.in-Pulls.reader) c.args.consumer.now _ (view c.args.link.now) (view c.take.new.self) c.args.seen.now (Err stop.Closed) c.in-Pulls.is (refl, c.in-Closed.ensures)
+
+pub hear_arrival-step-requires : goal.hear_arrival-step-requires
+hear_arrival-step-requires g c = no_pin c.in-Pulls.reader.source.pinned (Some c.in-Message.message) c.if-reader.false
+
+pub returns-in-Empty-clause-passes : goal.returns-in-Empty-clause-passes
+returns-in-Empty-clause-passes g c =
+    let old = g.L.Link.view c.args.link.now in
+    let new = g.L.Link.view c.take.new.self in
+    let given = given_of c.args.context.now in
+    let now = c.args.context.now.moment in
+    let done : Stepped = record { handed = c.take_told-handed.result.handed; looked = false; next = c.take_told-handed.result.next } in
+    row_at_phase given now (row.Read read.CheckArrival) (Pulls c.in-Pulls.reader) c.args.consumer.now c.take_told-handed.new.consumer old new sight.Nothing (Ok done) c.in-Pulls.is
+    (read_passes given now read.CheckArrival c.in-Pulls.reader c.pass_check_arrival-step.new.self c.args.consumer.now c.take_told-handed.new.consumer Empty c.pass_check_arrival-step.result c.take_told-handed.result sight.Nothing done old new
+    c.in-Empty.ensures refl c.pass_check_arrival-step.ensures refl refl refl (c.take_told-handed.ensures (read_by None None) None refl) refl)
+
+pub returns-in-Message-clause-passes : goal.returns-in-Message-clause-passes
+returns-in-Message-clause-passes g c =
+    let old = g.L.Link.view c.args.link.now in
+    let new = g.L.Link.view c.take.new.self in
+    let given = given_of c.args.context.now in
+    let now = c.args.context.now.moment in
+    let message = c.in-Message.message in
+    let seen : Seen = sight.Message None message in
+    let done : Stepped = record { handed = c.take_in-handed.result.handed; looked = true; next = c.take_in-handed.result.next } in
+    row_at_phase given now (row.Read read.CheckArrival) (Pulls c.in-Pulls.reader) c.args.consumer.now c.take_in-handed.new.consumer old new seen (Ok done) c.in-Pulls.is
+    (read_passes given now read.CheckArrival c.in-Pulls.reader c.hear_arrival-step.new.self c.args.consumer.now c.take_in-handed.new.consumer (Took message) c.hear_arrival-step.result c.take_in-handed.result seen done old new
+    c.in-Message.ensures refl c.hear_arrival-step.ensures refl refl refl (c.take_in-handed.ensures (read_by None None)) refl)
