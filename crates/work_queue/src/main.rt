@@ -3,34 +3,60 @@
 #![tactic(auto)]
 
 mod pushed;
+mod reader;
 mod renewal;
+mod sending;
 mod server;
+mod told;
 mod worker;
 
+use js_base::OutOfMemory;
+use js_link::Sent;
 use std::io;
 use std::io::{BufRead, BufReader};
-use worker::Worker;
+use told::Told;
+use worker::{Worker, Works};
 
 fn main(rt: HostRuntime) -> io::Result<()> {
-    let alloc = rt.alloc();
-    let Ok(mut worker) = Worker::new(alloc) else {
-        return Ok(());
-    };
-    let lines = BufReader::new(alloc, rt.reader())?;
-    for line in lines.lines(alloc) {
-        let line = line?;
-        println!(rt; "$ {line}")?;
-        match worker.obey(alloc, line.as_str()) {
-            Ok(told) => println!(rt; "{told}")?,
-            Err(_) => println!(rt; "out of memory")?,
-        }
-        for sent in worker.newly_sent() {
-            match server::sent_text(alloc, sent) {
-                Ok(text) => println!(rt; "> {text}")?,
-                Err(_) => println!(rt; "out of memory")?,
-            }
-        }
-        worker.note_sent();
+    work(&rt, Worker::new(rt.alloc()))
+}
+
+/// Has the worker, where there was memory for it, do what each line says.
+fn work<W: Works>(rt: &HostRuntime, worker: Result<W, OutOfMemory>) -> io::Result<()> {
+    match worker {
+        Ok(mut worker) => obey_all(rt, &mut worker),
+        Err(OutOfMemory) => Ok(()),
+    }
+}
+
+fn obey_all<W: Works>(rt: &HostRuntime, worker: &mut W) -> io::Result<()> {
+    let lines = BufReader::new(rt.alloc(), rt.reader())?;
+    for line in lines.lines(rt.alloc()) {
+        obey(rt, worker, line?.as_str())?;
     }
     Ok(())
+}
+
+/// Has a worker do what a line says, and shows what comes of it and what is sent.
+fn obey<W: Works>(rt: &(impl Print + AllocGlobal), worker: &mut W, line: &str) -> io::Result<()> {
+    println!(rt; "$ {line}")?;
+    tell(rt, "", worker.obey(rt.alloc(), line))?;
+    show(rt, worker.newly_sent())?;
+    worker.note_sent();
+    Ok(())
+}
+
+fn show(rt: &(impl Print + AllocGlobal), sent: &[Sent]) -> io::Result<()> {
+    for sent in sent {
+        tell(rt, "> ", sending::told(rt.alloc(), sent))?;
+    }
+    Ok(())
+}
+
+/// A line that begins so.
+fn tell(rt: &impl Print, mark: &str, told: Told) -> io::Result<()> {
+    match told {
+        Ok(text) => println!(rt; "{mark}{text}"),
+        Err(OutOfMemory) => println!(rt; "out of memory"),
+    }
 }

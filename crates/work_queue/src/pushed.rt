@@ -1,11 +1,31 @@
 //! The push consumer of the work queue.
 
-use crate::server::info;
+use crate::server::{info, scope};
 use js_base::{Nanos, OutOfMemory, Text};
-use js_call::ApiScope;
 use js_consumer_calls::PushConsumer;
+use js_json::consumer::Info;
 use js_json::push::Config;
 use std::alloc::Global;
+
+fn config(alloc: Global, heartbeat: Nanos) -> Config {
+    let mut config = Config::new(alloc);
+    config.idle_heartbeat = heartbeat;
+    config
+}
+
+fn deliver_to(alloc: Global, info: &mut Info, subject: &str) -> Result<(), OutOfMemory> {
+    info.config.deliver_subject = Some(Text::from_str(alloc, subject)?);
+    info.config.deliver_group = Some(Text::from_str(alloc, "g")?);
+    Ok(())
+}
+
+fn pushing(alloc: Global, subject: &str) -> Result<Info, OutOfMemory> {
+    let mut info = info(alloc)?;
+    if subject != "-" {
+        deliver_to(alloc, &mut info, subject)?;
+    }
+    Ok(info)
+}
 
 /// A consumer that delivers to the group `g` of a subject, with that heartbeat. `-` stands for an info without a subject.
 pub fn push_consumer(
@@ -13,18 +33,9 @@ pub fn push_consumer(
     subject: &str,
     heartbeat: Nanos,
 ) -> Result<PushConsumer, OutOfMemory> {
-    let mut info = info(alloc)?;
-    if subject != "-" {
-        info.config.deliver_subject = Some(Text::from_str(alloc, subject)?);
-        info.config.deliver_group = Some(Text::from_str(alloc, "g")?);
+    let scope = scope(alloc)?;
+    match pushing(alloc, subject) {
+        Ok(info) => Ok(PushConsumer::new(config(alloc, heartbeat), info, scope)),
+        Err(OutOfMemory) => Err(OutOfMemory),
     }
-    let scope = ApiScope {
-        prefix: Text::from_str(alloc, "$JS.API")?,
-        timeout: None,
-    };
-    let config = Config {
-        idle_heartbeat: heartbeat,
-        ..Config::new(alloc)
-    };
-    Ok(PushConsumer::new(config, info, scope))
 }

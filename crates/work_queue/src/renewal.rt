@@ -1,7 +1,8 @@
 //! Asking anew what the server knows of the consumer.
 
 use crate::server::consumer;
-use js_base::{Moment, OutOfMemory, Turn};
+use crate::told::{Tells, Told, turned, word};
+use js_base::OutOfMemory;
 use js_call::State;
 use js_consumer_calls::PullConsumer;
 use js_consumer_info::{ConsumerCalls, InfoCall, Reset};
@@ -9,7 +10,8 @@ use js_json::consumer::Info;
 use js_json::pull::Config;
 use js_link::MemoryLink;
 use std::alloc::Global;
-use std::fmt;
+use std::fmt::Display;
+use std::mem;
 
 /// A call on the consumer that is under way.
 #[derive(Drop)]
@@ -19,58 +21,63 @@ pub enum Renewal {
     Resetting(Reset<Config>),
 }
 
-fn ready_text<E: fmt::Display + Drop>(
-    alloc: Global,
-    consumer: PullConsumer,
-    told: Result<Info, E>,
-) -> Result<String, OutOfMemory> {
-    let cached = consumer.cached_info().num_pending;
-    match told {
-        Ok(info) => {
-            let answered = info.num_pending;
-            Ok(format!(in alloc; "ready: {answered} pending, {cached} in the cache")?)
+impl From<InfoCall<Config>> for Renewal {
+    fn from(call: InfoCall<Config>) -> Renewal {
+        Renewal::Asking(call)
+    }
+}
+
+impl From<Reset<Config>> for Renewal {
+    fn from(call: Reset<Config>) -> Renewal {
+        Renewal::Resetting(call)
+    }
+}
+
+/// How much is pending, as the server answers and as it stands in the cache.
+impl<E: Display + Drop> Tells for (PullConsumer, Result<Info, E>) {
+    fn told(&self, alloc: Global) -> Told {
+        let cached = self.0.cached_info().num_pending;
+        match &self.1 {
+            Ok(info) => {
+                let answered = info.num_pending;
+                Ok(format!(in alloc; "ready: {answered} pending, {cached} in the cache")?)
+            }
+            Err(error) => Ok(format!(in alloc; "{error}; {cached} in the cache")?),
         }
-        Err(error) => Ok(format!(in alloc; "{error}; {cached} in the cache")?),
+    }
+}
+
+/// A call that was begun takes the place of the one before.
+fn begun<R: From<S> + Drop, S: Drop, E: Drop>(
+    renewal: &mut R,
+    begun: Result<S, E>,
+) -> Result<(), OutOfMemory> {
+    match begun {
+        Ok(call) => {
+            *renewal = R::from(call);
+            Ok(())
+        }
+        Err(_) => Err(OutOfMemory),
     }
 }
 
 impl Renewal {
     /// Begins to ask the server what it knows of the consumer.
-    pub fn info(alloc: Global) -> Result<Renewal, OutOfMemory> {
-        Ok(Renewal::Asking(consumer(alloc)?.info(alloc)?))
+    pub fn info(&mut self, alloc: Global) -> Result<(), OutOfMemory> {
+        begun(self, consumer(alloc)?.info(alloc))
     }
 
     /// Begins a reset of the consumer, to the sequence where one is named.
-    pub fn reset(alloc: Global, seq: Option<u64>) -> Result<Renewal, OutOfMemory> {
-        Ok(Renewal::Resetting(consumer(alloc)?.reset(alloc, seq)?))
+    pub fn reset(&mut self, alloc: Global, seq: Option<u64>) -> Result<(), OutOfMemory> {
+        begun(self, consumer(alloc)?.reset(alloc, seq))
     }
 
     /// Polls the call, and tells what comes of it.
-    pub fn poll(
-        self,
-        alloc: Global,
-        link: &mut MemoryLink,
-        now: Moment,
-    ) -> Result<(Renewal, String), OutOfMemory> {
-        match self {
-            Renewal::Nothing => Ok((Renewal::Nothing, format!(in alloc; "nothing")?)),
-            Renewal::Asking(call) => match call.poll(alloc, link, now) {
-                Turn::Pending(call) => Ok((Renewal::Asking(call), format!(in alloc; "pending")?)),
-                Turn::OutOfMemory(_) => Err(OutOfMemory),
-                Turn::Ready((consumer, told)) => {
-                    Ok((Renewal::Nothing, ready_text(alloc, consumer, told)?))
-                }
-            },
-            Renewal::Resetting(call) => match call.poll(alloc, link, now) {
-                Turn::Pending(call) => Ok((
-                    Renewal::Resetting(call),
-                    format!(in alloc; "pending")?,
-                )),
-                Turn::OutOfMemory(_) => Err(OutOfMemory),
-                Turn::Ready((consumer, told)) => {
-                    Ok((Renewal::Nothing, ready_text(alloc, consumer, told)?))
-                }
-            },
+    pub fn poll(&mut self, alloc: Global, link: &mut MemoryLink) -> Told {
+        match mem::replace(self, Renewal::Nothing) {
+            Renewal::Nothing => word(alloc, "nothing"),
+            Renewal::Asking(call) => turned(alloc, self, call.poll(alloc, link, 0)),
+            Renewal::Resetting(call) => turned(alloc, self, call.poll(alloc, link, 0)),
         }
     }
 }

@@ -1,0 +1,195 @@
+//! What a worker reads by.
+
+use crate::told::{Tells, Told, followed, given, opened, word};
+use js_base::{Moment, OutOfMemory};
+use js_consumer_calls::{PullConsumer, PushConsumer};
+use js_link::MemoryLink;
+use js_message::Message;
+use js_pull_calls::{Batch, FetchBuilder, PullCalls, Sequence, Stream, StreamBuilder, StreamError};
+use js_push_calls::{Messages, PushCalls};
+use std::alloc::Global;
+
+/// What a worker reads by.
+#[derive(Drop)]
+pub enum Reader {
+    Nothing,
+    Stream(Stream),
+    Batch(Batch),
+    Sequence(Sequence),
+    Messages(Messages),
+}
+
+impl From<Stream> for Reader {
+    fn from(stream: Stream) -> Reader {
+        Reader::Stream(stream)
+    }
+}
+
+impl From<Batch> for Reader {
+    fn from(batch: Batch) -> Reader {
+        Reader::Batch(batch)
+    }
+}
+
+impl From<Sequence> for Reader {
+    fn from(sequence: Sequence) -> Reader {
+        Reader::Sequence(sequence)
+    }
+}
+
+impl From<Messages> for Reader {
+    fn from(messages: Messages) -> Reader {
+        Reader::Messages(messages)
+    }
+}
+
+/// Its payload, and where it stands in its stream.
+impl Tells for Message {
+    fn told(&self, alloc: Global) -> Told {
+        let payload = String::from_utf8_lossy(alloc, self.message.payload.as_slice())?;
+        match self.info() {
+            Ok(info) => {
+                let sequence = info.stream_sequence;
+                let delivered = info.delivered;
+                Ok(format!(in alloc; "{payload}, sequence {sequence}, delivery {delivered}")?)
+            }
+            Err(error) => Ok(format!(in alloc; "{payload}, {error}")?),
+        }
+    }
+}
+
+fn endless(
+    alloc: Global,
+    consumer: &PullConsumer,
+    link: &mut MemoryLink,
+) -> Result<Stream, StreamError> {
+    consumer
+        .stream()
+        .max_messages_per_batch(0)
+        .expires(0)
+        .messages(alloc, link)
+}
+
+/// A stream for which everything is set.
+fn set_stream(alloc: Global, consumer: &PullConsumer) -> Result<StreamBuilder<'_>, OutOfMemory> {
+    consumer
+        .stream()
+        .max_bytes_per_batch(4096)
+        .max_messages_per_batch(50)
+        .heartbeat(1_000_000_000)
+        .expires(9_000_000_000)
+        .min_pending(3)
+        .min_ack_pending(4)
+        .priority(5)
+        .group(alloc, "g")
+}
+
+/// A batch for which everything is set.
+fn set_batch(
+    alloc: Global,
+    consumer: &PullConsumer,
+    messages: u64,
+) -> Result<FetchBuilder<'_>, OutOfMemory> {
+    consumer
+        .fetch()
+        .max_messages(messages)
+        .max_bytes(4096)
+        .heartbeat(1_000_000_000)
+        .expires(9_000_000_000)
+        .min_pending(3)
+        .min_ack_pending(4)
+        .priority(5)
+        .group(alloc, "g")
+}
+
+impl Reader {
+    /// Opens a stream: by the defaults, one without bounds, or one for which everything is set.
+    pub fn open_stream(
+        &mut self,
+        alloc: Global,
+        consumer: &PullConsumer,
+        link: &mut MemoryLink,
+        verb: &str,
+    ) -> Told {
+        match verb {
+            "messages" => opened(alloc, self, consumer.messages(alloc, link)),
+            "endless" => opened(alloc, self, endless(alloc, consumer, link)),
+            _ => {
+                let stream = set_stream(alloc, consumer)?;
+                opened(alloc, self, stream.messages(alloc, link))
+            }
+        }
+    }
+
+    /// Opens a batch: of what is there, one that waits, or one for which everything is set.
+    pub fn open_batch(
+        &mut self,
+        alloc: Global,
+        consumer: &PullConsumer,
+        link: &mut MemoryLink,
+        verb: &str,
+        messages: u64,
+        now: Moment,
+    ) -> Told {
+        match verb {
+            "fetch" => {
+                let batch = consumer.fetch().max_messages(messages);
+                opened(alloc, self, batch.messages(alloc, link, now))
+            }
+            "batch" => {
+                let batch = consumer.batch().max_messages(messages);
+                opened(alloc, self, batch.messages(alloc, link, now))
+            }
+            _ => {
+                let batch = set_batch(alloc, consumer, messages)?;
+                opened(alloc, self, batch.messages(alloc, link, now))
+            }
+        }
+    }
+
+    /// Opens a sequence of batches.
+    pub fn open_sequence(&mut self, alloc: Global, consumer: &PullConsumer, batch: u64) -> Told {
+        opened(alloc, self, consumer.sequence(alloc, batch))
+    }
+
+    /// Opens what a push consumer delivers.
+    pub fn open_messages(
+        &mut self,
+        alloc: Global,
+        consumer: PushConsumer,
+        link: &mut MemoryLink,
+    ) -> Told {
+        opened(alloc, self, consumer.messages(alloc, link))
+    }
+
+    /// Polls it. A job that it gives is the last one.
+    pub fn poll(
+        &mut self,
+        alloc: Global,
+        link: &mut MemoryLink,
+        last: &mut Option<Message>,
+        now: Moment,
+    ) -> Told {
+        match self {
+            Reader::Nothing => word(alloc, "nothing is read"),
+            Reader::Stream(stream) => given(alloc, last, stream.poll_next(alloc, link, now)),
+            Reader::Batch(batch) => given(alloc, last, batch.poll_next(link, now)),
+            Reader::Messages(messages) => given(alloc, last, messages.poll_next(alloc, link, now)),
+            Reader::Sequence(sequence) => {
+                let next = sequence.poll_next(alloc, link, now);
+                followed(alloc, self, next)
+            }
+        }
+    }
+
+    /// When it is to be polled where nothing comes for it.
+    pub fn wakes_at(&self) -> Option<Moment> {
+        match self {
+            Reader::Nothing => None,
+            Reader::Stream(stream) => stream.wakes_at(),
+            Reader::Batch(batch) => batch.wakes_at(),
+            Reader::Sequence(sequence) => sequence.wakes_at(),
+            Reader::Messages(messages) => messages.wakes_at(),
+        }
+    }
+}

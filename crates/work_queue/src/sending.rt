@@ -1,0 +1,45 @@
+//! How what was sent is shown.
+
+use crate::told::Told;
+use bytes::Bytes;
+use js_base::{Subject, Text};
+use js_link::Sent;
+use std::alloc::Global;
+
+fn subscribed(alloc: Global, subject: &Subject, group: &Option<Text>) -> Told {
+    match group {
+        Some(group) => Ok(format!(in alloc; "subscribes to {subject} in {group}")?),
+        None => Ok(format!(in alloc; "subscribes to {subject}")?),
+    }
+}
+
+fn asked(alloc: Global, subject: &Subject, payload: &Bytes) -> Told {
+    let payload = String::from_utf8_lossy(alloc, payload.as_slice())?;
+    Ok(format!(in alloc; "asks {subject} with {payload}")?)
+}
+
+fn published(alloc: Global, subject: &Subject, reply: &Option<Subject>, payload: &Bytes) -> Told {
+    let payload = String::from_utf8_lossy(alloc, payload.as_slice())?;
+    match reply {
+        Some(reply) => Ok(format!(in alloc; "publishes \"{payload}\" to {subject} for {reply}")?),
+        None => Ok(format!(in alloc; "publishes \"{payload}\" to {subject}")?),
+    }
+}
+
+/// One thing that was sent.
+pub fn told(alloc: Global, sent: &Sent) -> Told {
+    match sent {
+        Sent::Subscribe { subject, group, .. } => subscribed(alloc, subject, group),
+        Sent::Request {
+            subject,
+            payload,
+            ..
+        } => asked(alloc, subject, payload),
+        Sent::Publish {
+            subject,
+            reply,
+            payload,
+            ..
+        } => published(alloc, subject, reply, payload),
+    }
+}
