@@ -4,15 +4,33 @@ ghost use Rattle.std.specs.Prelude.{IfSome};
 ghost use Rattle.js_context.specs.Acks.{IsAwaitedBy};
 ghost use Rattle.js_context.specs.Contexts.{ContextView};
 
-use crate::publishing::{SECOND, STORED, answer_of, number, opened, published};
+use crate::publishes::{SECOND, STORED, answer_of, number, opened, published};
 use crate::server::{Answered, NOBODY, Reply, Words, answer_word, message, word};
+use crate::tables::{joined, says};
 use bytes::Bytes;
-use js_base::{Message, Moment, Nanos, OutOfMemory, Turn};
-use js_context::{Context, PublishAckFuture};
+use js_base::{Error, Message, Moment, Nanos, OutOfMemory, Turn};
+use js_context::{Context, PublishAckFuture, Sending};
 use js_json::PublishAck;
 use js_link::{Link, MemoryLink, RequestId};
 use std::alloc::Global;
+use std::fmt::Display;
 use std::sync::Wait;
+
+/// Polls a publish once: its ack, where it was sent.
+fn went<R: Wait, L: Link>(
+    rt: &R,
+    alloc: Global,
+    context: &mut Context,
+    link: &mut L,
+    sending: Sending,
+) -> Option<PublishAckFuture>
+    ensures { IfSome result (λ future. IsAwaitedBy future context.new) }
+{
+    match sending.poll(rt, alloc, context, link, 0) {
+        Turn::Ready(Ok(future)) => Some(future),
+        _ => None,
+    }
+}
 
 /// Publishes to `events.new`: its ack, where it was sent.
 fn sent<R: Wait, L: Link>(
@@ -23,13 +41,9 @@ fn sent<R: Wait, L: Link>(
 ) -> Option<PublishAckFuture>
     ensures { IfSome result (λ future. IsAwaitedBy future context.new) }
 {
-    let sending = match context.publish(alloc, "events.new", Bytes::from_static(b"a")) {
-        Ok(sending) => sending,
-        Err(OutOfMemory) => return None,
-    };
-    match sending.poll(rt, alloc, context, link, 0) {
-        Turn::Ready(Ok(future)) => Some(future),
-        _ => None,
+    match context.publish(alloc, "events.new", Bytes::from_static(b"a")) {
+        Ok(sending) => went(rt, alloc, context, link, sending),
+        Err(OutOfMemory) => None,
     }
 }
 
@@ -37,6 +51,22 @@ impl Answered for PublishAck {
     fn word(&self, alloc: Global) -> Words {
         number(alloc, self.sequence)
     }
+}
+
+/// The word of an answer, which is let go.
+fn last_word<A: Answered + Drop, K: Display + Drop>(
+    alloc: Global,
+    answer: Result<A, Error<K>>,
+) -> Words {
+    answer_word(alloc, &answer)
+}
+
+/// Detaches an ack that has no answer.
+fn detached(alloc: Global, context: &mut Context, future: PublishAckFuture) -> Words
+    requires { IsAwaitedBy future context.old }
+{
+    future.detach(context);
+    word(alloc, "waits")
 }
 
 /// Polls an ack once, and detaches it where it has no answer.
@@ -51,11 +81,9 @@ fn end_of<R: Wait, L: Link>(
     requires { IsAwaitedBy future context.old }
 {
     match future.poll(rt, alloc, context, link, now) {
-        Turn::Ready(answer) => answer_word(alloc, answer),
-        Turn::Pending(future) | Turn::OutOfMemory(future) => {
-            future.detach(context);
-            word(alloc, "waits")
-        }
+        Turn::Ready(answer) => last_word(alloc, answer),
+        Turn::Pending(future) => detached(alloc, context, future),
+        Turn::OutOfMemory(future) => detached(alloc, context, future),
     }
 }
 
@@ -81,21 +109,19 @@ fn still<R: Wait, L: Link>(
     }
 }
 
-/// What the ack of a message comes to that is answered so.
+/// What an ack comes to whose message is answered so.
 fn ended<R: Wait>(
     rt: &R,
     alloc: Global,
     context: &mut Context,
     link: &mut MemoryLink,
     answer: Option<Message>,
-) -> Words {
-    match sent(rt, alloc, context, link) {
-        Some(future) => {
-            let _ = link.respond(RequestId(1), answer);
-            end_of(rt, alloc, context, link, 9, future)
-        }
-        None => word(alloc, "unsent"),
-    }
+    future: PublishAckFuture,
+) -> Words
+    requires { IsAwaitedBy future context.old }
+{
+    let _ = link.respond(RequestId(1), answer);
+    end_of(rt, alloc, context, link, 9, future)
 }
 
 /// The word of an ack, where all permits are free.
@@ -107,25 +133,39 @@ fn settled_word(alloc: Global, text: String, is_settled: bool) -> Words {
     }
 }
 
+fn answered_over<R: Wait>(
+    rt: &R,
+    alloc: Global,
+    context: &mut Context,
+    link: &mut MemoryLink,
+    reply: Option<Reply>,
+) -> Words {
+    let answer = answer_of(alloc, reply)?;
+    match sent(rt, alloc, context, link) {
+        Some(future) => ended(rt, alloc, context, link, answer, future),
+        None => word(alloc, "unsent"),
+    }
+}
+
 fn answered_by<R: Wait>(
     rt: &R,
     alloc: Global,
     context: &mut Context,
-    answer: Option<Message>,
+    reply: Option<Reply>,
 ) -> Words {
     let mut link = MemoryLink::new(alloc, "_INBOX.t")?;
-    ended(rt, alloc, context, &mut link, answer)
+    let text = answered_over(rt, alloc, context, &mut link, reply)?;
+    settled_word(alloc, text, context.acks_settled(rt))
 }
 
 /// What an ack comes to that is answered so. Where its permit is not free then, that is told too.
 fn answered<R: Wait>(rt: &R, alloc: Global, reply: Option<Reply>) -> Words {
     let mut context = opened(rt, alloc, 1, true)?;
-    let text = answered_by(rt, alloc, &mut context, answer_of(alloc, reply)?)?;
-    settled_word(alloc, text, context.acks_settled(rt))
+    answered_by(rt, alloc, &mut context, reply)
 }
 
 /// What is answered, and what the ack then comes to.
-const ANSWERS: [(Option<Reply>, &str); 8] = [
+const ANSWERS: &[(Option<Reply>, &str)] = &[
     (Some(STORED), "1"),
     (Some(NOBODY), "no stream found for given subject"),
     (
@@ -165,6 +205,47 @@ pub(crate) fn awaited<R: Wait, L: Link>(
     }
 }
 
+/// The moments at which an ack is polled.
+type Moments = (Moment, Moment, Moment);
+
+/// What an ack without an answer comes to at the last of three moments, where it waits at the second. Before that one the
+/// context's timeout is set.
+fn waits_on<R: Wait, L: Link>(
+    rt: &R,
+    alloc: Global,
+    context: &mut Context,
+    link: &mut L,
+    moments: Moments,
+    timeout: Nanos,
+    future: PublishAckFuture,
+) -> Words
+    requires { IsAwaitedBy future context.old }
+{
+    context.set_timeout(timeout);
+    match still(rt, alloc, context, link, moments.1, future) {
+        Some(future) => end_of(rt, alloc, context, link, moments.2, future),
+        None => word(alloc, "early"),
+    }
+}
+
+/// The same, where it waits at the first of them too.
+fn waits_from<R: Wait, L: Link>(
+    rt: &R,
+    alloc: Global,
+    context: &mut Context,
+    link: &mut L,
+    moments: Moments,
+    timeout: Nanos,
+    future: PublishAckFuture,
+) -> Words
+    requires { IsAwaitedBy future context.old }
+{
+    match still(rt, alloc, context, link, moments.0, future) {
+        Some(future) => waits_on(rt, alloc, context, link, moments, timeout, future),
+        None => word(alloc, "early"),
+    }
+}
+
 /// What an ack without an answer comes to at the last of three moments, where it waits at those before. After the first of them
 /// the context's timeout is set.
 fn waits<R: Wait, L: Link>(
@@ -172,31 +253,30 @@ fn waits<R: Wait, L: Link>(
     alloc: Global,
     context: &mut Context,
     link: &mut L,
-    moments: [Moment; 3],
+    moments: Moments,
     timeout: Nanos,
 ) -> Words {
-    let first = match sent(rt, alloc, context, link) {
-        Some(future) => still(rt, alloc, context, link, moments[0], future),
-        None => None,
-    };
-    let second = match first {
-        Some(future) => {
-            context.set_timeout(timeout);
-            still(rt, alloc, context, link, moments[1], future)
-        }
-        None => None,
-    };
-    match second {
-        Some(future) => end_of(rt, alloc, context, link, moments[2], future),
+    match sent(rt, alloc, context, link) {
+        Some(future) => waits_from(rt, alloc, context, link, moments, timeout, future),
         None => word(alloc, "early"),
     }
 }
 
-/// The moments at which an ack is polled.
-type Moments = [Moment; 3];
-
 /// What two acks after one another come to.
-fn both_wait<R: Wait>(
+fn both_wait<R: Wait, L: Link>(
+    rt: &R,
+    alloc: Global,
+    context: &mut Context,
+    link: &mut L,
+    timeout: Nanos,
+    moments: (Moments, Moments),
+) -> Words {
+    let early = waits(rt, alloc, context, link, moments.0, timeout);
+    let late = waits(rt, alloc, context, link, moments.1, timeout);
+    joined(alloc, early, late)
+}
+
+fn unanswered_by<R: Wait>(
     rt: &R,
     alloc: Global,
     context: &mut Context,
@@ -204,9 +284,8 @@ fn both_wait<R: Wait>(
     moments: (Moments, Moments),
 ) -> Words {
     let mut link = MemoryLink::new(alloc, "_INBOX.t")?;
-    let early = waits(rt, alloc, context, &mut link, moments.0, timeout)?;
-    let late = waits(rt, alloc, context, &mut link, moments.1, timeout)?;
-    Ok(format!(in alloc; "{early}, {late}")?)
+    let text = both_wait(rt, alloc, context, &mut link, timeout, moments)?;
+    settled_word(alloc, text, context.acks_settled(rt))
 }
 
 fn unanswered<R: Wait>(
@@ -216,8 +295,7 @@ fn unanswered<R: Wait>(
     moments: (Moments, Moments),
 ) -> Words {
     let mut context = opened(rt, alloc, 1, true)?;
-    let text = both_wait(rt, alloc, &mut context, timeout, moments)?;
-    settled_word(alloc, text, context.acks_settled(rt))
+    unanswered_by(rt, alloc, &mut context, timeout, moments)
 }
 
 const BOTH_LATE: &str =
@@ -225,36 +303,31 @@ const BOTH_LATE: &str =
 
 /// A timeout that is set after the first poll of the first ack, and the moments at which two acks are polled: they are out of time
 /// at the last of them. The clock begins at an ack's first poll, and its wait is the timeout at that poll.
-const WAITS: [(Nanos, (Moments, Moments)); 2] = [
+const WAITS: &[(Nanos, Moments, Moments)] = &[
     (
         5 * SECOND,
-        (
-            [7 * SECOND, 12 * SECOND - 1, 12 * SECOND],
-            [20 * SECOND, 25 * SECOND - 1, 25 * SECOND],
-        ),
+        (7 * SECOND, 12 * SECOND - 1, 12 * SECOND),
+        (20 * SECOND, 25 * SECOND - 1, 25 * SECOND),
     ),
     (
         2,
-        (
-            [7 * SECOND, 12 * SECOND - 1, 12 * SECOND],
-            [20 * SECOND, 20 * SECOND + 1, 20 * SECOND + 2],
-        ),
+        (7 * SECOND, 12 * SECOND - 1, 12 * SECOND),
+        (20 * SECOND, 20 * SECOND + 1, 20 * SECOND + 2),
     ),
 ];
 
 #[test]
 fn acks_are_answered(rt: HostRuntime) {
-    for (reply, wanted) in ANSWERS {
-        let found = answered(&rt, rt.alloc(), reply).expect(&rt, wanted);
-        assert_eq!(rt; found.as_str(), wanted);
+    for &(reply, wanted) in ANSWERS {
+        says(&rt, wanted, answered(&rt, rt.alloc(), reply), wanted);
     }
 }
 
 #[test]
 fn acks_are_out_of_time(rt: HostRuntime) {
-    for (timeout, moments) in WAITS {
-        let found = unanswered(&rt, rt.alloc(), timeout, moments).expect(&rt, "acks");
-        assert_eq!(rt; found.as_str(), BOTH_LATE);
+    for &(timeout, first, second) in WAITS {
+        let found = unanswered(&rt, rt.alloc(), timeout, (first, second));
+        says(&rt, "acks", found, BOTH_LATE);
     }
 }
 
@@ -265,14 +338,24 @@ fn meanwhile<R: Wait>(rt: &R, alloc: Global, second: &mut Context, link: &mut Me
     Ok(early)
 }
 
-/// Two words, one after the other.
-fn joined(alloc: Global, first: Words, second: Words) -> Words {
-    let (first, second) = (first?, second?);
-    Ok(format!(in alloc; "{first}, {second}")?)
+/// What a second context's publish comes to while the first one's ack waits, and that ack at its answer.
+fn while_waiting<R: Wait>(
+    rt: &R,
+    alloc: Global,
+    first: &mut Context,
+    second: &mut Context,
+    link: &mut MemoryLink,
+    future: PublishAckFuture,
+) -> Words
+    requires { IsAwaitedBy future first.old }
+{
+    let early = meanwhile(rt, alloc, second, link);
+    let end = end_of(rt, alloc, first, link, 1, future);
+    joined(alloc, early, end)
 }
 
-/// What a second context's publish comes to while the first one's ack waits, and the ack at its answer.
-fn while_waiting<R: Wait>(
+/// The same, where the first context's message is sent before.
+fn after_sending<R: Wait>(
     rt: &R,
     alloc: Global,
     first: &mut Context,
@@ -280,11 +363,7 @@ fn while_waiting<R: Wait>(
     link: &mut MemoryLink,
 ) -> Words {
     match sent(rt, alloc, first, link) {
-        Some(future) => {
-            let early = meanwhile(rt, alloc, second, link);
-            let end = end_of(rt, alloc, first, link, 1, future);
-            joined(alloc, early, end)
-        }
+        Some(future) => while_waiting(rt, alloc, first, second, link, future),
         None => word(alloc, "unsent"),
     }
 }
@@ -292,7 +371,7 @@ fn while_waiting<R: Wait>(
 /// The same, and what the second one's publish comes to afterwards.
 fn turns_of<R: Wait>(rt: &R, alloc: Global, first: &mut Context, second: &mut Context) -> Words {
     let mut link = MemoryLink::new(alloc, "_INBOX.t")?;
-    let early = while_waiting(rt, alloc, first, second, &mut link);
+    let early = after_sending(rt, alloc, first, second, &mut link);
     let late = published(rt, alloc, second, &mut link, "events.new");
     joined(alloc, early, late)
 }
@@ -309,6 +388,6 @@ fn turns<R: Wait>(rt: &R, alloc: Global) -> Words {
 
 #[test]
 fn two_contexts_share_one_permit(rt: HostRuntime) {
-    let found = turns(&rt, rt.alloc()).expect(&rt, "turns");
-    assert_eq!(rt; found.as_str(), "max ack pending reached, 1, sent");
+    let found = turns(&rt, rt.alloc());
+    says(&rt, "turns", found, "max ack pending reached, 1, sent");
 }

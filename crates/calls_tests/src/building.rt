@@ -1,6 +1,7 @@
 //! How contexts are built.
 
 use crate::server::Words;
+use crate::tables::{numbered, printed, same, says};
 use js_base::OutOfMemory;
 use js_context::{BuildError, Context, ContextBuilder, No, ToAssign, Yes};
 use std::alloc::Global;
@@ -44,16 +45,13 @@ fn with_domain(alloc: Global, domain: &str) -> Result<ContextBuilder<No>, OutOfM
 }
 
 fn all_set(alloc: Global, domain: &str) -> Result<ContextBuilder<Yes>, OutOfMemory> {
-    match with_domain(alloc, domain) {
-        Ok(builder) => Ok(
-            builder
-                .ack_timeout(4)
-                .max_ack_inflight(5)
-                .backpressure_on_inflight(false)
-                .concurrency_limit(Some(6)),
-        ),
-        Err(OutOfMemory) => Err(OutOfMemory),
-    }
+    Ok(
+        with_domain(alloc, domain)?
+            .ack_timeout(4)
+            .max_ack_inflight(5)
+            .backpressure_on_inflight(false)
+            .concurrency_limit(Some(6)),
+    )
 }
 
 fn unless_memory(how: Result<Context, OutOfMemory>) -> Result<Context, BuildError> {
@@ -63,33 +61,55 @@ fn unless_memory(how: Result<Context, OutOfMemory>) -> Result<Context, BuildErro
     }
 }
 
+fn of_prefix<R: Wait>(rt: &R, alloc: Global, prefix: &str) -> Result<Context, BuildError> {
+    unless_memory(Context::with_prefix(rt, alloc, prefix))
+}
+
+fn of_domain<R: Wait>(rt: &R, alloc: Global, domain: &str) -> Result<Context, BuildError> {
+    unless_memory(Context::with_domain(rt, alloc, domain))
+}
+
+fn of_capacity<R: Wait>(rt: &R, alloc: Global, capacity: u64) -> Result<Context, BuildError> {
+    built(rt, alloc, with_capacity(alloc, capacity))
+}
+
+fn built_with_prefix<R: Wait>(rt: &R, alloc: Global, prefix: &str) -> Result<Context, BuildError> {
+    built(rt, alloc, with_prefix(alloc, prefix))
+}
+
+fn built_with_all<R: Wait>(rt: &R, alloc: Global, domain: &str) -> Result<Context, BuildError> {
+    built(rt, alloc, all_set(alloc, domain))
+}
+
 fn context_of<R: Wait>(rt: &R, alloc: Global, how: Made) -> Result<Context, BuildError> {
     match how {
         Made::New => unless_memory(Context::new(rt, alloc)),
-        Made::Prefix(prefix) => unless_memory(Context::with_prefix(rt, alloc, prefix)),
-        Made::Domain(domain) => unless_memory(Context::with_domain(rt, alloc, domain)),
-        Made::Capacity(capacity) => built(rt, alloc, with_capacity(alloc, capacity)),
-        Made::Built(prefix) => built(rt, alloc, with_prefix(alloc, prefix)),
-        Made::AllSet(domain) => built(rt, alloc, all_set(alloc, domain)),
+        Made::Prefix(prefix) => of_prefix(rt, alloc, prefix),
+        Made::Domain(domain) => of_domain(rt, alloc, domain),
+        Made::Capacity(capacity) => of_capacity(rt, alloc, capacity),
+        Made::Built(prefix) => built_with_prefix(rt, alloc, prefix),
+        Made::AllSet(domain) => built_with_all(rt, alloc, domain),
     }
 }
 
 /// The prefix and the timeout.
 fn settings(alloc: Global, context: &Context) -> Words {
-    let prefix = context.scope().prefix.as_str();
-    let timeout = context.timeout();
-    Ok(format!(in alloc; "{prefix} {timeout}")?)
+    numbered(alloc, context.scope().prefix.as_str(), context.timeout())
 }
 
 /// The prefix and the timeout of a context, or why it is not built.
-fn made_word<R: Wait>(rt: &R, alloc: Global, how: Made) -> Words {
-    match context_of(rt, alloc, how) {
-        Ok(context) => settings(alloc, &context),
-        Err(error) => Ok(error.to_string(alloc)?),
+fn built_word(alloc: Global, made: &Result<Context, BuildError>) -> Words {
+    match made {
+        Ok(context) => settings(alloc, context),
+        Err(error) => printed(alloc, error),
     }
 }
 
-const MADE: [(Made, &str); 9] = [
+fn made_word<R: Wait>(rt: &R, alloc: Global, how: Made) -> Words {
+    built_word(alloc, &context_of(rt, alloc, how))
+}
+
+const MADE: &[(Made, &str)] = &[
     (Made::New, "$JS.API 5000000000"),
     (Made::Prefix("api"), "api 5000000000"),
     (Made::Domain("hub"), "$JS.hub.API 5000000000"),
@@ -110,16 +130,12 @@ fn set<R: Wait>(rt: &R, alloc: Global) -> Words {
 
 #[test]
 fn contexts_are_built(rt: HostRuntime) {
-    for (how, wanted) in MADE {
-        let found = made_word(&rt, rt.alloc(), how).expect(&rt, wanted);
-        assert_eq!(rt; found.as_str(), wanted);
+    for &(how, wanted) in MADE {
+        says(&rt, wanted, made_word(&rt, rt.alloc(), how), wanted);
     }
-    let found = set(&rt, rt.alloc()).expect(&rt, "set");
-    assert_eq!(rt; found.as_str(), "$JS.hub.API 7");
-    let memory = BuildError::OutOfMemory
-        .to_string(rt.alloc())
-        .expect(&rt, "printed");
-    assert_eq!(rt; memory.as_str(), "out of memory");
-    assert_eq!(rt; Yes::default(), Yes);
-    assert_eq!(rt; No::default(), No);
+    says(&rt, "set", set(&rt, rt.alloc()), "$JS.hub.API 7");
+    let memory = printed(rt.alloc(), &BuildError::OutOfMemory);
+    says(&rt, "memory", memory, "out of memory");
+    same(&rt, "yes", Yes::default(), Yes);
+    same(&rt, "no", No::default(), No);
 }

@@ -1,19 +1,17 @@
 //! Calls on consumers.
 
-use crate::server::{
-    Answered, Asked, Case, Reply, Words, asked_word, has_asked, outcome, polled, scope, serving,
-    word,
-};
-use js_base::{OutOfMemory, Text, Turn};
-use js_call::State;
+use crate::server::{Answered, Asked, Case, Reply, Words, got, outcome, polled, scope, word};
+use crate::tables::{numbered, says};
+use js_base::{OutOfMemory, Text};
+use js_call::ApiScope;
 use js_consumer_calls::{
-    Consumer, GetConsumerFromStream, create_consumer_on_stream, create_consumer_strict_on_stream,
+    Consumer, create_consumer_on_stream, create_consumer_strict_on_stream,
     delete_consumer_from_stream, get_consumer_from_stream, update_consumer_on_stream,
 };
 use js_fields::instant_of;
 use js_json::consumer::{DeliverPolicy, Info};
 use js_json::{pull, push};
-use js_link::ScriptedServer;
+use js_link::{Link, ScriptedServer};
 use std::alloc::Global;
 
 /// What a server knows of a pull consumer.
@@ -73,109 +71,139 @@ enum Call {
     /// The push consumer `c1`.
     GetPush(&'static str),
     Delete(&'static str),
+    /// The info of the pull consumer `c1`, which is got before.
+    Info,
 }
 
 fn durable(alloc: Global) -> Result<pull::Config, OutOfMemory> {
+    let name = Text::from_str(alloc, "c1")?;
+    let filter_subject = Text::from_str(alloc, "events.>")?;
     Ok(pull::Config {
-        durable_name: Some(Text::from_str(alloc, "c1")?),
-        filter_subject: Text::from_str(alloc, "events.>")?,
+        durable_name: Some(name),
+        filter_subject,
         ..pull::Config::new(alloc)
     })
 }
 
-fn create(alloc: Global, server: &mut ScriptedServer) -> Words {
-    let scope = scope(alloc, "$JS.API", None)?;
-    let call = create_consumer_on_stream(alloc, &scope, durable(alloc)?, "events");
-    polled(alloc, server, call)
+fn create<L: Link>(alloc: Global, link: &mut L, scope: &ApiScope) -> Words {
+    let config = durable(alloc)?;
+    let call = create_consumer_on_stream(alloc, scope, config, "events");
+    polled(alloc, link, call)
 }
 
-fn create_strict(alloc: Global, server: &mut ScriptedServer) -> Words {
-    let scope = scope(alloc, "$JS.API", None)?;
-    let call = create_consumer_strict_on_stream(alloc, &scope, pull::Config::new(alloc), "events");
-    polled(alloc, server, call)
+fn create_strict<L: Link>(alloc: Global, link: &mut L, scope: &ApiScope) -> Words {
+    let config = pull::Config::new(alloc);
+    let call = create_consumer_strict_on_stream(alloc, scope, config, "events");
+    polled(alloc, link, call)
 }
 
-fn update(alloc: Global, server: &mut ScriptedServer) -> Words {
-    let scope = scope(alloc, "$JS.API", None)?;
-    let call = update_consumer_on_stream(alloc, &scope, pull::Config::new(alloc), "events");
-    polled(alloc, server, call)
+fn update<L: Link>(alloc: Global, link: &mut L, scope: &ApiScope) -> Words {
+    let config = pull::Config::new(alloc);
+    let call = update_consumer_on_stream(alloc, scope, config, "events");
+    polled(alloc, link, call)
+}
+
+/// An instant before the year 0.
+fn early_policy() -> DeliverPolicy {
+    match instant_of("-000001-01-01T00:00:00Z") {
+        Some(start_time) => DeliverPolicy::ByStartTime { start_time },
+        None => DeliverPolicy::All,
+    }
 }
 
 /// The configuration of a consumer that begins at an instant before the year 0.
 fn early(alloc: Global) -> pull::Config {
-    let deliver_policy = match instant_of("-000001-01-01T00:00:00Z") {
-        Some(start_time) => DeliverPolicy::ByStartTime { start_time },
-        None => DeliverPolicy::All,
-    };
     pull::Config {
-        deliver_policy,
+        deliver_policy: early_policy(),
         ..pull::Config::new(alloc)
     }
 }
 
-fn create_early(alloc: Global, server: &mut ScriptedServer) -> Words {
-    let scope = scope(alloc, "$JS.API", None)?;
-    let call = create_consumer_on_stream(alloc, &scope, early(alloc), "events");
-    polled(alloc, server, call)
+fn create_early<L: Link>(alloc: Global, link: &mut L, scope: &ApiScope) -> Words {
+    let call = create_consumer_on_stream(alloc, scope, early(alloc), "events");
+    polled(alloc, link, call)
 }
 
-fn create_strict_early(alloc: Global, server: &mut ScriptedServer) -> Words {
-    let scope = scope(alloc, "$JS.API", None)?;
-    let call = create_consumer_strict_on_stream(alloc, &scope, early(alloc), "events");
-    polled(alloc, server, call)
+fn create_strict_early<L: Link>(alloc: Global, link: &mut L, scope: &ApiScope) -> Words {
+    let call = create_consumer_strict_on_stream(alloc, scope, early(alloc), "events");
+    polled(alloc, link, call)
 }
 
-fn update_early(alloc: Global, server: &mut ScriptedServer) -> Words {
-    let scope = scope(alloc, "$JS.API", None)?;
-    let call = update_consumer_on_stream(alloc, &scope, early(alloc), "events");
-    polled(alloc, server, call)
+fn update_early<L: Link>(alloc: Global, link: &mut L, scope: &ApiScope) -> Words {
+    let call = update_consumer_on_stream(alloc, scope, early(alloc), "events");
+    polled(alloc, link, call)
 }
 
-fn get_pull(alloc: Global, server: &mut ScriptedServer, stream: &str) -> Words {
-    let scope = scope(alloc, "$JS.API", None)?;
-    let call = get_consumer_from_stream::<pull::Config>(alloc, &scope, "c1", stream);
-    polled(alloc, server, call)
+fn get_pull<L: Link>(alloc: Global, link: &mut L, scope: &ApiScope, stream: &str) -> Words {
+    let call = get_consumer_from_stream::<pull::Config>(alloc, scope, "c1", stream);
+    polled(alloc, link, call)
 }
 
-fn get_push(alloc: Global, server: &mut ScriptedServer, stream: &str) -> Words {
-    let scope = scope(alloc, "$JS.API", None)?;
-    let call = get_consumer_from_stream::<push::Config>(alloc, &scope, "c1", stream);
-    polled(alloc, server, call)
+fn get_push<L: Link>(alloc: Global, link: &mut L, scope: &ApiScope, stream: &str) -> Words {
+    let call = get_consumer_from_stream::<push::Config>(alloc, scope, "c1", stream);
+    polled(alloc, link, call)
 }
 
-fn delete(alloc: Global, server: &mut ScriptedServer, stream: &str) -> Words {
-    let scope = scope(alloc, "$JS.API", None)?;
-    let call = delete_consumer_from_stream(alloc, &scope, "c1", stream);
-    polled(alloc, server, call)
+fn delete<L: Link>(alloc: Global, link: &mut L, scope: &ApiScope, stream: &str) -> Words {
+    let call = delete_consumer_from_stream(alloc, scope, "c1", stream);
+    polled(alloc, link, call)
+}
+
+/// What a consumer's request for its info comes to.
+fn info_of<L: Link>(
+    alloc: Global,
+    link: &mut L,
+    consumer: Option<&Consumer<pull::Config>>,
+) -> Words {
+    match consumer {
+        Some(consumer) => polled(alloc, link, consumer.get_info(alloc)),
+        None => word(alloc, "none"),
+    }
+}
+
+fn info<L: Link>(alloc: Global, link: &mut L, scope: &ApiScope) -> Words {
+    let call = get_consumer_from_stream::<pull::Config>(alloc, scope, "c1", "events")?;
+    let consumer = got(alloc, link, call);
+    info_of(alloc, link, consumer.as_ref())
+}
+
+fn told_in<L: Link>(alloc: Global, link: &mut L, scope: &ApiScope, call: Call) -> Words {
+    match call {
+        Call::Create => create(alloc, link, scope),
+        Call::CreateStrict => create_strict(alloc, link, scope),
+        Call::Update => update(alloc, link, scope),
+        Call::CreateEarly => create_early(alloc, link, scope),
+        Call::CreateStrictEarly => create_strict_early(alloc, link, scope),
+        Call::UpdateEarly => update_early(alloc, link, scope),
+        Call::GetPull(stream) => get_pull(alloc, link, scope, stream),
+        Call::GetPush(stream) => get_push(alloc, link, scope, stream),
+        Call::Delete(stream) => delete(alloc, link, scope, stream),
+        Call::Info => info(alloc, link, scope),
+    }
 }
 
 impl Case for Call {
     fn told(self, alloc: Global, server: &mut ScriptedServer) -> Words {
-        match self {
-            Call::Create => create(alloc, server),
-            Call::CreateStrict => create_strict(alloc, server),
-            Call::Update => update(alloc, server),
-            Call::CreateEarly => create_early(alloc, server),
-            Call::CreateStrictEarly => create_strict_early(alloc, server),
-            Call::UpdateEarly => update_early(alloc, server),
-            Call::GetPull(stream) => get_pull(alloc, server, stream),
-            Call::GetPush(stream) => get_push(alloc, server, stream),
-            Call::Delete(stream) => delete(alloc, server, stream),
-        }
+        let scope = scope(alloc, "$JS.API", None)?;
+        told_in(alloc, server, &scope, self)
     }
 }
 
 /// The consumer's name, and how many messages it has to deliver.
 impl<T> Answered for Consumer<T> {
     fn word(&self, alloc: Global) -> Words {
-        let name = self.info.name.as_str();
-        let pending = self.info.num_pending;
-        Ok(format!(in alloc; "{name} {pending}")?)
+        numbered(alloc, self.info.name.as_str(), self.info.num_pending)
+    }
+}
+
+impl Answered for Info {
+    fn word(&self, alloc: Global) -> Words {
+        word(alloc, self.name.as_str())
     }
 }
 
 /// Calls, what each asks and is replied, and what it comes to.
-const CALLS: [(Call, &[(Asked, Reply)], &str); 12] = [
+const CALLS: &[(Call, &[(Asked, Reply)], &str)] = &[
     (Call::GetPull("events"), &[(INFO, KNOWN)], "c1 7"),
     (Call::GetPush("events"), &[(INFO, PUSH)], "c1 7"),
     (
@@ -216,56 +244,18 @@ const CALLS: [(Call, &[(Asked, Reply)], &str); 12] = [
 
 #[test]
 fn consumers_are_made_got_and_deleted(rt: HostRuntime) {
-    for (call, script, wanted) in CALLS {
-        let found = outcome(rt.alloc(), call, script).expect(&rt, wanted);
-        assert_eq!(rt; found.as_str(), wanted);
+    for &(call, script, wanted) in CALLS {
+        says(&rt, wanted, outcome(rt.alloc(), call, script), wanted);
     }
-}
-
-impl Answered for Info {
-    fn word(&self, alloc: Global) -> Words {
-        word(alloc, self.name.as_str())
-    }
-}
-
-type Found = Option<Consumer<pull::Config>>;
-
-fn getting(alloc: Global) -> Result<GetConsumerFromStream<pull::Config>, OutOfMemory> {
-    let scope = scope(alloc, "$JS.API", None)?;
-    get_consumer_from_stream::<pull::Config>(alloc, &scope, "c1", "events")
-}
-
-/// The pull consumer `c1`, as the server knows it.
-fn got(alloc: Global, server: &mut ScriptedServer) -> Result<Found, OutOfMemory> {
-    match getting(alloc)?.poll(alloc, server, 0) {
-        Turn::Ready(Ok(consumer)) => Ok(Some(consumer)),
-        _ => Ok(None),
-    }
-}
-
-/// What a consumer's request for its info comes to.
-fn info(alloc: Global, server: &mut ScriptedServer, consumer: &Found) -> Words {
-    match consumer {
-        Some(consumer) => polled(alloc, server, consumer.get_info(alloc)),
-        None => word(alloc, "none"),
-    }
-}
-
-fn asked_info(alloc: Global, server: &mut ScriptedServer) -> Words {
-    let consumer = got(alloc, server)?;
-    info(alloc, server, &consumer)
 }
 
 /// What the info comes to of a consumer that was got, where the server then replies so.
 fn info_after(alloc: Global, reply: Reply) -> Words {
-    let script = [(INFO, KNOWN), (INFO, reply)];
-    let mut server = serving(alloc, &script)?;
-    let text = asked_info(alloc, &mut server)?;
-    asked_word(alloc, text, has_asked(server.link().sent(), &script))
+    outcome(alloc, Call::Info, &[(INFO, KNOWN), (INFO, reply)])
 }
 
 /// What is replied to a request for an info, and what it comes to.
-const INFOS: [(Reply, &str); 3] = [
+const INFOS: &[(Reply, &str)] = &[
     (KNOWN, "c1"),
     (
         OFFLINE,
@@ -279,8 +269,7 @@ const INFOS: [(Reply, &str); 3] = [
 
 #[test]
 fn a_consumer_asks_for_its_info(rt: HostRuntime) {
-    for (reply, wanted) in INFOS {
-        let found = info_after(rt.alloc(), reply).expect(&rt, wanted);
-        assert_eq!(rt; found.as_str(), wanted);
+    for &(reply, wanted) in INFOS {
+        says(&rt, wanted, info_after(rt.alloc(), reply), wanted);
     }
 }

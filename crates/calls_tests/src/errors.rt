@@ -1,5 +1,6 @@
 //! The server's error, where a kind of errors holds it.
 
+use crate::tables::same;
 use js_codes::{ErrorCode, errors};
 use js_consumer_calls::{
     ConsumerCreateStrictErrorKind, ConsumerErrorKind, ConsumerInfoErrorKind,
@@ -24,47 +25,48 @@ fn code_of(held: Option<&errors::Error>) -> u64 {
     }
 }
 
-fn of_streams(holds: bool) -> (u64, u64) {
-    if holds {
-        let get = GetStreamErrorKind::JetStream(unknown());
-        let create = CreateStreamErrorKind::JetStream(unknown());
-        return (code_of(get.api_error()), code_of(create.api_error()));
-    }
-    (
-        code_of(GetStreamErrorKind::Request.api_error()),
-        code_of(CreateStreamErrorKind::NotFound.api_error()),
-    )
+fn held_by_streams() -> (u64, u64) {
+    let get = GetStreamErrorKind::JetStream(unknown());
+    let create = CreateStreamErrorKind::JetStream(unknown());
+    (code_of(get.api_error()), code_of(create.api_error()))
 }
 
-fn of_consumers(holds: bool) -> (u64, u64) {
-    if holds {
-        let create = ConsumerErrorKind::JetStream(unknown());
-        let info = ConsumerInfoErrorKind::JetStream(unknown());
-        return (code_of(create.api_error()), code_of(info.api_error()));
-    }
-    (
-        code_of(ConsumerErrorKind::Other.api_error()),
-        code_of(ConsumerInfoErrorKind::NotFound.api_error()),
-    )
+fn held_by_consumers() -> (u64, u64) {
+    let create = ConsumerErrorKind::JetStream(unknown());
+    let info = ConsumerInfoErrorKind::JetStream(unknown());
+    (code_of(create.api_error()), code_of(info.api_error()))
 }
 
-fn of_changes(holds: bool) -> (u64, u64) {
-    if holds {
-        let strict = ConsumerCreateStrictErrorKind::JetStream(unknown());
-        let update = ConsumerUpdateErrorKind::JetStream(unknown());
-        return (code_of(strict.api_error()), code_of(update.api_error()));
-    }
-    (
-        code_of(ConsumerCreateStrictErrorKind::AlreadyExists.api_error()),
-        code_of(ConsumerUpdateErrorKind::DoesNotExist.api_error()),
-    )
+fn held_by_changes() -> (u64, u64) {
+    let strict = ConsumerCreateStrictErrorKind::JetStream(unknown());
+    let update = ConsumerUpdateErrorKind::JetStream(unknown());
+    (code_of(strict.api_error()), code_of(update.api_error()))
+}
+
+fn none_by_streams() -> (u64, u64) {
+    let get = GetStreamErrorKind::Request;
+    let create = CreateStreamErrorKind::NotFound;
+    (code_of(get.api_error()), code_of(create.api_error()))
+}
+
+fn none_by_consumers() -> (u64, u64) {
+    let create = ConsumerErrorKind::Other;
+    let info = ConsumerInfoErrorKind::NotFound;
+    (code_of(create.api_error()), code_of(info.api_error()))
+}
+
+fn none_by_changes() -> (u64, u64) {
+    let strict = ConsumerCreateStrictErrorKind::AlreadyExists;
+    let update = ConsumerUpdateErrorKind::DoesNotExist;
+    (code_of(strict.api_error()), code_of(update.api_error()))
 }
 
 #[test]
 fn kinds_hold_the_servers_error(rt: HostRuntime) {
-    for (holds, code) in [(true, 404), (false, 0)] {
-        assert_eq!(rt; of_streams(holds), (code, code));
-        assert_eq!(rt; of_consumers(holds), (code, code));
-        assert_eq!(rt; of_changes(holds), (code, code));
-    }
+    same(&rt, "streams", held_by_streams(), (404, 404));
+    same(&rt, "consumers", held_by_consumers(), (404, 404));
+    same(&rt, "changes", held_by_changes(), (404, 404));
+    same(&rt, "streams", none_by_streams(), (0, 0));
+    same(&rt, "consumers", none_by_consumers(), (0, 0));
+    same(&rt, "changes", none_by_changes(), (0, 0));
 }

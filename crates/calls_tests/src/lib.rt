@@ -8,11 +8,15 @@ mod building;
 #[cfg(test)]
 mod consumers;
 #[cfg(test)]
+mod context_calls;
+#[cfg(test)]
 mod contexts;
 #[cfg(test)]
 mod errors;
 #[cfg(test)]
 mod lists;
+#[cfg(test)]
+mod publishes;
 #[cfg(test)]
 mod publishing;
 #[cfg(test)]
@@ -23,6 +27,8 @@ mod server;
 mod stream_calls;
 #[cfg(test)]
 mod streams;
+#[cfg(test)]
+mod tables;
 #[cfg(test)]
 mod threads;
 mod words;

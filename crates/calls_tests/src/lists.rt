@@ -1,9 +1,11 @@
 //! Lists of streams, and the stream of a subject.
 
 use crate::server::{
-    Answered, Asked, Reply, Words, asked_word, has_asked, polled, scope, serving, word,
+    Answered, Asked, Case, Reply, Words, answer_word, outcome, polled, scope, word,
 };
+use crate::tables::{add_line, says};
 use js_base::{Next, OutOfMemory};
+use js_call::ApiScope;
 use js_link::{Link, ScriptedServer};
 use js_listing::{Listed, Listing, StreamsError, stream_by_subject, stream_names, streams};
 use std::alloc::Global;
@@ -33,10 +35,13 @@ const KNOWN: Reply = (
     r#"{"total":1,"streams":[{"config":{"name":"events"},"created":"2026-01-01T00:00:00Z","state":{"messages":7,"bytes":70,"first_seq":1,"last_seq":7}}]}"#,
 );
 
-fn item_word<T: Answered + Drop>(alloc: Global, item: Result<T, StreamsError>) -> Words {
-    match item {
-        Ok(item) => item.word(alloc),
-        Err(error) => Ok(error.to_string(alloc)?),
+/// What a poll of a list hands out.
+fn next_word<T: Answered>(alloc: Global, next: &Next<Result<T, StreamsError>>) -> Words {
+    match next {
+        Next::Item(item) => answer_word(alloc, item),
+        Next::Pending => word(alloc, "pending"),
+        Next::End => word(alloc, "end"),
+        Next::OutOfMemory => Err(OutOfMemory),
     }
 }
 
@@ -46,12 +51,7 @@ pub(crate) fn next<T: Listed + Answered, L: Link>(
     list: &mut Listing<T>,
     link: &mut L,
 ) -> Words {
-    match list.poll_next(alloc, link, 0) {
-        Next::Item(item) => item_word(alloc, item),
-        Next::Pending => word(alloc, "pending"),
-        Next::End => word(alloc, "end"),
-        Next::OutOfMemory => Err(OutOfMemory),
-    }
+    next_word(alloc, &list.poll_next(alloc, link, 0))
 }
 
 /// Adds what the next poll hands out to the words before it, as a line.
@@ -61,108 +61,118 @@ fn add_next<T: Listed + Answered, L: Link>(
     link: &mut L,
     words: &mut String,
 ) -> Result<(), OutOfMemory> {
-    words.push_str(next(alloc, list, link)?.as_str())?;
-    words.push_str("\n")?;
-    Ok(())
-}
-
-fn add_all<T: Listed + Answered, L: Link>(
-    alloc: Global,
-    list: &mut Listing<T>,
-    link: &mut L,
-    polls: u64,
-    words: &mut String,
-) -> Result<(), OutOfMemory> {
-    for _ in 0..polls {
-        add_next(alloc, list, link, words)?;
-    }
-    Ok(())
+    let word = next(alloc, list, link)?;
+    add_line(words, word.as_str())
 }
 
 /// What a list hands out in so many polls, each word with a line's end.
 fn handed_out<T: Listed + Answered, L: Link>(
     alloc: Global,
-    list: Result<Listing<T>, OutOfMemory>,
+    list: &mut Listing<T>,
     link: &mut L,
     polls: u64,
 ) -> Words {
     let mut words = String::new(alloc);
-    match list {
-        Ok(mut list) => add_all(alloc, &mut list, link, polls, &mut words)?,
-        Err(OutOfMemory) => return Err(OutOfMemory),
+    for _ in 0..polls {
+        add_next(alloc, list, link, &mut words)?;
     }
     Ok(words)
 }
 
-/// What is listed.
-#[derive(Clone, Copy)]
-enum List {
-    Names,
-    Infos,
-}
-
-fn polled_list(alloc: Global, server: &mut ScriptedServer, list: List, polls: u64) -> Words {
-    let scope = scope(alloc, "$JS.API", None)?;
+fn listed<T: Listed + Answered, L: Link>(
+    alloc: Global,
+    list: Result<Listing<T>, OutOfMemory>,
+    link: &mut L,
+    polls: u64,
+) -> Words {
     match list {
-        List::Names => handed_out(alloc, stream_names(alloc, &scope), server, polls),
-        List::Infos => handed_out(alloc, streams(alloc, &scope), server, polls),
+        Ok(mut list) => handed_out(alloc, &mut list, link, polls),
+        Err(OutOfMemory) => Err(OutOfMemory),
     }
 }
 
-/// A list, what it asks and is replied, how often it is polled, and what it hands out.
-const LISTS: [(List, &[(Asked, Reply)], u64, &str); 4] = [
+/// What is listed.
+#[derive(Clone, Copy, Drop)]
+enum List {
+    /// The names of all streams, in so many polls.
+    Names(u64),
+    /// What the server knows of all streams, in so many polls.
+    Infos(u64),
+    /// The first stream of a subject.
+    BySubject(&'static str),
+}
+
+fn names<L: Link>(alloc: Global, link: &mut L, scope: &ApiScope, polls: u64) -> Words {
+    listed(alloc, stream_names(alloc, scope), link, polls)
+}
+
+fn infos<L: Link>(alloc: Global, link: &mut L, scope: &ApiScope, polls: u64) -> Words {
+    listed(alloc, streams(alloc, scope), link, polls)
+}
+
+fn by_subject<L: Link>(alloc: Global, link: &mut L, scope: &ApiScope, subject: &str) -> Words {
+    polled(alloc, link, stream_by_subject(alloc, scope, subject))
+}
+
+fn told_in<L: Link>(alloc: Global, link: &mut L, scope: &ApiScope, list: List) -> Words {
+    match list {
+        List::Names(polls) => names(alloc, link, scope, polls),
+        List::Infos(polls) => infos(alloc, link, scope, polls),
+        List::BySubject(subject) => by_subject(alloc, link, scope, subject),
+    }
+}
+
+impl Case for List {
+    fn told(self, alloc: Global, server: &mut ScriptedServer) -> Words {
+        let scope = scope(alloc, "$JS.API", None)?;
+        told_in(alloc, server, &scope, self)
+    }
+}
+
+/// A list that is polled so often, what it asks and is replied, and what it hands out.
+const LISTS: &[(List, &[(Asked, Reply)], &str)] = &[
     // A page is handed out from its end.
     (
-        List::Names,
+        List::Names(5),
         &[
             (FIRST, (None, r#"{"total":3,"streams":["a","b"]}"#)),
             (THIRD, (None, r#"{"total":3,"streams":["c"]}"#)),
         ],
-        5,
         "b\na\nc\nend\nend\n",
     ),
     // A page that was not got is asked for again.
     (
-        List::Names,
+        List::Names(5),
         &[
             (FIRST, (None, r#"{"total":2,"streams":["a"]}"#)),
             (SECOND, FAULT),
             (SECOND, (None, r#"{"streams":["b"]}"#)),
             (SECOND, (None, r#"{"total":2,"streams":["b"]}"#)),
         ],
-        5,
         "a\nrequest failed: unknown (code 503, error code 10008)\nrequest failed: total: missing\nb\nend\n",
     ),
     // An empty page ends the list until the next poll.
     (
-        List::Names,
+        List::Names(4),
         &[
             (FIRST, (None, r#"{"total":1}"#)),
             (FIRST, (None, r#"{"total":1,"streams":[]}"#)),
             (FIRST, (None, r#"{"total":1,"streams":["a"]}"#)),
         ],
-        4,
         "end\nend\na\nend\n",
     ),
-    (List::Infos, &[(INFOS, KNOWN)], 2, "events 7\nend\n"),
+    (List::Infos(2), &[(INFOS, KNOWN)], "events 7\nend\n"),
 ];
-
-fn listed(alloc: Global, wanted: List, script: &[(Asked, Reply)], polls: u64) -> Words {
-    let mut server = serving(alloc, script)?;
-    let words = polled_list(alloc, &mut server, wanted, polls)?;
-    asked_word(alloc, words, has_asked(server.link().sent(), script))
-}
 
 #[test]
 fn lists_are_handed_out(rt: HostRuntime) {
-    for (wanted, script, polls, words) in LISTS {
-        let found = listed(rt.alloc(), wanted, script, polls).expect(&rt, words);
-        assert_eq!(rt; found.as_str(), words);
+    for &(list, script, wanted) in LISTS {
+        says(&rt, wanted, outcome(rt.alloc(), list, script), wanted);
     }
 }
 
 /// A subject, what is asked and replied, and what the search for its stream comes to.
-const SEARCHES: [(&str, &[(Asked, Reply)], &str); 4] = [
+const SEARCHES: &[(&str, &[(Asked, Reply)], &str)] = &[
     (
         "events.x",
         &[(TAKING, (None, r#"{"total":3,"streams":["a","b"]}"#))],
@@ -181,21 +191,10 @@ const SEARCHES: [(&str, &[(Asked, Reply)], &str); 4] = [
     ("a b", &[], "invalid subject"),
 ];
 
-fn searched(alloc: Global, subject: &str, script: &[(Asked, Reply)]) -> Words {
-    let mut server = serving(alloc, script)?;
-    let scope = scope(alloc, "$JS.API", None)?;
-    let text = polled(
-        alloc,
-        &mut server,
-        stream_by_subject(alloc, &scope, subject),
-    )?;
-    asked_word(alloc, text, has_asked(server.link().sent(), script))
-}
-
 #[test]
 fn the_stream_of_a_subject_is_the_first_item(rt: HostRuntime) {
-    for (subject, script, wanted) in SEARCHES {
-        let found = searched(rt.alloc(), subject, script).expect(&rt, wanted);
-        assert_eq!(rt; found.as_str(), wanted);
+    for &(subject, script, wanted) in SEARCHES {
+        let found = outcome(rt.alloc(), List::BySubject(subject), script);
+        says(&rt, wanted, found, wanted);
     }
 }

@@ -1,95 +1,17 @@
 //! Messages that are published, and acks that nobody awaits.
 
 use crate::acks::awaited;
-use crate::server::{Reply, Words, message, word};
-use bytes::Bytes;
-use js_base::{HeaderMap, Message, Moment, OutOfMemory, Turn};
-use js_context::{Context, ContextBuilder, Sending};
+use crate::publishes::{
+    SECOND, STORED, answer_of, number, opened, opened_limited, published, published_named,
+    published_often, published_sized, published_with_headers,
+};
+use crate::server::{Reply, Words, word};
+use crate::tables::{add_line, says};
+use js_base::{Moment, OutOfMemory};
+use js_context::Context;
 use js_link::{Link, MemoryLink, RequestId};
-use js_message::PublishMessage;
 use std::alloc::Global;
 use std::sync::Wait;
-
-pub(crate) const SECOND: u64 = 1_000_000_000;
-
-pub(crate) const STORED: Reply = (None, r#"{"stream":"TEST","seq":1}"#);
-
-/// A context with so many permits.
-pub(crate) fn opened<R: Wait>(
-    rt: &R,
-    alloc: Global,
-    capacity: u64,
-    backpressure: bool,
-) -> Result<Context, OutOfMemory> {
-    let builder = ContextBuilder::new(alloc)?
-        .max_ack_inflight(capacity)
-        .backpressure_on_inflight(backpressure);
-    match builder.build(rt, alloc) {
-        Ok(context) => Ok(context),
-        Err(_) => Err(OutOfMemory),
-    }
-}
-
-/// Polls a publish once, and detaches its ack where it was sent.
-fn polled<R: Wait, L: Link>(
-    rt: &R,
-    alloc: Global,
-    context: &mut Context,
-    link: &mut L,
-    sending: Sending,
-) -> Words {
-    match sending.poll(rt, alloc, context, link, 0) {
-        Turn::Ready(Ok(future)) => {
-            future.detach(context);
-            word(alloc, "sent")
-        }
-        Turn::Ready(Err(error)) => Ok(error.to_string(alloc)?),
-        Turn::Pending(_) => word(alloc, "waits"),
-        Turn::OutOfMemory(_) => Err(OutOfMemory),
-    }
-}
-
-/// Publishes to a subject.
-pub(crate) fn published<R: Wait, L: Link>(
-    rt: &R,
-    alloc: Global,
-    context: &mut Context,
-    link: &mut L,
-    subject: &str,
-) -> Words {
-    let sending = context.publish(alloc, subject, Bytes::from_static(b"a"))?;
-    polled(rt, alloc, context, link, sending)
-}
-
-/// Publishes so often, and tells whether all of them wait.
-fn published_often<R: Wait, L: Link>(
-    rt: &R,
-    alloc: Global,
-    context: &mut Context,
-    link: &mut L,
-    times: u64,
-) -> Words {
-    for _ in 0..times {
-        if published(rt, alloc, context, link, "a")?.as_str() != "waits" {
-            return word(alloc, "one does not wait");
-        }
-    }
-    word(alloc, "all wait")
-}
-
-fn headers(alloc: Global) -> Result<HeaderMap, OutOfMemory> {
-    let mut headers = HeaderMap::new(alloc);
-    headers.insert(alloc, "Key", "Value")?;
-    Ok(headers)
-}
-
-/// A message with one header of 24 bytes, and a payload so long.
-fn sized(alloc: Global, len: usize) -> Result<PublishMessage, OutOfMemory> {
-    let payload = Bytes::from_vec(vec![in alloc; b'x'; len]?)?;
-    PublishMessage::build()
-        .payload(payload)
-        .header(alloc, "Key", "Value")
-}
 
 /// A step of a context that publishes, and of its link.
 #[derive(Clone, Copy)]
@@ -115,57 +37,29 @@ enum Step {
     Sent,
 }
 
-/// The steps that publish.
-fn publishes<R: Wait, L: Link>(
-    rt: &R,
-    alloc: Global,
-    context: &mut Context,
-    link: &mut L,
-    step: Step,
-) -> Words {
-    let sending = match step {
-        Step::Publish(subject) => context.publish(alloc, subject, Bytes::from_static(b"a")),
-        Step::Sized(len) => context.send_publish(alloc, "events.new", sized(alloc, len)?),
-        Step::WithHeaders => {
-            context.publish_with_headers(alloc, "a", headers(alloc)?, Bytes::new())
-        }
-        _ => {
-            let named = PublishMessage::build().message_id(alloc, "b")?;
-            context.publish_message(named.outbound_message(alloc, "b")?)
-        }
-    };
-    polled(rt, alloc, context, link, sending?)
+/// Answers a request, or ends it without an answer.
+fn answer(alloc: Global, link: &mut MemoryLink, request: u64, reply: Option<Reply>) -> Words {
+    let answer = answer_of(alloc, reply)?;
+    link.respond(RequestId(request), answer)?;
+    word(alloc, "")
 }
 
-pub(crate) fn number(alloc: Global, number: u64) -> Words {
-    Ok(format!(in alloc; "{number}")?)
+fn set_up(alloc: Global, link: &mut MemoryLink, up: bool) -> Words {
+    link.set_up(up);
+    word(alloc, "")
 }
 
-pub(crate) fn answer_of(
-    alloc: Global,
-    reply: Option<Reply>,
-) -> Result<Option<Message>, OutOfMemory> {
-    match reply {
-        None => Ok(None),
-        Some(reply) => Ok(Some(message(alloc, reply)?)),
-    }
+fn limit(alloc: Global, link: &mut MemoryLink, most: u64) -> Words {
+    link.set_limits(most, None);
+    word(alloc, "")
 }
 
 /// The steps of the link.
 fn befalls(alloc: Global, link: &mut MemoryLink, step: Step) -> Words {
     match step {
-        Step::Answer(request, reply) => {
-            link.respond(RequestId(request), answer_of(alloc, reply)?)?;
-            word(alloc, "")
-        }
-        Step::Up(up) => {
-            link.set_up(up);
-            word(alloc, "")
-        }
-        Step::Limit(most) => {
-            link.set_limits(most, None);
-            word(alloc, "")
-        }
+        Step::Answer(request, reply) => answer(alloc, link, request, reply),
+        Step::Up(up) => set_up(alloc, link, up),
+        Step::Limit(most) => limit(alloc, link, most),
         _ => number(alloc, link.sent().len() as u64),
     }
 }
@@ -178,6 +72,16 @@ fn settled<R: Wait>(rt: &R, alloc: Global, context: &mut Context) -> Words {
     }
 }
 
+fn reaped<R: Wait, L: Link>(
+    rt: &R,
+    alloc: Global,
+    context: &mut Context,
+    link: &mut L,
+    now: Moment,
+) -> Words {
+    number(alloc, context.reap(rt, link, now))
+}
+
 fn done<R: Wait>(
     rt: &R,
     alloc: Global,
@@ -186,12 +90,13 @@ fn done<R: Wait>(
     step: Step,
 ) -> Words {
     match step {
-        Step::Publish(_) | Step::Sized(_) | Step::WithHeaders | Step::Named => {
-            publishes(rt, alloc, context, link, step)
-        }
+        Step::Publish(subject) => published(rt, alloc, context, link, subject),
+        Step::Sized(len) => published_sized(rt, alloc, context, link, len),
+        Step::WithHeaders => published_with_headers(rt, alloc, context, link),
+        Step::Named => published_named(rt, alloc, context, link),
         Step::Often(times) => published_often(rt, alloc, context, link, times),
         Step::Await(now) => awaited(rt, alloc, context, link, now),
-        Step::Reap(now) => number(alloc, context.reap(rt, link, now)),
+        Step::Reap(now) => reaped(rt, alloc, context, link, now),
         Step::Settled => settled(rt, alloc, context),
         _ => befalls(alloc, link, step),
     }
@@ -206,12 +111,11 @@ fn add<R: Wait>(
     step: Step,
     words: &mut String,
 ) -> Result<(), OutOfMemory> {
-    words.push_str(done(rt, alloc, context, link, step)?.as_str())?;
-    words.push_str("\n")?;
-    Ok(())
+    let word = done(rt, alloc, context, link, step)?;
+    add_line(words, word.as_str())
 }
 
-fn run_with<R: Wait>(
+fn run_over<R: Wait>(
     rt: &R,
     alloc: Global,
     context: &mut Context,
@@ -219,21 +123,25 @@ fn run_with<R: Wait>(
     steps: &[Step],
 ) -> Words {
     let mut words = String::new(alloc);
-    for step in steps {
-        add(rt, alloc, context, link, *step, &mut words)?;
+    for &step in steps {
+        add(rt, alloc, context, link, step, &mut words)?;
     }
     Ok(words)
 }
 
-/// What a context with so many permits comes to, step by step, each word with a line's end.
-fn run<R: Wait>(rt: &R, alloc: Global, capacity: u64, backpressure: bool, steps: &[Step]) -> Words {
+/// What a context comes to, step by step, each word with a line's end.
+fn run_in<R: Wait>(rt: &R, alloc: Global, context: &mut Context, steps: &[Step]) -> Words {
     let mut link = MemoryLink::new(alloc, "_INBOX.t")?;
+    run_over(rt, alloc, context, &mut link, steps)
+}
+
+fn run<R: Wait>(rt: &R, alloc: Global, capacity: u64, backpressure: bool, steps: &[Step]) -> Words {
     let mut context = opened(rt, alloc, capacity, backpressure)?;
-    run_with(rt, alloc, &mut context, &mut link, steps)
+    run_in(rt, alloc, &mut context, steps)
 }
 
 /// How many permits a context has, whether it waits for them, what befalls it, and what it comes to.
-const RUNS: [(u64, bool, &[Step], &str); 6] = [
+const RUNS: &[(u64, bool, &[Step], &str)] = &[
     // Headers count.
     (
         2,
@@ -310,16 +218,9 @@ const RUNS: [(u64, bool, &[Step], &str); 6] = [
     ),
 ];
 
-/// What a context with three permits comes to whose `reap` looks at so many acks.
 fn run_limited<R: Wait>(rt: &R, alloc: Global, limit: Option<u64>, steps: &[Step]) -> Words {
-    let mut link = MemoryLink::new(alloc, "_INBOX.t")?;
-    let builder = ContextBuilder::new(alloc)?
-        .max_ack_inflight(3)
-        .concurrency_limit(limit);
-    match builder.build(rt, alloc) {
-        Ok(mut context) => run_with(rt, alloc, &mut context, &mut link, steps),
-        Err(_) => Err(OutOfMemory),
-    }
+    let mut context = opened_limited(rt, alloc, limit)?;
+    run_in(rt, alloc, &mut context, steps)
 }
 
 /// The second of two acks is answered, and then the first.
@@ -336,7 +237,7 @@ const ANSWERED: &[Step] = &[
 ];
 
 /// How many acks a `reap` looks at, and what it comes to: with a limit the first acks alone, none and 0 set no limit.
-const LIMITED: [(Option<u64>, &str); 4] = [
+const LIMITED: &[(Option<u64>, &str)] = &[
     (Some(1), "sent\nsent\n\n0\n\n1\nnot settled\n1\nsettled\n"),
     (Some(2), "sent\nsent\n\n1\n\n1\nsettled\n0\nsettled\n"),
     (Some(0), "sent\nsent\n\n1\n\n1\nsettled\n0\nsettled\n"),
@@ -345,16 +246,16 @@ const LIMITED: [(Option<u64>, &str); 4] = [
 
 #[test]
 fn reaps_look_at_the_first(rt: HostRuntime) {
-    for (limit, wanted) in LIMITED {
-        let found = run_limited(&rt, rt.alloc(), limit, ANSWERED).expect(&rt, wanted);
-        assert_eq!(rt; found.as_str(), wanted);
+    for &(limit, wanted) in LIMITED {
+        let found = run_limited(&rt, rt.alloc(), limit, ANSWERED);
+        says(&rt, wanted, found, wanted);
     }
 }
 
 #[test]
 fn publishes_take_and_give_permits(rt: HostRuntime) {
-    for (capacity, backpressure, steps, wanted) in RUNS {
-        let found = run(&rt, rt.alloc(), capacity, backpressure, steps).expect(&rt, wanted);
-        assert_eq!(rt; found.as_str(), wanted);
+    for &(capacity, backpressure, steps, wanted) in RUNS {
+        let found = run(&rt, rt.alloc(), capacity, backpressure, steps);
+        says(&rt, wanted, found, wanted);
     }
 }

@@ -1,11 +1,14 @@
 //! Requests of the API.
 
-use crate::server::{Reply, Words, message, polled, scope, still, turn_word, waited, word};
-use js_base::{Message, Nanos, OutOfMemory};
-use js_call::{ApiRequest, ApiScope, RawCall, RawRequest, SendError, State};
+use crate::server::{Reply, Words, ended, message, polled, scope, still, waited, word};
+use crate::tables::{paired, same, says};
+use bytes::Bytes;
+use js_base::{Message, Nanos, OutOfMemory, Subject};
+use js_call::{ApiRequest, ApiScope, RawCall, RawRequest, SendError};
 use js_link::{Link, MemoryLink, RequestId, Sent};
 use serde_json::Value;
 use std::alloc::Global;
+use std::process::Abort;
 
 /// A request with no body of its own.
 fn empty_request(timeout: Option<Option<Nanos>>) -> RawRequest {
@@ -29,6 +32,12 @@ fn raw_request(
     scope(alloc, "$JS.API", None)?.raw_request(alloc, subject, empty_request(timeout))
 }
 
+/// A subject and a body.
+fn sent_word(alloc: Global, subject: &Subject, payload: &Bytes) -> Words {
+    let body = String::from_utf8_lossy(alloc, payload.as_slice())?;
+    paired(alloc, subject.as_str(), body.as_str())
+}
+
 /// The subject and the body of the last message, or of the last request.
 fn last(alloc: Global, link: &MemoryLink) -> Words {
     match link.sent().last() {
@@ -37,23 +46,21 @@ fn last(alloc: Global, link: &MemoryLink) -> Words {
                 subject,
                 payload,
                 ..
-            }
-            | Sent::Publish {
+            },
+        ) => sent_word(alloc, subject, payload),
+        Some(
+            Sent::Publish {
                 subject,
                 payload,
                 ..
             },
-        ) => {
-            let subject = subject.as_str();
-            let body = String::from_utf8_lossy(alloc, payload.as_slice())?;
-            Ok(format!(in alloc; "{subject} {body}")?)
-        }
+        ) => sent_word(alloc, subject, payload),
         _ => word(alloc, ""),
     }
 }
 
 /// A reply that comes when the request's time is over, and what the request comes to.
-const REPLIES: [(Reply, &str); 3] = [
+const REPLIES: &[(Reply, &str)] = &[
     ((None, "[1, true]"), "[1,true]"),
     (
         crate::server::NOBODY,
@@ -62,44 +69,40 @@ const REPLIES: [(Reply, &str); 3] = [
     (crate::server::GARBLED, "request failed: not JSON"),
 ];
 
-fn answered<L: Link>(alloc: Global, link: &mut L, call: Option<ApiRequest>) -> Words {
-    match call {
-        Some(call) => turn_word(alloc, call.poll(alloc, link, 20_000_000_000)),
-        None => word(alloc, "early"),
-    }
+/// What a request comes to that is sent and then replied to.
+fn replied_by(alloc: Global, link: &mut MemoryLink, call: ApiRequest, reply: Message) -> Words {
+    let call = still(alloc, link, call, 0);
+    let _ = link.respond(RequestId(1), Some(reply));
+    ended(alloc, link, call, 20_000_000_000)
 }
 
-/// What a request comes to that is sent and then replied to.
-fn replied_by(alloc: Global, link: &mut MemoryLink, reply: Message) -> Words {
-    let call = still(alloc, link, request(alloc, None)?, 0);
-    let _ = link.respond(RequestId(1), Some(reply));
-    answered(alloc, link, call)
+fn replied_over(alloc: Global, link: &mut MemoryLink, reply: Reply) -> Words {
+    let reply = message(alloc, reply)?;
+    replied_by(alloc, link, request(alloc, None)?, reply)
 }
 
 fn replied(alloc: Global, reply: Reply) -> Words {
     let mut link = MemoryLink::new(alloc, "_INBOX.t")?;
-    replied_by(alloc, &mut link, message(alloc, reply)?)
+    replied_over(alloc, &mut link, reply)
 }
 
 /// What a request comes to that is sent at 1000, has 200 nanoseconds, and has no reply.
+fn unanswered_over<L: Link>(alloc: Global, link: &mut L) -> Words {
+    let call = request(alloc, Some(200))?;
+    waited(alloc, link, call, [1_000, 1_199, 1_200])
+}
+
 fn unanswered(alloc: Global) -> Words {
     let mut link = MemoryLink::new(alloc, "_INBOX.t")?;
-    waited(
-        alloc,
-        &mut link,
-        request(alloc, Some(200)),
-        [1_000, 1_199, 1_200],
-    )
+    unanswered_over(alloc, &mut link)
 }
 
 #[test]
 fn requests_have_their_replies(rt: HostRuntime) {
-    for (reply, wanted) in REPLIES {
-        let found = replied(rt.alloc(), reply).expect(&rt, wanted);
-        assert_eq!(rt; found.as_str(), wanted);
+    for &(reply, wanted) in REPLIES {
+        says(&rt, wanted, replied(rt.alloc(), reply), wanted);
     }
-    let found = unanswered(rt.alloc()).expect(&rt, "unanswered");
-    assert_eq!(rt; found.as_str(), "timed out");
+    says(&rt, "unanswered", unanswered(rt.alloc()), "timed out");
 }
 
 /// A request at a link that sends three bytes at most.
@@ -119,24 +122,40 @@ fn call(alloc: Global, subject: &str) -> Result<RawCall, OutOfMemory> {
     scope(alloc, "$JS.API", Some(0))?.call(alloc, subject, &Value::Null)
 }
 
+fn requested<L: Link>(alloc: Global, link: &mut L) -> Words {
+    polled(alloc, link, request(alloc, None))
+}
+
+fn requested_raw<L: Link>(
+    alloc: Global,
+    link: &mut L,
+    subject: &str,
+    timeout: Option<Option<Nanos>>,
+) -> Words {
+    polled(alloc, link, raw_request(alloc, subject, timeout))
+}
+
+fn called<L: Link>(alloc: Global, link: &mut L, subject: &str) -> Words {
+    polled(alloc, link, call(alloc, subject))
+}
+
 fn called_again<L: Link>(alloc: Global, link: &mut L, subject: &str) -> Words {
-    match still(alloc, link, call(alloc, subject)?, 0) {
-        Some(call) => polled(alloc, link, Ok(call)),
-        None => word(alloc, "early"),
-    }
+    let first = call(alloc, subject)?;
+    let second = still(alloc, link, first, 0);
+    ended(alloc, link, second, 0)
 }
 
 fn told<L: Link>(alloc: Global, link: &mut L, asked: Asked) -> Words {
     match asked {
-        Asked::Value => polled(alloc, link, request(alloc, None)),
-        Asked::Raw(subject, timeout) => polled(alloc, link, raw_request(alloc, subject, timeout)),
-        Asked::Call(subject) => polled(alloc, link, call(alloc, subject)),
+        Asked::Value => requested(alloc, link),
+        Asked::Raw(subject, timeout) => requested_raw(alloc, link, subject, timeout),
+        Asked::Call(subject) => called(alloc, link, subject),
         Asked::CallAgain(subject) => called_again(alloc, link, subject),
     }
 }
 
 /// A request, what its first poll comes to, and what was sent last.
-const TESTED: [(Asked, &str, &str); 5] = [
+const TESTED: &[(Asked, &str, &str)] = &[
     (Asked::Raw("a b", None), "invalid subject", ""),
     (Asked::Value, "request failed", ""),
     (Asked::Raw("a", Some(Some(0))), "timed out", "a "),
@@ -144,19 +163,29 @@ const TESTED: [(Asked, &str, &str); 5] = [
     (Asked::CallAgain("a b"), "timed out", "$JS.API.a b null"),
 ];
 
-fn tested(alloc: Global, asked: Asked) -> Result<(String, String), OutOfMemory> {
-    let mut link = MemoryLink::new(alloc, "_INBOX.t")?;
+/// Asserts what the first poll of a request comes to, and what was sent last.
+fn says_over(
+    rt: &impl Abort,
+    alloc: Global,
+    link: &mut MemoryLink,
+    asked: Asked,
+    wanted: &str,
+    sent: &str,
+) {
     link.set_limits(3, None);
-    let word = told(alloc, &mut link, asked)?;
-    Ok((word, last(alloc, &link)?))
+    says(rt, wanted, told(alloc, link, asked), wanted);
+    says(rt, wanted, last(alloc, link), sent);
+}
+
+fn says_tested(rt: &impl Abort, alloc: Global, asked: Asked, wanted: &str, sent: &str) {
+    let mut link = MemoryLink::new(alloc, "_INBOX.t").expect(rt, "a link");
+    says_over(rt, alloc, &mut link, asked, wanted, sent);
 }
 
 #[test]
 fn requests_are_tested_and_sent(rt: HostRuntime) {
-    for (asked, wanted, sent) in TESTED {
-        let found = tested(rt.alloc(), asked).expect(&rt, wanted);
-        assert_eq!(rt; found.0.as_str(), wanted);
-        assert_eq!(rt; found.1.as_str(), sent);
+    for &(asked, wanted, sent) in TESTED {
+        says_tested(&rt, rt.alloc(), asked, wanted, sent);
     }
 }
 
@@ -180,20 +209,56 @@ fn is_published(link: &MemoryLink, to: &str, answers: &str) -> bool {
     }
 }
 
+/// Asserts that a request goes out while the link is up.
+fn says_sends(rt: &impl Abort, alloc: Global, link: &mut MemoryLink) {
+    same(rt, "up", sends(alloc, link), Ok(Ok(())));
+    let went = is_published(link, "$JS.API.a", "_INBOX.t.r0");
+    same(rt, "published", went, true);
+    link.set_up(false);
+    same(
+        rt,
+        "down",
+        sends(alloc, link),
+        Ok(Err(SendError::LinkFailed)),
+    );
+}
+
 /// The timeout with which a lost consumer is made anew.
 fn recovers(scope: &ApiScope, connection: Option<Nanos>) -> Result<Option<Nanos>, OutOfMemory> {
     Ok(scope.recovery_context(connection)?.timeout)
 }
 
+fn recovery(
+    alloc: Global,
+    context: Option<Nanos>,
+    connection: Option<Nanos>,
+) -> Result<Option<Nanos>, OutOfMemory> {
+    recovers(&scope(alloc, "$JS.API", context)?, connection)
+}
+
 /// The timeouts of the context and of the connection, and the one with which a lost consumer is made anew.
-const RECOVERIES: [(Option<Nanos>, Option<Nanos>, Option<Nanos>); 3] = [
+const RECOVERIES: &[(Option<Nanos>, Option<Nanos>, Option<Nanos>)] = &[
     (None, None, Some(10_000_000_000)),
     (None, Some(3_000_000_000), None),
     (Some(200_000_000), None, Some(200_000_000)),
 ];
 
+fn timeout_of(request: &RawRequest) -> Option<Option<Nanos>> {
+    request.timeout
+}
+
+/// The timeout that holds for a request of a context.
+fn applied(
+    alloc: Global,
+    context: Nanos,
+    own: Option<Option<Nanos>>,
+) -> Result<Option<Option<Nanos>>, OutOfMemory> {
+    let here = scope(alloc, "$JS.API", Some(context))?;
+    Ok(timeout_of(&here.apply_timeout(empty_request(own))))
+}
+
 /// The timeout of a context, that of a request, and the one that holds.
-const TIMEOUTS: [(Nanos, Option<Option<Nanos>>, Option<Option<Nanos>>); 2] = [
+const TIMEOUTS: &[(Nanos, Option<Option<Nanos>>, Option<Option<Nanos>>)] = &[
     (200_000_000, Some(None), Some(None)),
     (200_000_000, None, Some(Some(200_000_000))),
 ];
@@ -201,19 +266,13 @@ const TIMEOUTS: [(Nanos, Option<Option<Nanos>>, Option<Option<Nanos>>); 2] = [
 #[test]
 fn requests_are_sent_and_timeouts_chosen(rt: HostRuntime) {
     let mut link = MemoryLink::new(rt.alloc(), "_INBOX.t").expect(&rt, "a link");
-    assert_eq!(rt; sends(rt.alloc(), &mut link), Ok(Ok(())));
-    assert!(rt; is_published(&link, "$JS.API.a", "_INBOX.t.r0"));
-    link.set_up(false);
-    assert_eq!(rt;
-        sends(rt.alloc(), &mut link),
-        Ok(Err(SendError::LinkFailed))
-    );
-    for (context, connection, wanted) in RECOVERIES {
-        let here = scope(rt.alloc(), "$JS.API", context).expect(&rt, "a scope");
-        assert_eq!(rt; recovers(&here, connection), Ok(wanted));
+    says_sends(&rt, rt.alloc(), &mut link);
+    for &(context, connection, wanted) in RECOVERIES {
+        let found = recovery(rt.alloc(), context, connection);
+        same(&rt, "recovery", found, Ok(wanted));
     }
-    for (context, own, wanted) in TIMEOUTS {
-        let here = scope(rt.alloc(), "$JS.API", Some(context)).expect(&rt, "a scope");
-        assert_eq!(rt; here.apply_timeout(empty_request(own)).timeout, wanted);
+    for &(context, own, wanted) in TIMEOUTS {
+        let found = applied(rt.alloc(), context, own);
+        same(&rt, "timeout", found, Ok(wanted));
     }
 }

@@ -1,5 +1,6 @@
 //! A server that answers from a script, and what a call over it comes to.
 
+use crate::tables::{numbered, paired, printed};
 pub(crate) use crate::words::{Words, word};
 use bytes::Bytes;
 use js_base::{Error, Message, OutOfMemory, StatusCode, Subject, Text, Turn};
@@ -47,7 +48,7 @@ pub(crate) fn message(alloc: Global, reply: Reply) -> Result<Message, OutOfMemor
 }
 
 /// A server that answers nothing.
-pub(crate) fn silent(alloc: Global) -> Result<ScriptedServer, OutOfMemory> {
+fn silent(alloc: Global) -> Result<ScriptedServer, OutOfMemory> {
     Ok(ScriptedServer::new(alloc, MemoryLink::new(alloc, "_INBOX.t")?))
 }
 
@@ -60,16 +61,16 @@ fn scripted(
     server.script(alloc, asked.0, message(alloc, reply)?)
 }
 
-/// A server that answers these requests so.
-pub(crate) fn serving(
+/// From here on the server answers these requests so.
+fn serve(
     alloc: Global,
+    server: &mut ScriptedServer,
     script: &[(Asked, Reply)],
-) -> Result<ScriptedServer, OutOfMemory> {
-    let mut server = silent(alloc)?;
-    for (asked, reply) in script {
-        scripted(alloc, &mut server, *asked, *reply)?;
+) -> Result<(), OutOfMemory> {
+    for &(asked, reply) in script {
+        scripted(alloc, server, asked, reply)?;
     }
-    Ok(server)
+    Ok(())
 }
 
 /// Whether that was sent: a request on that subject with that body.
@@ -85,7 +86,7 @@ pub(crate) fn is_request(sent: &Sent, asked: Asked) -> bool {
 }
 
 /// Whether these requests were sent, and nothing else.
-pub(crate) fn has_asked(sent: &[Sent], script: &[(Asked, Reply)]) -> bool {
+fn has_asked(sent: &[Sent], script: &[(Asked, Reply)]) -> bool {
     sent.len() == script.len()
         && sent
             .iter()
@@ -100,7 +101,7 @@ pub(crate) trait Answered {
 
 impl Answered for Value {
     fn word(&self, alloc: Global) -> Words {
-        Ok(self.to_string(alloc)?)
+        printed(alloc, self)
     }
 }
 
@@ -125,40 +126,55 @@ impl Answered for DeleteStatus {
 /// The stream's name, and how many messages it has.
 impl Answered for stream::Info {
     fn word(&self, alloc: Global) -> Words {
-        let name = self.config.name.as_str();
-        let messages = self.state.messages;
-        Ok(format!(in alloc; "{name} {messages}")?)
+        numbered(alloc, self.config.name.as_str(), self.state.messages)
     }
 }
 
+/// The stream's name, and how many messages it has.
 impl Answered for StreamHandle<stream::Info> {
     fn word(&self, alloc: Global) -> Words {
-        let name = self.name.as_str();
-        let messages = self.info.state.messages;
-        Ok(format!(in alloc; "{name} {messages}")?)
+        numbered(alloc, self.name.as_str(), self.info.state.messages)
     }
 }
 
-pub(crate) fn answer_word<A: Answered + Drop, K: Display + Drop>(
+/// The stream's name, and the prefix of its calls.
+impl Answered for StreamHandle<()> {
+    fn word(&self, alloc: Global) -> Words {
+        paired(alloc, self.name.as_str(), self.scope.prefix.as_str())
+    }
+}
+
+/// An answer, or the error as it is printed.
+pub(crate) fn answer_word<A: Answered, K: Display>(
     alloc: Global,
-    answer: Result<A, Error<K>>,
+    answer: &Result<A, Error<K>>,
 ) -> Words {
     match answer {
         Ok(answer) => answer.word(alloc),
-        Err(error) => Ok(error.to_string(alloc)?),
+        Err(error) => printed(alloc, error),
     }
 }
 
 /// What a poll comes to: its answer, its error as it is printed, or `pending`.
-pub(crate) fn turn_word<S: Drop, A: Answered + Drop, K: Display + Drop>(
+fn turn_word<S, A: Answered, K: Display>(
     alloc: Global,
-    turn: Turn<S, Result<A, Error<K>>>,
+    turn: &Turn<S, Result<A, Error<K>>>,
 ) -> Words {
     match turn {
         Turn::Ready(answer) => answer_word(alloc, answer),
         Turn::Pending(_) => word(alloc, "pending"),
         Turn::OutOfMemory(_) => Err(OutOfMemory),
     }
+}
+
+/// What a poll of a call at that moment comes to.
+fn polled_at<S, A, K, L: Link>(alloc: Global, link: &mut L, call: S, now: u64) -> Words
+where
+    S: State<Answer = Result<A, Error<K>>>,
+    A: Answered + Drop,
+    K: Display + Drop,
+{
+    turn_word(alloc, &call.poll(alloc, link, now))
 }
 
 /// What the first poll of a call comes to.
@@ -173,8 +189,21 @@ where
     K: Display + Drop,
 {
     match call {
-        Ok(call) => turn_word(alloc, call.poll(alloc, link, 0)),
+        Ok(call) => polled_at(alloc, link, call, 0),
         Err(OutOfMemory) => Err(OutOfMemory),
+    }
+}
+
+/// What a call answers at its first poll.
+pub(crate) fn got<S, A, E, L: Link>(alloc: Global, link: &mut L, call: S) -> Option<A>
+where
+    S: State<Answer = Result<A, E>>,
+    A: Drop,
+    E: Drop,
+{
+    match call.poll(alloc, link, 0) {
+        Turn::Ready(Ok(answer)) => Some(answer),
+        _ => None,
     }
 }
 
@@ -191,11 +220,42 @@ pub(crate) fn still<S: State, L: Link>(
     }
 }
 
+/// The same of a call that was pending before.
+fn still_again<S: State, L: Link>(
+    alloc: Global,
+    link: &mut L,
+    call: Option<S>,
+    now: u64,
+) -> Option<S> {
+    match call {
+        Some(call) => still(alloc, link, call, now),
+        None => None,
+    }
+}
+
+/// What a call comes to that was pending before.
+pub(crate) fn ended<S, A, K, L: Link>(
+    alloc: Global,
+    link: &mut L,
+    call: Option<S>,
+    now: u64,
+) -> Words
+where
+    S: State<Answer = Result<A, Error<K>>>,
+    A: Answered + Drop,
+    K: Display + Drop,
+{
+    match call {
+        Some(call) => polled_at(alloc, link, call, now),
+        None => word(alloc, "early"),
+    }
+}
+
 /// What the last of some polls comes to, where those before it are pending.
 pub(crate) fn waited<S, A, K, L: Link>(
     alloc: Global,
     link: &mut L,
-    call: Result<S, OutOfMemory>,
+    call: S,
     moments: [u64; 3],
 ) -> Words
 where
@@ -203,13 +263,9 @@ where
     A: Answered + Drop,
     K: Display + Drop,
 {
-    let Some(call) = still(alloc, link, call?, moments[0]) else {
-        return word(alloc, "early");
-    };
-    match still(alloc, link, call, moments[1]) {
-        Some(call) => turn_word(alloc, call.poll(alloc, link, moments[2])),
-        None => word(alloc, "early"),
-    }
+    let first = still(alloc, link, call, moments[0]);
+    let second = still_again(alloc, link, first, moments[1]);
+    ended(alloc, link, second, moments[2])
 }
 
 /// A call that is made and polled over a server.
@@ -226,9 +282,20 @@ pub(crate) fn asked_word(alloc: Global, text: String, has_asked: bool) -> Words 
     }
 }
 
+/// The same of a call over that server.
+fn outcome_at<C: Case>(
+    alloc: Global,
+    server: &mut ScriptedServer,
+    call: C,
+    script: &[(Asked, Reply)],
+) -> Words {
+    serve(alloc, server, script)?;
+    let text = call.told(alloc, server)?;
+    asked_word(alloc, text, has_asked(server.link().sent(), script))
+}
+
 /// What a call comes to over a server that answers so. Where it asks anything else, that is told too.
 pub(crate) fn outcome<C: Case>(alloc: Global, call: C, script: &[(Asked, Reply)]) -> Words {
-    let mut server = serving(alloc, script)?;
-    let text = call.told(alloc, &mut server)?;
-    asked_word(alloc, text, has_asked(server.link().sent(), script))
+    let mut server = silent(alloc)?;
+    outcome_at(alloc, &mut server, call, script)
 }

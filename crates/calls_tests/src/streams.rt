@@ -1,14 +1,14 @@
 //! Calls on streams.
 
-use crate::server::{
-    Asked, Case, GARBLED, NOBODY, Reply, Words, outcome, polled, still, waited, word,
-};
+use crate::server::{Asked, Case, GARBLED, NOBODY, Reply, Words, ended, outcome, still, waited};
 use crate::stream_calls::{
-    PREFIX, copy, create, create_or_update, delete, get, get_no_info, get_or_create, update,
-    update_keeping,
+    PREFIX, copy, create, create_or_update, creating, delete, get, get_no_info, get_or_create,
+    getting, update, update_keeping,
 };
-use js_link::{MemoryLink, RequestId, ScriptedServer};
+use crate::tables::says;
+use js_link::{Link, MemoryLink, RequestId, ScriptedServer};
 use std::alloc::Global;
+use std::process::Abort;
 
 const CREATE: Asked = (
     "$JS.API.STREAM.CREATE.events",
@@ -88,21 +88,21 @@ enum Call {
 impl Case for Call {
     fn told(self, alloc: Global, server: &mut ScriptedServer) -> Words {
         match self {
-            Call::Create(prefix, name) => polled(alloc, server, create(alloc, prefix, name)),
-            Call::Update(name) => polled(alloc, server, update(alloc, name)),
-            Call::Get(name) => polled(alloc, server, get(alloc, name)),
+            Call::Create(prefix, name) => create(alloc, server, prefix, name),
+            Call::Update(name) => update(alloc, server, name),
+            Call::Get(name) => get(alloc, server, name),
             Call::GetNoInfo(name) => get_no_info(alloc, name),
-            Call::Delete(name) => polled(alloc, server, delete(alloc, name)),
-            Call::GetOrCreate(name) => polled(alloc, server, get_or_create(alloc, name)),
-            Call::CreateOrUpdate(name) => polled(alloc, server, create_or_update(alloc, name)),
+            Call::Delete(name) => delete(alloc, server, name),
+            Call::GetOrCreate(name) => get_or_create(alloc, server, name),
+            Call::CreateOrUpdate(name) => create_or_update(alloc, server, name),
             Call::UpdateKeeping(max_age) => update_keeping(alloc, server, max_age),
-            Call::Copy(mirror, source) => polled(alloc, server, copy(alloc, mirror, source)),
+            Call::Copy(mirror, source) => copy(alloc, server, mirror, source),
         }
     }
 }
 
 /// Calls of one request, what they ask, what is replied, and what they come to.
-const REPLIES: [(Call, Asked, Reply, &str); 21] = [
+const REPLIES: &[(Call, Asked, Reply, &str)] = &[
     (Call::Create(PREFIX, "events"), CREATE, KNOWN, "events 3"),
     (
         Call::Create(PREFIX, "events"),
@@ -187,7 +187,7 @@ const REPLIES: [(Call, Asked, Reply, &str); 21] = [
 ];
 
 /// Calls of up to two requests, what they ask and are replied, and what they come to.
-const CHAINS: [(Call, &[(Asked, Reply)], &str); 8] = [
+const CHAINS: &[(Call, &[(Asked, Reply)], &str)] = &[
     (
         Call::UpdateKeeping(0),
         &[(INFO, WITH_MORE), (UPDATE_NOTHING, KNOWN)],
@@ -222,25 +222,27 @@ const CHAINS: [(Call, &[(Asked, Reply)], &str); 8] = [
     ),
 ];
 
+fn replied(alloc: Global, call: Call, asked: Asked, reply: Reply) -> Words {
+    outcome(alloc, call, &[(asked, reply)])
+}
+
 #[test]
 fn calls_ask_and_answer(rt: HostRuntime) {
-    for (call, asked, reply, wanted) in REPLIES {
-        let subject = asked.0;
-        let found = outcome(rt.alloc(), call, &[(asked, reply)]).expect(&rt, wanted);
-        assert_eq!(rt; found.as_str(), wanted, "{subject}");
+    for &(call, asked, reply, wanted) in REPLIES {
+        let found = replied(rt.alloc(), call, asked, reply);
+        says(&rt, asked.0, found, wanted);
     }
 }
 
 #[test]
 fn calls_of_two_requests_ask_and_answer(rt: HostRuntime) {
-    for (call, script, wanted) in CHAINS {
-        let found = outcome(rt.alloc(), call, script).expect(&rt, wanted);
-        assert_eq!(rt; found.as_str(), wanted);
+    for &(call, script, wanted) in CHAINS {
+        says(&rt, wanted, outcome(rt.alloc(), call, script), wanted);
     }
 }
 
 /// What is no name of a stream, with how calls that make it refuse it, and how calls that find it do.
-const NO_NAMES: [(&str, &str, &str); 3] = [
+const NO_NAMES: &[(&str, &str, &str)] = &[
     (
         "",
         "stream name cannot be empty",
@@ -258,78 +260,76 @@ const NO_NAMES: [(&str, &str, &str); 3] = [
     ),
 ];
 
-fn making(name: &'static str) -> [Call; 4] {
-    [
-        Call::Create(PREFIX, name),
-        Call::Update(name),
-        Call::GetOrCreate(name),
-        Call::CreateOrUpdate(name),
-    ]
+/// Asserts what a call comes to that sends nothing.
+fn says_unsent(rt: &impl Abort, alloc: Global, call: Call, wanted: &str) {
+    says(rt, wanted, outcome(alloc, call, &[]), wanted);
 }
 
-fn finding(name: &'static str) -> [Call; 3] {
-    [Call::Get(name), Call::Delete(name), Call::GetNoInfo(name)]
+/// Asserts it of the calls that make a stream of that name.
+fn says_unmade(rt: &impl Abort, alloc: Global, name: &'static str, wanted: &str) {
+    says_unsent(rt, alloc, Call::Create(PREFIX, name), wanted);
+    says_unsent(rt, alloc, Call::Update(name), wanted);
+    says_unsent(rt, alloc, Call::GetOrCreate(name), wanted);
+    says_unsent(rt, alloc, Call::CreateOrUpdate(name), wanted);
+}
+
+/// Asserts it of the calls that find one.
+fn says_unfound(rt: &impl Abort, alloc: Global, name: &'static str, wanted: &str) {
+    says_unsent(rt, alloc, Call::Get(name), wanted);
+    says_unsent(rt, alloc, Call::Delete(name), wanted);
+    says_unsent(rt, alloc, Call::GetNoInfo(name), wanted);
 }
 
 /// Calls that send nothing, and what they come to.
-const UNSENT: [(Call, &str); 4] = [
+const UNSENT: &[(Call, &str)] = &[
     (
         Call::Create("a b", "events"),
         "stream name cannot contain `.`, `_`: invalid subject",
     ),
     (Call::Copy(true, false), "domain and external are both set"),
     (Call::Copy(false, true), "domain and external are both set"),
-    (Call::GetNoInfo("events"), "events"),
+    (Call::GetNoInfo("events"), "events $JS.API"),
 ];
 
 #[test]
 fn calls_are_refused_before_anything_is_sent(rt: HostRuntime) {
-    for (name, unmade, unfound) in NO_NAMES {
-        for call in making(name) {
-            let found = outcome(rt.alloc(), call, &[]).expect(&rt, name);
-            assert_eq!(rt; found.as_str(), unmade, "{name}");
-        }
-        for call in finding(name) {
-            let found = outcome(rt.alloc(), call, &[]).expect(&rt, name);
-            assert_eq!(rt; found.as_str(), unfound, "{name}");
-        }
+    for &(name, unmade, unfound) in NO_NAMES {
+        says_unmade(&rt, rt.alloc(), name, unmade);
+        says_unfound(&rt, rt.alloc(), name, unfound);
     }
-    for (call, wanted) in UNSENT {
-        let found = outcome(rt.alloc(), call, &[]).expect(&rt, wanted);
-        assert_eq!(rt; found.as_str(), wanted);
+    for &(call, wanted) in UNSENT {
+        says_unsent(&rt, rt.alloc(), call, wanted);
     }
 }
 
 /// What the making of a stream comes to that has no reply within 200 nanoseconds.
+fn late_over<L: Link>(alloc: Global, link: &mut L) -> Words {
+    let call = creating(alloc, PREFIX, "events")?;
+    waited(alloc, link, call, [0, 199, 200])
+}
+
 fn late(alloc: Global) -> Words {
     let mut link = MemoryLink::new(alloc, "_INBOX.t")?;
-    waited(
-        alloc,
-        &mut link,
-        create(alloc, PREFIX, "events"),
-        [0, 199, 200],
-    )
+    late_over(alloc, &mut link)
 }
 
 /// What getting a stream comes to whose replier is gone.
-fn left_by(alloc: Global, link: &mut MemoryLink) -> Words {
-    let call = still(alloc, link, get(alloc, "events")?, 0);
+fn left_over(alloc: Global, link: &mut MemoryLink) -> Words {
+    let first = getting(alloc, "events")?;
+    let call = still(alloc, link, first, 0);
     let _ = link.respond(RequestId(1), None);
-    match call {
-        Some(call) => polled(alloc, link, Ok(call)),
-        None => word(alloc, "early"),
-    }
+    ended(alloc, link, call, 0)
 }
 
 fn left(alloc: Global) -> Words {
     let mut link = MemoryLink::new(alloc, "_INBOX.t")?;
-    left_by(alloc, &mut link)
+    left_over(alloc, &mut link)
 }
 
 #[test]
 fn a_request_without_a_reply_is_refused(rt: HostRuntime) {
-    let found = late(rt.alloc()).expect(&rt, "late");
-    assert_eq!(rt; found.as_str(), "jetstream request timed out: timed out");
-    let found = left(rt.alloc()).expect(&rt, "left");
-    assert_eq!(rt; found.as_str(), "request error: request failed");
+    let timed_out = "jetstream request timed out: timed out";
+    says(&rt, "late", late(rt.alloc()), timed_out);
+    let failed = "request error: request failed";
+    says(&rt, "left", left(rt.alloc()), failed);
 }

@@ -1,7 +1,8 @@
 //! Contexts in two threads over one window.
 
-use crate::publishing::{STORED, opened, published};
+use crate::publishes::{STORED, opened, published};
 use crate::server::message;
+use crate::tables::same;
 use js_base::OutOfMemory;
 use js_context::Context;
 use js_link::{MemoryLink, RequestId};
@@ -22,34 +23,59 @@ fn wait_for(stage: &AtomicU64, number: u64) {
 }
 
 /// A message that is sent, whose ack is there and not reaped.
-fn sent_and_answered<R: Wait>(
+fn send_and_answer<R: Wait>(
     rt: &R,
     alloc: Global,
     holder: &mut Context,
-) -> Result<MemoryLink, OutOfMemory> {
-    let mut link = MemoryLink::new(alloc, "_INBOX.t")?;
-    let _ = published(rt, alloc, holder, &mut link, "a");
-    link.respond(RequestId(1), Some(message(alloc, STORED)?))?;
-    Ok(link)
+    link: &mut MemoryLink,
+) -> Result<(), OutOfMemory> {
+    let _ = published(rt, alloc, holder, link, "a");
+    let answer = message(alloc, STORED)?;
+    link.respond(RequestId(1), Some(answer))
 }
 
-/// Holds a permit until the other thread has begun to wait, and then gives it back. How many were given back.
-fn hold<R: Wait + AllocGlobal>(rt: &R, mut holder: Context, stage: &AtomicU64) -> u64 {
-    match sent_and_answered(rt, rt.alloc(), &mut holder) {
-        Ok(mut link) => {
-            stage.store(1, Ordering::SeqCst);
-            wait_for(stage, 2);
-            for _ in 0..1_000u64 {
-                thread::yield_now();
-            }
-            holder.reap(rt, &mut link, 0)
-        }
+/// Holds the permit until the other thread has begun to wait, and then gives it back. How many were given back.
+fn give_back<R: Wait>(
+    rt: &R,
+    holder: &mut Context,
+    link: &mut MemoryLink,
+    stage: &AtomicU64,
+) -> u64 {
+    stage.store(1, Ordering::SeqCst);
+    wait_for(stage, 2);
+    for _ in 0..1_000u64 {
+        thread::yield_now();
+    }
+    holder.reap(rt, link, 0)
+}
+
+fn hold_over<R: Wait>(
+    rt: &R,
+    alloc: Global,
+    holder: &mut Context,
+    link: &mut MemoryLink,
+    stage: &AtomicU64,
+) -> u64 {
+    match send_and_answer(rt, alloc, holder, link) {
+        Ok(()) => give_back(rt, holder, link, stage),
         Err(OutOfMemory) => 0,
     }
 }
 
+fn hold_by<R: Wait>(rt: &R, alloc: Global, holder: &mut Context, stage: &AtomicU64) -> u64 {
+    match MemoryLink::new(alloc, "_INBOX.t") {
+        Ok(mut link) => hold_over(rt, alloc, holder, &mut link, stage),
+        Err(OutOfMemory) => 0,
+    }
+}
+
+/// Takes a permit, and gives it back once the other thread waits. How many were given back.
+fn hold<R: Wait + AllocGlobal>(rt: &R, mut holder: Context, stage: &AtomicU64) -> u64 {
+    hold_by(rt, rt.alloc(), &mut holder, stage)
+}
+
 /// Waits for the other thread's permit. Whether it was out at first, and all are free at the end.
-fn wait<R: Wait>(rt: &R, mut waiter: Context, stage: &AtomicU64) -> bool {
+fn wait_by<R: Wait>(rt: &R, waiter: &mut Context, stage: &AtomicU64) -> bool {
     wait_for(stage, 1);
     if waiter.awaited() > 0 || waiter.detached_len() > 0 || waiter.acks_settled(rt) {
         return false;
@@ -57,6 +83,10 @@ fn wait<R: Wait>(rt: &R, mut waiter: Context, stage: &AtomicU64) -> bool {
     stage.store(2, Ordering::SeqCst);
     waiter.wait_for_acks(rt);
     waiter.acks_settled(rt)
+}
+
+fn wait<R: Wait>(rt: &R, mut waiter: Context, stage: &AtomicU64) -> bool {
+    wait_by(rt, &mut waiter, stage)
 }
 
 #[test]
@@ -71,7 +101,7 @@ fn a_context_waits_for_the_acks_of_another_thread(rt: HostRuntime) -> Result<(),
         move || hold(here, holder, shared),
         move || wait(here, waiter, shared),
     );
-    assert_eq!(rt; reaped, 1);
-    assert!(rt; settled);
+    same(&rt, "reaped", reaped, 1);
+    same(&rt, "settled", settled, true);
     Ok(())
 }

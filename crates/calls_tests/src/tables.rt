@@ -1,0 +1,47 @@
+//! What the rows of the tests' tables say.
+
+use crate::words::Words;
+use js_base::OutOfMemory;
+use std::alloc::Global;
+use std::fmt::{Debug, Display};
+use std::process::Abort;
+
+/// What is printed of a value.
+pub(crate) fn printed<T: Display>(alloc: Global, value: &T) -> Words {
+    Ok(value.to_string(alloc)?)
+}
+
+/// A text and a number.
+pub(crate) fn numbered(alloc: Global, text: &str, number: u64) -> Words {
+    Ok(format!(in alloc; "{text} {number}")?)
+}
+
+/// Two texts, one after the other.
+pub(crate) fn paired(alloc: Global, first: &str, second: &str) -> Words {
+    Ok(format!(in alloc; "{first} {second}")?)
+}
+
+/// Two words, with a comma between them.
+pub(crate) fn joined(alloc: Global, first: Words, second: Words) -> Words {
+    let first = first?;
+    let second = second?;
+    Ok(format!(in alloc; "{first}, {second}")?)
+}
+
+/// Adds a word with a line's end.
+pub(crate) fn add_line(words: &mut String, word: &str) -> Result<(), OutOfMemory> {
+    words.push_str(word)?;
+    words.push_str("\n")?;
+    Ok(())
+}
+
+/// Asserts that what is found in a row is what is wanted.
+pub(crate) fn same<T: Debug + PartialEq + Drop>(rt: &impl Abort, row: &str, found: T, wanted: T) {
+    assert_eq!(rt; found, wanted, "{row}");
+}
+
+/// Asserts that the word of a row is the one that is wanted.
+pub(crate) fn says(rt: &impl Abort, row: &str, found: Words, wanted: &str) {
+    let found = found.expect(rt, row);
+    assert_eq!(rt; found.as_str(), wanted, "{row}");
+}
