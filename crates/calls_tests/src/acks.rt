@@ -5,15 +5,14 @@ ghost use Rattle.js_context.specs.Acks.{IsAwaitedBy};
 ghost use Rattle.js_context.specs.Contexts.{ContextView};
 
 use crate::publishes::{SECOND, STORED, answer_of, number, opened, published};
-use crate::server::{Answered, NOBODY, Reply, Words, answer_word, message, word};
+use crate::server::{Answered, NOBODY, Reply, Words, found_word, message, word};
 use crate::tables::{joined, says};
 use bytes::Bytes;
-use js_base::{Error, Message, Moment, Nanos, OutOfMemory, Turn};
+use js_base::{Message, Moment, Nanos, OutOfMemory, Turn};
 use js_context::{Context, PublishAckFuture, Sending};
 use js_json::PublishAck;
 use js_link::{Link, MemoryLink, RequestId};
 use std::alloc::Global;
-use std::fmt::Display;
 use std::sync::Wait;
 
 /// Polls a publish once: its ack, where it was sent.
@@ -53,14 +52,6 @@ impl Answered for PublishAck {
     }
 }
 
-/// The word of an answer, which is let go.
-fn last_word<A: Answered + Drop, K: Display + Drop>(
-    alloc: Global,
-    answer: Result<A, Error<K>>,
-) -> Words {
-    answer_word(alloc, &answer)
-}
-
 /// Detaches an ack that has no answer.
 fn detached(alloc: Global, context: &mut Context, future: PublishAckFuture) -> Words
     requires { IsAwaitedBy future context.old }
@@ -81,7 +72,7 @@ fn end_of<R: Wait, L: Link>(
     requires { IsAwaitedBy future context.old }
 {
     match future.poll(rt, alloc, context, link, now) {
-        Turn::Ready(answer) => last_word(alloc, answer),
+        Turn::Ready(answer) => found_word(alloc, answer),
         Turn::Pending(future) => detached(alloc, context, future),
         Turn::OutOfMemory(future) => detached(alloc, context, future),
     }

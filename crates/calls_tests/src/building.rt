@@ -1,6 +1,6 @@
 //! How contexts are built.
 
-use crate::server::Words;
+use crate::server::{Answered, Words, found_word};
 use crate::tables::{numbered, printed, same, says};
 use js_base::OutOfMemory;
 use js_context::{BuildError, Context, ContextBuilder, No, ToAssign, Yes};
@@ -93,20 +93,15 @@ fn context_of<R: Wait>(rt: &R, alloc: Global, how: Made) -> Result<Context, Buil
 }
 
 /// The prefix and the timeout.
-fn settings(alloc: Global, context: &Context) -> Words {
-    numbered(alloc, context.scope().prefix.as_str(), context.timeout())
-}
-
-/// The prefix and the timeout of a context, or why it is not built.
-fn built_word(alloc: Global, made: &Result<Context, BuildError>) -> Words {
-    match made {
-        Ok(context) => settings(alloc, context),
-        Err(error) => printed(alloc, error),
+impl Answered for Context {
+    fn word(&self, alloc: Global) -> Words {
+        numbered(alloc, self.scope().prefix.as_str(), self.timeout())
     }
 }
 
+/// The prefix and the timeout of a context, or why it is not built.
 fn made_word<R: Wait>(rt: &R, alloc: Global, how: Made) -> Words {
-    built_word(alloc, &context_of(rt, alloc, how))
+    found_word(alloc, context_of(rt, alloc, how))
 }
 
 const MADE: &[(Made, &str)] = &[
@@ -125,7 +120,7 @@ const MADE: &[(Made, &str)] = &[
 fn set<R: Wait>(rt: &R, alloc: Global) -> Words {
     let mut context = Context::with_domain(rt, alloc, "hub")?;
     context.set_timeout(7);
-    settings(alloc, &context)
+    context.word(alloc)
 }
 
 #[test]

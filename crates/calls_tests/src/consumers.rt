@@ -1,11 +1,14 @@
 //! Calls on consumers.
 
-use crate::server::{Answered, Asked, Case, Reply, Words, got, outcome, polled, scope, word};
+use crate::server::{
+    Answered, Asked, Case, Followed, Reply, Words, call_again, outcome, polled, scope, word,
+};
 use crate::tables::{numbered, says};
 use js_base::{OutOfMemory, Text};
 use js_call::ApiScope;
 use js_consumer_calls::{
-    Consumer, create_consumer_on_stream, create_consumer_strict_on_stream,
+    Consumer, CreateConsumerOnStream, CreateConsumerStrictOnStream, GetConsumerFromStream,
+    UpdateConsumerOnStream, create_consumer_on_stream, create_consumer_strict_on_stream,
     delete_consumer_from_stream, get_consumer_from_stream, update_consumer_on_stream,
 };
 use js_fields::instant_of;
@@ -85,24 +88,6 @@ fn durable(alloc: Global) -> Result<pull::Config, OutOfMemory> {
     })
 }
 
-fn create<L: Link>(alloc: Global, link: &mut L, scope: &ApiScope) -> Words {
-    let config = durable(alloc)?;
-    let call = create_consumer_on_stream(alloc, scope, config, "events");
-    polled(alloc, link, call)
-}
-
-fn create_strict<L: Link>(alloc: Global, link: &mut L, scope: &ApiScope) -> Words {
-    let config = pull::Config::new(alloc);
-    let call = create_consumer_strict_on_stream(alloc, scope, config, "events");
-    polled(alloc, link, call)
-}
-
-fn update<L: Link>(alloc: Global, link: &mut L, scope: &ApiScope) -> Words {
-    let config = pull::Config::new(alloc);
-    let call = update_consumer_on_stream(alloc, scope, config, "events");
-    polled(alloc, link, call)
-}
-
 /// An instant before the year 0.
 fn early_policy() -> DeliverPolicy {
     match instant_of("-000001-01-01T00:00:00Z") {
@@ -119,24 +104,81 @@ fn early(alloc: Global) -> pull::Config {
     }
 }
 
-fn create_early<L: Link>(alloc: Global, link: &mut L, scope: &ApiScope) -> Words {
-    let call = create_consumer_on_stream(alloc, scope, early(alloc), "events");
+/// The configuration of a consumer, of which nothing is set, or that begins early.
+fn plain(alloc: Global, is_early: bool) -> pull::Config {
+    if is_early {
+        early(alloc)
+    } else {
+        pull::Config::new(alloc)
+    }
+}
+
+/// The durable one, or one that begins early.
+fn durable_or(alloc: Global, is_early: bool) -> Result<pull::Config, OutOfMemory> {
+    if is_early {
+        Ok(early(alloc))
+    } else {
+        durable(alloc)
+    }
+}
+
+/// What the first poll of the call comes to.
+pub(crate) fn created<L: Link>(
+    alloc: Global,
+    link: &mut L,
+    call: Result<CreateConsumerOnStream<pull::Config>, OutOfMemory>,
+) -> Words {
     polled(alloc, link, call)
 }
 
-fn create_strict_early<L: Link>(alloc: Global, link: &mut L, scope: &ApiScope) -> Words {
-    let call = create_consumer_strict_on_stream(alloc, scope, early(alloc), "events");
+/// What the first poll of the call comes to.
+pub(crate) fn created_strictly<L: Link>(
+    alloc: Global,
+    link: &mut L,
+    call: Result<CreateConsumerStrictOnStream<pull::Config>, OutOfMemory>,
+) -> Words {
     polled(alloc, link, call)
 }
 
-fn update_early<L: Link>(alloc: Global, link: &mut L, scope: &ApiScope) -> Words {
-    let call = update_consumer_on_stream(alloc, scope, early(alloc), "events");
+/// What the first poll of the call comes to.
+pub(crate) fn updated<L: Link>(
+    alloc: Global,
+    link: &mut L,
+    call: Result<UpdateConsumerOnStream<pull::Config>, OutOfMemory>,
+) -> Words {
     polled(alloc, link, call)
+}
+
+/// What the first poll of the call comes to.
+pub(crate) fn got_pull<L: Link>(
+    alloc: Global,
+    link: &mut L,
+    call: Result<GetConsumerFromStream<pull::Config>, OutOfMemory>,
+) -> Words {
+    polled(alloc, link, call)
+}
+
+fn create<L: Link>(alloc: Global, link: &mut L, scope: &ApiScope, is_early: bool) -> Words {
+    let config = durable_or(alloc, is_early)?;
+    let call = create_consumer_on_stream(alloc, scope, config, "events");
+    created(alloc, link, call)
+}
+
+fn create_strict<L: Link>(alloc: Global, link: &mut L, scope: &ApiScope, is_early: bool) -> Words {
+    let config = plain(alloc, is_early);
+    let call = create_consumer_strict_on_stream(alloc, scope, config, "events");
+    created_strictly(alloc, link, call)
+}
+
+fn update<L: Link>(alloc: Global, link: &mut L, scope: &ApiScope, is_early: bool) -> Words {
+    let config = plain(alloc, is_early);
+    let call = update_consumer_on_stream(alloc, scope, config, "events");
+    updated(alloc, link, call)
 }
 
 fn get_pull<L: Link>(alloc: Global, link: &mut L, scope: &ApiScope, stream: &str) -> Words {
     let call = get_consumer_from_stream::<pull::Config>(alloc, scope, "c1", stream);
-    polled(alloc, link, call)
+    got_pull(alloc, link, call)
 }
 
 fn get_push<L: Link>(alloc: Global, link: &mut L, scope: &ApiScope, stream: &str) -> Words {
@@ -149,32 +191,26 @@ fn delete<L: Link>(alloc: Global, link: &mut L, scope: &ApiScope, stream: &str) 
     polled(alloc, link, call)
 }
 
-/// What a consumer's request for its info comes to.
-fn info_of<L: Link>(
-    alloc: Global,
-    link: &mut L,
-    consumer: Option<&Consumer<pull::Config>>,
-) -> Words {
-    match consumer {
-        Some(consumer) => polled(alloc, link, consumer.get_info(alloc)),
-        None => word(alloc, "none"),
+/// Its request for its info.
+impl Followed for Consumer<pull::Config> {
+    fn follow<L: Link>(&self, alloc: Global, link: &mut L, _number: u64) -> Words {
+        polled(alloc, link, self.get_info(alloc))
     }
 }
 
 fn info<L: Link>(alloc: Global, link: &mut L, scope: &ApiScope) -> Words {
     let call = get_consumer_from_stream::<pull::Config>(alloc, scope, "c1", "events")?;
-    let consumer = got(alloc, link, call);
-    info_of(alloc, link, consumer.as_ref())
+    call_again(alloc, link, call, 0)
 }
 
 fn told_in<L: Link>(alloc: Global, link: &mut L, scope: &ApiScope, call: Call) -> Words {
     match call {
-        Call::Create => create(alloc, link, scope),
-        Call::CreateStrict => create_strict(alloc, link, scope),
-        Call::Update => update(alloc, link, scope),
-        Call::CreateEarly => create_early(alloc, link, scope),
-        Call::CreateStrictEarly => create_strict_early(alloc, link, scope),
-        Call::UpdateEarly => update_early(alloc, link, scope),
+        Call::Create => create(alloc, link, scope, false),
+        Call::CreateStrict => create_strict(alloc, link, scope, false),
+        Call::Update => update(alloc, link, scope, false),
+        Call::CreateEarly => create(alloc, link, scope, true),
+        Call::CreateStrictEarly => create_strict(alloc, link, scope, true),
+        Call::UpdateEarly => update(alloc, link, scope, true),
         Call::GetPull(stream) => get_pull(alloc, link, scope, stream),
         Call::GetPush(stream) => get_push(alloc, link, scope, stream),
         Call::Delete(stream) => delete(alloc, link, scope, stream),

@@ -1,8 +1,9 @@
 //! The calls of a context.
 
+use crate::consumers::{created, created_strictly, got_pull, updated};
 use crate::lists::next;
 use crate::server::{Answered, Words, polled, word};
-use crate::stream_calls::config;
+use crate::stream_calls::{self, config};
 use js_base::{OutOfMemory, Text, TryClone};
 use js_call::{ApiScope, RawCall, RawRequest};
 use js_context::{Context, Requester};
@@ -95,8 +96,7 @@ fn keeping(
     context: &Context,
     handle: &StreamHandle<stream::Info>,
 ) -> Result<UpdateStream, OutOfMemory> {
-    let config = config(alloc, "events")?;
-    context.update_stream_keeping(alloc, handle, &config)
+    context.update_stream_keeping(alloc, handle, &config(alloc, "events")?)
 }
 
 fn update_by<L: Link>(
@@ -105,7 +105,7 @@ fn update_by<L: Link>(
     link: &mut L,
     handle: &StreamHandle<stream::Info>,
 ) -> Words {
-    polled(alloc, link, keeping(alloc, context, handle))
+    stream_calls::updated(alloc, link, keeping(alloc, context, handle))
 }
 
 fn update_keeping<L: Link>(alloc: Global, context: &Context, link: &mut L) -> Words {
@@ -125,7 +125,7 @@ fn delete_stream<L: Link>(alloc: Global, context: &Context, link: &mut L) -> Wor
 
 fn create_stream<L: Link>(alloc: Global, context: &Context, link: &mut L) -> Words {
     let config = config(alloc, "events")?;
-    polled(alloc, link, context.create_stream(alloc, config))
+    stream_calls::created(alloc, link, context.create_stream(alloc, config))
 }
 
 fn get_or_create_stream<L: Link>(alloc: Global, context: &Context, link: &mut L) -> Words {
@@ -138,9 +138,12 @@ fn create_or_update_stream<L: Link>(alloc: Global, context: &Context, link: &mut
     polled(alloc, link, context.create_or_update_stream(alloc, config))
 }
 
+fn updating(alloc: Global, context: &Context) -> Result<UpdateStream, OutOfMemory> {
+    context.update_stream(alloc, &config(alloc, "events")?)
+}
+
 fn update_stream<L: Link>(alloc: Global, context: &Context, link: &mut L) -> Words {
-    let config = config(alloc, "events")?;
-    polled(alloc, link, context.update_stream(alloc, &config))
+    stream_calls::updated(alloc, link, updating(alloc, context))
 }
 
 /// The calls on streams.
@@ -159,24 +162,24 @@ fn stream_call<L: Link>(alloc: Global, context: &Context, link: &mut L, call: Ca
 fn create_consumer<L: Link>(alloc: Global, context: &Context, link: &mut L) -> Words {
     let config = pull::Config::new(alloc);
     let call = context.create_consumer_on_stream(alloc, config, "events");
-    polled(alloc, link, call)
+    created(alloc, link, call)
 }
 
 fn create_consumer_strict<L: Link>(alloc: Global, context: &Context, link: &mut L) -> Words {
     let config = pull::Config::new(alloc);
     let call = context.create_consumer_strict_on_stream(alloc, config, "events");
-    polled(alloc, link, call)
+    created_strictly(alloc, link, call)
 }
 
 fn update_consumer<L: Link>(alloc: Global, context: &Context, link: &mut L) -> Words {
     let config = pull::Config::new(alloc);
     let call = context.update_consumer_on_stream(alloc, config, "events");
-    polled(alloc, link, call)
+    updated(alloc, link, call)
 }
 
 fn get_consumer<L: Link>(alloc: Global, context: &Context, link: &mut L) -> Words {
     let call = context.get_consumer_from_stream::<pull::Config>(alloc, "c1", "events");
-    polled(alloc, link, call)
+    got_pull(alloc, link, call)
 }
 
 fn delete_consumer<L: Link>(alloc: Global, context: &Context, link: &mut L) -> Words {

@@ -1,7 +1,7 @@
 //! Where the calls of a context go.
 
 use crate::context_calls::{Call, empty, told};
-use crate::server::{Asked, Words, answer_word, asked_word, is_request};
+use crate::server::{Asked, Words, asked_word, found_word, is_request};
 use crate::tables::{same, says};
 use bytes::Bytes;
 use js_base::{OutOfMemory, Subject};
@@ -212,7 +212,7 @@ fn provides<R: Wait>(rt: &R, alloc: Global) -> Result<bool, OutOfMemory> {
 
 /// The name and the prefix of the handle that is had without asking.
 fn handle_by(alloc: Global, context: &Context) -> Words {
-    answer_word(alloc, &context.get_stream_no_info(alloc, "events"))
+    found_word(alloc, context.get_stream_no_info(alloc, "events"))
 }
 
 fn handle<R: Wait>(rt: &R, alloc: Global) -> Words {

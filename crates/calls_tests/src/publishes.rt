@@ -8,6 +8,7 @@ use js_context::{Context, ContextBuilder, Sending};
 use js_link::Link;
 use js_message::{OutboundMessage, PublishMessage};
 use std::alloc::Global;
+use std::fmt::Display;
 use std::sync::Wait;
 
 pub(crate) const SECOND: u64 = 1_000_000_000;
@@ -47,6 +48,16 @@ pub(crate) fn opened_limited<R: Wait>(
     unless_refused(builder.build(rt, alloc))
 }
 
+/// Why it was not sent.
+fn refused<E: Display + Drop>(alloc: Global, error: E) -> Words {
+    printed(alloc, &error)
+}
+
+/// That, where what was to be sent is let go.
+fn left<T: Drop>(_sending: T, told: Words) -> Words {
+    told
+}
+
 /// Polls a publish once, and detaches its ack where it was sent.
 fn polled<R: Wait, L: Link>(
     rt: &R,
@@ -60,9 +71,9 @@ fn polled<R: Wait, L: Link>(
             future.detach(context);
             word(alloc, "sent")
         }
-        Turn::Ready(Err(error)) => printed(alloc, &error),
-        Turn::Pending(_) => word(alloc, "waits"),
-        Turn::OutOfMemory(_) => Err(OutOfMemory),
+        Turn::Ready(Err(error)) => refused(alloc, error),
+        Turn::Pending(sending) => left(sending, word(alloc, "waits")),
+        Turn::OutOfMemory(sending) => left(sending, Err(OutOfMemory)),
     }
 }
 

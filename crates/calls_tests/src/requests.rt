@@ -20,16 +20,8 @@ fn empty_request(timeout: Option<Option<Nanos>>) -> RawRequest {
     }
 }
 
-fn request(alloc: Global, timeout: Option<Nanos>) -> Result<ApiRequest, OutOfMemory> {
-    scope(alloc, "$JS.API", timeout)?.request(alloc, "INFO", &Value::Null)
-}
-
-fn raw_request(
-    alloc: Global,
-    subject: &str,
-    timeout: Option<Option<Nanos>>,
-) -> Result<RawCall, OutOfMemory> {
-    scope(alloc, "$JS.API", None)?.raw_request(alloc, subject, empty_request(timeout))
+fn request(alloc: Global, scope: &ApiScope) -> Result<ApiRequest, OutOfMemory> {
+    scope.request(alloc, "INFO", &Value::Null)
 }
 
 /// A subject and a body.
@@ -76,25 +68,35 @@ fn replied_by(alloc: Global, link: &mut MemoryLink, call: ApiRequest, reply: Mes
     ended(alloc, link, call, 20_000_000_000)
 }
 
-fn replied_over(alloc: Global, link: &mut MemoryLink, reply: Reply) -> Words {
+fn replied_over(alloc: Global, link: &mut MemoryLink, scope: &ApiScope, reply: Reply) -> Words {
     let reply = message(alloc, reply)?;
-    replied_by(alloc, link, request(alloc, None)?, reply)
+    replied_by(alloc, link, request(alloc, scope)?, reply)
+}
+
+fn replied_in(alloc: Global, scope: &ApiScope, reply: Reply) -> Words {
+    let mut link = MemoryLink::new(alloc, "_INBOX.t")?;
+    replied_over(alloc, &mut link, scope, reply)
 }
 
 fn replied(alloc: Global, reply: Reply) -> Words {
-    let mut link = MemoryLink::new(alloc, "_INBOX.t")?;
-    replied_over(alloc, &mut link, reply)
+    let scope = scope(alloc, "$JS.API", None)?;
+    replied_in(alloc, &scope, reply)
 }
 
 /// What a request comes to that is sent at 1000, has 200 nanoseconds, and has no reply.
-fn unanswered_over<L: Link>(alloc: Global, link: &mut L) -> Words {
-    let call = request(alloc, Some(200))?;
+fn unanswered_over<L: Link>(alloc: Global, link: &mut L, scope: &ApiScope) -> Words {
+    let call = request(alloc, scope)?;
     waited(alloc, link, call, [1_000, 1_199, 1_200])
 }
 
-fn unanswered(alloc: Global) -> Words {
+fn unanswered_in(alloc: Global, scope: &ApiScope) -> Words {
     let mut link = MemoryLink::new(alloc, "_INBOX.t")?;
-    unanswered_over(alloc, &mut link)
+    unanswered_over(alloc, &mut link, scope)
+}
+
+fn unanswered(alloc: Global) -> Words {
+    let scope = scope(alloc, "$JS.API", Some(200))?;
+    unanswered_in(alloc, &scope)
 }
 
 #[test]
@@ -118,40 +120,62 @@ enum Asked {
     CallAgain(&'static str),
 }
 
-fn call(alloc: Global, subject: &str) -> Result<RawCall, OutOfMemory> {
-    scope(alloc, "$JS.API", Some(0))?.call(alloc, subject, &Value::Null)
+fn call(alloc: Global, scope: &ApiScope, subject: &str) -> Result<RawCall, OutOfMemory> {
+    scope.call(alloc, subject, &Value::Null)
 }
 
-fn requested<L: Link>(alloc: Global, link: &mut L) -> Words {
-    polled(alloc, link, request(alloc, None))
+/// What the first poll of the call comes to.
+fn polled_raw<L: Link>(alloc: Global, link: &mut L, call: Result<RawCall, OutOfMemory>) -> Words {
+    polled(alloc, link, call)
+}
+
+fn requested<L: Link>(alloc: Global, link: &mut L, scope: &ApiScope) -> Words {
+    polled(alloc, link, request(alloc, scope))
 }
 
 fn requested_raw<L: Link>(
     alloc: Global,
     link: &mut L,
+    scope: &ApiScope,
     subject: &str,
     timeout: Option<Option<Nanos>>,
 ) -> Words {
-    polled(alloc, link, raw_request(alloc, subject, timeout))
+    let call = scope.raw_request(alloc, subject, empty_request(timeout));
+    polled_raw(alloc, link, call)
 }
 
-fn called<L: Link>(alloc: Global, link: &mut L, subject: &str) -> Words {
-    polled(alloc, link, call(alloc, subject))
+fn called<L: Link>(alloc: Global, link: &mut L, scope: &ApiScope, subject: &str) -> Words {
+    polled_raw(alloc, link, call(alloc, scope, subject))
 }
 
-fn called_again<L: Link>(alloc: Global, link: &mut L, subject: &str) -> Words {
-    let first = call(alloc, subject)?;
+fn called_again<L: Link>(alloc: Global, link: &mut L, scope: &ApiScope, subject: &str) -> Words {
+    let first = call(alloc, scope, subject)?;
     let second = still(alloc, link, first, 0);
     ended(alloc, link, second, 0)
 }
 
-fn told<L: Link>(alloc: Global, link: &mut L, asked: Asked) -> Words {
+/// The timeout of the context that asks.
+fn context_of(asked: Asked) -> Option<Nanos> {
     match asked {
-        Asked::Value => requested(alloc, link),
-        Asked::Raw(subject, timeout) => requested_raw(alloc, link, subject, timeout),
-        Asked::Call(subject) => called(alloc, link, subject),
-        Asked::CallAgain(subject) => called_again(alloc, link, subject),
+        Asked::Value => None,
+        Asked::Raw(_, _) => None,
+        Asked::Call(_) => Some(0),
+        Asked::CallAgain(_) => Some(0),
     }
+}
+
+fn told_in<L: Link>(alloc: Global, link: &mut L, scope: &ApiScope, asked: Asked) -> Words {
+    match asked {
+        Asked::Value => requested(alloc, link, scope),
+        Asked::Raw(subject, timeout) => requested_raw(alloc, link, scope, subject, timeout),
+        Asked::Call(subject) => called(alloc, link, scope, subject),
+        Asked::CallAgain(subject) => called_again(alloc, link, scope, subject),
+    }
+}
+
+fn told<L: Link>(alloc: Global, link: &mut L, asked: Asked) -> Words {
+    let scope = scope(alloc, "$JS.API", context_of(asked))?;
+    told_in(alloc, link, &scope, asked)
 }
 
 /// A request, what its first poll comes to, and what was sent last.
@@ -190,21 +214,31 @@ fn requests_are_tested_and_sent(rt: HostRuntime) {
 }
 
 /// Sends a request and does not wait for it.
-fn sends(alloc: Global, link: &mut MemoryLink) -> Result<Result<(), SendError>, OutOfMemory> {
-    let scope = scope(alloc, "$JS.API", None)?;
-    Ok(scope.send_request(alloc, link, "a", empty_request(None)))
+fn sends_in(alloc: Global, link: &mut MemoryLink, scope: &ApiScope) -> Result<(), SendError> {
+    scope.send_request(alloc, link, "a", empty_request(None))
 }
 
-/// Whether the one message went there, with that reply subject.
+fn sends(alloc: Global, link: &mut MemoryLink) -> Result<Result<(), SendError>, OutOfMemory> {
+    let scope = scope(alloc, "$JS.API", None)?;
+    Ok(sends_in(alloc, link, &scope))
+}
+
+/// Whether that is a message that went there, with that reply subject.
+fn is_message(sent: &Sent, to: &str, answers: &str) -> bool {
+    match sent {
+        Sent::Publish {
+            subject,
+            reply: Some(reply),
+            ..
+        } => subject.as_str() == to && reply.as_str() == answers,
+        _ => false,
+    }
+}
+
+/// Whether that is the one message.
 fn is_published(link: &MemoryLink, to: &str, answers: &str) -> bool {
     match link.sent() {
-        [
-            Sent::Publish {
-                subject,
-                reply: Some(reply),
-                ..
-            },
-        ] => subject.as_str() == to && reply.as_str() == answers,
+        [one] => is_message(one, to, answers),
         _ => false,
     }
 }
@@ -221,6 +255,11 @@ fn says_sends(rt: &impl Abort, alloc: Global, link: &mut MemoryLink) {
         sends(alloc, link),
         Ok(Err(SendError::LinkFailed)),
     );
+}
+
+fn says_sent(rt: &impl Abort, alloc: Global) {
+    let mut link = MemoryLink::new(alloc, "_INBOX.t").expect(rt, "a link");
+    says_sends(rt, alloc, &mut link);
 }
 
 /// The timeout with which a lost consumer is made anew.
@@ -247,14 +286,18 @@ fn timeout_of(request: &RawRequest) -> Option<Option<Nanos>> {
     request.timeout
 }
 
-/// The timeout that holds for a request of a context.
+/// The timeout that holds for a request.
+fn applied_in(scope: &ApiScope, own: Option<Option<Nanos>>) -> Option<Option<Nanos>> {
+    timeout_of(&scope.apply_timeout(empty_request(own)))
+}
+
 fn applied(
     alloc: Global,
     context: Nanos,
     own: Option<Option<Nanos>>,
 ) -> Result<Option<Option<Nanos>>, OutOfMemory> {
     let here = scope(alloc, "$JS.API", Some(context))?;
-    Ok(timeout_of(&here.apply_timeout(empty_request(own))))
+    Ok(applied_in(&here, own))
 }
 
 /// The timeout of a context, that of a request, and the one that holds.
@@ -265,8 +308,7 @@ const TIMEOUTS: &[(Nanos, Option<Option<Nanos>>, Option<Option<Nanos>>)] = &[
 
 #[test]
 fn requests_are_sent_and_timeouts_chosen(rt: HostRuntime) {
-    let mut link = MemoryLink::new(rt.alloc(), "_INBOX.t").expect(&rt, "a link");
-    says_sends(&rt, rt.alloc(), &mut link);
+    says_sent(&rt, rt.alloc());
     for &(context, connection, wanted) in RECOVERIES {
         let found = recovery(rt.alloc(), context, connection);
         same(&rt, "recovery", found, Ok(wanted));

@@ -87,11 +87,16 @@ pub(crate) fn is_request(sent: &Sent, asked: Asked) -> bool {
 
 /// Whether these requests were sent, and nothing else.
 fn has_asked(sent: &[Sent], script: &[(Asked, Reply)]) -> bool {
-    sent.len() == script.len()
-        && sent
-            .iter()
-            .zip(script)
-            .all(|(one, (asked, _))| is_request(one, *asked))
+    let count = sent.len();
+    if script.len() != count {
+        return false;
+    }
+    for place in 0..count {
+        if !is_request(&sent[place], script[place].0) {
+            return false;
+        }
+    }
+    true
 }
 
 /// What a call answers, in a word.
@@ -145,14 +150,19 @@ impl Answered for StreamHandle<()> {
 }
 
 /// An answer, or the error as it is printed.
-pub(crate) fn answer_word<A: Answered, K: Display>(
-    alloc: Global,
-    answer: &Result<A, Error<K>>,
-) -> Words {
+pub(crate) fn answer_word<A: Answered, E: Display>(alloc: Global, answer: &Result<A, E>) -> Words {
     match answer {
         Ok(answer) => answer.word(alloc),
         Err(error) => printed(alloc, error),
     }
+}
+
+/// The same of an answer that is let go.
+pub(crate) fn found_word<A: Answered + Drop, E: Display + Drop>(
+    alloc: Global,
+    answer: Result<A, E>,
+) -> Words {
+    answer_word(alloc, &answer)
 }
 
 /// What a poll comes to: its answer, its error as it is printed, or `pending`.
@@ -194,16 +204,26 @@ where
     }
 }
 
-/// What a call answers at its first poll.
-pub(crate) fn got<S, A, E, L: Link>(alloc: Global, link: &mut L, call: S) -> Option<A>
+/// An answer by which another call is made, with a number.
+pub(crate) trait Followed: Drop {
+    fn follow<L: Link>(&self, alloc: Global, link: &mut L, number: u64) -> Words;
+}
+
+/// What a second call comes to, which is made by what the first one answers.
+pub(crate) fn call_again<S, A, E, L: Link>(
+    alloc: Global,
+    link: &mut L,
+    call: S,
+    number: u64,
+) -> Words
 where
     S: State<Answer = Result<A, E>>,
-    A: Drop,
+    A: Followed,
     E: Drop,
 {
     match call.poll(alloc, link, 0) {
-        Turn::Ready(Ok(answer)) => Some(answer),
-        _ => None,
+        Turn::Ready(Ok(answer)) => answer.follow(alloc, link, number),
+        _ => word(alloc, "none"),
     }
 }
 

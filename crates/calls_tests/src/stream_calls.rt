@@ -1,11 +1,11 @@
 //! Calls on streams, as they are made and polled once.
 
-use crate::server::{Words, answer_word, got, polled, scope, word};
+use crate::server::{Followed, Words, call_again, found_word, polled, scope};
 use js_base::{Items, OutOfMemory, Text, TryClone};
 use js_call::ApiScope;
 use js_link::Link;
 use js_stream_calls::{
-    CreateStream, GetStream, StreamHandle, UpdateStream, create_or_update_stream, create_stream,
+    CreateStream, StreamHandle, UpdateStream, create_or_update_stream, create_stream,
     delete_stream, domain_prefix, get_or_create_stream, get_stream, get_stream_no_info,
     update_stream, update_stream_keeping,
 };
@@ -22,58 +22,79 @@ pub(crate) fn config(alloc: Global, name: &str) -> Result<Config, OutOfMemory> {
     })
 }
 
-/// Under the usual prefix, with 200 nanoseconds.
-fn usual(alloc: Global) -> Result<ApiScope, OutOfMemory> {
-    scope(alloc, PREFIX, Some(200))
+/// Under that prefix, with 200 nanoseconds.
+pub(crate) fn hurried(alloc: Global, prefix: &str) -> Result<ApiScope, OutOfMemory> {
+    scope(alloc, prefix, Some(200))
 }
 
 pub(crate) fn creating(
     alloc: Global,
-    prefix: &str,
+    scope: &ApiScope,
     name: &str,
 ) -> Result<CreateStream, OutOfMemory> {
-    let scope = scope(alloc, prefix, Some(200))?;
-    create_stream(alloc, &scope, config(alloc, name)?)
+    create_stream(alloc, scope, config(alloc, name)?)
 }
 
-pub(crate) fn getting(alloc: Global, name: &str) -> Result<GetStream, OutOfMemory> {
-    get_stream(alloc, &usual(alloc)?, name)
+fn updating(alloc: Global, scope: &ApiScope, name: &str) -> Result<UpdateStream, OutOfMemory> {
+    update_stream(alloc, scope, &config(alloc, name)?)
 }
 
-pub(crate) fn create<L: Link>(alloc: Global, link: &mut L, prefix: &str, name: &str) -> Words {
-    polled(alloc, link, creating(alloc, prefix, name))
+/// What the first poll of the call comes to.
+pub(crate) fn created<L: Link>(
+    alloc: Global,
+    link: &mut L,
+    call: Result<CreateStream, OutOfMemory>,
+) -> Words {
+    polled(alloc, link, call)
 }
 
-pub(crate) fn update<L: Link>(alloc: Global, link: &mut L, name: &str) -> Words {
-    let scope = usual(alloc)?;
+/// What the first poll of the call comes to.
+pub(crate) fn updated<L: Link>(
+    alloc: Global,
+    link: &mut L,
+    call: Result<UpdateStream, OutOfMemory>,
+) -> Words {
+    polled(alloc, link, call)
+}
+
+pub(crate) fn create<L: Link>(alloc: Global, link: &mut L, scope: &ApiScope, name: &str) -> Words {
+    created(alloc, link, creating(alloc, scope, name))
+}
+
+pub(crate) fn update<L: Link>(alloc: Global, link: &mut L, scope: &ApiScope, name: &str) -> Words {
+    updated(alloc, link, updating(alloc, scope, name))
+}
+
+pub(crate) fn get<L: Link>(alloc: Global, link: &mut L, scope: &ApiScope, name: &str) -> Words {
+    polled(alloc, link, get_stream(alloc, scope, name))
+}
+
+pub(crate) fn delete<L: Link>(alloc: Global, link: &mut L, scope: &ApiScope, name: &str) -> Words {
+    polled(alloc, link, delete_stream(alloc, scope, name))
+}
+
+pub(crate) fn get_or_create<L: Link>(
+    alloc: Global,
+    link: &mut L,
+    scope: &ApiScope,
+    name: &str,
+) -> Words {
     let config = config(alloc, name)?;
-    polled(alloc, link, update_stream(alloc, &scope, &config))
+    polled(alloc, link, get_or_create_stream(alloc, scope, config))
 }
 
-pub(crate) fn get<L: Link>(alloc: Global, link: &mut L, name: &str) -> Words {
-    polled(alloc, link, getting(alloc, name))
-}
-
-pub(crate) fn delete<L: Link>(alloc: Global, link: &mut L, name: &str) -> Words {
-    let scope = usual(alloc)?;
-    polled(alloc, link, delete_stream(alloc, &scope, name))
-}
-
-pub(crate) fn get_or_create<L: Link>(alloc: Global, link: &mut L, name: &str) -> Words {
-    let scope = usual(alloc)?;
+pub(crate) fn create_or_update<L: Link>(
+    alloc: Global,
+    link: &mut L,
+    scope: &ApiScope,
+    name: &str,
+) -> Words {
     let config = config(alloc, name)?;
-    polled(alloc, link, get_or_create_stream(alloc, &scope, config))
+    polled(alloc, link, create_or_update_stream(alloc, scope, config))
 }
 
-pub(crate) fn create_or_update<L: Link>(alloc: Global, link: &mut L, name: &str) -> Words {
-    let scope = usual(alloc)?;
-    let config = config(alloc, name)?;
-    polled(alloc, link, create_or_update_stream(alloc, &scope, config))
-}
-
-pub(crate) fn get_no_info(alloc: Global, name: &str) -> Words {
-    let scope = usual(alloc)?;
-    answer_word(alloc, &get_stream_no_info(alloc, &scope, name))
+pub(crate) fn get_no_info(alloc: Global, scope: &ApiScope, name: &str) -> Words {
+    found_word(alloc, get_stream_no_info(alloc, scope, name))
 }
 
 fn with_age(config: &Config, max_age: u64) -> Result<Config, OutOfMemory> {
@@ -91,23 +112,21 @@ fn keeping(
     update_stream_keeping(alloc, &handle.scope, handle, &config)
 }
 
-fn update_by<L: Link>(
-    alloc: Global,
-    link: &mut L,
-    handle: Option<&StreamHandle<Info>>,
-    max_age: u64,
-) -> Words {
-    match handle {
-        Some(handle) => polled(alloc, link, keeping(alloc, handle, max_age)),
-        None => word(alloc, "none"),
+impl Followed for StreamHandle<Info> {
+    fn follow<L: Link>(&self, alloc: Global, link: &mut L, number: u64) -> Words {
+        updated(alloc, link, keeping(alloc, self, number))
     }
 }
 
 /// Changes the stream `events` by the handle that getting it gives.
-pub(crate) fn update_keeping<L: Link>(alloc: Global, link: &mut L, max_age: u64) -> Words {
-    let call = getting(alloc, "events")?;
-    let handle = got(alloc, link, call);
-    update_by(alloc, link, handle.as_ref(), max_age)
+pub(crate) fn update_keeping<L: Link>(
+    alloc: Global,
+    link: &mut L,
+    scope: &ApiScope,
+    max_age: u64,
+) -> Words {
+    let call = get_stream(alloc, scope, "events")?;
+    call_again(alloc, link, call, max_age)
 }
 
 fn external(alloc: Global, is_set: bool) -> Result<Option<External>, OutOfMemory> {
@@ -165,8 +184,13 @@ fn copying(alloc: Global, mirror: bool, source: bool) -> Result<Config, OutOfMem
     Ok(copy_of(alloc, name, mirror, sources))
 }
 
-pub(crate) fn copy<L: Link>(alloc: Global, link: &mut L, mirror: bool, source: bool) -> Words {
-    let scope = usual(alloc)?;
+pub(crate) fn copy<L: Link>(
+    alloc: Global,
+    link: &mut L,
+    scope: &ApiScope,
+    mirror: bool,
+    source: bool,
+) -> Words {
     let config = copying(alloc, mirror, source)?;
-    polled(alloc, link, create_stream(alloc, &scope, config))
+    created(alloc, link, create_stream(alloc, scope, config))
 }

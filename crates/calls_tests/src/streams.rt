@@ -3,10 +3,12 @@
 use crate::server::{Asked, Case, GARBLED, NOBODY, Reply, Words, ended, outcome, still, waited};
 use crate::stream_calls::{
     PREFIX, copy, create, create_or_update, creating, delete, get, get_no_info, get_or_create,
-    getting, update, update_keeping,
+    hurried, update, update_keeping,
 };
 use crate::tables::says;
+use js_call::ApiScope;
 use js_link::{Link, MemoryLink, RequestId, ScriptedServer};
+use js_stream_calls::get_stream;
 use std::alloc::Global;
 use std::process::Abort;
 
@@ -85,19 +87,32 @@ enum Call {
     Copy(bool, bool),
 }
 
+/// The prefix of a call.
+fn prefix_of(call: Call) -> &'static str {
+    match call {
+        Call::Create(prefix, _) => prefix,
+        _ => PREFIX,
+    }
+}
+
+fn told_in<L: Link>(alloc: Global, link: &mut L, scope: &ApiScope, call: Call) -> Words {
+    match call {
+        Call::Create(_, name) => create(alloc, link, scope, name),
+        Call::Update(name) => update(alloc, link, scope, name),
+        Call::Get(name) => get(alloc, link, scope, name),
+        Call::GetNoInfo(name) => get_no_info(alloc, scope, name),
+        Call::Delete(name) => delete(alloc, link, scope, name),
+        Call::GetOrCreate(name) => get_or_create(alloc, link, scope, name),
+        Call::CreateOrUpdate(name) => create_or_update(alloc, link, scope, name),
+        Call::UpdateKeeping(max_age) => update_keeping(alloc, link, scope, max_age),
+        Call::Copy(mirror, source) => copy(alloc, link, scope, mirror, source),
+    }
+}
+
 impl Case for Call {
     fn told(self, alloc: Global, server: &mut ScriptedServer) -> Words {
-        match self {
-            Call::Create(prefix, name) => create(alloc, server, prefix, name),
-            Call::Update(name) => update(alloc, server, name),
-            Call::Get(name) => get(alloc, server, name),
-            Call::GetNoInfo(name) => get_no_info(alloc, name),
-            Call::Delete(name) => delete(alloc, server, name),
-            Call::GetOrCreate(name) => get_or_create(alloc, server, name),
-            Call::CreateOrUpdate(name) => create_or_update(alloc, server, name),
-            Call::UpdateKeeping(max_age) => update_keeping(alloc, server, max_age),
-            Call::Copy(mirror, source) => copy(alloc, server, mirror, source),
-        }
+        let scope = hurried(alloc, prefix_of(self))?;
+        told_in(alloc, server, &scope, self)
     }
 }
 
@@ -303,33 +318,34 @@ fn calls_are_refused_before_anything_is_sent(rt: HostRuntime) {
 }
 
 /// What the making of a stream comes to that has no reply within 200 nanoseconds.
-fn late_over<L: Link>(alloc: Global, link: &mut L) -> Words {
-    let call = creating(alloc, PREFIX, "events")?;
+fn late_over<L: Link>(alloc: Global, link: &mut L, scope: &ApiScope) -> Words {
+    let call = creating(alloc, scope, "events")?;
     waited(alloc, link, call, [0, 199, 200])
 }
 
-fn late(alloc: Global) -> Words {
-    let mut link = MemoryLink::new(alloc, "_INBOX.t")?;
-    late_over(alloc, &mut link)
-}
-
 /// What getting a stream comes to whose replier is gone.
-fn left_over(alloc: Global, link: &mut MemoryLink) -> Words {
-    let first = getting(alloc, "events")?;
+fn left_over(alloc: Global, link: &mut MemoryLink, scope: &ApiScope) -> Words {
+    let first = get_stream(alloc, scope, "events")?;
     let call = still(alloc, link, first, 0);
     let _ = link.respond(RequestId(1), None);
     ended(alloc, link, call, 0)
 }
 
-fn left(alloc: Global) -> Words {
+fn late(alloc: Global, scope: &ApiScope) -> Words {
     let mut link = MemoryLink::new(alloc, "_INBOX.t")?;
-    left_over(alloc, &mut link)
+    late_over(alloc, &mut link, scope)
+}
+
+fn left(alloc: Global, scope: &ApiScope) -> Words {
+    let mut link = MemoryLink::new(alloc, "_INBOX.t")?;
+    left_over(alloc, &mut link, scope)
 }
 
 #[test]
 fn a_request_without_a_reply_is_refused(rt: HostRuntime) {
+    let scope = hurried(rt.alloc(), PREFIX).expect(&rt, "a scope");
     let timed_out = "jetstream request timed out: timed out";
-    says(&rt, "late", late(rt.alloc()), timed_out);
+    says(&rt, "late", late(rt.alloc(), &scope), timed_out);
     let failed = "request error: request failed";
-    says(&rt, "left", left(rt.alloc()), failed);
+    says(&rt, "left", left(rt.alloc(), &scope), failed);
 }
