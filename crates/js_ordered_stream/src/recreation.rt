@@ -280,11 +280,7 @@ fn told_by(alloc: Global, message: &Option<Message>) -> Result<Option<Boxed<Info
 }
 
 /// What the answer to a create tells.
-fn info_met(
-    alloc: Global,
-    request: u64,
-    seen: &Seen,
-) -> Result<Option<Boxed<Info>>, OutOfMemory>
+fn info_met(alloc: Global, request: u64, seen: &Seen) -> Result<Option<Boxed<Info>>, OutOfMemory>
     ensures { IfOk result (λ info. option_map info_in (reply_to request (answer_in seen.now)) ≡ Some info) }
 {
     match seen {
