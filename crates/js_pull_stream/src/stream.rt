@@ -197,7 +197,9 @@ impl Stream {
             config,
             pinned,
         };
-        Ok(Stream::new(Reader::new(source), State::Connected))
+        let reader = Reader::new(source);
+        let opened = Stream::new(reader, State::Connected);
+        Ok(opened)
     }
 
     /// Whether its last event is over.
