@@ -1,22 +1,33 @@
 //! Many messages that come without a loss.
 
-use crate::reader::{Kind, Reader};
+use crate::reader::{Kind, Reads, open};
 use crate::texts::entry;
 use js_base::{Next, OutOfMemory};
-use js_link::{InboxId, Link, MemoryLink};
+use js_link::{InboxId, Link, LinkError, MemoryLink};
 use std::alloc::Global;
 
 /// How many messages are delivered at once.
 const BATCH: u64 = 500;
 
 /// Has a reader read so many messages, and answers how many it yields.
-pub fn read(alloc: Global, kind: Kind, messages: u64) -> Result<u64, OutOfMemory> {
+pub fn read<R: Reads>(alloc: Global, kind: Kind, messages: u64) -> Result<u64, OutOfMemory> {
     let mut link = MemoryLink::new(alloc, "_INBOX.t")?;
-    let mut reader = Reader::open(alloc, &mut link, kind, 0)?;
+    match open::<R>(alloc, &mut link, kind, 0) {
+        Ok(mut reader) => read_all(alloc, &mut link, &mut reader, messages / BATCH),
+        Err(OutOfMemory) => Err(OutOfMemory),
+    }
+}
+
+fn read_all<R: Reads>(
+    alloc: Global,
+    link: &mut MemoryLink,
+    reader: &mut R,
+    batches: u64,
+) -> Result<u64, OutOfMemory> {
     let mut yielded: u64 = 0;
-    for batch in 0..messages / BATCH {
-        deliver(alloc, &mut link, InboxId(0), batch)?;
-        yielded = yielded.saturating_add(poll(alloc, &mut link, &mut reader)?);
+    for batch in 0..batches {
+        deliver(alloc, link, InboxId(0), batch)?;
+        yielded = yielded.saturating_add(poll(alloc, link, reader)?);
     }
     Ok(yielded)
 }
@@ -24,24 +35,35 @@ pub fn read(alloc: Global, kind: Kind, messages: u64) -> Result<u64, OutOfMemory
 /// Delivers so many messages to inboxes that are closed unread, and answers how many these are.
 pub fn deliver_alone(alloc: Global, messages: u64) -> Result<u64, OutOfMemory> {
     let mut link = MemoryLink::new(alloc, "_INBOX.t")?;
+    deliver_all_unread(alloc, &mut link, messages / BATCH)
+}
+
+fn deliver_all_unread(
+    alloc: Global,
+    link: &mut MemoryLink,
+    batches: u64,
+) -> Result<u64, OutOfMemory> {
     let mut delivered: u64 = 0;
-    for batch in 0..messages / BATCH {
-        deliver_unread(alloc, &mut link, batch)?;
+    for batch in 0..batches {
+        deliver_unread(alloc, link, batch)?;
         delivered = delivered.saturating_add(BATCH);
     }
     Ok(delivered)
 }
 
-fn deliver_unread(alloc: Global, link: &mut MemoryLink, batch: u64) -> Result<(), OutOfMemory> {
+/// The number of a new inbox. The link is up, so only memory can be missing.
+fn open_inbox(alloc: Global, link: &mut MemoryLink) -> Result<InboxId, OutOfMemory> {
     match link.open_inbox(alloc) {
-        Ok((inbox, _subject)) => {
-            deliver(alloc, link, inbox, batch)?;
-            link.unsubscribe(inbox);
-            Ok(())
-        }
-        // The link is up, so only memory can be missing.
-        Err(_) => Err(OutOfMemory),
+        Ok((inbox, _subject)) => Ok(inbox),
+        Err(LinkError::Failed | LinkError::OutOfMemory) => Err(OutOfMemory),
     }
+}
+
+fn deliver_unread(alloc: Global, link: &mut MemoryLink, batch: u64) -> Result<(), OutOfMemory> {
+    let inbox = open_inbox(alloc, link)?;
+    deliver(alloc, link, inbox, batch)?;
+    link.unsubscribe(inbox);
+    Ok(())
 }
 
 /// Delivers the messages of a batch.
@@ -58,15 +80,27 @@ fn deliver(
     Ok(())
 }
 
+/// Whether the reader yields a message by a poll.
+fn yields<T: Drop, E: Drop>(next: Next<Result<T, E>>) -> Result<bool, OutOfMemory> {
+    match next {
+        Next::Item(Ok(_message)) => Ok(true),
+        Next::OutOfMemory => Err(OutOfMemory),
+        _ => Ok(false),
+    }
+}
+
 /// Polls until the reader waits, and answers how many messages it yields.
-fn poll(alloc: Global, link: &mut MemoryLink, reader: &mut Reader) -> Result<u64, OutOfMemory> {
+fn poll<R: Reads>(
+    alloc: Global,
+    link: &mut MemoryLink,
+    reader: &mut R,
+) -> Result<u64, OutOfMemory> {
     let mut yielded: u64 = 0;
     for _ in 0..=BATCH {
-        match reader.poll_next(alloc, link, 0) {
-            Next::Item(Ok(_message)) => yielded = yielded.saturating_add(1),
-            Next::OutOfMemory => return Err(OutOfMemory),
-            _ => return Ok(yielded),
+        if !yields(reader.next(alloc, link, 0))? {
+            return Ok(yielded);
         }
+        yielded = yielded.saturating_add(1);
     }
     Ok(yielded)
 }

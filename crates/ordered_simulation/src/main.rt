@@ -15,7 +15,8 @@ mod server;
 mod texts;
 
 use js_base::OutOfMemory;
-use reader::Kind;
+use js_ordered_stream::{pull, push};
+use reader::{Kind, Reads};
 use round::Round;
 use std::alloc::Global;
 use std::test::Fail;
@@ -23,25 +24,24 @@ use std::{env, io};
 
 fn main(rt: HostRuntime) -> Result<(), Fail> {
     let asked = numbers(&rt)?;
-    let alloc = rt.alloc();
-    tell(
-        &rt,
-        "pull",
-        complete(alloc, Kind::Pull, asked.seeds)?,
-        asked.seeds,
-    )?;
-    tell(
-        &rt,
-        "push",
-        complete(alloc, Kind::Push, asked.seeds)?,
-        asked.seeds,
-    )?;
-    let pulled = batches::read(alloc, Kind::Pull, asked.pulled)?;
-    let pushed = batches::read(alloc, Kind::Push, asked.pushed)?;
-    let delivered = batches::deliver_alone(alloc, asked.delivered)?;
-    println!(rt; "{pulled} read by pull")?;
-    println!(rt; "{pushed} read by push")?;
-    println!(rt; "{delivered} delivered alone")?;
+    lose(&rt, asked.seeds)?;
+    count(&rt, asked)
+}
+
+/// Has each kind read from servers that lose things.
+fn lose(rt: &(impl Print + AllocGlobal), seeds: u64) -> Result<(), Fail> {
+    let pulled = complete::<pull::Ordered>(rt.alloc(), Kind::Pull, seeds)?;
+    tell(rt, "pull", pulled, seeds)?;
+    let pushed = complete::<push::Ordered>(rt.alloc(), Kind::Push, seeds)?;
+    Ok(tell(rt, "push", pushed, seeds)?)
+}
+
+/// Counts what comes without a loss.
+fn count(rt: &(impl Print + AllocGlobal), asked: Asked) -> Result<(), Fail> {
+    let pulled = batches::read::<pull::Ordered>(rt.alloc(), Kind::Pull, asked.pulled)?;
+    let pushed = batches::read::<push::Ordered>(rt.alloc(), Kind::Push, asked.pushed)?;
+    let delivered = batches::deliver_alone(rt.alloc(), asked.delivered)?;
+    println!(rt; "{pulled} read by pull\n{pushed} read by push\n{delivered} delivered alone")?;
     Ok(())
 }
 
@@ -70,18 +70,20 @@ fn numbers(rt: &HostRuntime) -> io::Result<Asked> {
 }
 
 /// How many of the numbers below `seeds` have a reader that yields its log.
-fn complete(alloc: Global, kind: Kind, seeds: u64) -> Result<u64, OutOfMemory> {
+fn complete<R: Reads>(alloc: Global, kind: Kind, seeds: u64) -> Result<u64, OutOfMemory> {
     let mut complete: u64 = 0;
     for seed in 0..seeds {
-        complete = complete.saturating_add(u64::from(is_complete(alloc, kind, seed)?));
+        complete = complete.saturating_add(u64::from(is_complete::<R>(alloc, kind, seed)?));
     }
     Ok(complete)
 }
 
 /// Whether the reader of a number yields its log.
-fn is_complete(alloc: Global, kind: Kind, seed: u64) -> Result<bool, OutOfMemory> {
-    let mut round = Round::new(alloc, kind, seed)?;
-    round.is_complete(alloc)
+fn is_complete<R: Reads>(alloc: Global, kind: Kind, seed: u64) -> Result<bool, OutOfMemory> {
+    match Round::<R>::new(alloc, kind, seed) {
+        Ok(mut round) => round.is_complete(alloc),
+        Err(OutOfMemory) => Err(OutOfMemory),
+    }
 }
 
 fn tell(rt: &impl Print, kind: &str, complete: u64, seeds: u64) -> io::Result<()> {

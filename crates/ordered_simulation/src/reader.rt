@@ -2,9 +2,11 @@
 
 use crate::texts::{first_info, settings};
 use js_base::{Message, Moment, Next, OutOfMemory};
+use js_json::consumer::Info;
 use js_json::{pull as pull_json, push as push_json};
 use js_link::MemoryLink;
 use js_ordered_stream::{OrderedError, pull, push};
+use js_table::Settings;
 use std::alloc::Global;
 
 /// How messages come.
@@ -14,68 +16,105 @@ pub enum Kind {
     Push,
 }
 
-/// An ordered consumer of either kind.
-#[derive(Drop)]
-pub enum Reader {
-    Pull(pull::Ordered),
-    Push(push::Ordered),
-}
-
-impl Reader {
-    /// Opens a reader of a log's first consumer, which takes so many messages by one request.
-    pub fn open(
+/// A reader of a log.
+pub trait Reads: Drop {
+    /// Opens the reader of a log's first consumer.
+    fn opened(
         alloc: Global,
         link: &mut MemoryLink,
-        kind: Kind,
-        max_batch: i64,
-    ) -> Result<Reader, OutOfMemory> {
-        match kind {
-            Kind::Pull => open_pull(alloc, link, max_batch),
-            Kind::Push => open_push(alloc, link),
-        }
-    }
+        settings: Settings,
+        first: Info,
+    ) -> Result<Self, OutOfMemory>;
 
     /// Reads the next message or error.
-    pub fn poll_next(
+    fn next(
+        &mut self,
+        alloc: Global,
+        link: &mut MemoryLink,
+        now: Moment,
+    ) -> Next<Result<Message, OrderedError>>;
+
+    /// When it is to be polled where nothing comes for it.
+    fn wakes(&self) -> Option<Moment>;
+}
+
+/// What was opened. The link is up and the consumer has a deliver subject, so only memory can be missing.
+fn opened<R: Drop, E: Drop>(opened: Result<R, E>) -> Result<R, OutOfMemory> {
+    match opened {
+        Ok(reader) => Ok(reader),
+        Err(_) => Err(OutOfMemory),
+    }
+}
+
+impl Reads for pull::Ordered {
+    fn opened(
+        alloc: Global,
+        link: &mut MemoryLink,
+        settings: Settings,
+        first: Info,
+    ) -> Result<pull::Ordered, OutOfMemory> {
+        let config = pull_json::OrderedConfig::new(alloc);
+        opened(pull::Ordered::open(alloc, link, settings, config, first))
+    }
+
+    fn next(
         &mut self,
         alloc: Global,
         link: &mut MemoryLink,
         now: Moment,
     ) -> Next<Result<Message, OrderedError>> {
-        match self {
-            Reader::Pull(reader) => reader.poll_next(alloc, link, now),
-            Reader::Push(reader) => reader.poll_next(alloc, link, now),
-        }
+        self.poll_next(alloc, link, now)
     }
 
-    /// When it is to be polled where nothing comes for it.
-    pub fn wakes_at(&self) -> Option<Moment> {
-        match self {
-            Reader::Pull(reader) => reader.wakes_at(),
-            Reader::Push(reader) => reader.wakes_at(),
-        }
+    fn wakes(&self) -> Option<Moment> {
+        self.wakes_at()
     }
 }
 
-fn open_pull(alloc: Global, link: &mut MemoryLink, max_batch: i64) -> Result<Reader, OutOfMemory> {
-    let settings = settings(alloc)?;
-    let mut first = first_info(alloc, Kind::Pull)?;
-    first.config.max_batch = max_batch;
-    let config = pull_json::OrderedConfig::new(alloc);
-    match pull::Ordered::open(alloc, link, settings, config, first) {
-        Ok(reader) => Ok(Reader::Pull(reader)),
-        // The link is up, so only memory can be missing.
-        Err(_) => Err(OutOfMemory),
+impl Reads for push::Ordered {
+    fn opened(
+        alloc: Global,
+        link: &mut MemoryLink,
+        settings: Settings,
+        first: Info,
+    ) -> Result<push::Ordered, OutOfMemory> {
+        let config = push_json::OrderedConfig::new(alloc);
+        opened(push::Ordered::open(alloc, link, settings, config, first))
+    }
+
+    fn next(
+        &mut self,
+        alloc: Global,
+        link: &mut MemoryLink,
+        now: Moment,
+    ) -> Next<Result<Message, OrderedError>> {
+        self.poll_next(alloc, link, now)
+    }
+
+    fn wakes(&self) -> Option<Moment> {
+        self.wakes_at()
     }
 }
 
-fn open_push(alloc: Global, link: &mut MemoryLink) -> Result<Reader, OutOfMemory> {
+/// What the server tells of the first consumer, which may ask for so many messages by one request.
+fn told(alloc: Global, kind: Kind, max_batch: i64) -> Result<Info, OutOfMemory> {
+    let mut first = first_info(alloc, kind)?;
+    if kind == Kind::Pull {
+        first.config.max_batch = max_batch;
+    }
+    Ok(first)
+}
+
+/// Opens a reader of a log's first consumer, which takes so many messages by one request.
+pub fn open<R: Reads>(
+    alloc: Global,
+    link: &mut MemoryLink,
+    kind: Kind,
+    max_batch: i64,
+) -> Result<R, OutOfMemory> {
     let settings = settings(alloc)?;
-    let first = first_info(alloc, Kind::Push)?;
-    let config = push_json::OrderedConfig::new(alloc);
-    match push::Ordered::open(alloc, link, settings, config, first) {
-        Ok(reader) => Ok(Reader::Push(reader)),
-        // The link is up and the consumer has a deliver subject, so only memory can be missing.
-        Err(_) => Err(OutOfMemory),
+    match told(alloc, kind, max_batch) {
+        Ok(first) => R::opened(alloc, link, settings, first),
+        Err(OutOfMemory) => Err(OutOfMemory),
     }
 }

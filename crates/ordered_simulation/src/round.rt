@@ -1,6 +1,6 @@
 //! One reading of the log.
 
-use crate::reader::{Kind, Reader};
+use crate::reader::{Kind, Reads, open};
 use crate::server::Server;
 use js_base::{Message, Moment, Next, OutOfMemory};
 use js_link::MemoryLink;
@@ -22,11 +22,34 @@ enum Polled {
     Fails,
 }
 
+/// Looks at the sequence of a message, which is to be the one after the last.
+fn take(last: &mut u64, message: &Message) -> Polled {
+    match place_of(message) {
+        Some(place) if place.sequence == last.saturating_add(1) => {
+            *last = place.sequence;
+            Polled::GoesOn
+        }
+        _ => Polled::Fails,
+    }
+}
+
+/// What a poll comes to that gave this.
+fn come_to<E: Drop>(last: &mut u64, next: Next<Result<Message, E>>) -> Result<Polled, OutOfMemory> {
+    match next {
+        Next::Item(Ok(message)) => Ok(take(last, &message)),
+        // It tells an error and goes on.
+        Next::Item(Err(_)) => Ok(Polled::GoesOn),
+        Next::Pending => Ok(Polled::Waits),
+        Next::End => Ok(Polled::Fails),
+        Next::OutOfMemory => Err(OutOfMemory),
+    }
+}
+
 /// One reading: the reader's end, and the server.
 #[derive(Drop)]
-pub struct Round {
+pub struct Round<R> {
     link: MemoryLink,
-    reader: Reader,
+    reader: R,
     server: Server,
     now: Moment,
     /// The sequence of the last entry that was yielded.
@@ -35,61 +58,58 @@ pub struct Round {
     looks_before: bool,
 }
 
-impl Round {
+impl<R: Reads> Round<R> {
     /// The reading of a seed.
-    pub fn new(alloc: Global, kind: Kind, seed: u64) -> Result<Round, OutOfMemory> {
+    pub fn new(alloc: Global, kind: Kind, seed: u64) -> Result<Round<R>, OutOfMemory> {
         let mut link = MemoryLink::new(alloc, "_INBOX.t")?;
-        let reader = Reader::open(alloc, &mut link, kind, 4)?;
-        Ok(Round {
+        match open(alloc, &mut link, kind, 4) {
+            Ok(reader) => Ok(Round::between(link, reader, kind, seed)),
+            Err(OutOfMemory) => Err(OutOfMemory),
+        }
+    }
+
+    fn between(link: MemoryLink, reader: R, kind: Kind, seed: u64) -> Round<R> {
+        Round {
             link,
             reader,
             server: Server::new(kind, seed),
             now: 0,
             last: 0,
             looks_before: seed % 2 == 1,
-        })
+        }
     }
 
     /// Reads the log to its end, and answers whether each entry was yielded once, in order.
     pub fn is_complete(&mut self, alloc: Global) -> Result<bool, OutOfMemory> {
         for _ in 0..POLLS {
-            match self.poll(alloc)? {
-                Polled::GoesOn => {}
-                Polled::Fails => return Ok(false),
-                Polled::Waits => {
-                    if self.last == self.server.last() {
-                        return Ok(true);
-                    }
-                    if !self.sleep(alloc)? {
-                        return Ok(false);
-                    }
-                }
+            if let Some(is_complete) = self.step(alloc)? {
+                return Ok(is_complete);
             }
         }
         Ok(false)
     }
 
-    fn poll(&mut self, alloc: Global) -> Result<Polled, OutOfMemory> {
-        match self.reader.poll_next(alloc, &mut self.link, self.now) {
-            Next::Item(Ok(message)) => Ok(self.take(&message)),
-            // It tells an error and goes on.
-            Next::Item(Err(_)) => Ok(Polled::GoesOn),
-            Next::Pending => Ok(Polled::Waits),
-            Next::End => Ok(Polled::Fails),
-            Next::OutOfMemory => Err(OutOfMemory),
+    /// Polls, and answers where the reading is at its end then.
+    fn step(&mut self, alloc: Global) -> Result<Option<bool>, OutOfMemory> {
+        match self.poll(alloc)? {
+            Polled::GoesOn => Ok(None),
+            Polled::Fails => Ok(Some(false)),
+            Polled::Waits if self.last == self.server.last() => Ok(Some(true)),
+            Polled::Waits => self.wait(alloc),
         }
     }
 
-    /// Looks at the sequence of a message.
-    fn take(&mut self, message: &Message) -> Polled {
-        let Some(place) = place_of(message) else {
-            return Polled::Fails;
-        };
-        if place.sequence != self.last.saturating_add(1) {
-            return Polled::Fails;
+    fn wait(&mut self, alloc: Global) -> Result<Option<bool>, OutOfMemory> {
+        if self.sleep(alloc)? {
+            Ok(None)
+        } else {
+            Ok(Some(false))
         }
-        self.last = place.sequence;
-        Polled::GoesOn
+    }
+
+    fn poll(&mut self, alloc: Global) -> Result<Polled, OutOfMemory> {
+        let next = self.reader.next(alloc, &mut self.link, self.now);
+        come_to(&mut self.last, next)
     }
 
     /// Lets time go on until something comes for the reader or it is to wake, and answers whether that happens.
@@ -97,7 +117,7 @@ impl Round {
         if self.server.hear(alloc, &mut self.link)? {
             return Ok(true);
         }
-        let wakes = self.reader.wakes_at().unwrap_or(Moment::MAX);
+        let wakes = self.reader.wakes().unwrap_or(Moment::MAX);
         for _ in 0..ACTS {
             let acts = self.now.saturating_add(self.server.rest());
             if wakes <= acts {
@@ -127,6 +147,6 @@ impl Round {
         }
         self.now = before;
         let waits = self.poll(alloc)? == Polled::Waits;
-        Ok(waits && self.link.sent().len() == sent && self.reader.wakes_at() == Some(wakes))
+        Ok(waits && self.link.sent().len() == sent && self.reader.wakes() == Some(wakes))
     }
 }

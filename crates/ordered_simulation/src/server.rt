@@ -53,6 +53,30 @@ impl Consumer {
     }
 }
 
+/// The answer where nobody hears a request.
+fn unheard(mut answer: Message) -> Message {
+    answer.status = Some(StatusCode::NO_RESPONDERS);
+    answer
+}
+
+fn respond(link: &mut MemoryLink, number: RequestId, answer: Message) -> Result<bool, OutOfMemory> {
+    link.respond(number, Some(answer))?;
+    Ok(true)
+}
+
+/// Some answers are lost.
+fn answer_unless_lost(
+    link: &mut MemoryLink,
+    number: RequestId,
+    answer: Message,
+    fate: u32,
+) -> Result<bool, OutOfMemory> {
+    if fate >= 14 {
+        return Ok(false);
+    }
+    respond(link, number, answer)
+}
+
 /// A server of a log of 20 to 35 entries, with one consumer.
 #[derive(Drop)]
 pub struct Server {
@@ -141,29 +165,22 @@ impl Server {
         link: &mut MemoryLink,
         number: RequestId,
         consumer: Consumer,
-        mut answer: Message,
+        answer: Message,
     ) -> Result<bool, OutOfMemory> {
         if !consumer.is_there {
             // Whoever has its consumer deleted has let go its inbox.
             self.inbox = None;
         }
-        let fate = self.draw();
-        if fate < 2 {
+        match self.draw() {
             // The request is lost.
-            return Ok(false);
-        }
-        if fate < 4 {
+            0 | 1 => Ok(false),
             // It reaches nobody.
-            answer.status = Some(StatusCode::NO_RESPONDERS);
-        } else {
-            self.consumer = consumer;
+            2 | 3 => respond(link, number, unheard(answer)),
+            fate => {
+                self.consumer = consumer;
+                answer_unless_lost(link, number, answer, fate)
+            }
         }
-        if fate >= 14 {
-            // The answer is lost.
-            return Ok(false);
-        }
-        link.respond(number, Some(answer))?;
-        Ok(true)
     }
 
     /// Whether a message is to be delivered.

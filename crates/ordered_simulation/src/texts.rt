@@ -35,21 +35,25 @@ pub fn info_text(alloc: Global, name: &str, kind: Kind) -> Result<String, OutOfM
     )?)
 }
 
-/// What the server tells of the first consumer.
-pub fn first_info(alloc: Global, kind: Kind) -> Result<Info, OutOfMemory> {
-    let text = info_text(alloc, "c1", kind)?;
-    match response_as::<Info>(alloc, text.as_bytes()) {
-        Ok(Response::Ok(info)) => Ok(info),
-        // The text is an info, so only memory can be missing.
+/// An answer that is no error. The text is an info, so only memory can be missing.
+fn answered<T: Drop, E: Drop>(read: Result<Response<T>, E>) -> Result<T, OutOfMemory> {
+    match read {
+        Ok(Response::Ok(answer)) => Ok(answer),
         _ => Err(OutOfMemory),
     }
 }
 
-/// A message that is no more than its payload.
-pub fn plain(alloc: Global, payload: &str) -> Result<Message, OutOfMemory> {
+/// What the server tells of the first consumer.
+pub fn first_info(alloc: Global, kind: Kind) -> Result<Info, OutOfMemory> {
+    let text = info_text(alloc, "c1", kind)?;
+    answered(response_as(alloc, text.as_bytes()))
+}
+
+fn message(alloc: Global, payload: &str, reply: Option<Subject>) -> Result<Message, OutOfMemory> {
+    let subject = Subject::new(alloc, "log.line")?;
     Ok(Message {
-        subject: Subject::new(alloc, "log.line")?,
-        reply: None,
+        subject,
+        reply,
         payload: Bytes::copy_from_slice(alloc, payload.as_bytes())?,
         headers: None,
         status: None,
@@ -58,12 +62,27 @@ pub fn plain(alloc: Global, payload: &str) -> Result<Message, OutOfMemory> {
     })
 }
 
+/// A message that is no more than its payload.
+pub fn plain(alloc: Global, payload: &str) -> Result<Message, OutOfMemory> {
+    message(alloc, payload, None)
+}
+
+fn reply(alloc: Global, sequence: u64, number: u64) -> Result<Subject, OutOfMemory> {
+    let reply = format!(in alloc; "$JS.ACK.log.c1.1.{sequence}.{number}.1790230470084404000.0")?;
+    Ok(Subject::from(reply))
+}
+
 /// The log's entry with this sequence, as the message with this number of its consumer.
 pub fn entry(alloc: Global, sequence: u64, number: u64) -> Result<Message, OutOfMemory> {
-    let reply = format!(in alloc; "$JS.ACK.log.c1.1.{sequence}.{number}.1790230470084404000.0")?;
-    let mut entry = plain(alloc, "0123456789abcdef")?;
-    entry.reply = Some(Subject::from(reply));
-    Ok(entry)
+    let reply = reply(alloc, sequence, number)?;
+    message(alloc, "0123456789abcdef", Some(reply))
+}
+
+/// Has a message say a status.
+fn say(message: &mut Message, code: StatusCode, description: Text, headers: HeaderMap) {
+    message.status = Some(code);
+    message.description = Some(description);
+    message.headers = Some(headers);
 }
 
 /// What the server says in place of a message, with a number in a header.
@@ -74,10 +93,10 @@ pub fn status(
     header: &str,
     number: u64,
 ) -> Result<Message, OutOfMemory> {
+    let description = Text::from_str(alloc, description)?;
+    let headers = headers(alloc, header, number)?;
     let mut message = plain(alloc, "")?;
-    message.status = Some(code);
-    message.description = Some(Text::from_str(alloc, description)?);
-    message.headers = Some(headers(alloc, header, number)?);
+    say(&mut message, code, description, headers);
     Ok(message)
 }
 
