@@ -1,108 +1,45 @@
 //! Buckets of keys.
 
-use crate::request::{Line, asked};
+use crate::request::{Line, asked, made, put};
 use js_base::{Items, Nanos, OutOfMemory, Text};
-use js_context::Context;
 use js_store::{StoreCalls, kv};
 use js_stream_json::stream::{External, Placement, Republish, Source, StorageType};
 use std::alloc::Global;
 
-/// What a bucket may have beside its bounds.
+/// A bucket's name, and what it has that others have not.
+pub type Keys = (&'static str, Trait);
+
+/// What a bucket has that others have not.
 #[derive(Clone, Copy, Drop)]
-pub enum Extra {
+pub enum Trait {
     Nothing,
+    History(i64),
+    MaxAge(Nanos),
+    Bounds,
+    InMemory,
     Republish,
     Mirror,
     Elsewhere,
     Sources,
     Placement,
+    Compression,
+    LimitMarkers(Nanos),
 }
 
-/// A bucket of keys.
-#[derive(Clone, Copy, Drop)]
-pub struct Keys {
-    bucket: &'static str,
-    history: i64,
-    max_age: Nanos,
-    max_bytes: i64,
-    max_value_size: i64,
-    storage: StorageType,
-    compression: bool,
-    limit_markers: Option<Nanos>,
-    extra: Extra,
-}
-
-const PLAIN: Keys = Keys {
-    bucket: "plain",
-    history: 0,
-    max_age: 0,
-    max_bytes: 0,
-    max_value_size: 0,
-    storage: StorageType::File,
-    compression: false,
-    limit_markers: None,
-    extra: Extra::Nothing,
-};
-
-/// The buckets whose requests are printed: a plain one, and others that have something beside it.
-pub const KEYS: [Keys; 12] = [
-    PLAIN,
-    Keys {
-        history: 64,
-        bucket: "history",
-        ..PLAIN
-    },
-    Keys {
-        max_age: 3_600_000_000_000,
-        bucket: "aged",
-        ..PLAIN
-    },
-    Keys {
-        max_bytes: 1_048_576,
-        max_value_size: 1024,
-        bucket: "bounds",
-        ..PLAIN
-    },
-    Keys {
-        storage: StorageType::Memory,
-        bucket: "memory",
-        ..PLAIN
-    },
-    Keys {
-        bucket: "republished",
-        extra: Extra::Republish,
-        ..PLAIN
-    },
-    Keys {
-        bucket: "mirror",
-        extra: Extra::Mirror,
-        ..PLAIN
-    },
-    Keys {
-        bucket: "elsewhere",
-        extra: Extra::Elsewhere,
-        ..PLAIN
-    },
-    Keys {
-        bucket: "gathered",
-        extra: Extra::Sources,
-        ..PLAIN
-    },
-    Keys {
-        bucket: "placed",
-        extra: Extra::Placement,
-        ..PLAIN
-    },
-    Keys {
-        compression: true,
-        bucket: "compressed",
-        ..PLAIN
-    },
-    Keys {
-        limit_markers: Some(60_000_000_000),
-        bucket: "marked",
-        ..PLAIN
-    },
+/// The buckets whose requests are printed, one for each trait.
+pub const KEYS: &[Keys] = &[
+    ("plain", Trait::Nothing),
+    ("history", Trait::History(64)),
+    ("aged", Trait::MaxAge(3_600_000_000_000)),
+    ("bounds", Trait::Bounds),
+    ("memory", Trait::InMemory),
+    ("republished", Trait::Republish),
+    ("mirror", Trait::Mirror),
+    ("elsewhere", Trait::Elsewhere),
+    ("gathered", Trait::Sources),
+    ("placed", Trait::Placement),
+    ("compressed", Trait::Compression),
+    ("marked", Trait::LimitMarkers(60_000_000_000)),
 ];
 
 fn republish(alloc: Global) -> Result<Republish, OutOfMemory> {
@@ -157,52 +94,70 @@ fn placement(alloc: Global) -> Result<Placement, OutOfMemory> {
     })
 }
 
-fn plain(alloc: Global, keys: Keys, description: &str) -> Result<kv::Config, OutOfMemory> {
-    Ok(kv::Config {
-        bucket: Text::from_str(alloc, keys.bucket)?,
-        description: Text::from_str(alloc, description)?,
-        history: keys.history,
-        max_age: keys.max_age,
-        max_bytes: keys.max_bytes,
-        max_value_size: keys.max_value_size,
-        storage: keys.storage,
-        compression: keys.compression,
-        limit_markers: keys.limit_markers,
-        ..kv::Config::new(alloc)
-    })
+/// Sets the traits that are numbers or words.
+fn bound(config: &mut kv::Config, has: Trait) {
+    match has {
+        Trait::History(history) => config.history = history,
+        Trait::MaxAge(max_age) => config.max_age = max_age,
+        Trait::Bounds => {
+            config.max_bytes = 1_048_576;
+            config.max_value_size = 1024;
+        }
+        Trait::InMemory => config.storage = StorageType::Memory,
+        Trait::Compression => config.compression = true,
+        Trait::LimitMarkers(after) => config.limit_markers = Some(after),
+        _ => {}
+    }
+}
+
+/// Sets the traits that take memory.
+fn fill(alloc: Global, config: &mut kv::Config, has: Trait) -> Result<(), OutOfMemory> {
+    match has {
+        Trait::Republish => put(&mut config.republish, republish(alloc)),
+        Trait::Mirror => put(&mut config.mirror, source(alloc, "plain", None, false)),
+        Trait::Elsewhere => put(&mut config.mirror, source(alloc, "plain", None, true)),
+        Trait::Sources => put(&mut config.sources, sources(alloc)),
+        Trait::Placement => put(&mut config.placement, placement(alloc)),
+        _ => Ok(()),
+    }
+}
+
+fn set(
+    alloc: Global,
+    config: &mut kv::Config,
+    keys: Keys,
+    description: &str,
+) -> Result<(), OutOfMemory> {
+    config.bucket = Text::from_str(alloc, keys.0)?;
+    config.description = Text::from_str(alloc, description)?;
+    bound(config, keys.1);
+    fill(alloc, config, keys.1)
 }
 
 fn config(alloc: Global, keys: Keys, description: &str) -> Result<kv::Config, OutOfMemory> {
-    let mut config = plain(alloc, keys, description)?;
-    match keys.extra {
-        Extra::Nothing => {}
-        Extra::Republish => config.republish = Some(republish(alloc)?),
-        Extra::Mirror => config.mirror = Some(source(alloc, "plain", None, false)?),
-        Extra::Elsewhere => config.mirror = Some(source(alloc, "plain", None, true)?),
-        Extra::Sources => config.sources = Some(sources(alloc)?),
-        Extra::Placement => config.placement = Some(placement(alloc)?),
-    }
-    Ok(config)
+    let mut config = kv::Config::new(alloc);
+    let outcome = set(alloc, &mut config, keys, description);
+    made(config, outcome)
 }
 
 /// The last request of the call that makes the bucket.
-pub fn create(alloc: Global, context: &Context, keys: Keys) -> Line {
+pub fn create<C: StoreCalls>(alloc: Global, context: &C, keys: Keys) -> Line {
     let config = config(alloc, keys, "a bucket")?;
     asked(alloc, context.create_key_value(alloc, config))
 }
 
 /// The same bucket in other words for people.
-pub fn update(alloc: Global, context: &Context, keys: Keys) -> Line {
+pub fn update<C: StoreCalls>(alloc: Global, context: &C, keys: Keys) -> Line {
     let config = config(alloc, keys, "a bucket that was changed")?;
     asked(alloc, context.update_key_value(alloc, config))
 }
 
 /// The last request of the call that gets the bucket.
-pub fn get(alloc: Global, context: &Context, keys: Keys) -> Line {
-    asked(alloc, context.get_key_value(alloc, keys.bucket))
+pub fn get<C: StoreCalls>(alloc: Global, context: &C, keys: Keys) -> Line {
+    asked(alloc, context.get_key_value(alloc, keys.0))
 }
 
 /// The last request of the call that deletes the bucket.
-pub fn delete(alloc: Global, context: &Context, keys: Keys) -> Line {
-    asked(alloc, context.delete_key_value(alloc, keys.bucket))
+pub fn delete<C: StoreCalls>(alloc: Global, context: &C, keys: Keys) -> Line {
+    asked(alloc, context.delete_key_value(alloc, keys.0))
 }

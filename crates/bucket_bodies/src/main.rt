@@ -8,19 +8,32 @@ mod request;
 
 use js_base::OutOfMemory;
 use js_context::Context;
+use js_store::StoreCalls;
 use keys::{KEYS, Keys};
 use objects::{OBJECTS, Objects};
 use std::io;
 
 fn main(rt: HostRuntime) -> io::Result<()> {
-    let Ok(context) = Context::new(&rt, rt.alloc()) else {
-        return Ok(());
-    };
-    for keys in KEYS {
-        tell_keys(&rt, &context, keys)?;
+    tell_all(&rt, Context::new(&rt, rt.alloc()))
+}
+
+/// Tells each request of the context, where there was memory for it.
+fn tell_all<C: StoreCalls + Drop>(
+    rt: &(impl Print + AllocGlobal),
+    context: Result<C, OutOfMemory>,
+) -> io::Result<()> {
+    match context {
+        Ok(context) => tell_tables(rt, &context),
+        Err(OutOfMemory) => Ok(()),
     }
-    for objects in OBJECTS {
-        tell_objects(&rt, &context, objects)?;
+}
+
+fn tell_tables<C: StoreCalls>(rt: &(impl Print + AllocGlobal), context: &C) -> io::Result<()> {
+    for &keys in KEYS {
+        tell_keys(rt, context, keys)?;
+    }
+    for &objects in OBJECTS {
+        tell_objects(rt, context, objects)?;
     }
     Ok(())
 }
@@ -33,16 +46,20 @@ fn tell(rt: &impl Print, line: Result<String, OutOfMemory>) -> io::Result<()> {
 }
 
 /// A bucket is made, changed, got and deleted.
-fn tell_keys(rt: &(impl Print + AllocGlobal), context: &Context, keys: Keys) -> io::Result<()> {
+fn tell_keys<C: StoreCalls>(
+    rt: &(impl Print + AllocGlobal),
+    context: &C,
+    keys: Keys,
+) -> io::Result<()> {
     tell(rt, keys::create(rt.alloc(), context, keys))?;
     tell(rt, keys::update(rt.alloc(), context, keys))?;
     tell(rt, keys::get(rt.alloc(), context, keys))?;
     tell(rt, keys::delete(rt.alloc(), context, keys))
 }
 
-fn tell_objects(
+fn tell_objects<C: StoreCalls>(
     rt: &(impl Print + AllocGlobal),
-    context: &Context,
+    context: &C,
     objects: Objects,
 ) -> io::Result<()> {
     tell(rt, objects::create(rt.alloc(), context, objects))?;

@@ -1,8 +1,7 @@
 //! Buckets of objects.
 
-use crate::request::{Line, asked};
+use crate::request::{Line, asked, made};
 use js_base::{Nanos, OutOfMemory, Text};
-use js_context::Context;
 use js_store::{StoreCalls, object_store};
 use js_stream_json::stream::StorageType;
 use std::alloc::Global;
@@ -21,7 +20,7 @@ pub enum Trait {
 }
 
 /// The buckets whose requests are printed, one for each trait.
-pub const OBJECTS: [Objects; 5] = [
+pub const OBJECTS: &[Objects] = &[
     ("files", Trait::Nothing),
     ("aged", Trait::MaxAge(3_600_000_000_000)),
     ("bounds", Trait::Bounds),
@@ -29,46 +28,48 @@ pub const OBJECTS: [Objects; 5] = [
     ("compressed", Trait::Compression),
 ];
 
-fn plain(alloc: Global, bucket: &str) -> Result<object_store::Config, OutOfMemory> {
-    Ok(object_store::Config {
-        bucket: Text::from_str(alloc, bucket)?,
-        description: Some(Text::from_str(alloc, "a bucket")?),
-        ..object_store::Config::new(alloc)
-    })
-}
-
-fn with(config: object_store::Config, has: Trait) -> object_store::Config {
+fn bound(config: &mut object_store::Config, has: Trait) {
     match has {
-        Trait::Nothing => config,
-        Trait::MaxAge(max_age) => object_store::Config { max_age, ..config },
-        Trait::Bounds => object_store::Config {
-            max_bytes: 1_048_576,
-            num_replicas: 1,
-            ..config
-        },
-        Trait::InMemory => object_store::Config {
-            storage: StorageType::Memory,
-            ..config
-        },
-        Trait::Compression => object_store::Config {
-            compression: true,
-            ..config
-        },
+        Trait::Nothing => {}
+        Trait::MaxAge(max_age) => config.max_age = max_age,
+        Trait::Bounds => {
+            config.max_bytes = 1_048_576;
+            config.num_replicas = 1;
+        }
+        Trait::InMemory => config.storage = StorageType::Memory,
+        Trait::Compression => config.compression = true,
     }
 }
 
+fn set(
+    alloc: Global,
+    config: &mut object_store::Config,
+    objects: Objects,
+) -> Result<(), OutOfMemory> {
+    config.bucket = Text::from_str(alloc, objects.0)?;
+    config.description = Some(Text::from_str(alloc, "a bucket")?);
+    bound(config, objects.1);
+    Ok(())
+}
+
+fn config(alloc: Global, objects: Objects) -> Result<object_store::Config, OutOfMemory> {
+    let mut config = object_store::Config::new(alloc);
+    let outcome = set(alloc, &mut config, objects);
+    made(config, outcome)
+}
+
 /// The last request of the call that makes the bucket.
-pub fn create(alloc: Global, context: &Context, objects: Objects) -> Line {
-    let config = with(plain(alloc, objects.0)?, objects.1);
+pub fn create<C: StoreCalls>(alloc: Global, context: &C, objects: Objects) -> Line {
+    let config = config(alloc, objects)?;
     asked(alloc, context.create_object_store(alloc, config))
 }
 
 /// The last request of the call that gets the bucket.
-pub fn get(alloc: Global, context: &Context, objects: Objects) -> Line {
+pub fn get<C: StoreCalls>(alloc: Global, context: &C, objects: Objects) -> Line {
     asked(alloc, context.get_object_store(alloc, objects.0))
 }
 
 /// The last request of the call that deletes the bucket.
-pub fn delete(alloc: Global, context: &Context, objects: Objects) -> Line {
+pub fn delete<C: StoreCalls>(alloc: Global, context: &C, objects: Objects) -> Line {
     asked(alloc, context.delete_object_store(alloc, objects.0))
 }

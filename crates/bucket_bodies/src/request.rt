@@ -47,9 +47,42 @@ fn line(alloc: Global, sent: Option<&Sent>) -> Line {
     }
 }
 
+/// Puts there what was made.
+pub fn put<T: Drop>(
+    place: &mut Option<T>,
+    made: Result<T, OutOfMemory>,
+) -> Result<(), OutOfMemory> {
+    match made {
+        Ok(value) => {
+            *place = Some(value);
+            Ok(())
+        }
+        Err(OutOfMemory) => Err(OutOfMemory),
+    }
+}
+
+/// The value, where there was memory for all of it.
+pub fn made<T: Drop>(value: T, outcome: Result<(), OutOfMemory>) -> Result<T, OutOfMemory> {
+    match outcome {
+        Ok(()) => Ok(value),
+        Err(OutOfMemory) => Err(OutOfMemory),
+    }
+}
+
+fn poll<S: State>(alloc: Global, server: &mut ScriptedServer, call: S) {
+    let _turn = call.poll(alloc, server, 0);
+}
+
+fn asked_by<S: State>(alloc: Global, call: S) -> Line {
+    let mut server = server(alloc)?;
+    poll(alloc, &mut server, call);
+    line(alloc, server.link().sent().last())
+}
+
 /// The last request that the first poll of a call sends, where the server tells its account.
 pub fn asked<S: State>(alloc: Global, call: Result<S, OutOfMemory>) -> Line {
-    let mut server = server(alloc)?;
-    let _turn = call?.poll(alloc, &mut server, 0);
-    line(alloc, server.link().sent().last())
+    match call {
+        Ok(call) => asked_by(alloc, call),
+        Err(OutOfMemory) => Err(OutOfMemory),
+    }
 }
