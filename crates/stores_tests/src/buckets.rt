@@ -1,69 +1,13 @@
 //! Calls on buckets of keys, and on the account.
 
-use crate::server::{
-    ABSENT, Asked, Case, DELETED, NOBODY, Reply, Row, WRONG, Words, context, polled, polled_twice,
-    says_each, serving,
-};
+use crate::script::{Asked, Reply};
+use crate::server::{Case, Row, Words, context, polled, polled_twice, says_each, serving};
 use crate::tables::says;
 use js_base::{OutOfMemory, Text};
 use js_context::Context;
 use js_link::ScriptedServer;
 use js_store::{StoreCalls, kv};
 use std::alloc::Global;
-
-const ACCOUNT: Asked = ("$JS.API.INFO", "[]");
-
-const INFO: Asked = ("$JS.API.STREAM.INFO.KV_cfg", "null");
-
-const DELETE: Asked = ("$JS.API.STREAM.DELETE.KV_cfg", "{}");
-
-const BODY: &str =
-    r#"{"allow_direct":true,"allow_rollup_hdrs":true,"deny_delete":true,"description":"","discard":"new","max_msgs_per_subject":1,"name":"KV_cfg","num_replicas":1,"retention":"limits","storage":"file","subjects":["$KV.cfg.>"]}"#;
-
-const CREATE: Asked = ("$JS.API.STREAM.CREATE.KV_cfg", BODY);
-
-const UPDATE: Asked = ("$JS.API.STREAM.UPDATE.KV_cfg", BODY);
-
-/// With 64 values of a key, and markers that stand for a second.
-const CREATE_MARKED: Asked = (
-    "$JS.API.STREAM.CREATE.KV_cfg",
-    r#"{"allow_direct":true,"allow_msg_ttl":true,"allow_rollup_hdrs":true,"deny_delete":true,"description":"","discard":"new","max_msgs_per_subject":64,"name":"KV_cfg","num_replicas":1,"retention":"limits","storage":"file","subject_delete_marker_ttl":1000000000,"subjects":["$KV.cfg.>"]}"#,
-);
-
-/// An account whose server does not say how far its API goes.
-const LEVEL_0: Reply = (
-    None,
-    r#"{"memory":0,"storage":96,"reserved_memory":0,"reserved_storage":0,"streams":1,"consumers":0,"limits":{"max_memory":-1,"max_storage":-1,"max_streams":-1,"max_consumers":-1,"max_ack_pending":-1,"memory_max_stream_bytes":-1,"storage_max_stream_bytes":-1,"max_bytes_required":false},"api":{"total":3,"errors":0}}"#,
-);
-
-const LEVEL_1: Reply = (
-    None,
-    r#"{"memory":0,"storage":96,"reserved_memory":0,"reserved_storage":0,"streams":1,"consumers":0,"limits":{"max_memory":-1,"max_storage":-1,"max_streams":-1,"max_consumers":-1,"max_ack_pending":-1,"memory_max_stream_bytes":-1,"storage_max_stream_bytes":-1,"max_bytes_required":false},"api":{"level":1,"total":3,"errors":0}}"#,
-);
-
-/// An account of a server that does not say what is set aside.
-const OLD: Reply = (
-    None,
-    r#"{"memory":0,"storage":96,"streams":1,"consumers":0,"api":{"total":3,"errors":0}}"#,
-);
-
-/// A bucket's stream.
-const KNOWN: Reply = (
-    None,
-    r#"{"config":{"name":"KV_cfg","max_msgs_per_subject":1},"created":"2026-01-01T00:00:00Z","state":{"messages":3,"bytes":96,"first_seq":1,"last_seq":3}}"#,
-);
-
-/// One that is a mirror of another domain's.
-const MIRROR: Reply = (
-    None,
-    r#"{"config":{"name":"KV_cfg","max_msgs_per_subject":1,"mirror":{"name":"KV_src","external":{"api":"$JS.hub.API"}}},"created":"2026-01-01T00:00:00Z","state":{"messages":3,"bytes":96,"first_seq":1,"last_seq":3}}"#,
-);
-
-/// A stream that keeps no value of a key.
-const NO_BUCKET: Reply = (
-    None,
-    r#"{"config":{"name":"KV_cfg"},"created":"2026-01-01T00:00:00Z","state":{"messages":3,"bytes":96,"first_seq":1,"last_seq":3}}"#,
-);
 
 /// How the bucket is told.
 const CFG: &str = "cfg KV_cfg $KV.cfg. - false KV_cfg";
@@ -137,76 +81,89 @@ impl Case for Call {
 
 /// Calls, what they ask and are replied, and what they come to.
 const CALLS: &[Row<Call>] = &[
-    (Call::Account, &[(ACCOUNT, LEVEL_0)], "96 0"),
-    (Call::Account, &[(ACCOUNT, LEVEL_1)], "96 1"),
+    (Call::Account, &[(Asked::Account, Reply::Level0)], "96 0"),
+    (Call::Account, &[(Asked::Account, Reply::Level1)], "96 1"),
     (
         Call::Account,
-        &[(ACCOUNT, NOBODY)],
+        &[(Asked::Account, Reply::Nobody)],
         "JetStream unavailable: requested JetStream resource does not exist",
     ),
     (
         Call::Account,
-        &[(ACCOUNT, WRONG)],
+        &[(Asked::Account, Reply::Wrong)],
         "JetStream error: no (code 400, error code 10058)",
     ),
     (
         Call::Account,
-        &[(ACCOUNT, OLD)],
+        &[(Asked::Account, Reply::Old)],
         "error: reserved_memory: missing",
     ),
-    (Call::Get("cfg"), &[(INFO, KNOWN)], CFG),
+    (Call::Get("cfg"), &[(Asked::Info, Reply::Known)], CFG),
     (
         Call::Get("cfg"),
-        &[(INFO, MIRROR)],
+        &[(Asked::Info, Reply::Mirror)],
         "cfg KV_cfg $KV.src. $JS.hub.API.$KV.src. false KV_cfg",
     ),
     (
         Call::Get("cfg"),
-        &[(INFO, NO_BUCKET)],
+        &[(Asked::Info, Reply::NoBucket)],
         "invalid Key Value Store name",
     ),
     (
         Call::Get("cfg"),
-        &[(INFO, ABSENT)],
+        &[(Asked::Info, Reply::Absent)],
         "failed to get the bucket: unknown (code 404, error code 10059)",
     ),
     (
         Call::Get("cfg"),
-        &[(INFO, NOBODY)],
+        &[(Asked::Info, Reply::Nobody)],
         "failed to get the bucket: request error: requested JetStream resource does not exist",
     ),
     (Call::Get("a.b"), &[], "invalid Key Value Store name"),
     (Call::Get(""), &[], "invalid Key Value Store name"),
-    (Call::Delete("cfg"), &[(DELETE, DELETED)], "deleted"),
     (
         Call::Delete("cfg"),
-        &[(DELETE, WRONG)],
+        &[(Asked::Delete, Reply::Deleted)],
+        "deleted",
+    ),
+    (
+        Call::Delete("cfg"),
+        &[(Asked::Delete, Reply::Wrong)],
         "JetStream error: no (code 400, error code 10058)",
     ),
     (Call::Delete("a.b"), &[], "invalid Key Value Store name"),
     (
         Call::Create(("cfg", 0, None)),
-        &[(ACCOUNT, LEVEL_0), (CREATE, KNOWN)],
+        &[
+            (Asked::Account, Reply::Level0),
+            (Asked::Create, Reply::Known),
+        ],
         CFG,
     ),
     (
         Call::Create(("cfg", 64, Some(1_000_000_000))),
-        &[(ACCOUNT, LEVEL_1), (CREATE_MARKED, KNOWN)],
+        &[
+            (Asked::Account, Reply::Level1),
+            (Asked::CreateMarked, Reply::Known),
+        ],
         CFG,
     ),
     (
         Call::Create(("cfg", 0, Some(1_000_000_000))),
-        &[(ACCOUNT, LEVEL_0)],
+        &[(Asked::Account, Reply::Level0)],
         "limit markers not supported",
     ),
     (
         Call::Create(("cfg", 0, None)),
-        &[(ACCOUNT, NOBODY)],
+        &[(Asked::Account, Reply::Nobody)],
         "JetStream error: JetStream unavailable: requested JetStream resource does not exist",
     ),
     (
         Call::Create(("cfg", 0, None)),
-        &[(ACCOUNT, LEVEL_0), (CREATE, WRONG)],
+        &[
+            (Asked::Account, Reply::Level0),
+            (Asked::Create, Reply::Wrong),
+        ],
         "bucket creation failed: no (code 400, error code 10058)",
     ),
     (Call::Create(("cfg", 65, None)), &[], "too long history"),
@@ -217,43 +174,62 @@ const CALLS: &[Row<Call>] = &[
     ),
     (
         Call::Update(("cfg", 1, None)),
-        &[(ACCOUNT, LEVEL_0), (UPDATE, MIRROR)],
+        &[
+            (Asked::Account, Reply::Level0),
+            (Asked::Update, Reply::Mirror),
+        ],
         "cfg KV_cfg $KV.src. $JS.hub.API.$KV.src. false KV_cfg",
     ),
     (
         Call::Update(("cfg", 1, None)),
-        &[(ACCOUNT, LEVEL_0), (UPDATE, ABSENT)],
+        &[
+            (Asked::Account, Reply::Level0),
+            (Asked::Update, Reply::Absent),
+        ],
         "bucket does not exist: unknown (code 404, error code 10059)",
     ),
     (
         Call::Update(("cfg", 1, None)),
-        &[(ACCOUNT, LEVEL_0), (UPDATE, WRONG)],
+        &[
+            (Asked::Account, Reply::Level0),
+            (Asked::Update, Reply::Wrong),
+        ],
         "JetStream error: no (code 400, error code 10058)",
     ),
     (
         Call::Update(("cfg", 1, Some(1))),
-        &[(ACCOUNT, LEVEL_0)],
+        &[(Asked::Account, Reply::Level0)],
         "limit markers not supported",
     ),
     (Call::Update(("cfg", 65, None)), &[], "too long history"),
     (
         Call::Put(("cfg", 0, None)),
-        &[(ACCOUNT, LEVEL_0), (UPDATE, KNOWN)],
+        &[
+            (Asked::Account, Reply::Level0),
+            (Asked::Update, Reply::Known),
+        ],
         CFG,
     ),
     (
         Call::Put(("cfg", 0, None)),
-        &[(ACCOUNT, LEVEL_0), (UPDATE, ABSENT), (CREATE, KNOWN)],
+        &[
+            (Asked::Account, Reply::Level0),
+            (Asked::Update, Reply::Absent),
+            (Asked::Create, Reply::Known),
+        ],
         CFG,
     ),
     (
         Call::Put(("cfg", 0, None)),
-        &[(ACCOUNT, LEVEL_0), (UPDATE, WRONG)],
+        &[
+            (Asked::Account, Reply::Level0),
+            (Asked::Update, Reply::Wrong),
+        ],
         "JetStream error: no (code 400, error code 10058)",
     ),
     (
         Call::Put(("cfg", 0, None)),
-        &[(ACCOUNT, OLD)],
+        &[(Asked::Account, Reply::Old)],
         "JetStream error: error: reserved_memory: missing",
     ),
 ];
@@ -267,7 +243,7 @@ fn calls_on_keys_ask_and_answer(rt: HostRuntime) {
 /// A bucket under another prefix of the API, which is told.
 const ELSEWHERE: &[Row<Call>] = &[(
     Call::Get("cfg"),
-    &[(("$JS.hub.API.STREAM.INFO.KV_cfg", "null"), KNOWN)],
+    &[(Asked::InfoElsewhere, Reply::Known)],
     "cfg KV_cfg $KV.cfg. - true KV_cfg",
 )];
 
@@ -284,7 +260,11 @@ fn late_over(alloc: Global, context: &Context, server: &mut ScriptedServer) -> W
 }
 
 fn late(alloc: Global, context: &Context) -> Words {
-    late_over(alloc, context, &mut serving(alloc, &[(ACCOUNT, LEVEL_0)])?)
+    late_over(
+        alloc,
+        context,
+        &mut serving(alloc, &[(Asked::Account, Reply::Level0)])?,
+    )
 }
 
 #[test]

@@ -6,6 +6,8 @@ mod buckets;
 #[cfg(test)]
 mod objects;
 #[cfg(test)]
+mod script;
+#[cfg(test)]
 mod server;
 #[cfg(test)]
 mod tables;

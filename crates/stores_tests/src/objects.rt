@@ -1,27 +1,12 @@
 //! Calls on buckets of objects.
 
-use crate::server::{
-    ABSENT, Asked, Case, DELETED, NOBODY, Reply, Row, WRONG, Words, context, polled, says_each,
-};
+use crate::script::{Asked, Reply};
+use crate::server::{Case, Row, Words, context, polled, says_each};
 use js_base::{OutOfMemory, Text};
 use js_context::Context;
 use js_link::ScriptedServer;
 use js_store::{StoreCalls, object_store};
 use std::alloc::Global;
-
-const CREATE: Asked = (
-    "$JS.API.STREAM.CREATE.OBJ_files",
-    r#"{"allow_direct":true,"allow_rollup_hdrs":true,"compression":"s2","discard":"new","name":"OBJ_files","retention":"limits","storage":"file","subjects":["$O.files.C.>","$O.files.M.>"]}"#,
-);
-
-const INFO: Asked = ("$JS.API.STREAM.INFO.OBJ_files", "null");
-
-const DELETE: Asked = ("$JS.API.STREAM.DELETE.OBJ_files", "{}");
-
-const KNOWN: Reply = (
-    None,
-    r#"{"config":{"name":"OBJ_files"},"created":"2026-01-01T00:00:00Z","state":{"messages":3,"bytes":96,"first_seq":1,"last_seq":3}}"#,
-);
 
 /// A call on the bucket of objects of a name.
 #[derive(Clone, Copy, Drop)]
@@ -64,24 +49,36 @@ impl Case for Call {
 
 /// Calls, what they ask and are replied, and what they come to.
 const CALLS: &[Row<Call>] = &[
-    (Call::Create("files"), &[(CREATE, KNOWN)], "files OBJ_files"),
     (
         Call::Create("files"),
-        &[(CREATE, WRONG)],
+        &[(Asked::CreateObjects, Reply::KnownObjects)],
+        "files OBJ_files",
+    ),
+    (
+        Call::Create("files"),
+        &[(Asked::CreateObjects, Reply::Wrong)],
         "bucket creation failed: no (code 400, error code 10058)",
     ),
     (Call::Create("a.b"), &[], "invalid Key Value Store name"),
-    (Call::Get("files"), &[(INFO, KNOWN)], "files OBJ_files"),
     (
         Call::Get("files"),
-        &[(INFO, NOBODY)],
+        &[(Asked::ObjectsInfo, Reply::KnownObjects)],
+        "files OBJ_files",
+    ),
+    (
+        Call::Get("files"),
+        &[(Asked::ObjectsInfo, Reply::Nobody)],
         "failed to get Object Store: request error: requested JetStream resource does not exist",
     ),
     (Call::Get("a.b"), &[], "invalid Object Store bucket name"),
-    (Call::Delete("files"), &[(DELETE, DELETED)], "done"),
     (
         Call::Delete("files"),
-        &[(DELETE, ABSENT)],
+        &[(Asked::DeleteObjects, Reply::Deleted)],
+        "done",
+    ),
+    (
+        Call::Delete("files"),
+        &[(Asked::DeleteObjects, Reply::Absent)],
         "failed to get Object Store: unknown (code 404, error code 10059)",
     ),
     (

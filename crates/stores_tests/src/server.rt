@@ -1,9 +1,10 @@
 //! A server that answers from a script, and what a call over it comes to.
 
+use crate::script::{Asked, Reply};
 use crate::tables::says;
 pub(crate) use crate::words::{Words, word};
 use bytes::Bytes;
-use js_base::{Error, Message, OutOfMemory, StatusCode, Subject, Text, Turn};
+use js_base::{Error, Message, OutOfMemory, Subject, Text, Turn};
 use js_call::State;
 use js_context::Context;
 use js_json::account::Account;
@@ -15,35 +16,15 @@ use std::fmt::Display;
 use std::process::Abort;
 use std::sync::Wait;
 
-/// The subject and the body of a request.
-pub(crate) type Asked = (&'static str, &'static str);
-
-/// The status and the body of a reply.
-pub(crate) type Reply = (Option<StatusCode>, &'static str);
-
-/// What comes where nobody answers.
-pub(crate) const NOBODY: Reply = (Some(StatusCode(503)), "");
-
-/// The stream is not there.
-pub(crate) const ABSENT: Reply = (None, r#"{"error":{"code":404,"err_code":10059}}"#);
-
-/// Another error of the API.
-pub(crate) const WRONG: Reply = (
-    None,
-    r#"{"error":{"code":400,"err_code":10058,"description":"no"}}"#,
-);
-
-pub(crate) const DELETED: Reply = (None, r#"{"success":true}"#);
-
 fn message(alloc: Global, reply: Reply) -> Result<Message, OutOfMemory> {
     let subject = Subject::new(alloc, "_INBOX.t.0")?;
-    let payload = Bytes::copy_from_slice(alloc, reply.1.as_bytes())?;
+    let payload = Bytes::copy_from_slice(alloc, reply.text().as_bytes())?;
     Ok(Message {
         subject,
         reply: None,
         payload,
         headers: None,
-        status: reply.0,
+        status: reply.status(),
         description: None,
         length: 0,
     })
@@ -55,7 +36,8 @@ fn scripted(
     asked: Asked,
     reply: Reply,
 ) -> Result<(), OutOfMemory> {
-    server.script(alloc, asked.0, message(alloc, reply)?)
+    let (subject, _) = asked.texts();
+    server.script(alloc, subject, message(alloc, reply)?)
 }
 
 /// A server without a script.
@@ -86,7 +68,7 @@ pub(crate) fn serving(
 }
 
 /// Whether that was sent: a request on that subject with that body.
-fn is_request(sent: &Sent, asked: Asked) -> bool {
+fn is_request(sent: &Sent, asked: (&str, &str)) -> bool {
     match sent {
         Sent::Request {
             subject,
@@ -103,7 +85,7 @@ fn has_asked(sent: &[Sent], script: &[(Asked, Reply)]) -> bool {
         && sent
             .iter()
             .zip(script)
-            .all(|(one, (asked, _))| is_request(one, *asked))
+            .all(|(one, (asked, _))| is_request(one, asked.texts()))
 }
 
 /// What a call answers, in a word.
