@@ -19,7 +19,8 @@ pub(crate) struct Reader {
     pub(crate) payloads: Payloads,
 }
 
-fn let_go(_said: Said) {}
+/// Lets go a value. It is generic, since what a large value is made of is then not looked into.
+fn let_go<T: Drop>(_value: T) {}
 
 impl Reader {
     /// What the next line says, if one is left. Once none was left, none is.
