@@ -4,8 +4,8 @@ ghost use Rattle.std.specs.Option.{option_copied};
 ghost use Rattle.js_ordered.specs.Driven.{Finishes, LeadsOn, PassesTo};
 ghost use Rattle.js_ordered.specs.Giving.{IsPublishing, IsSending};
 ghost use Rattle.js_ordered_rows.specs.Tasks.{next_rows};
-ghost use Rattle.js_pull.specs.Steps.{IsInquired, brought, row_of};
-ghost use Rattle.js_pull.specs.Reader.{info_subject};
+ghost use Rattle.js_pull.specs.Steps.{IsInquired, brought, informed_by, row_of};
+ghost use Rattle.js_pull.specs.Reader.{info_of_reply, info_subject};
 ghost use Rattle.js_pull.specs.declared.reader.Row.TheVariants as read;
 ghost use Rattle.js_table.specs.Fold.{matter_of};
 ghost use Rattle.js_table.specs.Passes.{matter_now};
@@ -135,6 +135,13 @@ fn reply_in(what: &EventKind) -> Option<&Message>
     }
 }
 
+/// Why messages are asked for after the reply that the event brings.
+fn informed(alloc: Global, what: &EventKind) -> Result<Option<Reason>, OutOfMemory>
+    ensures { IfOk result (λ reason. reason ≡ informed_by (info_of_reply (brought (matter_of what.now).answer))) }
+{
+    reason_of(alloc, reply_in(what))
+}
+
 /// The reply is read.
 fn answered(
     alloc: Global,
@@ -148,7 +155,7 @@ fn answered(
 {
     match &mut state.consumer.phase {
         Phase::Pulls(reader) => {
-            let informed = reason_of(alloc, reply_in(context.what))?;
+            let informed = informed(alloc, context.what)?;
             let step = reading::answered(reader, failures, informed);
             Ok(finish(state, step, outputs))
         }
