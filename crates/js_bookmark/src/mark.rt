@@ -9,7 +9,7 @@ use js_ordered::Output;
 use js_table::next_number;
 
 /// How many yields there were, and the bookmark after them.
-#[derive(Clone, Copy, Debug)]
+#[derive(Clone, Copy)]
 pub(crate) struct Mark {
     pub(crate) count: u64,
     /// None once the last of all sequences was yielded.

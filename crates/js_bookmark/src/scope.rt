@@ -11,7 +11,7 @@ use js_ordered::OrderedSetup;
 use std::alloc::Global;
 
 /// The stream that a session reads, and the subjects that it filters by.
-#[derive(Debug, Drop)]
+#[derive(Drop)]
 pub(crate) struct Scope {
     stream: Text,
     filters: Items<Text>,

@@ -5,7 +5,7 @@ use js_json::consumer::Info;
 use js_ordered::{Event, OrderedSetup, Run, Settings};
 
 /// A line of a session.
-#[derive(Debug, PartialEq, Eq, Drop)]
+#[derive(Drop)]
 pub enum Line {
     /// Something happens to the consumer.
     Event(Event),
@@ -14,7 +14,7 @@ pub enum Line {
 }
 
 /// One session of an ordered consumer, which may stop anywhere. The arguments of its replay, with saves among its events.
-#[derive(Debug, PartialEq, Eq, Drop)]
+#[derive(Drop)]
 pub struct Session {
     pub settings: Settings,
     pub setup: OrderedSetup,
@@ -26,7 +26,7 @@ pub struct Session {
 }
 
 /// What a session comes to.
-#[derive(Debug, PartialEq, Eq, Drop)]
+#[derive(Drop)]
 pub struct SessionRun {
     /// The run of its events.
     pub run: Run,

@@ -19,7 +19,7 @@ use std::alloc::Global;
 ///
 /// It goes as [`run_sessions`](crate::run_sessions) does, but is told one line after another and keeps none of them: a session begins, is told its
 /// events and saves, and ends. A session that is refused takes the sessions with it.
-#[derive(Debug, Drop)]
+#[derive(Drop)]
 pub struct Sessions {
     count: u64,
     next: u64,
@@ -40,7 +40,7 @@ pub struct SessionReplay<'a> {
 }
 
 /// What a session has come to at its end.
-#[derive(Debug, Drop)]
+#[derive(Drop)]
 pub struct SessionEnd {
     /// The sessions with this one, which tell the bookmark after it.
     pub sessions: Sessions,

@@ -19,7 +19,7 @@ pub struct OpenRequest {
 }
 
 /// What a look at an open request shows.
-#[derive(Debug, PartialEq, Eq, Drop)]
+#[derive(Drop)]
 pub enum Shown {
     /// Its answer, which is taken by the look.
     Came(Message),

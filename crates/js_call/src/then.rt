@@ -22,7 +22,7 @@ pub trait Decision<A, B>: Drop {
 }
 
 /// The second call follows where the first found nothing.
-#[derive(Clone, Copy, Debug, PartialEq, Eq, Drop)]
+#[derive(Clone, Copy, Drop)]
 pub struct IfAbsent;
 
 impl<T: Drop, E: Drop> Decision<Result<Option<T>, E>, Result<T, E>> for IfAbsent {

@@ -23,7 +23,7 @@ use std::snapshot::Snapshot;
 use std::sync::Wait;
 
 /// When the clock of an ack began, and how long it runs.
-#[derive(Clone, Copy, Debug, PartialEq, Eq)]
+#[derive(Clone, Copy)]
 pub(crate) struct Clock {
     pub(crate) since: Moment,
     pub(crate) wait: Nanos,

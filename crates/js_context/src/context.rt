@@ -25,7 +25,7 @@ use std::sync::{Arc, Wait};
 use std::thread::yield_now;
 
 /// How a context publishes.
-#[derive(Clone, Copy, Debug, PartialEq, Eq)]
+#[derive(Clone, Copy, Debug)]
 pub(crate) struct Settings {
     /// How long a detached ack keeps its permit without an answer, from the first `reap` on that looks at it.
     pub(crate) ack_timeout: Nanos,

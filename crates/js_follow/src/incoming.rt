@@ -17,7 +17,7 @@ use std::marker::Model;
 const BUFFER: usize = 65_536;
 
 /// What was read next.
-#[derive(Clone, Copy, Debug, PartialEq, Eq)]
+#[derive(Clone, Copy)]
 pub(crate) enum Incoming {
     /// A line, behind which more may come.
     Line,

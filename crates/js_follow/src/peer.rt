@@ -7,7 +7,7 @@ use js_base::Items;
 use js_io::Failed;
 
 /// One call of a [`Peer`].
-#[derive(Debug, PartialEq, Eq, Drop)]
+#[derive(Drop)]
 pub enum Turn {
     /// These bytes were read.
     Read(Items<u8>),

@@ -10,7 +10,7 @@ use js_table::{Event, EventKind};
 use std::alloc::Global;
 
 /// Some messages in order, a gap, and the recreation that it brings.
-#[derive(Clone, Copy, Debug, PartialEq, Eq)]
+#[derive(Clone, Copy)]
 pub(crate) struct Episode {
     /// How many came before it. It is also the number of the inbox that it is heard on.
     pub(crate) number: u64,

@@ -7,7 +7,7 @@ use js_base::OutOfMemory;
 use js_table::{Output, Run};
 
 /// How much a run puts out, over its opening and all of its steps.
-#[derive(Clone, Copy, Debug, PartialEq, Eq)]
+#[derive(Clone, Copy)]
 pub struct Summary {
     pub events: u64,
     pub yields: u64,

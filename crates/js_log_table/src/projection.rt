@@ -19,7 +19,7 @@ use std::marker::Model;
 
 /// The projection of a run whose outputs come one after another. It keeps what was yielded, and nothing else of them.
 /// Contracts see the applied entries, or the refusal of the first yield that does not rise.
-#[derive(Debug, Drop)]
+#[derive(Drop)]
 pub struct RunProjection {
     so_far: Result<Projection, ApplyError>,
 }

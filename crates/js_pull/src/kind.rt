@@ -8,7 +8,7 @@ use js_base::{HeaderMap, Message, StatusCode};
 use js_message::read_u64;
 
 /// What an arrival is, by its status, its description and its headers.
-#[derive(Clone, Copy, Debug, PartialEq, Eq)]
+#[derive(Clone, Copy)]
 pub enum Kind {
     /// One of the stream's messages.
     Delivered,
@@ -32,7 +32,7 @@ pub enum Kind {
 }
 
 /// The number that a header holds.
-#[derive(Clone, Copy, Debug, PartialEq, Eq)]
+#[derive(Clone, Copy)]
 pub enum HeaderNumber {
     /// There is no such header.
     Absent,

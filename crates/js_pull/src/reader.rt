@@ -28,7 +28,7 @@ pub enum MessagesErrorKind {
 }
 
 /// Whom a reader asks, for what, and where it is answered.
-#[derive(Debug, PartialEq, Eq, Drop)]
+#[derive(Drop)]
 pub struct Source {
     /// What the subjects of its requests begin with.
     pub api: Text,
@@ -48,7 +48,7 @@ pub struct Source {
 }
 
 /// The info that is asked for after a reconnection.
-#[derive(Clone, Copy, Debug, PartialEq, Eq)]
+#[derive(Clone, Copy)]
 pub enum InfoRequest {
     NoInfoRequest,
     /// The answer is waited for.
@@ -65,7 +65,7 @@ pub enum InfoRequest {
 }
 
 /// Why a pull request is made.
-#[derive(Clone, Copy, Debug, PartialEq, Eq)]
+#[derive(Clone, Copy)]
 pub enum Reason {
     /// Little is pending.
     Low,
@@ -76,7 +76,7 @@ pub enum Reason {
 }
 
 /// One thing that a reader does. It asks the link for one thing at most.
-#[derive(Debug, PartialEq, Eq, Drop)]
+#[derive(Drop)]
 pub enum Row {
     /// What an event does first, with the connection's change.
     Begin {
@@ -111,7 +111,7 @@ pub enum Row {
 }
 
 /// What a row tells the reader's user.
-#[derive(Debug, PartialEq, Eq, Drop)]
+#[derive(Drop)]
 pub enum ReaderOutput {
     Nothing,
     Hands(Message),
@@ -119,7 +119,7 @@ pub enum ReaderOutput {
 }
 
 /// A pull reader: it keeps messages coming, and says what arrivals are.
-#[derive(Debug, PartialEq, Eq, Drop)]
+#[derive(Drop)]
 pub struct Reader {
     pub source: Source,
     /// The messages that are still asked for,

@@ -21,7 +21,7 @@ use crate::reader::{
 use js_base::{Message, Moment, State, Text, Timer};
 
 /// A row that is due: one thing that a reader does, after its event has begun. The reply that `Answered` reads lies beside it.
-#[derive(Clone, Copy, Debug, PartialEq, Eq)]
+#[derive(Clone, Copy)]
 pub enum Due {
     /// A pull request.
     Ask { reason: Reason },
@@ -46,7 +46,7 @@ pub enum Due {
 }
 
 /// The rows that are left of an event. There are never more than two.
-#[derive(Clone, Copy, Debug, PartialEq, Eq)]
+#[derive(Clone, Copy)]
 pub enum Todo {
     Nothing,
     One(Due),
@@ -54,7 +54,7 @@ pub enum Todo {
 }
 
 /// What a row tells the reader's user.
-#[derive(Clone, Copy, Debug, PartialEq, Eq)]
+#[derive(Clone, Copy)]
 pub enum Notice {
     Nothing,
     /// The message that was taken is handed out.
@@ -64,7 +64,7 @@ pub enum Notice {
 }
 
 /// What a row does that was passed.
-#[derive(Clone, Copy, Debug, PartialEq, Eq)]
+#[derive(Clone, Copy)]
 pub struct Step {
     pub told: Notice,
     /// The row that follows at once. `Answered` reads the reply that was met, which is none where the replier is gone.

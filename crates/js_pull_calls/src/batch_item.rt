@@ -28,7 +28,7 @@ impl fmt::Display for BatchItemError {
 impl error::Error for BatchItemError {}
 
 /// What an arrival is to a batch, by its status.
-#[derive(Clone, Copy, Debug, PartialEq, Eq)]
+#[derive(Clone, Copy)]
 pub(crate) enum Arrival {
     /// One of the stream's messages.
     Delivered,

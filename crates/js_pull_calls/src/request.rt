@@ -22,7 +22,7 @@ pub(crate) struct PullRequest {
 }
 
 /// Why no inbox waits for the messages of a request.
-#[derive(Clone, Copy, Debug, PartialEq, Eq)]
+#[derive(Clone, Copy)]
 pub(crate) enum OpenFault {
     /// None was opened.
     Subscribe,

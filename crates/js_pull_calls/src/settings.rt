@@ -26,7 +26,7 @@ pub(crate) struct Settings {
 }
 
 /// The rows of the table of builders.
-#[derive(Clone, Copy, Debug, PartialEq, Eq)]
+#[derive(Clone, Copy)]
 pub(crate) enum BuilderKind {
     Streams,
     Fetches,
@@ -34,7 +34,7 @@ pub(crate) enum BuilderKind {
 }
 
 /// A row: what is asked for where nothing is set.
-#[derive(Clone, Copy, Debug, PartialEq, Eq)]
+#[derive(Clone, Copy)]
 pub(crate) struct Defaults {
     pub batch: u64,
     pub expires: Option<Nanos>,

@@ -15,7 +15,7 @@ use serde_json::{Map, Value};
 use std::alloc::Global;
 
 /// What a line of sessions says.
-#[derive(Debug, PartialEq, Eq, Drop)]
+#[derive(Drop)]
 pub enum Said {
     /// A session begins.
     Begins(Setup),

@@ -18,7 +18,7 @@ use js_tool::{Cell, Payloads, Setup, Unread, first_line, push_line};
 use std::alloc::{AllocError, Global};
 
 /// What sessions call for.
-#[derive(Debug, PartialEq, Eq, Drop)]
+#[derive(Drop)]
 pub enum SessionsReport {
     /// This text of all sessions.
     Done(Items<u8>),

@@ -67,7 +67,7 @@ pub(crate) fn ask_level(
 }
 
 /// The second call follows where the account was told, and its level allows the markers that are asked for.
-#[derive(Clone, Copy, Debug, PartialEq, Eq, Drop)]
+#[derive(Clone, Copy, Drop)]
 pub struct IfAllowed {
     pub(crate) limit_markers: bool,
 }

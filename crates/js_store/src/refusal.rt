@@ -8,7 +8,7 @@ use js_base::{Error, Source};
 use js_buckets::{is_valid_bucket_name, kv};
 
 /// Why the stream of a bucket is not asked for.
-#[derive(Clone, Copy, Debug, PartialEq, Eq)]
+#[derive(Clone, Copy)]
 pub enum Refusal {
     /// The bucket's name is none.
     InvalidStoreName,
@@ -21,7 +21,7 @@ pub enum Refusal {
 }
 
 /// Why the stream of a bucket is not asked for, and where that comes from.
-#[derive(Debug, PartialEq, Eq, Drop)]
+#[derive(Drop)]
 pub struct Refused {
     pub refusal: Refusal,
     pub source: Option<Source>,

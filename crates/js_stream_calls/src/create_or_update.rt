@@ -53,7 +53,7 @@ impl ApiCall for CreatingInfo {
 }
 
 /// The second call follows where the stream is not there.
-#[derive(Clone, Copy, Debug, PartialEq, Eq, Drop)]
+#[derive(Clone, Copy, Drop)]
 pub struct IfNotFound;
 
 impl Decision<Result<Info, CreateStreamError>, Result<Info, CreateStreamError>> for IfNotFound {

@@ -7,7 +7,7 @@ use js_json::consumer;
 use js_pull::Reader;
 
 /// What a consumer is made with.
-#[derive(Debug, PartialEq, Eq, Drop)]
+#[derive(Drop)]
 pub struct ReplayInput {
     pub settings: Settings,
     pub setup: OrderedSetup,
@@ -16,7 +16,7 @@ pub struct ReplayInput {
 }
 
 /// What a recreation waits for.
-#[derive(Clone, Copy, Debug, PartialEq, Eq)]
+#[derive(Clone, Copy)]
 pub enum Stage {
     /// Nothing: a row follows at once.
     Between,
@@ -29,7 +29,7 @@ pub enum Stage {
 }
 
 /// The inbox of a push create, with the arrivals that are held until the create is answered.
-#[derive(Debug, PartialEq, Eq, Drop)]
+#[derive(Drop)]
 pub struct Opened {
     pub inbox: u64,
     pub subject: Subject,
@@ -37,7 +37,7 @@ pub struct Opened {
 }
 
 /// An open recreation: the old consumer is deleted, and a new one made.
-#[derive(Debug, PartialEq, Eq, Drop)]
+#[derive(Drop)]
 pub struct Recreation {
     pub old_name: Text,
     pub new_name: Text,
@@ -49,7 +49,7 @@ pub struct Recreation {
 }
 
 /// What a consumer is at.
-#[derive(Debug, PartialEq, Eq, Drop)]
+#[derive(Drop)]
 pub enum Phase {
     /// A pull reader has the current inbox.
     Pulls(Reader),
@@ -64,7 +64,7 @@ pub enum Phase {
 }
 
 /// An ordered consumer.
-#[derive(Debug, PartialEq, Eq, Drop)]
+#[derive(Drop)]
 pub struct Consumer {
     pub phase: Phase,
     /// What was yielded, and where it is made anew from.

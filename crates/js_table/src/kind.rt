@@ -8,7 +8,7 @@ use js_base::{HeaderMap, Message, StatusCode};
 use js_pull::{HeaderNumber, header_number};
 
 /// What an arrival is, by its status and its headers.
-#[derive(Clone, Copy, Debug, PartialEq, Eq)]
+#[derive(Clone, Copy)]
 pub enum PushKind {
     /// One of the stream's messages.
     Delivered,

@@ -9,7 +9,7 @@ use js_base::{Message, OutOfMemory, TryClone};
 use js_message::parse_info;
 
 /// The stream sequence of a message, and its number among what its consumer was sent.
-#[derive(Clone, Copy, Debug, PartialEq, Eq)]
+#[derive(Clone, Copy)]
 pub struct Place {
     pub sequence: u64,
     pub number: u64,

@@ -5,7 +5,7 @@ use crate::consumer::{Consumer, Phase};
 use js_base::OutOfMemory;
 
 /// A consumer beside the link of a replay.
-#[derive(Debug, PartialEq, Eq, Drop)]
+#[derive(Drop)]
 pub struct ReplayState {
     pub consumer: Consumer,
     /// Sends go through.

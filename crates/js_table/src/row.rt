@@ -3,14 +3,14 @@ use js_base::Message;
 use js_json::consumer;
 
 /// A message on an inbox.
-#[derive(Debug, PartialEq, Eq, Drop)]
+#[derive(Drop)]
 pub struct Arrival {
     pub inbox: u64,
     pub message: Message,
 }
 
 /// One thing that a consumer does. It asks the link for one thing at most.
-#[derive(Debug, PartialEq, Eq, Drop)]
+#[derive(Drop)]
 pub enum Row {
     /// What an event does first.
     Event,

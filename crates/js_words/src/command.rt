@@ -10,7 +10,7 @@ use js_codes::is_valid_name;
 use js_tool::read_number;
 
 /// What the program is asked to do with the yields of a transcript's replay. It is borrowed from the words.
-#[derive(Clone, Copy, Debug, PartialEq, Eq)]
+#[derive(Clone, Copy)]
 pub enum LogCommand<'a> {
     /// To write the last entry of each subject that a filter matches: of all yields, or of those up to a sequence.
     Project {

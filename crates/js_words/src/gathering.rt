@@ -16,7 +16,7 @@ use js_tool::{Payloads, Setup, Unread, next_line};
 use std::alloc::Global;
 
 /// What a replay comes to.
-#[derive(Debug, PartialEq, Eq, Drop)]
+#[derive(Drop)]
 pub enum Ending {
     /// All that it yields, in order.
     Yields(Items<Entry>),

@@ -22,7 +22,7 @@ use js_tool::{Cell, Unread, first_line, push_line, refusal_line};
 use std::alloc::{AllocError, Global};
 
 /// What a transcript calls for.
-#[derive(Debug, PartialEq, Eq, Drop)]
+#[derive(Drop)]
 pub enum Report {
     /// This text.
     Done(Items<u8>),

@@ -8,7 +8,7 @@ use serde_json::Value;
 use std::alloc::Global;
 
 /// A page of a list: the names of streams, or what the server knows of them.
-#[derive(Debug, PartialEq, Eq, Drop)]
+#[derive(Drop)]
 pub struct Page<T> {
     /// How many items the whole list has.
     pub total: u64,
@@ -29,7 +29,7 @@ impl<T: Member> FromValue for Page<T> {
 }
 
 /// Asks for a page of the names of streams.
-#[derive(Debug, PartialEq, Eq, Drop)]
+#[derive(Drop)]
 pub struct NamesRequest {
     /// How many names come before the page.
     pub offset: u64,
@@ -50,7 +50,7 @@ impl ToValue for NamesRequest {
 }
 
 /// Asks for a page of what the server knows of all streams.
-#[derive(Clone, Copy, Debug, PartialEq, Eq)]
+#[derive(Clone, Copy)]
 pub struct ListRequest {
     /// How many streams come before the page.
     pub offset: u64,
