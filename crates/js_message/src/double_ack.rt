@@ -13,7 +13,7 @@ use js_link::{InboxId, Link, LinkError, Taken};
 use std::alloc::Global;
 
 /// A body that goes to a reply subject, and how long its answer is waited for.
-#[derive(Drop)]
+#[derive(Debug, PartialEq, Eq, Drop)]
 pub(crate) struct Outgoing {
     to: Subject,
     body: Bytes,
@@ -21,7 +21,7 @@ pub(crate) struct Outgoing {
 }
 
 /// How far a double ack has come.
-#[derive(Drop)]
+#[derive(Debug, PartialEq, Eq, Drop)]
 pub(crate) enum Stage {
     Unsent,
     /// Its inbox is open under this subject, and nothing was sent.
@@ -34,7 +34,7 @@ pub(crate) enum Stage {
 ///
 /// One that is dropped before its end leaves its inbox open. Whatever comes on that inbox is the answer: the next message of
 /// the consumer after `AckKind::Next`, which is given up, and a message of status 503 where the consumer was deleted.
-#[derive(Drop)]
+#[derive(Debug, PartialEq, Eq, Drop)]
 pub struct DoubleAck {
     outgoing: Option<Outgoing>,
     stage: Stage,
