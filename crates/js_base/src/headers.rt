@@ -1,6 +1,6 @@
 //! The headers of a message.
 
-ghost use Rattle.std.specs.Prelude.{◌≡◌, [], ◌∷◌, ◌++◌, ◌-◌, ◌^◌, ◌&&◌, nat_eq, min, not, reverse, OnOk, OnErr};
+ghost use Rattle.std.specs.Prelude.{◌≡◌, [], ◌∷◌, ◌++◌, ◌-◌, ◌^◌, ◌&&◌, nat_eq, min, not, reverse, IfOk, OnOk, OnErr};
 ghost use Rattle.std.specs.List.{list_all};
 ghost use Rattle.std.specs.Cmp.{on_per, and_per, on_equiv, and_equiv, partial_equiv_from_equiv};
 ghost use Rattle.std.specs.Cmp.Lexicographic.{pointwise, lists_per, lists_equiv, nat_list_eq_equiv};
@@ -24,6 +24,16 @@ pub struct Header {
 
 impl Header {
     ghost use Rattle.js_base.specs.Headers.{line_len};
+
+    /// A copy of a name and of its value.
+    fn new(alloc: Global, name: &str, value: &str) -> Result<Header, OutOfMemory>
+        ensures { IfOk result (λ header. header ≡ record { name = name.now; value = value.now }) }
+    {
+        Ok(Header {
+            name: Text::from_str(alloc, name)?,
+            value: Text::from_str(alloc, value)?,
+        })
+    }
 
     /// The bytes of one line, up to the type's end.
     fn wire_len(&self) -> u64
@@ -108,10 +118,7 @@ impl HeaderMap {
         ensures ok { OnOk result (self.new ≡ with_only name.now value.now self.old) }
         ensures err { OnErr result (self.new ≡ self.old) }
     {
-        let header = Header {
-            name: Text::from_str(alloc, name)?,
-            value: Text::from_str(alloc, value)?,
-        };
+        let header = Header::new(alloc, name, value)?;
         self.headers
             .keep_and_push(|other| name != other.name.as_str(), header)
     }
@@ -121,11 +128,7 @@ impl HeaderMap {
         ensures ok { OnOk result (self.new ≡ self.old ++ record { name = name.now; value = value.now } ∷ []) }
         ensures err { OnErr result (self.new ≡ self.old) }
     {
-        let header = Header {
-            name: Text::from_str(alloc, name)?,
-            value: Text::from_str(alloc, value)?,
-        };
-        self.headers.push(header)
+        self.headers.push(Header::new(alloc, name, value)?)
     }
 
     /// The first value of a name.

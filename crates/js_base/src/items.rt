@@ -96,11 +96,11 @@ impl<T> From<Vec<T>> for Items<T> {
 
 impl<T: TryClone> TryClone for Items<T> {
     fn try_clone(&self) -> Result<Items<T>, OutOfMemory> {
-        let mut items = Vec::new(*self.items.allocator());
+        let mut copy = Items::new(*self.items.allocator());
         for item in &self.items {
-            items.push(item.try_clone()?)?;
+            copy.push(item.try_clone()?)?;
         }
-        Ok(Items { items })
+        Ok(copy)
     }
 }
 

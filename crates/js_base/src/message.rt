@@ -25,11 +25,11 @@ impl fmt::Display for State {
     ghost output = { λ state. Some (state_text state) };
 
     fn fmt<W: fmt::Write>(&self, f: &mut fmt::Formatter<W>) -> fmt::Result {
-        match self {
-            State::Pending => write!(f, "pending"),
-            State::Connected => write!(f, "connected"),
-            State::Disconnected => write!(f, "disconnected"),
-        }
+        f.write_str(match self {
+            State::Pending => "pending",
+            State::Connected => "connected",
+            State::Disconnected => "disconnected",
+        })
     }
 }
 

@@ -52,8 +52,7 @@ impl fmt::Display for Subject {
     ghost output = { λ subject. Some subject };
 
     fn fmt<W: fmt::Write>(&self, f: &mut fmt::Formatter<W>) -> fmt::Result {
-        let text = self.as_str();
-        write!(f, "{text}")
+        f.write_str(self.as_str())
     }
 }
 

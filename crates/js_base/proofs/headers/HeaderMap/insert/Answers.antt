@@ -11,11 +11,11 @@ on_ok-map (Ok x) f h = f h
 on_ok-map (Err e) f h = h
 
 -- what is kept, with the one header after it
-only : {name value n v : List ℕ} {old fields kept new : List Header} → n ≡ name → v ≡ value → fields ≡ old → kept ≡ without_name name fields → new ≡ kept ++ record { name = n; value = v } ∷ [] → new ≡ with_only name value old
-only n v o k e = rw (e, k, n, v, o)
+only : {name value : List ℕ} {header : Header} {old fields kept new : List Header} → header ≡ record { name = name; value = value } → fields ≡ old → kept ≡ without_name name fields → new ≡ kept ++ header ∷ [] → new ≡ with_only name value old
+only h o k e = rw (e, k, h, o)
 
 pub returns-clause-ok : goal.returns-clause-ok
 returns-clause-ok c =
     on_ok-map c.keep_and_push.result
-    (λ h. only c.in_ok-from_str.ensures c.in_ok-from_str-2.ensures c.self.view_is (filter_same _ (λ other. not (bytes_eq c.args.name.now other.name)) _ (λ x b f' k. search rules) _ _ h.1) h.2)
+    (λ h. only c.in_ok-header.ensures c.self.view_is (filter_same _ (λ other. not (bytes_eq c.args.name.now other.name)) _ (λ x b f' k. search rules) _ _ h.1) h.2)
     c.keep_and_push.ensures.ok

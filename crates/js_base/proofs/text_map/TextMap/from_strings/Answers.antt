@@ -10,7 +10,7 @@ use Rattle.js_base.proofs.text_map.TextMap.from_strings.Goals as goal
 
 pub loop-name-preserved : goal.loop-name-preserved
 loop-name-preserved c =
-    let done = c.loop-name.map.entries in
+    let done = c.loop-name.texts in
     let e : Entry (List ℕ) = (string_bytes c.in-Some.name.now, string_bytes c.in-Some.value.now) in
     let left = bytes_of c.next.new.self in
     let all : bytes_of c.args.strings.now.entries ≡ done ++ e ∷ left = c.loop-name.invariant ∙ ap (λ es. done ++ bytes_of es) c.in-Some.ensures.steps in
@@ -18,5 +18,5 @@ loop-name-preserved c =
     let last = insert_last done e left (subst (λ es. IsStrictlySortedBy (slice_cmp nat_cmp) (keys_of es)) all sorted) in
     let name = c.in_ok-name.ensures ∙ c.as_str.ensures.value in
     let value = c.in_ok-value.ensures ∙ c.as_str-in-loop-name.ensures.value in
-    let put : c.insert.new.self.entries ≡ done ++ e ∷ [] = rw (c.in_ok-insert.ensures.entries, name, value) last in
+    let put : c.insert.new.self ≡ done ++ e ∷ [] = rw (c.in_ok-insert.ensures.ok, name, value) last in
     all ∙ sym (append_assoc done (e ∷ []) left) ∙ ap (λ es. es ++ left) (sym put)
