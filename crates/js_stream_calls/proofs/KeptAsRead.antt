@@ -42,6 +42,14 @@ kept_as_read kept read body h =
     let same = same_as_before h.before h.after h.plain (one_value (config_value read) h.before h.after h.was h.is) in
     subst (λ b. SentBy b kept h.before h.after body) same h.sent
 
+-- the body that is sent, by what is written of both configurations
+pub keeps_in : (kept : List ℕ) (read config : Config) (before after : Data) (r : Result (List ℕ) OutOfMemory)
+    → config_value read ≡ Ok before → config_value config ≡ Ok after → has_float before ≡ false
+    → IfOk r (λ body. SentBy (is_same before after) kept before after body) → IfOk r (λ body. KeepsIn kept read config body)
+keeps_in kept read config before after (Ok body) was is plain sent =
+    record { before = before; after = after; was = was; is = is; plain = plain; sent = sent }
+keeps_in kept read config before after (Err e) was is plain sent = tt
+
 -- The request with a body that was written over what was kept.
 pub asks_with : (scope : ApiScope) (handle : StreamHandle Info) (config : Config) (name body : List ℕ) (r : Result RawCall OutOfMemory)
     → name ≡ config.name → SendsKept handle.kept handle.info.config config body

@@ -85,6 +85,11 @@ find_row = record {
 abbrev pub finding : ApiScope → List ℕ → Call FindingStream
 finding scope name = calling (record { scope = scope; name = name }) (asking scope (under (codes "STREAM.INFO") name) (codes "null"))
 
+-- a first call, and then the one that makes the stream, which is not sent
+abbrev pub OrCreates : {A : Type 0} → A → ApiScope → Config → Then A (Call CreatingStream) IfAbsent → Type 0
+OrCreates first scope config calls =
+    (create : Call CreatingStream) × Creates scope config create × (calls ≡ First first create (record {}))
+
 -- the calls, of which none is sent
 abbrev pub FindsOrCreates : ApiScope → Config → Then (Call FindingStream) (Call CreatingStream) IfAbsent → Type 0
 FindsOrCreates scope config calls =

@@ -14,6 +14,12 @@ use Rattle.js_stream_calls.specs.declared.kept.KeptInfo.{KeptInfo}
 abbrev pub whole : Reads Kept
 whole key d = if has_float d then Err Float else Ok (record { text = compact_text d })
 
+-- the configuration as it was sent, beside what was read before it
+abbrev pub with_config : {I : Type 0} → I → Data → Result (I × Kept) ReadError
+with_config info d = do
+  config ← required whole key.Config d
+  Ok (info, config)
+
 -- an info from its members, and the configuration as it was sent
 unfoldable pub kept_info_fields : Data → Result KeptInfo ReadError
 kept_info_fields d = do

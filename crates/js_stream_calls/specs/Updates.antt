@@ -81,6 +81,11 @@ abbrev pub unless_missing : Result Info (Error CreateStreamErrorKind) → Option
 unless_missing (Ok info) = Some (Ok info)
 unless_missing (Err error) = unless_not_found (kind_of error) error
 
+-- a first call, and then the one that makes the stream, which is not sent
+abbrev pub OrCreates : {A : Type 0} → A → ApiScope → Config → Then A (Call CreatingInfo) IfNotFound → Type 0
+OrCreates first scope config calls =
+    (create : Call CreatingInfo) × CreatesInfo scope config create × (calls ≡ First first create (record {}))
+
 -- the calls, of which none is sent
 abbrev pub UpdatesOrCreates : ApiScope → Config → Then (Call UpdatingStream) (Call CreatingInfo) IfNotFound → Type 0
 UpdatesOrCreates scope config calls =

@@ -1,11 +1,11 @@
 //! The call that makes a stream.
 ghost use Rattle.std.specs.Prelude.{◌≡◌, IfOk};
-ghost use Rattle.js_stream_calls.specs.Creates.{create_row, AsksToCreate, AsksWith, Creates, IsTextOf};
+ghost use Rattle.js_stream_calls.specs.Creates.{create_row, creating_stream, AsksToCreate, AsksWith, Creates, IsTextOf};
 
 use crate::error::{CreateStreamError, api_error, create_failure};
 use crate::handle::StreamHandle;
 use crate::name::create_refusal;
-use crate::places::{place_all, two_places};
+use crate::places::{Placing, two_places};
 use bytes::Bytes;
 use js_base::{Error, OutOfMemory, Source, Text, TryClone};
 use js_call::{ApiCall, ApiScope, Call, Failure, RawCall};
@@ -89,15 +89,40 @@ pub(crate) fn ask_with(
 }
 
 /// A request for a stream that is to be made, in whose configuration domains are externals.
-pub(crate) fn ask_to_create(
+pub(crate) fn ask_to_create<C: Placing>(
     alloc: Global,
     scope: &ApiScope,
-    config: Config,
+    config: C,
 ) -> Result<RawCall, OutOfMemory>
-    ensures { IfOk result (λ asked. AsksToCreate scope.now config asked) }
+    ensures { IfOk result (λ asked. AsksToCreate scope.now (C.config config) asked) }
 {
-    let there = place_all(alloc, config)?;
-    ask_with(alloc, scope, "STREAM.CREATE", &there)
+    let mut there = config;
+    there.place_all(alloc)?;
+    ask_with(alloc, scope, "STREAM.CREATE", there.config())
+}
+
+/// What the call keeps of its arguments.
+fn creating_stream(scope: &ApiScope, config: &Config) -> Result<CreatingStream, OutOfMemory>
+    ensures { IfOk result (λ row. row ≡ creating_stream scope.now config.now) }
+{
+    Ok(CreatingStream {
+        scope: scope.try_clone()?,
+        name: config.name.try_clone()?,
+        two_places: two_places(config),
+    })
+}
+
+/// The call that makes a stream of that configuration.
+pub(crate) fn create<C: Placing>(
+    alloc: Global,
+    scope: &ApiScope,
+    config: C,
+) -> Result<CreateStream, OutOfMemory>
+    ensures { IfOk result (λ call. Creates scope.now (C.config config) call) }
+{
+    let row = creating_stream(scope, config.config())?;
+    let asked = ask_to_create(alloc, scope, config)?;
+    Ok(Call::new(row, asked))
 }
 
 /// Makes a stream, and answers a handle of it. A mirror or source that has a domain alone gets the domain's API as its external.
@@ -113,11 +138,5 @@ pub fn create_stream(
 ) -> Result<CreateStream, OutOfMemory>
     ensures { IfOk result (λ call. Creates scope.now config call) }
 {
-    let meaning = CreatingStream {
-        scope: scope.try_clone()?,
-        name: config.name.try_clone()?,
-        two_places: two_places(&config),
-    };
-    let asked = ask_to_create(alloc, scope, config)?;
-    Ok(Call::new(meaning, asked))
+    create(alloc, scope, config)
 }

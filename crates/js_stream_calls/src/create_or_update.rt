@@ -1,11 +1,11 @@
 //! The calls that change a stream, and make it where it is not there.
 ghost use Rattle.std.specs.Prelude.{◌≡◌, IfOk};
-ghost use Rattle.js_stream_calls.specs.Updates.{create_info_row, CreatesInfo, unless_missing, UpdatesOrCreates};
+ghost use Rattle.js_stream_calls.specs.Updates.{create_info_row, creating_info, CreatesInfo, OrCreates, unless_missing, UpdatesOrCreates};
 
 use crate::create::ask_to_create;
 use crate::error::{CreateStreamError, CreateStreamErrorKind, create_failure};
 use crate::name::create_refusal;
-use crate::places::two_places;
+use crate::places::{Placing, two_places};
 use crate::update::{UpdateStream, told, update_stream};
 use js_base::{Error, OutOfMemory, Source, Text, TryClone};
 use js_call::{ApiCall, ApiScope, Call, Decision, Failure, Then};
@@ -76,19 +76,54 @@ impl Decision<Result<Info, CreateStreamError>, Result<Info, CreateStreamError>> 
     }
 }
 
-fn create_info(
+/// What the second call keeps of its arguments.
+fn creating_info(config: &Config) -> Result<CreatingInfo, OutOfMemory>
+    ensures { IfOk result (λ row. row ≡ creating_info config.now) }
+{
+    Ok(CreatingInfo {
+        name: config.name.try_clone()?,
+        two_places: two_places(config),
+    })
+}
+
+fn create_info<C: Placing>(
     alloc: Global,
     scope: &ApiScope,
-    config: Config,
+    config: C,
 ) -> Result<Call<CreatingInfo>, OutOfMemory>
-    ensures { IfOk result (λ call. CreatesInfo scope.now config call) }
+    ensures { IfOk result (λ call. CreatesInfo scope.now (C.config config) call) }
 {
-    let meaning = CreatingInfo {
-        name: config.name.try_clone()?,
-        two_places: two_places(&config),
-    };
+    let row = creating_info(config.config())?;
     let asked = ask_to_create(alloc, scope, config)?;
-    Ok(Call::new(meaning, asked))
+    Ok(Call::new(row, asked))
+}
+
+/// A first call, and then the one that makes the stream.
+fn or_create<A: Drop, C: Placing>(
+    alloc: Global,
+    scope: &ApiScope,
+    first: A,
+    config: C,
+) -> Result<Then<A, Call<CreatingInfo>, IfNotFound>, OutOfMemory>
+    ensures { IfOk result (λ calls. OrCreates first scope.now (C.config config) calls) }
+{
+    let second = create_info(alloc, scope, config)?;
+    Ok(Then::First {
+        first,
+        second,
+        decision: IfNotFound,
+    })
+}
+
+fn update_or_create<C: Placing>(
+    alloc: Global,
+    scope: &ApiScope,
+    config: C,
+) -> Result<CreateOrUpdateStream, OutOfMemory>
+    ensures { IfOk result (λ calls. UpdatesOrCreates scope.now (C.config config) calls) }
+{
+    let first = update_stream(alloc, scope, config.config())?;
+    or_create(alloc, scope, first, config)
 }
 
 /// Changes a stream, and makes it as `create_stream` does where the server answers that it is not there, in the same poll. Where it
@@ -103,11 +138,5 @@ pub fn create_or_update_stream(
 ) -> Result<CreateOrUpdateStream, OutOfMemory>
     ensures { IfOk result (λ calls. UpdatesOrCreates scope.now config calls) }
 {
-    let first = update_stream(alloc, scope, &config)?;
-    let second = create_info(alloc, scope, config)?;
-    Ok(Then::First {
-        first,
-        second,
-        decision: IfNotFound,
-    })
+    update_or_create(alloc, scope, config)
 }

@@ -2,9 +2,9 @@
 ghost use Rattle.std.specs.Prelude.{◌≡◌, IfOk};
 ghost use Rattle.js_stream_calls.specs.Gets.{delete_row, deleting};
 
+use crate::ask::call_on;
 use crate::error::{DeleteStreamError, DeleteStreamErrorKind};
 use crate::name::get_refusal;
-use bytes::Bytes;
 use js_base::{Error, OutOfMemory, Source, Text};
 use js_call::{ApiCall, ApiScope, Call, Failure};
 use js_fields::ReadError;
@@ -61,9 +61,7 @@ pub fn delete_stream(
 ) -> Result<DeleteStream, OutOfMemory>
     ensures { IfOk result (λ call. call ≡ deleting scope.now name.now) }
 {
-    let asked = scope.ask_named(alloc, "STREAM.DELETE", name, Bytes::from_static(b"{}"))?;
-    let meaning = DeletingStream {
-        name: Text::from_str(alloc, name)?,
-    };
-    Ok(Call::new(meaning, asked))
+    let kept = Text::from_str(alloc, name)?;
+    let row = DeletingStream { name: kept };
+    call_on(alloc, scope, row, "STREAM.DELETE", name, b"{}")
 }

@@ -2,11 +2,11 @@
 ghost use Rattle.std.specs.Prelude.{◌≡◌, IfOk};
 ghost use Rattle.js_stream_calls.specs.Gets.{get_row, getting, got, GivesHandle, handle};
 
+use crate::ask::call_on;
 use crate::error::{GetStreamError, GetStreamErrorKind};
 use crate::handle::StreamHandle;
 use crate::kept::KeptInfo;
 use crate::name::get_refusal;
-use bytes::Bytes;
 use js_base::{Error, OutOfMemory, Source, Text, TryClone};
 use js_call::{ApiCall, ApiScope, Call, Failure};
 use js_fields::ReadError;
@@ -63,6 +63,16 @@ impl ApiCall for GettingStream {
     }
 }
 
+/// What the call keeps of its arguments.
+fn getting_row(alloc: Global, scope: &ApiScope, name: &str) -> Result<GettingStream, OutOfMemory>
+    ensures { IfOk result (λ row. row ≡ record { scope = scope.now; name = name.now }) }
+{
+    Ok(GettingStream {
+        scope: scope.try_clone()?,
+        name: Text::from_str(alloc, name)?,
+    })
+}
+
 /// Gets a stream with what the server knows of it. The handle keeps the configuration as it was sent, every member of it.
 ///
 /// The one refusal here is want of memory; others come from the polls. `EmptyName` and `InvalidStreamName` come from the first, and
@@ -71,12 +81,8 @@ impl ApiCall for GettingStream {
 pub fn get_stream(alloc: Global, scope: &ApiScope, name: &str) -> Result<GetStream, OutOfMemory>
     ensures { IfOk result (λ call. call ≡ getting scope.now name.now) }
 {
-    let asked = scope.ask_named(alloc, "STREAM.INFO", name, Bytes::from_static(b"null"))?;
-    let meaning = GettingStream {
-        scope: scope.try_clone()?,
-        name: Text::from_str(alloc, name)?,
-    };
-    Ok(Call::new(meaning, asked))
+    let row = getting_row(alloc, scope, name)?;
+    call_on(alloc, scope, row, "STREAM.INFO", name, b"null")
 }
 
 fn bare_handle(alloc: Global, scope: &ApiScope, name: &str) -> Result<StreamHandle<()>, OutOfMemory>

@@ -1,15 +1,15 @@
 //! The calls that get a stream, and make it where it is not there.
-ghost use Rattle.std.specs.Prelude.{◌≡◌, IfOk, codes};
-ghost use Rattle.js_call.specs.Scopes.{asking, under};
-ghost use Rattle.js_stream_calls.specs.Creates.{find_row, finding, FindsOrCreates};
+ghost use Rattle.std.specs.Prelude.{◌≡◌, IfOk};
+ghost use Rattle.js_stream_calls.specs.Creates.{find_row, finding, FindsOrCreates, OrCreates};
 
-use crate::create::{CreateStream, create_stream};
+use crate::ask::call_on;
+use crate::create::{CreateStream, create};
 use crate::error::{CreateStreamError, api_error, create_failure};
 use crate::handle::StreamHandle;
 use crate::name::name_refusal;
-use bytes::Bytes;
+use crate::places::Placing;
 use js_base::{Error, OutOfMemory, Source, Text, TryClone};
-use js_call::{ApiCall, ApiScope, Call, Failure, IfAbsent, RawCall, Then};
+use js_call::{ApiCall, ApiScope, Call, Failure, IfAbsent, Then};
 use js_fields::ReadError;
 use js_json::{Response, response_as};
 use js_stream_json::stream::{Config, Info};
@@ -73,43 +73,53 @@ impl ApiCall for FindingStream {
     }
 }
 
-fn ask_on(
-    alloc: Global,
-    scope: &ApiScope,
-    words: &str,
-    name: &Text,
-    body: Bytes,
-) -> Result<RawCall, OutOfMemory>
-    ensures { IfOk result (λ asked. asked ≡ asking scope.now (under words.now name.now) body) }
+/// What the first call keeps of its arguments.
+fn finding_row(alloc: Global, scope: &ApiScope, name: &str) -> Result<FindingStream, OutOfMemory>
+    ensures { IfOk result (λ row. row ≡ record { scope = scope.now; name = name.now }) }
 {
-    scope.ask_named(alloc, words, name.as_str(), body)
-}
-
-fn ask_for_info(alloc: Global, scope: &ApiScope, name: &Text) -> Result<RawCall, OutOfMemory>
-    ensures { IfOk result (λ asked. asked ≡ asking scope.now (under (codes "STREAM.INFO") name.now) (codes "null")) }
-{
-    ask_on(
-        alloc,
-        scope,
-        "STREAM.INFO",
-        name,
-        Bytes::from_static(b"null"),
-    )
+    Ok(FindingStream {
+        scope: scope.try_clone()?,
+        name: Text::from_str(alloc, name)?,
+    })
 }
 
 fn find_stream(
     alloc: Global,
     scope: &ApiScope,
-    name: &Text,
+    name: &str,
 ) -> Result<Call<FindingStream>, OutOfMemory>
     ensures { IfOk result (λ call. call ≡ finding scope.now name.now) }
 {
-    let asked = ask_for_info(alloc, scope, name)?;
-    let meaning = FindingStream {
-        scope: scope.try_clone()?,
-        name: name.try_clone()?,
-    };
-    Ok(Call::new(meaning, asked))
+    let row = finding_row(alloc, scope, name)?;
+    call_on(alloc, scope, row, "STREAM.INFO", name, b"null")
+}
+
+/// A first call, and then the one that makes the stream.
+fn or_create<A: Drop, C: Placing>(
+    alloc: Global,
+    scope: &ApiScope,
+    first: A,
+    config: C,
+) -> Result<Then<A, CreateStream, IfAbsent>, OutOfMemory>
+    ensures { IfOk result (λ calls. OrCreates first scope.now (C.config config) calls) }
+{
+    let second = create(alloc, scope, config)?;
+    Ok(Then::First {
+        first,
+        second,
+        decision: IfAbsent,
+    })
+}
+
+fn find_or_create<C: Placing>(
+    alloc: Global,
+    scope: &ApiScope,
+    config: C,
+) -> Result<GetOrCreateStream, OutOfMemory>
+    ensures { IfOk result (λ calls. FindsOrCreates scope.now (C.config config) calls) }
+{
+    let first = find_stream(alloc, scope, config.config().name.as_str())?;
+    or_create(alloc, scope, first, config)
 }
 
 /// Gets a stream, and makes it as `create_stream` does where the server answers code 404, in the same poll. A stream that is there is
@@ -124,11 +134,5 @@ pub fn get_or_create_stream(
 ) -> Result<GetOrCreateStream, OutOfMemory>
     ensures { IfOk result (λ calls. FindsOrCreates scope.now config calls) }
 {
-    let first = find_stream(alloc, scope, &config.name)?;
-    let second = create_stream(alloc, scope, config)?;
-    Ok(Then::First {
-        first,
-        second,
-        decision: IfAbsent,
-    })
+    find_or_create(alloc, scope, config)
 }

@@ -1,6 +1,8 @@
 //! A stream's configuration as the server sent it.
 ghost use Rattle.std.specs.Prelude.{◌≡◌};
-ghost use Rattle.js_stream_calls.specs.KeptInfos.{kept_info_fields, whole};
+ghost use Rattle.serde_json.specs.View.{view};
+ghost use Rattle.js_fields.specs.Reading.{Gives};
+ghost use Rattle.js_stream_calls.specs.KeptInfos.{kept_info_fields, whole, with_config};
 
 use js_base::Text;
 use js_fields::{FromValue, Key, Member, ReadError, has_float, required};
@@ -46,14 +48,21 @@ pub struct KeptInfo {
     pub config: Kept,
 }
 
+/// The configuration beside what was read before it, which is not opened here.
+fn with_config<I: Drop>(alloc: Global, object: &Value, info: I) -> Result<(I, Kept), ReadError>
+    ensures { Gives result (with_config info (view object.now)) }
+{
+    let config = required(alloc, object, Key::Config)?;
+    Ok((info, config))
+}
+
 impl FromValue for KeptInfo {
     ghost fields = { kept_info_fields };
 
     #[tactic(auto, unfolding(crate::specs::KeptInfos::kept_info_fields))]
     fn from_fields(alloc: Global, object: &Value) -> Result<KeptInfo, ReadError> {
-        Ok(KeptInfo {
-            info: Info::from_fields(alloc, object)?,
-            config: required(alloc, object, Key::Config)?,
-        })
+        let info = Info::from_fields(alloc, object)?;
+        let (info, config) = with_config(alloc, object, info)?;
+        Ok(KeptInfo { info, config })
     }
 }

@@ -1,6 +1,7 @@
 //! The calls of the API on streams.
 #![tactic(auto)]
 
+mod ask;
 mod create;
 mod create_or_update;
 mod delete;

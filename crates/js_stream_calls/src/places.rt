@@ -1,7 +1,8 @@
 //! Where the streams are that a stream copies.
 ghost use Rattle.std.specs.Prelude.{◌≡◌, IfOk, option_map, map, string_bytes};
 ghost use Rattle.std.specs.List.{list_any};
-ghost use Rattle.js_stream_calls.specs.Places.{has_two_places as has_two_places_in, mirror_has_two_places, a_source_has_two_places, two_places as two_places_in, domain_prefix as domain_prefix_in, in_domain, external_of, placed, placed_in};
+ghost use Rattle.js_stream_json.specs.declared.stream.config.Config.{Config};
+ghost use Rattle.js_stream_calls.specs.Places.{has_two_places as has_two_places_in, mirror_has_two_places, a_source_has_two_places, two_places as two_places_in, domain_prefix as domain_prefix_in, in_domain, placed, placed_in};
 
 use js_base::{Items, OutOfMemory, Text, TryClone};
 use js_stream_json::stream::{Config, External, Source};
@@ -66,26 +67,19 @@ fn in_domain(alloc: Global, domain: &str) -> Result<External, OutOfMemory>
     })
 }
 
-fn external_of(alloc: Global, source: &Source) -> Result<Option<External>, OutOfMemory>
-    ensures { IfOk result (λ external. external ≡ external_of source.now.domain source.now.external) }
-{
-    match (&source.external, &source.domain) {
-        (Some(external), _) => Ok(Some(external.try_clone()?)),
-        (None, Some(domain)) => Ok(Some(in_domain(alloc, domain.as_str())?)),
-        (None, None) => Ok(None),
-    }
-}
-
 fn place(alloc: Global, source: &Source) -> Result<Source, OutOfMemory>
     ensures { IfOk result (λ there. there ≡ placed source.now) }
 {
-    Ok(Source {
-        name: source.name.try_clone()?,
-        start_sequence: source.start_sequence,
-        filter_subject: source.filter_subject.try_clone()?,
-        external: external_of(alloc, source)?,
-        domain: source.domain.try_clone()?,
-    })
+    match (&source.external, &source.domain) {
+        (None, Some(domain)) => {
+            let external = in_domain(alloc, domain.as_str())?;
+            Ok(Source {
+                external: Some(external),
+                ..source.try_clone()?
+            })
+        }
+        _ => source.try_clone(),
+    }
 }
 
 fn place_mirror(alloc: Global, mirror: &Option<Source>) -> Result<Option<Source>, OutOfMemory>
@@ -119,15 +113,29 @@ fn place_sources(
     }
 }
 
-/// The configuration in which each domain of a stream that is copied has become an external.
-pub(crate) fn place_all(alloc: Global, config: Config) -> Result<Config, OutOfMemory>
-    ensures { IfOk result (λ there. there ≡ placed_in config) }
-{
-    let mirror = place_mirror(alloc, &config.mirror)?;
-    let sources = place_sources(alloc, &config.sources)?;
-    Ok(Config {
-        mirror,
-        sources,
-        ..config
-    })
+/// A configuration that a call owns. The calls that make a stream are generic over it, so that none of them opens it where it is dropped.
+pub(crate) trait Placing: Drop {
+    ghost config: { Self → Config };
+
+    /// The configuration itself.
+    fn config(&self) -> &Config
+        ensures { result.now ≡ config self.now };
+
+    /// Makes an external of each domain of a stream that is copied. After want of memory the configuration is to be given up.
+    fn place_all(&mut self, alloc: Global) -> Result<(), OutOfMemory>
+        ensures { IfOk result (λ _. config self.new ≡ placed_in (config self.old)) };
+}
+
+impl Placing for Config {
+    ghost config = { λ config. config };
+
+    fn config(&self) -> &Config {
+        self
+    }
+
+    fn place_all(&mut self, alloc: Global) -> Result<(), OutOfMemory> {
+        self.mirror = place_mirror(alloc, &self.mirror)?;
+        self.sources = place_sources(alloc, &self.sources)?;
+        Ok(())
+    }
 }

@@ -1,12 +1,12 @@
 //! The call that changes a stream.
 ghost use Rattle.std.specs.Prelude.{◌≡◌, IfOk};
-ghost use Rattle.js_stream_calls.specs.Updates.{told as told_in, update_row, updating, Updates};
+ghost use Rattle.js_stream_calls.specs.Updates.{told as told_in, update_row, Updates};
 
 use crate::create::ask_with;
 use crate::error::{CreateStreamError, UpdateStreamError, api_error, create_failure};
 use crate::name::name_refusal;
-use js_base::{Error, OutOfMemory, Source, Text};
-use js_call::{ApiCall, ApiScope, Call, Failure, RawCall};
+use js_base::{Error, OutOfMemory, Source, Text, TryClone};
+use js_call::{ApiCall, ApiScope, Call, Failure};
 use js_fields::ReadError;
 use js_json::{Response, response_as};
 use js_stream_json::stream::{Config, Info};
@@ -77,20 +77,16 @@ pub fn update_stream(
 ) -> Result<UpdateStream, OutOfMemory>
     ensures { IfOk result (λ call. Updates scope.now config.now call) }
 {
+    let row = updating_row(config)?;
     let asked = ask_with(alloc, scope, "STREAM.UPDATE", config)?;
-    updating(alloc, config, asked)
+    Ok(Call::new(row, asked))
 }
 
-/// The call that asks this to change a stream to that configuration.
-pub(crate) fn updating(
-    alloc: Global,
-    config: &Config,
-    asked: RawCall,
-) -> Result<UpdateStream, OutOfMemory>
-    ensures { IfOk result (λ call. call ≡ updating config.now asked) }
+/// What the call keeps of its arguments.
+pub(crate) fn updating_row(config: &Config) -> Result<UpdatingStream, OutOfMemory>
+    ensures { IfOk result (λ row. row ≡ record { name = config.now.name }) }
 {
-    let meaning = UpdatingStream {
-        name: Text::from_str(alloc, config.name.as_str())?,
-    };
-    Ok(Call::new(meaning, asked))
+    Ok(UpdatingStream {
+        name: config.name.try_clone()?,
+    })
 }

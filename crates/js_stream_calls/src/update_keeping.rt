@@ -1,21 +1,44 @@
 //! The call that changes a stream, and keeps what its configuration type does not name.
 ghost use Rattle.std.specs.Prelude.{◌≡◌, false, IfOk};
 ghost use Rattle.serde_json.specs.View.{view};
-ghost use Rattle.js_stream_calls.specs.Over.{is_same};
+ghost use Rattle.serde_json.specs.Written.{compact_text};
+ghost use Rattle.js_stream_calls.specs.Over.{is_same, over as over_in};
 ghost use Rattle.js_stream_calls.specs.Keeping.{SentBy, KeepsIn, SendsKept, AsksKeeping, UpdatesKeeping, SendsBack};
 
 use crate::create::body_of;
 use crate::handle::StreamHandle;
 use crate::kept::Kept;
-use crate::update::{UpdateStream, updating};
+use crate::update::{UpdateStream, updating_row};
 use crate::written_over::{is_same, over};
 use bytes::Bytes;
 use js_base::OutOfMemory;
-use js_call::{ApiScope, RawCall};
-use js_fields::{ReadError, ToValue, has_float};
+use js_call::{ApiScope, Call, RawCall};
+use js_fields::{ToValue, has_float};
 use js_stream_json::stream::{Config, Info};
 use serde_json::Value;
 use std::alloc::Global;
+
+/// The text of what is sent. No float was read and none is written, so what is refused here is want of memory.
+fn text_body(alloc: Global, sent: &Value) -> Result<Bytes, OutOfMemory>
+    ensures { IfOk result (λ body. body ≡ compact_text (view sent.now)) }
+{
+    if has_float(sent) {
+        return Err(OutOfMemory);
+    }
+    Ok(Bytes::copy_from_slice(alloc, sent.to_string(alloc)?.as_bytes())?)
+}
+
+fn body_over(
+    alloc: Global,
+    kept: &Value,
+    before: &Value,
+    after: &Value,
+) -> Result<Bytes, OutOfMemory>
+    ensures { IfOk result (λ body. body ≡ compact_text (over_in (view kept.now) (view before.now) (view after.now))) }
+{
+    let sent = over(alloc, kept, before, after)?;
+    text_body(alloc, &sent)
+}
 
 /// What is written now, over what was kept.
 fn written_body(
@@ -27,15 +50,10 @@ fn written_body(
     ensures { IfOk result (λ body. SentBy false kept.now.text (view before.now) (view after.now) body) }
 {
     // What was written reads, so what is refused here is want of memory.
-    let Ok(kept) = Value::from_str(alloc, kept.as_str()) else {
-        return Err(OutOfMemory);
-    };
-    let sent = over(alloc, &kept, before, after)?;
-    // No float was read and none is written, so this refuses nothing.
-    if has_float(&sent) {
-        return Err(OutOfMemory);
+    match Value::from_str(alloc, kept.as_str()) {
+        Ok(kept) => body_over(alloc, &kept, before, after),
+        Err(_) => Err(OutOfMemory),
     }
-    Ok(Bytes::copy_from_slice(alloc, sent.to_string(alloc)?.as_bytes())?)
 }
 
 /// What was kept, where the configuration is written as before, and else what is written now over it.
@@ -55,18 +73,23 @@ fn sent_body(
     }
 }
 
-/// The body of an update to that configuration.
+/// The body of an update to that configuration. Each configuration has a text, so what is refused here is want of memory.
+#[tactic(auto, using(crate::proofs::KeptAsRead::keeps_in))]
 fn keeping_body(
     alloc: Global,
     kept: &Kept,
     read: &Config,
     config: &Config,
-) -> Result<Bytes, ReadError>
+) -> Result<Bytes, OutOfMemory>
     ensures { IfOk result (λ body. KeepsIn kept.now.text read.now config.now body) }
 {
-    let before = read.to_value(alloc)?;
-    let after = config.to_value(alloc)?;
-    Ok(sent_body(alloc, kept, &before, &after)?)
+    let Ok(before) = read.to_value(alloc) else {
+        return Err(OutOfMemory);
+    };
+    let Ok(after) = config.to_value(alloc) else {
+        return Err(OutOfMemory);
+    };
+    sent_body(alloc, kept, &before, &after)
 }
 
 /// The same for a handle: one that kept nothing asks with the configuration alone.
@@ -79,10 +102,7 @@ fn body_for(
 {
     match &handle.kept {
         None => body_of(alloc, config),
-        Some(kept) => match keeping_body(alloc, kept, &handle.info.config, config) {
-            Ok(body) => Ok(body),
-            Err(_) => Err(OutOfMemory),
-        },
+        Some(kept) => keeping_body(alloc, kept, &handle.info.config, config),
     }
 }
 
@@ -107,8 +127,9 @@ fn call_keeping(
 ) -> Result<UpdateStream, OutOfMemory>
     ensures { IfOk result (λ call. UpdatesKeeping scope.now handle.now config.now call) }
 {
+    let row = updating_row(config)?;
     let asked = ask_keeping(alloc, scope, handle, config)?;
-    updating(alloc, config, asked)
+    Ok(Call::new(row, asked))
 }
 
 /// Changes a stream to that configuration, and keeps what the server had sent besides to the handle that `get_stream` gave.
