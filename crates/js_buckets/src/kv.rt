@@ -2,8 +2,10 @@
 ghost use Rattle.std.specs.Prelude.{◌≡◌, IfOk, string_bytes};
 ghost use Rattle.js_buckets.specs.KeyValues.{all_keys as all_keys_in, history_of as history_in, replicas_of as replicas_in, compression_of as compression_in, subjects_of as subjects_in, origins_of as origins_in, stream_config};
 
+use crate::copies::each_copied;
 pub use crate::origins::stream_name;
 use crate::origins::{gathered, mirrored};
+use crate::stream::{Bucket, stream_of};
 use js_base::{Items, Nanos, OutOfMemory, Text, TryClone};
 use js_stream_json::stream;
 use js_stream_json::stream::{
@@ -80,21 +82,31 @@ impl Config {
 
 impl TryClone for Config {
     fn try_clone(&self) -> Result<Config, OutOfMemory> {
+        let (bucket, description, placement) = each_copied(
+            &self.bucket,
+            &self.description,
+            &self.placement,
+        )?;
+        let (republish, mirror, sources) = each_copied(
+            &self.republish,
+            &self.mirror,
+            &self.sources,
+        )?;
         Ok(Config {
-            bucket: self.bucket.try_clone()?,
-            description: self.description.try_clone()?,
+            bucket,
+            description,
             max_value_size: self.max_value_size,
             history: self.history,
             max_age: self.max_age,
             max_bytes: self.max_bytes,
             storage: self.storage,
             num_replicas: self.num_replicas,
-            republish: self.republish.try_clone()?,
-            mirror: self.mirror.try_clone()?,
-            sources: self.sources.try_clone()?,
+            republish,
+            mirror,
+            sources,
             mirror_direct: self.mirror_direct,
             compression: self.compression,
-            placement: self.placement.try_clone()?,
+            placement,
             limit_markers: self.limit_markers,
         })
     }
@@ -177,17 +189,27 @@ pub(crate) fn compression_of(is_compressed: bool) -> Option<Compression>
     }
 }
 
-impl Config {
-    /// The configuration of the stream that the bucket is, `KV_{bucket}`, whatever the bucket's name and history. It takes in all keys,
-    /// `$KV.{bucket}.>`, unless it copies other buckets. The one refusal is want of memory.
-    pub fn into_stream_config(self, alloc: Global) -> Result<stream::Config, OutOfMemory>
-        ensures { IfOk result (λ stream. stream ≡ stream_config self) }
-    {
-        let (mirror, sources) = (self.mirror, self.sources);
+impl Bucket for Config {
+    type Names = (Text, Origins);
+
+    ghost stream = { stream_config };
+
+    ghost with = { λ c names. record (stream_config c) { name = names.0; subjects = names.1.subjects; mirror_direct = names.1.mirror_direct; mirror = names.1.mirror; sources = names.1.sources } };
+
+    fn take_names(&mut self, alloc: Global) -> Result<(Text, Origins), OutOfMemory> {
+        let name = stream_name(alloc, self.bucket.as_str())?;
+        let mirror = self.mirror.take();
+        let sources = self.sources.take();
         let bucket = self.bucket.as_str();
-        let name = stream_name(alloc, bucket)?;
-        let origins = origins_of(alloc, bucket, mirror, sources, self.mirror_direct)?;
-        Ok(stream::Config {
+        Ok((
+            name,
+            origins_of(alloc, bucket, mirror, sources, self.mirror_direct)?,
+        ))
+    }
+
+    fn with(self, names: (Text, Origins)) -> stream::Config {
+        let (name, origins) = names;
+        stream::Config {
             name,
             retention: RetentionPolicy::Limits,
             storage: self.storage,
@@ -212,6 +234,16 @@ impl Config {
             placement: self.placement,
             allow_message_ttl: self.limit_markers.is_some(),
             subject_delete_marker_ttl: self.limit_markers,
-        })
+        }
+    }
+}
+
+impl Config {
+    /// The configuration of the stream that the bucket is, `KV_{bucket}`, whatever the bucket's name and history. It takes in all keys,
+    /// `$KV.{bucket}.>`, unless it copies other buckets. The one refusal is want of memory.
+    pub fn into_stream_config(self, alloc: Global) -> Result<stream::Config, OutOfMemory>
+        ensures { IfOk result (λ stream. stream ≡ stream_config self) }
+    {
+        stream_of(alloc, self)
     }
 }

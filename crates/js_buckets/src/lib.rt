@@ -4,9 +4,11 @@
 //! objects).
 #![tactic(auto)]
 
+mod copies;
 pub mod kv;
 mod name;
 pub mod object_store;
 mod origins;
+mod stream;
 
 pub use name::is_valid_bucket_name;

@@ -2,7 +2,9 @@
 ghost use Rattle.std.specs.Prelude.{◌≡◌, IfOk, string_bytes};
 ghost use Rattle.js_buckets.specs.Objects.{stream_name as stream_name_in, chunks, metadata, subjects_of as subjects_in, stream_config};
 
+use crate::copies::each_copied;
 use crate::kv::compression_of;
+use crate::stream::{Bucket, stream_of};
 use js_base::{Items, Nanos, OutOfMemory, Text, TryClone};
 use js_stream_json::stream;
 use js_stream_json::stream::{DiscardPolicy, Placement, RetentionPolicy, StorageType};
@@ -51,15 +53,20 @@ impl Config {
 
 impl TryClone for Config {
     fn try_clone(&self) -> Result<Config, OutOfMemory> {
+        let (bucket, description, placement) = each_copied(
+            &self.bucket,
+            &self.description,
+            &self.placement,
+        )?;
         Ok(Config {
-            bucket: self.bucket.try_clone()?,
-            description: self.description.try_clone()?,
+            bucket,
+            description,
             max_age: self.max_age,
             max_bytes: self.max_bytes,
             storage: self.storage,
             num_replicas: self.num_replicas,
             compression: self.compression,
-            placement: self.placement.try_clone()?,
+            placement,
         })
     }
 }
@@ -98,15 +105,21 @@ fn subjects_of(alloc: Global, bucket: &str) -> Result<Items<Text>, OutOfMemory>
     Ok(subjects)
 }
 
-impl Config {
-    /// The configuration of the stream that the bucket is, `OBJ_{bucket}`, whatever the bucket's name. It takes in the chunks of objects,
-    /// `$O.{bucket}.C.>`, and what is known of them, `$O.{bucket}.M.>`. The one refusal is want of memory.
-    pub fn into_stream_config(self, alloc: Global) -> Result<stream::Config, OutOfMemory>
-        ensures { IfOk result (λ stream. stream ≡ stream_config self) }
-    {
-        let name = stream_name(alloc, self.bucket.as_str())?;
-        let subjects = subjects_of(alloc, self.bucket.as_str())?;
-        Ok(stream::Config {
+impl Bucket for Config {
+    type Names = (Text, Items<Text>);
+
+    ghost stream = { stream_config };
+
+    ghost with = { λ c names. record (stream_config c) { name = names.0; subjects = names.1 } };
+
+    fn take_names(&mut self, alloc: Global) -> Result<(Text, Items<Text>), OutOfMemory> {
+        let bucket = self.bucket.as_str();
+        Ok((stream_name(alloc, bucket)?, subjects_of(alloc, bucket)?))
+    }
+
+    fn with(self, names: (Text, Items<Text>)) -> stream::Config {
+        let (name, subjects) = names;
+        stream::Config {
             name,
             retention: RetentionPolicy::Limits,
             storage: self.storage,
@@ -131,6 +144,16 @@ impl Config {
             placement: self.placement,
             allow_message_ttl: false,
             subject_delete_marker_ttl: None,
-        })
+        }
+    }
+}
+
+impl Config {
+    /// The configuration of the stream that the bucket is, `OBJ_{bucket}`, whatever the bucket's name. It takes in the chunks of objects,
+    /// `$O.{bucket}.C.>`, and what is known of them, `$O.{bucket}.M.>`. The one refusal is want of memory.
+    pub fn into_stream_config(self, alloc: Global) -> Result<stream::Config, OutOfMemory>
+        ensures { IfOk result (λ stream. stream ≡ stream_config self) }
+    {
+        stream_of(alloc, self)
     }
 }
