@@ -6,7 +6,7 @@ ghost use Rattle.js_tool.specs.Commands.{asked, command_of as command_in, genera
 use js_message::read_u64;
 
 /// What the program is asked to do. It is borrowed from the words.
-#[derive(Clone, Copy, Debug, PartialEq, Eq)]
+#[derive(Clone, Copy)]
 pub enum Command<'a> {
     /// To read a transcript, and to write the text of its run.
     Replay,

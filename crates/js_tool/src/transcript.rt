@@ -22,7 +22,7 @@ pub use setup::{Setup, setup_line};
 use std::alloc::{AllocFailed, Global};
 
 /// A setup, and what happened. No value of it is made: it stands in contracts alone.
-#[derive(Debug, PartialEq, Eq, Drop)]
+#[derive(Drop)]
 pub struct Transcript {
     pub setup: Setup,
     pub events: Items<Event>,

@@ -18,7 +18,7 @@ use serde_json::Value;
 use std::alloc::Global;
 
 /// Who asks for messages: a pull consumer's client does, a push consumer's server sends them unasked.
-#[derive(Clone, Copy, Debug, PartialEq, Eq)]
+#[derive(Clone, Copy)]
 pub(crate) enum Mode {
     Pull,
     Push,
@@ -46,7 +46,7 @@ impl Member for Mode {
 }
 
 /// What a replay begins with.
-#[derive(Debug, PartialEq, Eq, Drop)]
+#[derive(Drop)]
 pub struct Setup {
     pub settings: Settings,
     pub setup: OrderedSetup,
