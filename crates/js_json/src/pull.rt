@@ -167,11 +167,13 @@ impl TryClone for Config {
 impl IntoConsumerConfig for Config {
     ghost config = { pull_config };
 
-    fn into_consumer_config(self, alloc: Global) -> consumer::Config {
+    fn into_consumer_config(self, _alloc: Global) -> consumer::Config {
         consumer::Config {
+            deliver_subject: None,
             durable_name: self.durable_name,
             name: self.name,
             description: self.description,
+            deliver_group: None,
             deliver_policy: self.deliver_policy,
             ack_policy: self.ack_policy,
             ack_wait: self.ack_wait,
@@ -184,6 +186,8 @@ impl IntoConsumerConfig for Config {
             max_waiting: self.max_waiting,
             max_ack_pending: self.max_ack_pending,
             headers_only: self.headers_only,
+            flow_control: false,
+            idle_heartbeat: 0,
             max_batch: self.max_batch,
             max_bytes: self.max_bytes,
             max_expires: self.max_expires,
@@ -196,7 +200,6 @@ impl IntoConsumerConfig for Config {
             priority_groups: self.priority_groups,
             priority_timeout: self.priority_timeout,
             pause_until: self.pause_until,
-            ..consumer::Config::new(alloc)
         }
     }
 }
@@ -337,10 +340,14 @@ impl IntoConsumerConfig for OrderedConfig {
 
     fn into_consumer_config(self, alloc: Global) -> consumer::Config {
         consumer::Config {
+            deliver_subject: None,
+            durable_name: None,
             name: self.name,
             description: self.description,
+            deliver_group: None,
             deliver_policy: self.deliver_policy,
             ack_policy: AckPolicy::None,
+            ack_wait: 0,
             max_deliver: 1,
             filter_subject: self.filter_subject,
             filter_subjects: self.filter_subjects,
@@ -348,7 +355,10 @@ impl IntoConsumerConfig for OrderedConfig {
             rate_limit: self.rate_limit,
             sample_frequency: self.sample_frequency,
             max_waiting: self.max_waiting,
+            max_ack_pending: 0,
             headers_only: self.headers_only,
+            flow_control: false,
+            idle_heartbeat: 0,
             max_batch: self.max_batch,
             max_bytes: self.max_bytes,
             max_expires: self.max_expires,
@@ -356,7 +366,11 @@ impl IntoConsumerConfig for OrderedConfig {
             num_replicas: 1,
             memory_storage: true,
             metadata: self.metadata,
-            ..consumer::Config::new(alloc)
+            backoff: Items::new(alloc),
+            priority_policy: PriorityPolicy::None,
+            priority_groups: Items::new(alloc),
+            priority_timeout: 0,
+            pause_until: None,
         }
     }
 }

@@ -6,7 +6,7 @@ ghost use Rattle.js_json.specs.Conversions.{push_config, as_push_config, ordered
 
 use crate::consumer::{
     self, AckPolicy, ConfigError, DeliverPolicy, FromConsumer, IntoConsumerConfig,
-    ORDERED_INACTIVE_THRESHOLD, ReplayPolicy,
+    ORDERED_INACTIVE_THRESHOLD, PriorityPolicy, ReplayPolicy,
 };
 use crate::gather::{all_4, all_5};
 use jiff::Timestamp;
@@ -181,13 +181,18 @@ impl IntoConsumerConfig for Config {
             headers_only: self.headers_only,
             flow_control: self.flow_control,
             idle_heartbeat: self.idle_heartbeat,
+            max_batch: 0,
+            max_bytes: 0,
+            max_expires: 0,
             inactive_threshold: self.inactive_threshold,
             num_replicas: self.num_replicas,
             memory_storage: self.memory_storage,
             metadata: self.metadata,
             backoff: self.backoff,
+            priority_policy: PriorityPolicy::None,
+            priority_groups: Items::new(alloc),
+            priority_timeout: 0,
             pause_until: self.pause_until,
-            ..consumer::Config::new(alloc)
         }
     }
 }
@@ -287,19 +292,27 @@ impl OrderedConfig {
 
 impl TryClone for OrderedConfig {
     fn try_clone(&self) -> Result<OrderedConfig, OutOfMemory> {
+        let metadata = self.metadata.try_clone()?;
+        let (deliver_subject, name, description, filter_subject, filter_subjects) = all_5(
+            self.deliver_subject.try_clone(),
+            self.name.try_clone(),
+            self.description.try_clone(),
+            self.filter_subject.try_clone(),
+            self.filter_subjects.try_clone(),
+        )?;
         Ok(OrderedConfig {
-            deliver_subject: self.deliver_subject.try_clone()?,
-            name: self.name.try_clone()?,
-            description: self.description.try_clone()?,
-            filter_subject: self.filter_subject.try_clone()?,
-            filter_subjects: self.filter_subjects.try_clone()?,
+            deliver_subject,
+            name,
+            description,
+            filter_subject,
+            filter_subjects,
             replay_policy: self.replay_policy,
             rate_limit: self.rate_limit,
             sample_frequency: self.sample_frequency,
             headers_only: self.headers_only,
             deliver_policy: self.deliver_policy,
             max_waiting: self.max_waiting,
-            metadata: self.metadata.try_clone()?,
+            metadata,
         })
     }
 }
@@ -310,10 +323,13 @@ impl IntoConsumerConfig for OrderedConfig {
     fn into_consumer_config(self, alloc: Global) -> consumer::Config {
         consumer::Config {
             deliver_subject: Some(self.deliver_subject),
+            durable_name: None,
             name: self.name,
             description: self.description,
+            deliver_group: None,
             deliver_policy: self.deliver_policy,
             ack_policy: AckPolicy::None,
+            ack_wait: 0,
             max_deliver: 1,
             filter_subject: self.filter_subject,
             filter_subjects: self.filter_subjects,
@@ -321,14 +337,22 @@ impl IntoConsumerConfig for OrderedConfig {
             rate_limit: self.rate_limit,
             sample_frequency: self.sample_frequency,
             max_waiting: self.max_waiting,
+            max_ack_pending: 0,
             headers_only: self.headers_only,
             flow_control: true,
             idle_heartbeat: ORDERED_HEARTBEAT,
+            max_batch: 0,
+            max_bytes: 0,
+            max_expires: 0,
             inactive_threshold: ORDERED_INACTIVE_THRESHOLD,
             num_replicas: 1,
             memory_storage: true,
             metadata: self.metadata,
-            ..consumer::Config::new(alloc)
+            backoff: Items::new(alloc),
+            priority_policy: PriorityPolicy::None,
+            priority_groups: Items::new(alloc),
+            priority_timeout: 0,
+            pause_until: None,
         }
     }
 }
