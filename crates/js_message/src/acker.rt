@@ -32,13 +32,13 @@ impl fmt::Display for AckError {
     ghost output = { λ error. Some (ack_text error) };
 
     fn fmt<W: fmt::Write>(&self, f: &mut fmt::Formatter<W>) -> fmt::Result {
-        match self {
-            AckError::NoReply => write!(f, "no reply subject"),
-            AckError::LinkFailed => write!(f, "link failed"),
-            AckError::TimedOut => write!(f, "timed out"),
-            AckError::SubscriptionDropped => write!(f, "subscription dropped"),
-            AckError::OutOfMemory => write!(f, "out of memory"),
-        }
+        f.write_str(match self {
+            AckError::NoReply => "no reply subject",
+            AckError::LinkFailed => "link failed",
+            AckError::TimedOut => "timed out",
+            AckError::SubscriptionDropped => "subscription dropped",
+            AckError::OutOfMemory => "out of memory",
+        })
     }
 }
 

@@ -52,18 +52,18 @@ pub(crate) fn double_acknowledge(
 ) -> Result<DoubleAck, OutOfMemory>
     ensures { IfOk result (λ call. call ≡ unsent timeout (option_copied reply.entry) (ack_body kind)) }
 {
-    let outgoing = match reply {
-        None => None,
-        Some(reply) => Some(Outgoing {
-            to: reply.try_clone()?,
-            body: kind.to_bytes(alloc)?,
-            timeout,
-        }),
+    let Some(reply) = reply else {
+        return Ok(DoubleAck {
+            outgoing: None,
+            stage: Stage::Unsent,
+        });
     };
-    Ok(DoubleAck {
-        outgoing,
-        stage: Stage::Unsent,
-    })
+    let outgoing = Outgoing {
+        to: reply.try_clone()?,
+        body: kind.to_bytes(alloc)?,
+        timeout,
+    };
+    Ok(outgoing.at(Stage::Unsent))
 }
 
 impl DoubleAck {
@@ -110,7 +110,17 @@ impl DoubleAck {
 }
 
 impl Outgoing {
-    ghost use Rattle.std.specs.Prelude.{◌⊎◌};
+    ghost use Rattle.std.specs.Prelude.{◌⊎◌, Some};
+
+    /// The double ack that has come this far.
+    fn at(self, stage: Stage) -> DoubleAck
+        ensures { result ≡ record { outgoing = Some self; stage = stage } }
+    {
+        DoubleAck {
+            outgoing: Some(self),
+            stage,
+        }
+    }
 
     /// Opens an inbox, and goes on.
     fn open<L: Link>(self, alloc: Global, link: &mut L, now: Moment) -> Polled
@@ -119,10 +129,7 @@ impl Outgoing {
         match link.open_inbox(alloc) {
             Ok((inbox, subject)) => self.send(alloc, link, now, inbox, subject),
             Err(LinkError::Failed) => Turn::Ready(Err(AckError::LinkFailed)),
-            Err(LinkError::OutOfMemory) => Turn::OutOfMemory(DoubleAck {
-                outgoing: Some(self),
-                stage: Stage::Unsent,
-            }),
+            Err(LinkError::OutOfMemory) => Turn::OutOfMemory(self.at(Stage::Unsent)),
         }
     }
 
@@ -144,10 +151,9 @@ impl Outgoing {
                 link.unsubscribe(inbox);
                 Turn::Ready(Err(AckError::LinkFailed))
             }
-            Err(LinkError::OutOfMemory) => Turn::OutOfMemory(DoubleAck {
-                outgoing: Some(self),
-                stage: Stage::Opened(inbox, subject),
-            }),
+            Err(LinkError::OutOfMemory) => {
+                Turn::OutOfMemory(self.at(Stage::Opened(inbox, subject)))
+            }
         }
     }
 
@@ -165,10 +171,7 @@ impl Outgoing {
                 link.unsubscribe(inbox);
                 Turn::Ready(Err(AckError::TimedOut))
             }
-            Taken::Empty => Turn::Pending(DoubleAck {
-                outgoing: Some(self),
-                stage: Stage::Waiting(inbox, since),
-            }),
+            Taken::Empty => Turn::Pending(self.at(Stage::Waiting(inbox, since))),
         }
     }
 }

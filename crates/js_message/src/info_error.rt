@@ -22,10 +22,10 @@ impl fmt::Display for InfoError {
 
     fn fmt<W: fmt::Write>(&self, f: &mut fmt::Formatter<W>) -> fmt::Result {
         match self {
-            InfoError::Prefix => write!(f, "the subject does not begin with $JS.ACK."),
+            InfoError::Prefix => f.write_str("the subject does not begin with $JS.ACK."),
             InfoError::TokenCount { n } => write!(f, "the subject has {n} tokens after its prefix"),
             InfoError::Number { place } => write!(f, "token {place} is no number in range"),
-            InfoError::Instant => write!(f, "the time is out of range"),
+            InfoError::Instant => f.write_str("the time is out of range"),
         }
     }
 }

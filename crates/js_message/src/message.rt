@@ -30,7 +30,7 @@ impl fmt::Display for MessageInfoError {
 
     fn fmt<W: fmt::Write>(&self, f: &mut fmt::Formatter<W>) -> fmt::Result {
         match self {
-            MessageInfoError::NoReply => write!(f, "no reply subject"),
+            MessageInfoError::NoReply => f.write_str("no reply subject"),
             MessageInfoError::Unreadable(error) => {
                 write!(f, "no acknowledgement subject: {error}")
             }

@@ -41,11 +41,11 @@ impl fmt::Display for StreamMessageErrorKind {
     ghost output = { λ kind. Some (kind_text kind) };
 
     fn fmt<W: fmt::Write>(&self, f: &mut fmt::Formatter<W>) -> fmt::Result {
-        match self {
-            StreamMessageErrorKind::MissingHeader => write!(f, "missing message header"),
-            StreamMessageErrorKind::ParseError => write!(f, "parse error"),
-            StreamMessageErrorKind::OutOfMemory => write!(f, "out of memory"),
-        }
+        f.write_str(match self {
+            StreamMessageErrorKind::MissingHeader => "missing message header",
+            StreamMessageErrorKind::ParseError => "parse error",
+            StreamMessageErrorKind::OutOfMemory => "out of memory",
+        })
     }
 }
 
