@@ -1,11 +1,12 @@
 //! Requests on one consumer of a stream.
 ghost use Rattle.std.specs.Prelude.{◌≡◌, IfOk, codes};
+ghost use Rattle.js_call.specs.Calls.{calling};
 ghost use Rattle.js_call.specs.Scopes.{asking};
 ghost use Rattle.js_subjects.specs.Subjects.{of_consumer};
 
 use bytes::Bytes;
 use js_base::OutOfMemory;
-use js_call::{ApiScope, RawCall};
+use js_call::{ApiCall, ApiScope, Call, RawCall};
 use js_subjects::with_word;
 use std::alloc::Global;
 
@@ -26,4 +27,19 @@ pub(crate) fn ask_consumer(
         consumer,
         Bytes::from_static(b"{}"),
     )
+}
+
+/// The call of that row of the table, by such a request. It is generic over the row, so that it does not open it.
+pub(crate) fn call_on<M: ApiCall>(
+    alloc: Global,
+    scope: &ApiScope,
+    row: M,
+    words: &str,
+    stream: &str,
+    consumer: &str,
+) -> Result<Call<M>, OutOfMemory>
+    ensures { IfOk result (λ call. call ≡ calling row (asking scope.now (of_consumer words.now stream.now consumer.now) (codes "{}"))) }
+{
+    let asked = ask_consumer(alloc, scope, words, stream, consumer)?;
+    Ok(Call::new(row, asked))
 }

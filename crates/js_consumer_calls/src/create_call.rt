@@ -87,9 +87,9 @@ fn creating<C: FromConsumer, K: CreateKind>(
 ) -> Result<Call<CreatingConsumer<C, K>>, OutOfMemory>
     ensures { IfOk result (λ call. call ≡ creating scope.now request.now text.now) }
 {
+    let row = CreatingConsumer::new(scope.try_clone()?);
     let asked = ask_create(alloc, scope, request, text)?;
-    let scope = scope.try_clone()?;
-    Ok(Call::new(CreatingConsumer::new(scope), asked))
+    Ok(Call::new(row, asked))
 }
 
 /// Why a configuration has no text, as what the call is refused with.
@@ -125,10 +125,11 @@ fn request_of<C: FromConsumer>(
 ) -> Result<CreateRequest, OutOfMemory>
     ensures { IfOk result (λ request. request ≡ request_of action (C.config config) stream.now) }
 {
+    let stream_name = Text::from_str(alloc, stream)?;
     Ok(CreateRequest {
         action,
         config: config.into_consumer_config(alloc),
-        stream_name: Text::from_str(alloc, stream)?,
+        stream_name,
     })
 }
 

@@ -2,7 +2,7 @@
 ghost use Rattle.std.specs.Prelude.{◌≡◌, IfOk};
 ghost use Rattle.js_consumer_calls.specs.Deletes.{delete_row, deleting};
 
-use crate::ask::ask_consumer;
+use crate::ask::call_on;
 use crate::create_kind::consumer_failure;
 use crate::error::{ConsumerError, ConsumerErrorKind};
 use crate::refusal::delete_refusal;
@@ -53,6 +53,20 @@ impl ApiCall for DeletingConsumer {
     }
 }
 
+/// What the call keeps of its arguments.
+fn deleting_row(
+    alloc: Global,
+    consumer: &str,
+    stream: &str,
+) -> Result<DeletingConsumer, OutOfMemory>
+    ensures { IfOk result (λ row. row ≡ record { consumer = consumer.now; stream = stream.now }) }
+{
+    Ok(DeletingConsumer {
+        consumer: Text::from_str(alloc, consumer)?,
+        stream: Text::from_str(alloc, stream)?,
+    })
+}
+
 /// Deletes a consumer of a stream. The one refusal here is want of memory; others come from the first poll.
 ///
 /// Those that read the consumer are told by the server, or by nobody: an acknowledgement of one of its messages is taken still, and a
@@ -65,10 +79,6 @@ pub fn delete_consumer_from_stream(
 ) -> Result<DeleteConsumerFromStream, OutOfMemory>
     ensures { IfOk result (λ call. call ≡ deleting scope.now consumer.now stream.now) }
 {
-    let asked = ask_consumer(alloc, scope, "CONSUMER.DELETE", stream, consumer)?;
-    let meaning = DeletingConsumer {
-        consumer: Text::from_str(alloc, consumer)?,
-        stream: Text::from_str(alloc, stream)?,
-    };
-    Ok(Call::new(meaning, asked))
+    let row = deleting_row(alloc, consumer, stream)?;
+    call_on(alloc, scope, row, "CONSUMER.DELETE", stream, consumer)
 }

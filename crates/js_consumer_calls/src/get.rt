@@ -2,7 +2,7 @@
 ghost use Rattle.std.specs.Prelude.{◌≡◌, IfOk};
 ghost use Rattle.js_consumer_calls.specs.Gets.{get_row, getting, got};
 
-use crate::ask::ask_consumer;
+use crate::ask::call_on;
 use crate::consumer::Consumer;
 use crate::consumer_answer::ConsumerAnswer;
 use crate::create_kind::consumer_failure;
@@ -62,6 +62,23 @@ impl<T: FromConsumer> ApiCall for GettingConsumer<T> {
     }
 }
 
+/// What the call keeps of its arguments.
+fn getting_row<T>(
+    alloc: Global,
+    scope: &ApiScope,
+    consumer: &str,
+    stream: &str,
+) -> Result<GettingConsumer<T>, OutOfMemory>
+    ensures { IfOk result (λ row. row ≡ record { scope = scope.now; consumer = consumer.now; stream = stream.now; of = record {} }) }
+{
+    Ok(GettingConsumer {
+        scope: scope.try_clone()?,
+        consumer: Text::from_str(alloc, consumer)?,
+        stream: Text::from_str(alloc, stream)?,
+        of: PhantomData,
+    })
+}
+
 /// Gets a consumer of a stream as one of that kind. The one refusal here is want of memory; others come from the first poll: a name
 /// that none may have is `InvalidName`, and a consumer of another kind `InvalidConsumerType`.
 pub fn get_consumer_from_stream<T: FromConsumer>(
@@ -72,12 +89,6 @@ pub fn get_consumer_from_stream<T: FromConsumer>(
 ) -> Result<GetConsumerFromStream<T>, OutOfMemory>
     ensures { IfOk result (λ call. call ≡ getting scope.now consumer.now stream.now) }
 {
-    let asked = ask_consumer(alloc, scope, "CONSUMER.INFO", stream, consumer)?;
-    let meaning = GettingConsumer {
-        scope: scope.try_clone()?,
-        consumer: Text::from_str(alloc, consumer)?,
-        stream: Text::from_str(alloc, stream)?,
-        of: PhantomData,
-    };
-    Ok(Call::new(meaning, asked))
+    let row = getting_row(alloc, scope, consumer, stream)?;
+    call_on(alloc, scope, row, "CONSUMER.INFO", stream, consumer)
 }
