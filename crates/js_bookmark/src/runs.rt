@@ -119,6 +119,20 @@ fn steps_of(
     Ok(steps)
 }
 
+/// The opening of a session that has begun, and the steps of its events.
+fn opening_and_steps(
+    alloc: Global,
+    course: &mut SessionReplay<'_>,
+    lines: &[Line],
+) -> Result<(Step, Items<Step>), OutOfMemory>
+    ensures { (next : ℕ) → (done : List Session) → (s : Session) → HasComeTo next done (with_lines s []) course.old
+        → IfOk result (λ told. (told.0.outputs ≡ course.old.course.outputs) × HasStepped next done (with_lines s lines.now) course.new told.1) }
+{
+    let opening = step_of(alloc, course.outputs())?;
+    let steps = steps_of(alloc, course, lines)?;
+    Ok((opening, steps))
+}
+
 /// One session more, whose run stands behind the others.
 fn run_session(
     alloc: Global,
@@ -139,8 +153,14 @@ fn run_session(
         Ok(course) => course,
         Err(refusal) => return Err(refusal),
     };
-    let opening = step_of(alloc, course.outputs())?;
-    let steps = steps_of(alloc, &mut course, session.lines.as_slice())?;
+    let told = opening_and_steps(alloc, &mut course, session.lines.as_slice());
+    let (opening, steps) = match told {
+        Ok(told) => told,
+        Err(OutOfMemory) => {
+            drop(course);
+            return Err(SessionsError::OutOfMemory);
+        }
+    };
     let SessionEnd {
         sessions,
         ended,

@@ -148,7 +148,10 @@ impl Sessions {
         let saved = Mark::at(next);
         let yielded = match saved.after(course.outputs()) {
             Ok(yielded) => yielded,
-            Err(OutOfMemory) => return Err(SessionsError::OutOfMemory),
+            Err(OutOfMemory) => {
+                drop(course);
+                return Err(SessionsError::OutOfMemory);
+            }
         };
         Ok(SessionReplay {
             number,
@@ -225,6 +228,7 @@ impl<'a> SessionReplay<'a> {
             ..
         } = self;
         if has_failed {
+            drop(course);
             return Err(SessionsError::OutOfMemory);
         }
         let ended = match course.end() {
