@@ -204,22 +204,13 @@ impl Seen {
         ensures message { result ≡ message_in self.old }
         ensures rest { read_in self.new ≡ read_in self.old }
     {
+        if self.message().is_none() {
+            return None;
+        }
         match mem::replace(self, Seen::Nothing) {
+            Seen::Message { message, .. } => Some(message),
             Seen::Nothing => None,
-            Seen::Reply(reply) => {
-                *self = Seen::Reply(reply);
-                None
-            }
-            Seen::Message { unheard, message } => match unheard {
-                None => Some(message),
-                Some(inbox) => {
-                    *self = Seen::Message {
-                        unheard: Some(inbox),
-                        message,
-                    };
-                    None
-                }
-            },
+            Seen::Reply(_) => None,
         }
     }
 }
