@@ -24,7 +24,9 @@ pub(crate) fn project(
     let last = last_shown(sequence, entries.as_slice());
     match projection_of(alloc, entries) {
         Ok(projection) => {
-            let rows = rows_of(&projection, filter, sequence)?;
+            let rows = rows_of(&projection, filter, sequence);
+            drop(projection);
+            let rows = rows?;
             let text = table_of(alloc, &rows, last)?;
             Ok(done(text))
         }
