@@ -13,7 +13,10 @@ pub(crate) fn all_4<A: Drop, B: Drop, C: Drop, D: Drop>(
 ) -> Result<(A, B, C, D), OutOfMemory>
     ensures { IfOk result (λ all. (a ≡ Ok all.0) × (b ≡ Ok all.1) × (c ≡ Ok all.2) × (d ≡ Ok all.3)) }
 {
-    Ok((a?, b?, c?, d?))
+    match (a, b, c, d) {
+        (Ok(a), Ok(b), Ok(c), Ok(d)) => Ok((a, b, c, d)),
+        _ => Err(OutOfMemory),
+    }
 }
 
 /// All five, unless memory ran out for one.
@@ -26,5 +29,8 @@ pub(crate) fn all_5<A: Drop, B: Drop, C: Drop, D: Drop, E: Drop>(
 ) -> Result<(A, B, C, D, E), OutOfMemory>
     ensures { IfOk result (λ all. (a ≡ Ok all.0) × (b ≡ Ok all.1) × (c ≡ Ok all.2) × (d ≡ Ok all.3) × (e ≡ Ok all.4)) }
 {
-    Ok((a?, b?, c?, d?, e?))
+    match (a, b, c, d, e) {
+        (Ok(a), Ok(b), Ok(c), Ok(d), Ok(e)) => Ok((a, b, c, d, e)),
+        _ => Err(OutOfMemory),
+    }
 }

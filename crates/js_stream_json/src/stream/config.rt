@@ -8,6 +8,7 @@ ghost use Rattle.js_stream_json.specs.WrittenBack.{without_domains, HasNumbers};
 mod reading;
 mod writing;
 
+use crate::gather::all_4;
 use crate::stream::placement::Placement;
 use crate::stream::policies::{Compression, DiscardPolicy, RetentionPolicy, StorageType};
 use crate::stream::republish::Republish;
@@ -114,29 +115,38 @@ impl Config {
 
 impl TryClone for Config {
     fn try_clone(&self) -> Result<Config, OutOfMemory> {
+        let name = self.name.try_clone()?;
+        let description = self.description.try_clone()?;
+        let subjects = self.subjects.try_clone()?;
+        let (republish, mirror, sources, placement) = all_4(
+            self.republish.try_clone(),
+            self.mirror.try_clone(),
+            self.sources.try_clone(),
+            self.placement.try_clone(),
+        )?;
         Ok(Config {
-            name: self.name.try_clone()?,
+            name,
             retention: self.retention,
             storage: self.storage,
             discard: self.discard,
-            description: self.description.try_clone()?,
-            subjects: self.subjects.try_clone()?,
+            description,
+            subjects,
             max_messages: self.max_messages,
             max_messages_per_subject: self.max_messages_per_subject,
             max_bytes: self.max_bytes,
             max_message_size: self.max_message_size,
             max_age: self.max_age,
             num_replicas: self.num_replicas,
-            republish: self.republish.try_clone()?,
+            republish,
             allow_rollup: self.allow_rollup,
             deny_delete: self.deny_delete,
             deny_purge: self.deny_purge,
             allow_direct: self.allow_direct,
             mirror_direct: self.mirror_direct,
-            mirror: self.mirror.try_clone()?,
-            sources: self.sources.try_clone()?,
+            mirror,
+            sources,
             compression: self.compression,
-            placement: self.placement.try_clone()?,
+            placement,
             allow_message_ttl: self.allow_message_ttl,
             subject_delete_marker_ttl: self.subject_delete_marker_ttl,
         })

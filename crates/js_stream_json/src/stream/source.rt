@@ -5,6 +5,7 @@ ghost use Rattle.js_fields.specs.Reading.{nested as nested_in};
 ghost use Rattle.js_stream_json.specs.External.{external_fields, external_value, external_data};
 ghost use Rattle.js_stream_json.specs.Source.{source_fields, source_value, source_data};
 
+use crate::gather::all_4;
 use js_base::{OutOfMemory, Text, TryClone};
 use js_fields::{
     FromValue, Key, Member, Object, ReadError, ToValue, Written, defaulted, nested, optional,
@@ -30,12 +31,18 @@ pub struct Source {
 
 impl TryClone for Source {
     fn try_clone(&self) -> Result<Source, OutOfMemory> {
+        let (name, filter_subject, external, domain) = all_4(
+            self.name.try_clone(),
+            self.filter_subject.try_clone(),
+            self.external.try_clone(),
+            self.domain.try_clone(),
+        )?;
         Ok(Source {
-            name: self.name.try_clone()?,
+            name,
             start_sequence: self.start_sequence,
-            filter_subject: self.filter_subject.try_clone()?,
-            external: self.external.try_clone()?,
-            domain: self.domain.try_clone()?,
+            filter_subject,
+            external,
+            domain,
         })
     }
 }
