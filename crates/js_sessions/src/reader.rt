@@ -19,9 +19,6 @@ pub(crate) struct Reader {
     pub(crate) payloads: Payloads,
 }
 
-/// Lets go a value. It is generic, since what a large value is made of is then not looked into.
-fn let_go<T: Drop>(_value: T) {}
-
 impl Reader {
     /// What the next line says, if one is left. Once none was left, none is.
     pub(crate) fn next(&mut self, alloc: Global) -> Result<Option<Said>, Unread>
@@ -44,7 +41,7 @@ impl Reader {
         ensures { ReadsRest self.old result }
     {
         while let Some(said) = self.next(alloc)? {
-            let_go(said);
+            drop(said);
         }
         Ok(())
     }

@@ -62,14 +62,20 @@ fn run_session(
     };
     let following = match session.pass_lines(alloc, reader) {
         Ok(following) => following,
-        Err(unread) => return Err(unread),
+        Err(unread) => {
+            drop(session);
+            return Err(unread);
+        }
     };
     match session.end() {
         Ok(ended) => match following {
             None => Ok(Stage::Last(ended)),
             Some(setup) => Ok(Stage::More(ended, setup)),
         },
-        Err(refusal) => refused_stage(refusal),
+        Err(refusal) => {
+            drop(following);
+            refused_stage(refusal)
+        }
     }
 }
 
@@ -125,7 +131,9 @@ fn run_all(
     };
     let mut setup = first;
     loop {
-        match run_session(alloc, ended, &setup, reader) {
+        let stage = run_session(alloc, ended, &setup, reader);
+        drop(setup);
+        match stage {
             Ok(Stage::More(so_far, following)) => {
                 ended = so_far;
                 setup = following;
@@ -171,5 +179,7 @@ pub fn sessions_report(alloc: Global, next: u64, bytes: Pieces) -> Result<Sessio
         number: 1,
         payloads: Payloads::new(alloc),
     };
-    run_all(alloc, next, setup, &mut reader)
+    let report = run_all(alloc, next, setup, &mut reader);
+    drop(reader);
+    report
 }

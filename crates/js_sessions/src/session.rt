@@ -62,8 +62,13 @@ impl<'s> SessionText<'s> {
             Ok(course) => course,
             Err(refusal) => return Err(refusal),
         };
-        push_outputs(&mut text, 0, course.outputs())?;
-        Ok(SessionText { course, text })
+        match push_outputs(&mut text, 0, course.outputs()) {
+            Ok(()) => Ok(SessionText { course, text }),
+            Err(AllocError) => {
+                drop(course);
+                Err(SessionsError::OutOfMemory)
+            }
+        }
     }
 
     fn pass(&mut self, alloc: Global, line: &Line) -> Result<(), OutOfMemory>
@@ -95,10 +100,14 @@ impl<'s> SessionText<'s> {
         while let Some(said) = reader.next(alloc)? {
             match said {
                 Said::Begins(setup) => return Ok(Some(setup)),
-                Said::Says(line) => match self.pass(alloc, &line) {
-                    Ok(()) => {}
-                    Err(OutOfMemory) => return Err(Unread::OutOfMemory),
-                },
+                Said::Says(line) => {
+                    let passed = self.pass(alloc, &line);
+                    drop(line);
+                    match passed {
+                        Ok(()) => {}
+                        Err(OutOfMemory) => return Err(Unread::OutOfMemory),
+                    }
+                }
             }
         }
         Ok(None)

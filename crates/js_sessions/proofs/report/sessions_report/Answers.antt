@@ -22,8 +22,8 @@ returns-clause-report c =
     let reader : Reader = record { lines = c.read.new.self; number = 1; payloads = c.new.result } in
     let cut : lines_of c.args.bytes ≡ c.line.result.now ∷ reader.lines.left =
     sym c.new-lines.ensures.lines ∙ c.if-not-read.ensures ∙ ap (λ (line : List ℕ). line ∷ reader.lines.left) (sym c.line.ensures) in
-    reports_same c.args.next (sessions c.args.bytes) (rest_of [] c.in-Ok.setup [] reader) c.run_all.result
-    (with_setup c.args.bytes c.line.result.now c.in-Ok.setup reader cut c.in-Ok.ensures refl) c.run_all.ensures
+    reports_same c.args.next (sessions c.args.bytes) (rest_of [] c.in-Ok.setup [] reader) c.run_all-report.result
+    (with_setup c.args.bytes c.line.result.now c.in-Ok.setup reader cut c.in-Ok.ensures refl) c.run_all-report.ensures
 
 pub returns-clause-joined : goal.returns-clause-joined
-returns-clause-joined c = joined_result c.args.next (sessions c.args.bytes) c.run_all.result (returns-clause-report c)
+returns-clause-joined c = joined_result c.args.next (sessions c.args.bytes) c.run_all-report.result (returns-clause-report c)

@@ -10,24 +10,13 @@ returns-in-Begins-clause-lines c =
     going_setup c.args.self.now c.loop-said.self c.args.reader.now c.loop-said.reader c.next.new.self c.in-Begins.setup c.loop-said.invariant.going
     (next_says c.loop-said.reader c.next.new.self c.in_ok-said.field-0 c.in-Some.said (Begins c.in-Begins.setup) c.in-Some.is c.in-Begins.is c.in_ok-said.ensures)
 
-pub loop-said-preserved-in-Ok : goal.loop-said-preserved-in-Ok
-loop-said-preserved-in-Ok c =
+pub loop-said-preserved : goal.loop-said-preserved
+loop-said-preserved c =
     let reads : ReadsNext c.loop-said.reader c.next.new.self (Ok (Some (Says c.in-Says.line))) =
     next_says c.loop-said.reader c.next.new.self c.in_ok-said.field-0 c.in-Some.said (Says c.in-Says.line) c.in-Some.is c.in-Says.is c.in_ok-said.ensures in
     record {
       going =
-          going_next c.args.self.now c.loop-said.self c.pass.new.self c.args.reader.now c.loop-said.reader c.next.new.self c.in-Says.line c.loop-said.invariant.going reads
-          c.in-Ok.ensures;
-      left = next_left c.loop-said.reader c.next.new.self (Says c.in-Says.line) (length c.args.reader.now.lines.left) reads c.loop-said.invariant.left;
-    }
-
-pub loop-said-preserved-in-Ok-2 : goal.loop-said-preserved-in-Ok-2
-loop-said-preserved-in-Ok-2 c =
-    let reads : ReadsNext c.loop-said.reader c.next.new.self (Ok (Some (Says c.in-Says.line))) =
-    next_says c.loop-said.reader c.next.new.self c.in_ok-said.field-0 c.in-Some.said (Says c.in-Says.line) c.in-Some.is c.in-Says.is c.in_ok-said.ensures in
-    record {
-      going =
-          going_next c.args.self.now c.loop-said.self c.pass.new.self c.args.reader.now c.loop-said.reader c.next.new.self c.in-Says.line c.loop-said.invariant.going reads
+          going_next c.args.self.now c.loop-said.self c.pass-passed.new.self c.args.reader.now c.loop-said.reader c.next.new.self c.in-Says.line c.loop-said.invariant.going reads
           c.in-Ok.ensures;
       left = next_left c.loop-said.reader c.next.new.self (Says c.in-Says.line) (length c.args.reader.now.lines.left) reads c.loop-said.invariant.left;
     }
