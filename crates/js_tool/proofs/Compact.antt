@@ -122,18 +122,18 @@ arrival_says : (at inbox : ℕ) (reply payload : List ℕ) → at < 2 ^ 64 → i
 arrival_says at inbox reply payload a i plain r p = arrival_said at inbox reply payload a i plain.0 plain.1 (arrival_utf8 at inbox reply payload a i r p)
 
 -- the parts of what follows the moment, one after another
-pub rest_shape : (rest b c d e f g : List ℕ) (inbox : ℕ) (reply payload : List ℕ)
-    → rest ≡ codes ",\"arrival\":{\"inbox\":" ++ b → b ≡ decimal inbox ++ c → c ≡ codes ",\"reply\":\"" ++ d → d ≡ reply ++ 34 ∷ e
-    → e ≡ codes ",\"payload\":\"" ++ f → f ≡ payload ++ 34 ∷ g → g ≡ codes "}}"
+pub rest_shape : (rest b c d : List ℕ) (inbox : ℕ) (reply payload : List ℕ)
+    → rest ≡ codes ",\"arrival\":{\"inbox\":" ++ (decimal inbox ++ b) → b ≡ codes ",\"reply\":\"" ++ (reply ++ 34 ∷ c)
+    → c ≡ codes ",\"payload\":\"" ++ (payload ++ 34 ∷ d) → d ≡ codes "}}"
     → rest ≡ arrival_rest inbox reply payload
-rest_shape rest b c d e f g inbox reply payload p1 p2 p3 p4 p5 p6 p7 = rw (p1, p2, p3, p4, p5, p6, p7) refl
+rest_shape rest b c d inbox reply payload p1 p2 p3 p4 = rw (p1, p2, p3, p4) refl
 
 -- ---- lines from their parts
 
-pub tick_line : (line rest end : List ℕ) (at : ℕ) → at < 2 ^ 64 → line ≡ codes "{\"at\":" ++ rest → rest ≡ decimal at ++ end → end ≡ codes "}" → Says line at what.Tick
-tick_line line rest end at small front digits last = rw (front, digits, last) (tick_says at small)
+pub tick_line : (line end : List ℕ) (at : ℕ) → at < 2 ^ 64 → line ≡ codes "{\"at\":" ++ (decimal at ++ end) → end ≡ codes "}" → Says line at what.Tick
+tick_line line end at small front last = rw (front, last) (tick_says at small)
 
-pub arrival_line : (line rest end : List ℕ) (at inbox : ℕ) (reply payload : List ℕ) → at < 2 ^ 64 → inbox < 2 ^ 64
-    → line ≡ codes "{\"at\":" ++ rest → rest ≡ decimal at ++ end → end ≡ arrival_rest inbox reply payload → IsPlain reply payload → IsUtf8 reply → IsUtf8 payload
+pub arrival_line : (line end : List ℕ) (at inbox : ℕ) (reply payload : List ℕ) → at < 2 ^ 64 → inbox < 2 ^ 64
+    → line ≡ codes "{\"at\":" ++ (decimal at ++ end) → end ≡ arrival_rest inbox reply payload → IsPlain reply payload → IsUtf8 reply → IsUtf8 payload
     → Says line at (what.Arrival inbox (plain_message reply payload))
-arrival_line line rest end at inbox reply payload a i front digits last plain r p = rw (front, digits, last) (arrival_says at inbox reply payload a i plain r p)
+arrival_line line end at inbox reply payload a i front last plain r p = rw (front, last) (arrival_says at inbox reply payload a i plain r p)

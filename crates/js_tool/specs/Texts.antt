@@ -108,6 +108,11 @@ field_name field.InboxPrefix = codes "inbox_prefix"
 field_name field.FilterSubject = codes "filter_subject"
 field_name field.DeliverSubject = codes "deliver_subject"
 
+-- a name, and what stands behind it
+abbrev pub with_detail : List ℕ → Option Data → List Data
+with_detail name None = string name ∷ []
+with_detail name (Some detail) = string name ∷ detail ∷ []
+
 -- a refusal by its name, with its field or place
 abbrev pub refusal_cells : ReplayError → List Data
 refusal_cells error.NoDeliverSubject = string (codes "NoDeliverSubject") ∷ []

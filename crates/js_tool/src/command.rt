@@ -1,7 +1,8 @@
 //! The words of a command line.
 
-ghost use Rattle.std.specs.Prelude.{◌≡◌, ◌≤◌, map, option_map, string_bytes, IfSome};
-ghost use Rattle.js_tool.specs.Commands.{asked, command_of as command_in, generate_of as generate_in, window_of as window_in, number_of, within, IsWithinLimits};
+ghost use Rattle.std.specs.Prelude.{◌≡◌, ◌≤◌, codes, if◌then◌else◌, map, option_map, string_bytes, Some, None, IfSome};
+ghost use Rattle.std.specs.Str.{bytes_eq};
+ghost use Rattle.js_tool.specs.Commands.{Info, Replay, asked, command_of as command_in, generate_of as generate_in, window_of as window_in, number_of, within, IsWithinLimits};
 
 use js_message::read_u64;
 
@@ -34,55 +35,62 @@ pub fn command_of(words: &[String]) -> Option<Command<'_>>
 {
     match words {
         [] => None,
-        [name] => {
-            if name.as_str() == "replay" {
-                Some(Command::Replay)
-            } else {
-                None
-            }
-        }
-        [name, subject] => {
-            if name.as_str() == "info" {
-                Some(Command::Info {
-                    subject: subject.as_str(),
-                })
-            } else {
-                None
-            }
-        }
-        [name, seed, events] => {
-            if name.as_str() == "generate" {
-                generate_of(seed.as_str(), events.as_str())
-            } else {
-                None
-            }
-        }
-        [name, capacity, threads, calls] => {
-            if name.as_str() == "window" {
-                window_of(capacity.as_str(), threads.as_str(), calls.as_str())
-            } else {
-                None
-            }
-        }
+        [name] => replay_of(name.as_str()),
+        [name, subject] => info_of(name.as_str(), subject.as_str()),
+        [name, seed, events] => generate_of(name.as_str(), seed.as_str(), events.as_str()),
+        [name, capacity, threads, calls] => window_of(
+            name.as_str(),
+            capacity.as_str(),
+            threads.as_str(),
+            calls.as_str(),
+        ),
         [_, _, _, _, _, ..] => None,
     }
 }
 
-#[tactic(auto, unfolding(crate::specs::Commands::generate_of))]
-fn generate_of<'a>(seed: &str, events: &str) -> Option<Command<'a>>
-    ensures form { option_map asked result ≡ generate_in seed.now events.now }
+fn replay_of<'a>(name: &str) -> Option<Command<'a>>
+    ensures form { option_map asked result ≡ (if bytes_eq name.now (codes "replay") then Some Replay else None) }
     ensures limits { IfSome result IsWithinLimits }
 {
+    if name == "replay" {
+        Some(Command::Replay)
+    } else {
+        None
+    }
+}
+
+fn info_of<'a>(name: &str, subject: &'a str) -> Option<Command<'a>>
+    ensures form { option_map asked result ≡ (if bytes_eq name.now (codes "info") then Some (Info subject.now) else None) }
+    ensures limits { IfSome result IsWithinLimits }
+{
+    if name == "info" {
+        Some(Command::Info { subject })
+    } else {
+        None
+    }
+}
+
+#[tactic(auto, unfolding(crate::specs::Commands::generate_of))]
+fn generate_of<'a>(name: &str, seed: &str, events: &str) -> Option<Command<'a>>
+    ensures form { option_map asked result ≡ (if bytes_eq name.now (codes "generate") then generate_in seed.now events.now else None) }
+    ensures limits { IfSome result IsWithinLimits }
+{
+    if name != "generate" {
+        return None;
+    }
     let seed = read_number(seed)?;
     let events = number_within(events, 0, 200_000)?;
     Some(Command::Generate { seed, events })
 }
 
 #[tactic(auto, unfolding(crate::specs::Commands::window_of))]
-fn window_of<'a>(capacity: &str, threads: &str, calls: &str) -> Option<Command<'a>>
-    ensures form { option_map asked result ≡ window_in capacity.now threads.now calls.now }
+fn window_of<'a>(name: &str, capacity: &str, threads: &str, calls: &str) -> Option<Command<'a>>
+    ensures form { option_map asked result ≡ (if bytes_eq name.now (codes "window") then window_in capacity.now threads.now calls.now else None) }
     ensures limits { IfSome result IsWithinLimits }
 {
+    if name != "window" {
+        return None;
+    }
     let capacity = number_within(capacity, 1, 4_294_967_295)?;
     let threads = number_within(threads, 1, 8)?;
     let calls = number_within(calls, 0, 100_000)?;

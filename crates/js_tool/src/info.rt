@@ -1,16 +1,16 @@
 //! What an acknowledgement subject says, as a line.
 
-ghost use Rattle.std.specs.Prelude.{◌≡◌, IfOk};
+ghost use Rattle.std.specs.Prelude.{◌≡◌, option_map, IfOk};
 ghost use Rattle.std.specs.Option.{option_copied};
 ghost use Rattle.std.specs.Io.KnownBytes.{Keeps};
 ghost use Rattle.js_io.specs.Causes.{Rose};
 ghost use Rattle.js_message.specs.Shown.{shown};
-ghost use Rattle.js_tool.specs.Answers.{info_text, error_text};
+ghost use Rattle.js_tool.specs.Answers.{info_text, error_cells as error_cells_in, error_text};
 ghost use Rattle.js_tool.specs.Program.{AnswersInfo, SaysNothing};
-ghost use Rattle.js_tool.specs.Texts.{cell_data, text_or_null};
+ghost use Rattle.js_tool.specs.Texts.{cell_data, text_or_null, with_detail};
 
 use crate::status::Status;
-use crate::text::{Cell, push_line};
+use crate::text::{Cell, push_line, push_refused};
 use js_io::{Sink, write_all};
 use js_message::{Info, InfoError, parse_info};
 use std::alloc::{AllocError, Global};
@@ -77,28 +77,18 @@ pub fn error_line(alloc: Global, error: InfoError) -> Result<Vec<u8>, AllocError
     ensures { IfOk result (λ line. line.items ≡ error_text error) }
 {
     let mut out = Vec::new(alloc);
-    match error {
-        InfoError::Prefix => push_line(&mut out, &[Cell::Text(b"refused"), Cell::Text(b"Prefix")])?,
-        InfoError::TokenCount { n } => push_line(
-            &mut out,
-            &[
-                Cell::Text(b"refused"),
-                Cell::Text(b"TokenCount"),
-                Cell::Number(n),
-            ],
-        )?,
-        InfoError::Number { place } => push_line(
-            &mut out,
-            &[
-                Cell::Text(b"refused"),
-                Cell::Text(b"Number"),
-                Cell::Number(place),
-            ],
-        )?,
-        InfoError::Instant => push_line(
-            &mut out,
-            &[Cell::Text(b"refused"), Cell::Text(b"Instant")],
-        )?,
-    }
+    let (name, detail) = error_cells(error);
+    push_refused(&mut out, name, detail)?;
     Ok(out)
+}
+
+fn error_cells(error: InfoError) -> (&'static [u8], Option<Cell<'static>>)
+    ensures { with_detail result.0.now (option_map cell_data result.1) ≡ error_cells_in error }
+{
+    match error {
+        InfoError::Prefix => (b"Prefix", None),
+        InfoError::TokenCount { n } => (b"TokenCount", Some(Cell::Number(n))),
+        InfoError::Number { place } => (b"Number", Some(Cell::Number(place))),
+        InfoError::Instant => (b"Instant", None),
+    }
 }

@@ -1,8 +1,9 @@
 //! The text of a run: a line for each output, in order, and a last one.
 
-ghost use Rattle.std.specs.Prelude.{◌≡◌, ◌++◌, [], ◌∷◌, length, flat_map, OnOk, IfOk};
+ghost use Rattle.std.specs.Prelude.{◌≡◌, ◌++◌, [], ◌∷◌, codes, length, flat_map, option_map, OnOk, IfOk};
+ghost use Rattle.serde_json.specs.Data.{string};
 ghost use Rattle.js_table.specs.declared.run.Output.TheVariants as output;
-ghost use Rattle.js_tool.specs.Texts.{cell_data, start_data, kind_name, field_name, text_or_null, unless_empty, output_text, last_line, refusal_text};
+ghost use Rattle.js_tool.specs.Texts.{cell_data, start_data, kind_name, field_name, text_or_null, unless_empty, output_text, last_line, line_text, with_detail, refusal_cells as refusal_cells_in, refusal_text};
 
 mod line;
 mod quoted;
@@ -225,41 +226,35 @@ pub fn refusal_line(alloc: Global, refusal: ReplayError) -> Result<Vec<u8>, Allo
 fn push_refusal(out: &mut Vec<u8>, refusal: ReplayError) -> Result<(), AllocError>
     ensures { OnOk result (out.new.items ≡ out.old.items ++ refusal_text refusal) }
 {
+    let (name, detail) = refusal_cells(refusal);
+    push_refused(out, name, detail)
+}
+
+/// Adds the line of what is refused for a reason with this name.
+pub(crate) fn push_refused<'c>(
+    out: &mut Vec<u8>,
+    name: &'c [u8],
+    detail: Option<Cell<'c>>,
+) -> Result<(), AllocError>
+    ensures { OnOk result (out.new.items ≡ out.old.items ++ line_text (string (codes "refused") ∷ with_detail name.now (option_map cell_data detail.entry))) }
+{
+    match detail {
+        None => push_line(out, &[Cell::Text(b"refused"), Cell::Text(name)]),
+        Some(detail) => push_line(out, &[Cell::Text(b"refused"), Cell::Text(name), detail]),
+    }
+}
+
+fn refusal_cells(refusal: ReplayError) -> (&'static [u8], Option<Cell<'static>>)
+    ensures { with_detail result.0.now (option_map cell_data result.1) ≡ refusal_cells_in refusal }
+{
     match refusal {
-        ReplayError::NoDeliverSubject => push_line(
-            out,
-            &[Cell::Text(b"refused"), Cell::Text(b"NoDeliverSubject")],
-        ),
-        ReplayError::BadSettings { field } => push_line(
-            out,
-            &[
-                Cell::Text(b"refused"),
-                Cell::Text(b"BadSettings"),
-                Cell::Text(field_text(field)),
-            ],
-        ),
-        ReplayError::BadEvent { place } => {
-            push_line(
-                out,
-                &[
-                    Cell::Text(b"refused"),
-                    Cell::Text(b"BadEvent"),
-                    Cell::Number(place),
-                ],
-            )
+        ReplayError::NoDeliverSubject => (b"NoDeliverSubject", None),
+        ReplayError::BadSettings { field } => {
+            (b"BadSettings", Some(Cell::Text(field_text(field))))
         }
-        ReplayError::SequenceEnd { place } => push_line(
-            out,
-            &[
-                Cell::Text(b"refused"),
-                Cell::Text(b"SequenceEnd"),
-                Cell::Number(place),
-            ],
-        ),
-        ReplayError::OutOfMemory => push_line(
-            out,
-            &[Cell::Text(b"refused"), Cell::Text(b"OutOfMemory")],
-        ),
+        ReplayError::BadEvent { place } => (b"BadEvent", Some(Cell::Number(place))),
+        ReplayError::SequenceEnd { place } => (b"SequenceEnd", Some(Cell::Number(place))),
+        ReplayError::OutOfMemory => (b"OutOfMemory", None),
     }
 }
 

@@ -29,7 +29,7 @@ pub(crate) struct PlainArrival<'l> {
 pub(crate) fn compact_line(line: &[u8]) -> Option<CompactLine<'_>>
     ensures { IfSome result (SaysCompact line.now) }
 {
-    let (at, rest) = number(after(line, b"{\"at\":")?)?;
+    let (at, rest) = number_after(line, b"{\"at\":")?;
     if rest == b"}".as_slice() {
         return Some(CompactLine::Tick { at });
     }
@@ -43,9 +43,9 @@ fn plain_arrival(rest: &[u8]) -> Option<PlainArrival<'_>>
     ensures plain { IfSome result (λ a. IsPlain a.reply.now a.payload.now) }
     ensures small { IfSome result (λ a. a.inbox < 2 ^ 64) }
 {
-    let (inbox, rest) = number(after(rest, b",\"arrival\":{\"inbox\":")?)?;
-    let (reply, rest) = plain_text(after(rest, b",\"reply\":\"")?)?;
-    let (payload, rest) = plain_text(after(rest, b",\"payload\":\"")?)?;
+    let (inbox, rest) = number_after(rest, b",\"arrival\":{\"inbox\":")?;
+    let (reply, rest) = text_after(rest, b",\"reply\":\"")?;
+    let (payload, rest) = text_after(rest, b",\"payload\":\"")?;
     if rest == b"}}".as_slice() {
         return Some(PlainArrival {
             inbox,
@@ -70,13 +70,14 @@ fn after<'l>(text: &'l [u8], word: &[u8]) -> Option<&'l [u8]>
     None
 }
 
-// A number in its shortest form, and what follows it.
-fn number(text: &[u8]) -> Option<(u64, &[u8])>
-    ensures text { IfSome result (λ p. text.now ≡ decimal p.0 ++ p.1.now) }
+// A number in its shortest form behind a word, and what follows it.
+fn number_after<'l>(text: &'l [u8], word: &[u8]) -> Option<(u64, &'l [u8])>
+    ensures text { IfSome result (λ p. text.now ≡ word.now ++ (decimal p.0 ++ p.1.now)) }
     ensures small { IfSome result (λ p. p.0 < 2 ^ 64) }
 {
-    let (number, end) = digits_front(text);
-    let (digits, rest) = text.split_at(end);
+    let behind = after(text, word)?;
+    let (number, end) = digits_front(behind);
+    let (digits, rest) = behind.split_at(end);
     let mut buffer = Buffer::new();
     if buffer.format(number).as_bytes() == digits {
         return Some((number, rest));
@@ -101,14 +102,15 @@ fn digits_front(text: &[u8]) -> (u64, usize)
     (number, count)
 }
 
-// A text without escapes, and what follows its quote.
-fn plain_text(text: &[u8]) -> Option<(&str, &[u8])>
-    ensures { IfSome result (λ p. (text.now ≡ p.0.now ++ 34 ∷ p.1.now) × (escape p.0.now ≡ p.0.now)) }
+// A text without escapes behind a word, and what follows its quote.
+fn text_after<'l>(text: &'l [u8], word: &[u8]) -> Option<(&'l str, &'l [u8])>
+    ensures { IfSome result (λ p. (text.now ≡ word.now ++ (p.0.now ++ 34 ∷ p.1.now)) × (escape p.0.now ≡ p.0.now)) }
 {
-    let end = plain_front(text);
-    if end < text.len() && text[end] == b'"' {
-        return match from_utf8(&text[..end]) {
-            Ok(plain) => Some((plain, &text[end + 1..])),
+    let behind = after(text, word)?;
+    let end = plain_front(behind);
+    if end < behind.len() && behind[end] == b'"' {
+        return match from_utf8(&behind[..end]) {
+            Ok(plain) => Some((plain, &behind[end + 1..])),
             Err(_) => None,
         };
     }

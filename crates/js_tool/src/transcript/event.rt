@@ -1,6 +1,6 @@
 //! Each further line of a transcript: a moment, and at most one thing that happens then.
 
-ghost use Rattle.std.specs.Prelude.{◌≡◌, Option, Some, None, Ok};
+ghost use Rattle.std.specs.Prelude.{◌≡◌, List, ℕ, Option, Some, None, Ok};
 ghost use Rattle.serde_json.specs.View.{view};
 ghost use Rattle.js_fields.specs.Reading.{Gives, named, given as given_in};
 ghost use Rattle.js_fields.specs.declared.key.Key.TheVariants as key;
@@ -126,42 +126,70 @@ fn answer(
     Err(ReadError::WrongKind { key })
 }
 
-#[tactic(auto, unfolding(js_fields::specs::Reading::named, crate::specs::Events::link_named))]
-fn link(key: Key, value: &Value) -> Result<EventKind, ReadError>
-    ensures { Gives result (named link_named key (view value.now)) }
-{
-    match text_of(key, value)? {
-        "open" => Ok(EventKind::Link { up: true }),
-        "closed" => Ok(EventKind::Link { up: false }),
-        _ => Err(ReadError::OutOfRange { key }),
+/// A kind of change that a text names.
+trait NamedChange {
+    /// What happens by each name.
+    ghost value_of: { List ℕ → Option EventKind };
+
+    /// What happens by that name, where it is one.
+    fn from_name(name: &str) -> Option<EventKind>
+        ensures { result ≡ value_of name.now };
+}
+
+struct LinkChange;
+
+impl NamedChange for LinkChange {
+    ghost value_of = { link_named };
+
+    #[tactic(auto, unfolding(crate::specs::Events::link_named))]
+    fn from_name(name: &str) -> Option<EventKind> {
+        match name {
+            "open" => Some(EventKind::Link { up: true }),
+            "closed" => Some(EventKind::Link { up: false }),
+            _ => None,
+        }
     }
 }
 
-#[tactic(auto, unfolding(js_fields::specs::Reading::named, crate::specs::Events::connection_named))]
-fn connection(key: Key, value: &Value) -> Result<EventKind, ReadError>
-    ensures { Gives result (named connection_named key (view value.now)) }
-{
-    match text_of(key, value)? {
-        "connected" => Ok(EventKind::Connection {
-            state: State::Connected,
-        }),
-        "disconnected" => Ok(EventKind::Connection {
-            state: State::Disconnected,
-        }),
-        "pending" => Ok(EventKind::Connection {
-            state: State::Pending,
-        }),
-        _ => Err(ReadError::OutOfRange { key }),
+struct ConnectionChange;
+
+impl NamedChange for ConnectionChange {
+    ghost value_of = { connection_named };
+
+    #[tactic(auto, unfolding(crate::specs::Events::connection_named))]
+    fn from_name(name: &str) -> Option<EventKind> {
+        let state = match name {
+            "connected" => State::Connected,
+            "disconnected" => State::Disconnected,
+            "pending" => State::Pending,
+            _ => return None,
+        };
+        Some(EventKind::Connection { state })
     }
 }
 
-#[tactic(auto, unfolding(js_fields::specs::Reading::named, crate::specs::Events::watcher_named))]
-fn watcher(key: Key, value: &Value) -> Result<EventKind, ReadError>
-    ensures { Gives result (named watcher_named key (view value.now)) }
+struct WatcherChange;
+
+impl NamedChange for WatcherChange {
+    ghost value_of = { watcher_named };
+
+    #[tactic(auto, unfolding(crate::specs::Events::watcher_named))]
+    fn from_name(name: &str) -> Option<EventKind> {
+        match name {
+            "ended" => Some(EventKind::WatcherEnded),
+            _ => None,
+        }
+    }
+}
+
+// The change that the text of a member names.
+#[tactic(auto, unfolding(js_fields::specs::Reading::named))]
+fn change<C: NamedChange>(key: Key, value: &Value) -> Result<EventKind, ReadError>
+    ensures { Gives result (named C.value_of key (view value.now)) }
 {
-    match text_of(key, value)? {
-        "ended" => Ok(EventKind::WatcherEnded),
-        _ => Err(ReadError::OutOfRange { key }),
+    match C::from_name(text_of(key, value)?) {
+        None => Err(ReadError::OutOfRange { key }),
+        Some(found) => Ok(found),
     }
 }
 
@@ -212,35 +240,16 @@ fn with_answer(
 }
 
 #[tactic(auto, unfolding(crate::specs::Events::with_key, js_fields::specs::Reading::given))]
-fn with_link(object: &Value, found: Option<EventKind>) -> Result<Option<EventKind>, ReadError>
-    ensures { Gives result (with_key (named link_named) key.Link found (view object.now)) }
+fn with_change<C: NamedChange>(
+    object: &Value,
+    key: Key,
+    found: Option<EventKind>,
+) -> Result<Option<EventKind>, ReadError>
+    ensures { Gives result (with_key (named C.value_of) key found (view object.now)) }
 {
-    let key = Key::Link;
     match object.get(key.name()) {
         None => alone(key, found, None),
-        Some(value) => alone(key, found, Some(link(key, value)?)),
-    }
-}
-
-#[tactic(auto, unfolding(crate::specs::Events::with_key, js_fields::specs::Reading::given))]
-fn with_connection(object: &Value, found: Option<EventKind>) -> Result<Option<EventKind>, ReadError>
-    ensures { Gives result (with_key (named connection_named) key.Connection found (view object.now)) }
-{
-    let key = Key::Connection;
-    match object.get(key.name()) {
-        None => alone(key, found, None),
-        Some(value) => alone(key, found, Some(connection(key, value)?)),
-    }
-}
-
-#[tactic(auto, unfolding(crate::specs::Events::with_key, js_fields::specs::Reading::given))]
-fn with_watcher(object: &Value, found: Option<EventKind>) -> Result<Option<EventKind>, ReadError>
-    ensures { Gives result (with_key (named watcher_named) key.Watcher found (view object.now)) }
-{
-    let key = Key::Watcher;
-    match object.get(key.name()) {
-        None => alone(key, found, None),
-        Some(value) => alone(key, found, Some(watcher(key, value)?)),
+        Some(value) => alone(key, found, Some(change::<C>(key, value)?)),
     }
 }
 
@@ -254,9 +263,9 @@ fn what_fields(
 {
     let found = with_arrival(alloc, payloads, object)?;
     let found = with_answer(alloc, payloads, object, found)?;
-    let found = with_link(object, found)?;
-    let found = with_connection(object, found)?;
-    let found = with_watcher(object, found)?;
+    let found = with_change::<LinkChange>(object, Key::Link, found)?;
+    let found = with_change::<ConnectionChange>(object, Key::Connection, found)?;
+    let found = with_change::<WatcherChange>(object, Key::Watcher, found)?;
     Ok(found.unwrap_or(EventKind::Tick))
 }
 
@@ -291,10 +300,12 @@ fn arrived(
 ) -> Result<Event, ReadError>
     ensures { Gives result (Ok (record { at = at; what = Arrival found.entry.inbox (plain_message found.entry.reply.now found.entry.payload.now) })) }
 {
+    let reply = Subject::new(alloc, found.reply)?;
+    let payload = payloads.keep(alloc, found.payload.as_bytes())?;
     let message = Message {
         subject: Subject::from(String::new(alloc)),
-        reply: Some(Subject::new(alloc, found.reply)?),
-        payload: payloads.keep(alloc, found.payload.as_bytes())?,
+        reply: Some(reply),
+        payload,
         headers: None,
         status: None,
         description: None,

@@ -1,6 +1,6 @@
 //! The payloads of a transcript.
 
-ghost use Rattle.std.specs.Prelude.{◌≡◌, IfOk};
+ghost use Rattle.std.specs.Prelude.{◌≡◌, [], IfOk, OnOk};
 
 use bytes::{Bytes, BytesMut};
 use std::alloc::{AllocError, Global};
@@ -32,11 +32,19 @@ impl Payloads {
         if payload.len() > SHORT {
             return Bytes::copy_from_slice(alloc, payload);
         }
-        if self.room.capacity() < payload.len() {
+        self.make_room(alloc, payload.len())?;
+        self.room.extend_from_slice(payload)?;
+        self.room.freeze_to(payload.len())
+    }
+
+    // Room for so many bytes.
+    fn make_room(&mut self, alloc: Global, count: usize) -> Result<(), AllocError>
+        ensures { OnOk result (self.new.room.items ≡ []) }
+    {
+        if self.room.capacity() < count {
             self.room = BytesMut::with_capacity(alloc, ROOM)?;
         }
         self.room.clear();
-        self.room.extend_from_slice(payload)?;
-        self.room.freeze_to(payload.len())
+        Ok(())
     }
 }

@@ -1,12 +1,14 @@
 //! The first line of a transcript: the settings, the consumer's configuration, and what the server told of it.
 
 ghost use Rattle.std.specs.Prelude.{◌≡◌, Option, Some, codes, IfOk, unwrap_or, List, ℕ};
+ghost use Rattle.std.specs.Option.{option_copied};
 ghost use Rattle.serde_json.specs.View.{view};
-ghost use Rattle.js_fields.specs.Reading.{Gives, required as required_in, named, nested as nested_in};
+ghost use Rattle.js_fields.specs.Reading.{Gives, GivesAs, given as given_in, required as required_in, named, nested as nested_in, text};
 ghost use Rattle.js_fields.specs.declared.key.Key.TheVariants as key;
 ghost use Rattle.js_json.specs.ConsumerInfo.{info_fields};
 ghost use Rattle.js_tool.specs.Setups.{mode_named, settings_fields as settings_in, settings as settings_member, ordered_setup as ordered_in, setup_with as with_in, setup_fields as setup_in, setup_line as line_in};
 
+use super::members::text_of;
 use js_base::{Moment, OutOfMemory, Text};
 use js_fields::{
     Key, Member, Named, ReadError, by_text, defaulted, given, has_only, nested, required, value_of,
@@ -55,11 +57,22 @@ pub struct Setup {
     pub start: Moment,
 }
 
-fn text_or(alloc: Global, found: Option<Text>, default: &'static str) -> Result<Text, OutOfMemory>
-    ensures { IfOk result (λ t. t ≡ unwrap_or found default.now) }
+// The text of a member that may be absent.
+#[tactic(auto, unfolding(js_fields::specs::Reading::given))]
+fn given_text(object: &Value, key: Key) -> Result<Option<&str>, ReadError>
+    ensures { GivesAs option_copied result (given_in text key (view object.now)) }
+{
+    match object.get(key.name()) {
+        None => Ok(None),
+        Some(value) => Ok(Some(text_of(key, value)?)),
+    }
+}
+
+fn text_or(alloc: Global, found: Option<&str>, default: &str) -> Result<Text, OutOfMemory>
+    ensures { IfOk result (λ t. t ≡ unwrap_or (option_copied found.entry) default.now) }
 {
     match found {
-        Some(text) => Ok(text),
+        Some(text) => Text::from_str(alloc, text),
         None => Text::from_str(alloc, default),
     }
 }
@@ -68,9 +81,9 @@ fn text_or(alloc: Global, found: Option<Text>, default: &'static str) -> Result<
 fn settings_fields(alloc: Global, object: &Value) -> Result<Settings, ReadError>
     ensures { Gives result (settings_in (view object.now)) }
 {
-    let api_prefix = given(alloc, object, Key::ApiPrefix)?;
-    let inbox_prefix = given(alloc, object, Key::InboxPrefix)?;
-    let context_timeout = defaulted(alloc, object, Key::ContextTimeout)?;
+    let api_prefix = given_text(object, Key::ApiPrefix)?;
+    let inbox_prefix = given_text(object, Key::InboxPrefix)?;
+    let context_timeout: Option<u64> = defaulted(alloc, object, Key::ContextTimeout)?;
     let request_timeout: Option<Option<u64>> = given(alloc, object, Key::RequestTimeout)?;
     let retries: Option<u32> = given(alloc, object, Key::Retries)?;
     Ok(Settings {
