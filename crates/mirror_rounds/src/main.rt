@@ -14,14 +14,19 @@ use std::{env, io};
 
 fn main(rt: HostRuntime) -> Result<(), Fail> {
     let seeds = asked(&rt)?;
+    look_at_all(&rt, seeds)?;
+    mirrors::show(&rt)?;
+    tables::show(&rt)?;
+    sessions::show(&rt)
+}
+
+/// Looks at the mirrors of each number below `seeds`.
+fn look_at_all(rt: &(impl Print + AllocGlobal), seeds: u64) -> Result<(), Fail> {
     let mut tally = Tally::default();
     for seed in 0..seeds {
         tally.add(look(rt.alloc(), seed)?);
     }
-    tally.tell(&rt, seeds)?;
-    mirrors::show(&rt)?;
-    tables::show(&rt)?;
-    sessions::show(&rt)
+    Ok(tally.tell(rt, seeds)?)
 }
 
 /// The number of seeds, 0 where none is named.
@@ -48,14 +53,13 @@ impl Tally {
     }
 
     fn tell(&self, rt: &impl Print, seeds: u64) -> io::Result<()> {
-        println!(rt; "{} of {seeds} are the same merged both ways", self.merged)?;
+        let Tally {
+            merged,
+            served,
+            relayed,
+        } = self;
         println!(rt;
-            "{} of {seeds} are served whole, and their holes are the holes of both",
-            self.served
-        )?;
-        println!(rt;
-            "{} of {seeds} come back from a replay of what relay gives",
-            self.relayed
+            "{merged} of {seeds} are the same merged both ways\n{served} of {seeds} are served whole, and their holes are the holes of both\n{relayed} of {seeds} come back from a replay of what relay gives"
         )
     }
 }

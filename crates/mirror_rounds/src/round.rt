@@ -87,8 +87,20 @@ fn is_there(mirror: &Mirror, sequence: u64) -> bool {
 /// Whether a mirror of what a replay of the relayed one hands out is the same.
 fn comes_back(alloc: Global, mirror: &Mirror) -> Result<bool, Fail> {
     let events = relay(alloc, mirror, "events", "gen")?;
-    let run = replayed(alloc, mirror.start(), &events)?;
-    let back = mirror_of(alloc, mirror.start(), &run)?;
+    let is_back = is_replayed(alloc, mirror, &events);
+    drop(events);
+    is_back
+}
+
+fn is_replayed(alloc: Global, mirror: &Mirror, events: &[Event]) -> Result<bool, Fail> {
+    let run = replayed(alloc, mirror.start(), events)?;
+    let is_back = is_handed_out(alloc, mirror, &run);
+    drop(run);
+    is_back
+}
+
+fn is_handed_out(alloc: Global, mirror: &Mirror, run: &Run) -> Result<bool, Fail> {
+    let back = mirror_of(alloc, mirror.start(), run)?;
     Ok(back.entries() == mirror.entries())
 }
 
@@ -96,17 +108,19 @@ fn comes_back(alloc: Global, mirror: &Mirror) -> Result<bool, Fail> {
 pub fn replayed(alloc: Global, start: u64, events: &[Event]) -> Result<Run, ReplayError> {
     let given = given(alloc)?;
     let setup = reader_from(alloc, start);
-    replay_ordered(alloc, &given.settings, &setup, &given.first, 0, events)
+    let run = replay_ordered(alloc, &given.settings, &setup, &given.first, 0, events);
+    drop(setup);
+    drop(given);
+    run
 }
 
 /// The setup of a pull consumer that starts at a sequence.
 pub fn reader_from(alloc: Global, start: u64) -> OrderedSetup {
-    OrderedSetup::Pull(OrderedConfig {
-        deliver_policy: DeliverPolicy::ByStartSequence {
-            start_sequence: start,
-        },
-        ..OrderedConfig::new(alloc)
-    })
+    let mut config = OrderedConfig::new(alloc);
+    config.deliver_policy = DeliverPolicy::ByStartSequence {
+        start_sequence: start,
+    };
+    OrderedSetup::Pull(config)
 }
 
 /// The mirror of a run's yields.

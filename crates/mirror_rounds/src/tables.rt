@@ -4,7 +4,7 @@ use crate::mirrors::fill;
 use crate::round::replayed;
 use js_log_table::{RunProjection, project, worked_tables};
 use js_mirror::Mirror;
-use js_ordered::Run;
+use js_ordered::{Event, Run};
 use js_project::Projection;
 use js_relay::relay;
 use std::alloc::Global;
@@ -14,29 +14,53 @@ use std::test::Fail;
 pub fn show(rt: &(impl Print + AllocGlobal)) -> Result<(), Fail> {
     worked_tables();
     let run = relayed(rt.alloc())?;
-    tell(rt, &project(rt.alloc(), &run)?)?;
-    tell(rt, &advanced(rt.alloc(), &run)?)
+    let shown = show_run(rt, &run);
+    drop(run);
+    shown
+}
+
+fn show_run(rt: &(impl Print + AllocGlobal), run: &Run) -> Result<(), Fail> {
+    tell(rt, project(rt.alloc(), run)?)?;
+    tell(rt, advanced(rt.alloc(), run)?)
+}
+
+/// The arrivals of entries 4, 5 and 9.
+fn events(alloc: Global) -> Result<Vec<Event>, Fail> {
+    let mut mirror = Mirror::new(alloc, 3);
+    fill(alloc, &mut mirror)?;
+    Ok(relay(alloc, &mirror, "events", "gen")?)
 }
 
 /// The run that hands out entries 4, 5 and 9.
 fn relayed(alloc: Global) -> Result<Run, Fail> {
-    let mut mirror = Mirror::new(alloc, 3);
-    fill(alloc, &mut mirror)?;
-    let events = relay(alloc, &mirror, "events", "gen")?;
-    Ok(replayed(alloc, 3, &events)?)
+    let events = events(alloc)?;
+    let run = replayed(alloc, 3, &events);
+    drop(events);
+    Ok(run?)
 }
 
 /// The same table, as the outputs come.
 fn advanced(alloc: Global, run: &Run) -> Result<Projection, Fail> {
     let mut table = RunProjection::new(alloc);
-    for step in run.steps.as_slice() {
-        table.advance(step.outputs.as_slice())?;
-    }
+    advance(&mut table, run)?;
     Ok(table.end()?)
 }
 
+fn advance(table: &mut RunProjection, run: &Run) -> Result<(), Fail> {
+    for step in run.steps.as_slice() {
+        table.advance(step.outputs.as_slice())?;
+    }
+    Ok(())
+}
+
 /// Sequences 4 and 9 have one subject.
-fn tell(rt: &impl Print, table: &Projection) -> Result<(), Fail> {
+fn tell(rt: &impl Print, table: Projection) -> Result<(), Fail> {
+    let told = tell_of(rt, &table);
+    drop(table);
+    told
+}
+
+fn tell_of(rt: &impl Print, table: &Projection) -> Result<(), Fail> {
     println!(rt;
         "table up to {}: {} rows",
         table.last(),
