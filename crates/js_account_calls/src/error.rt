@@ -39,12 +39,13 @@ impl fmt::Display for AccountErrorKind {
     ghost output = { λ kind. Some (account_text kind) };
 
     fn fmt<W: fmt::Write>(&self, f: &mut fmt::Formatter<W>) -> fmt::Result {
-        match self {
-            AccountErrorKind::TimedOut => write!(f, "timed out"),
-            AccountErrorKind::JetStream(error) => write!(f, "JetStream error: {error}"),
-            AccountErrorKind::Other => write!(f, "error"),
-            AccountErrorKind::JetStreamUnavailable => write!(f, "JetStream unavailable"),
-        }
+        let text = match self {
+            AccountErrorKind::TimedOut => "timed out",
+            AccountErrorKind::JetStream(error) => return write!(f, "JetStream error: {error}"),
+            AccountErrorKind::Other => "error",
+            AccountErrorKind::JetStreamUnavailable => "JetStream unavailable",
+        };
+        f.write_str(text)
     }
 }
 

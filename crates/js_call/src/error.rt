@@ -24,14 +24,12 @@ impl fmt::Display for RequestErrorKind {
     ghost output = { λ kind. Some (request_text kind) };
 
     fn fmt<W: fmt::Write>(&self, f: &mut fmt::Formatter<W>) -> fmt::Result {
-        match self {
-            RequestErrorKind::TimedOut => write!(f, "timed out"),
-            RequestErrorKind::Other => write!(f, "request failed"),
-            RequestErrorKind::InvalidSubject => write!(f, "invalid subject"),
-            RequestErrorKind::NoResponders => {
-                write!(f, "requested JetStream resource does not exist")
-            }
-        }
+        f.write_str(match self {
+            RequestErrorKind::TimedOut => "timed out",
+            RequestErrorKind::Other => "request failed",
+            RequestErrorKind::InvalidSubject => "invalid subject",
+            RequestErrorKind::NoResponders => "requested JetStream resource does not exist",
+        })
     }
 }
 

@@ -47,16 +47,17 @@ impl fmt::Display for ConsumerInfoErrorKind {
     ghost output = { λ kind. Some (info_text kind) };
 
     fn fmt<W: fmt::Write>(&self, f: &mut fmt::Formatter<W>) -> fmt::Result {
-        match self {
-            ConsumerInfoErrorKind::InvalidName => write!(f, "invalid consumer name"),
-            ConsumerInfoErrorKind::Offline => write!(f, "consumer is offline"),
-            ConsumerInfoErrorKind::NotFound => write!(f, "consumer not found"),
-            ConsumerInfoErrorKind::StreamNotFound => write!(f, "stream not found"),
-            ConsumerInfoErrorKind::Request => write!(f, "request error"),
-            ConsumerInfoErrorKind::JetStream(error) => write!(f, "jetstream error: {error}"),
-            ConsumerInfoErrorKind::TimedOut => write!(f, "timed out"),
-            ConsumerInfoErrorKind::NoResponders => write!(f, "no responders"),
-        }
+        let text = match self {
+            ConsumerInfoErrorKind::InvalidName => "invalid consumer name",
+            ConsumerInfoErrorKind::Offline => "consumer is offline",
+            ConsumerInfoErrorKind::NotFound => "consumer not found",
+            ConsumerInfoErrorKind::StreamNotFound => "stream not found",
+            ConsumerInfoErrorKind::Request => "request error",
+            ConsumerInfoErrorKind::JetStream(error) => return write!(f, "jetstream error: {error}"),
+            ConsumerInfoErrorKind::TimedOut => "timed out",
+            ConsumerInfoErrorKind::NoResponders => "no responders",
+        };
+        f.write_str(text)
     }
 }
 
@@ -97,14 +98,15 @@ impl fmt::Display for ConsumerErrorKind {
     ghost output = { λ kind. Some (consumer_text kind) };
 
     fn fmt<W: fmt::Write>(&self, f: &mut fmt::Formatter<W>) -> fmt::Result {
-        match self {
-            ConsumerErrorKind::InvalidName => write!(f, "invalid consumer name"),
-            ConsumerErrorKind::TimedOut => write!(f, "timed out"),
-            ConsumerErrorKind::Request => write!(f, "request error"),
-            ConsumerErrorKind::InvalidConsumerType => write!(f, "invalid consumer type"),
-            ConsumerErrorKind::JetStream(error) => write!(f, "JetStream error: {error}"),
-            ConsumerErrorKind::Other => write!(f, "consumer error"),
-        }
+        let text = match self {
+            ConsumerErrorKind::InvalidName => "invalid consumer name",
+            ConsumerErrorKind::TimedOut => "timed out",
+            ConsumerErrorKind::Request => "request error",
+            ConsumerErrorKind::InvalidConsumerType => "invalid consumer type",
+            ConsumerErrorKind::JetStream(error) => return write!(f, "JetStream error: {error}"),
+            ConsumerErrorKind::Other => "consumer error",
+        };
+        f.write_str(text)
     }
 }
 
@@ -147,19 +149,19 @@ impl fmt::Display for ConsumerCreateStrictErrorKind {
     ghost output = { λ kind. Some (strict_text kind) };
 
     fn fmt<W: fmt::Write>(&self, f: &mut fmt::Formatter<W>) -> fmt::Result {
-        match self {
-            ConsumerCreateStrictErrorKind::InvalidName => write!(f, "invalid consumer name"),
-            ConsumerCreateStrictErrorKind::TimedOut => write!(f, "timed out"),
-            ConsumerCreateStrictErrorKind::Request => write!(f, "request error"),
-            ConsumerCreateStrictErrorKind::InvalidConsumerType => {
-                write!(f, "invalid consumer type")
-            }
-            ConsumerCreateStrictErrorKind::JetStream(error) => {
-                write!(f, "JetStream error: {error}")
-            }
-            ConsumerCreateStrictErrorKind::Other => write!(f, "consumer error"),
-            ConsumerCreateStrictErrorKind::AlreadyExists => write!(f, "consumer already exists"),
-        }
+        let text = match self {
+            ConsumerCreateStrictErrorKind::InvalidName => "invalid consumer name",
+            ConsumerCreateStrictErrorKind::TimedOut => "timed out",
+            ConsumerCreateStrictErrorKind::Request => "request error",
+            ConsumerCreateStrictErrorKind::InvalidConsumerType => "invalid consumer type",
+            ConsumerCreateStrictErrorKind::JetStream(error) => return write!(
+                f,
+                "JetStream error: {error}"
+            ),
+            ConsumerCreateStrictErrorKind::Other => "consumer error",
+            ConsumerCreateStrictErrorKind::AlreadyExists => "consumer already exists",
+        };
+        f.write_str(text)
     }
 }
 
@@ -201,14 +203,18 @@ impl fmt::Display for ConsumerUpdateErrorKind {
     ghost output = { λ kind. Some (update_text kind) };
 
     fn fmt<W: fmt::Write>(&self, f: &mut fmt::Formatter<W>) -> fmt::Result {
-        match self {
-            ConsumerUpdateErrorKind::InvalidName => write!(f, "invalid consumer name"),
-            ConsumerUpdateErrorKind::TimedOut => write!(f, "timed out"),
-            ConsumerUpdateErrorKind::Request => write!(f, "request error"),
-            ConsumerUpdateErrorKind::InvalidConsumerType => write!(f, "invalid consumer type"),
-            ConsumerUpdateErrorKind::JetStream(error) => write!(f, "JetStream error: {error}"),
-            ConsumerUpdateErrorKind::Other => write!(f, "consumer error"),
-            ConsumerUpdateErrorKind::DoesNotExist => write!(f, "consumer does not exist"),
-        }
+        let text = match self {
+            ConsumerUpdateErrorKind::InvalidName => "invalid consumer name",
+            ConsumerUpdateErrorKind::TimedOut => "timed out",
+            ConsumerUpdateErrorKind::Request => "request error",
+            ConsumerUpdateErrorKind::InvalidConsumerType => "invalid consumer type",
+            ConsumerUpdateErrorKind::JetStream(error) => return write!(
+                f,
+                "JetStream error: {error}"
+            ),
+            ConsumerUpdateErrorKind::Other => "consumer error",
+            ConsumerUpdateErrorKind::DoesNotExist => "consumer does not exist",
+        };
+        f.write_str(text)
     }
 }

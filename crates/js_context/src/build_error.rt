@@ -29,11 +29,11 @@ impl fmt::Display for BuildError {
     ghost output = { λ error. Some (build_text error) };
 
     fn fmt<W: fmt::Write>(&self, f: &mut fmt::Formatter<W>) -> fmt::Result {
-        match self {
-            BuildError::ZeroCapacity => write!(f, "capacity is zero"),
-            BuildError::CapacityTooLarge => write!(f, "capacity is too large"),
-            BuildError::OutOfMemory => write!(f, "out of memory"),
-        }
+        f.write_str(match self {
+            BuildError::ZeroCapacity => "capacity is zero",
+            BuildError::CapacityTooLarge => "capacity is too large",
+            BuildError::OutOfMemory => "out of memory",
+        })
     }
 }
 

@@ -35,16 +35,16 @@ impl fmt::Display for PublishErrorKind {
     ghost output = { λ kind. Some (publish_text kind) };
 
     fn fmt<W: fmt::Write>(&self, f: &mut fmt::Formatter<W>) -> fmt::Result {
-        match self {
-            PublishErrorKind::StreamNotFound => write!(f, "no stream found for given subject"),
-            PublishErrorKind::TimedOut => write!(f, "timed out: didn't receive ack in time"),
-            PublishErrorKind::Other => write!(f, "publish failed"),
-            PublishErrorKind::BrokenPipe => write!(f, "broken pipe"),
-            PublishErrorKind::WrongLastMessageId => write!(f, "wrong last message id"),
-            PublishErrorKind::WrongLastSequence => write!(f, "wrong last sequence"),
-            PublishErrorKind::MaxAckPending => write!(f, "max ack pending reached"),
-            PublishErrorKind::MaxPayloadExceeded => write!(f, "max payload size exceeded"),
-        }
+        f.write_str(match self {
+            PublishErrorKind::StreamNotFound => "no stream found for given subject",
+            PublishErrorKind::TimedOut => "timed out: didn't receive ack in time",
+            PublishErrorKind::Other => "publish failed",
+            PublishErrorKind::BrokenPipe => "broken pipe",
+            PublishErrorKind::WrongLastMessageId => "wrong last message id",
+            PublishErrorKind::WrongLastSequence => "wrong last sequence",
+            PublishErrorKind::MaxAckPending => "max ack pending reached",
+            PublishErrorKind::MaxPayloadExceeded => "max payload size exceeded",
+        })
     }
 }
 

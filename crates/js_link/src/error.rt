@@ -11,10 +11,10 @@ impl fmt::Display for LinkError {
     ghost output = { λ error. Some (link_text error) };
 
     fn fmt<W: fmt::Write>(&self, f: &mut fmt::Formatter<W>) -> fmt::Result {
-        match self {
-            LinkError::Failed => write!(f, "link failed"),
-            LinkError::OutOfMemory => write!(f, "out of memory"),
-        }
+        f.write_str(match self {
+            LinkError::Failed => "link failed",
+            LinkError::OutOfMemory => "out of memory",
+        })
     }
 }
 

@@ -34,11 +34,15 @@ impl fmt::Display for GetStreamByNameErrorKind {
     ghost output = { λ kind. Some (find_text kind) };
 
     fn fmt<W: fmt::Write>(&self, f: &mut fmt::Formatter<W>) -> fmt::Result {
-        match self {
-            GetStreamByNameErrorKind::Request => write!(f, "request error"),
-            GetStreamByNameErrorKind::NotFound => write!(f, "stream not found"),
-            GetStreamByNameErrorKind::InvalidSubject => write!(f, "invalid subject"),
-            GetStreamByNameErrorKind::JetStream(error) => write!(f, "jetstream error: {error}"),
-        }
+        let text = match self {
+            GetStreamByNameErrorKind::Request => "request error",
+            GetStreamByNameErrorKind::NotFound => "stream not found",
+            GetStreamByNameErrorKind::InvalidSubject => "invalid subject",
+            GetStreamByNameErrorKind::JetStream(error) => return write!(
+                f,
+                "jetstream error: {error}"
+            ),
+        };
+        f.write_str(text)
     }
 }

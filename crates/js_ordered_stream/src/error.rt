@@ -30,17 +30,15 @@ impl fmt::Display for OrderedErrorKind {
     ghost output = { λ kind. Some (kind_text kind) };
 
     fn fmt<W: fmt::Write>(&self, f: &mut fmt::Formatter<W>) -> fmt::Result {
-        match self {
-            OrderedErrorKind::MissingHeartbeat => write!(f, "missed idle heartbeat"),
-            OrderedErrorKind::Pull => write!(f, "pull request failed"),
-            OrderedErrorKind::Other => write!(f, "error"),
-            OrderedErrorKind::Recreate => write!(f, "consumer recreation failed"),
-            OrderedErrorKind::RequestLimitExceeded => {
-                write!(f, "pull request exceeded consumer limits")
-            }
-            OrderedErrorKind::PushBasedConsumer => write!(f, "cannot use with push consumer"),
-            OrderedErrorKind::SequenceEnd => write!(f, "sequence end"),
-        }
+        f.write_str(match self {
+            OrderedErrorKind::MissingHeartbeat => "missed idle heartbeat",
+            OrderedErrorKind::Pull => "pull request failed",
+            OrderedErrorKind::Other => "error",
+            OrderedErrorKind::Recreate => "consumer recreation failed",
+            OrderedErrorKind::RequestLimitExceeded => "pull request exceeded consumer limits",
+            OrderedErrorKind::PushBasedConsumer => "cannot use with push consumer",
+            OrderedErrorKind::SequenceEnd => "sequence end",
+        })
     }
 }
 

@@ -34,11 +34,11 @@ impl fmt::Display for OpenError {
     ghost output = { λ e. Some (open_text e) };
 
     fn fmt<W: fmt::Write>(&self, f: &mut fmt::Formatter<W>) -> fmt::Result {
-        match self {
-            OpenError::NoDeliverSubject => write!(f, "no deliver subject"),
-            OpenError::Failed => write!(f, "subscription failed"),
-            OpenError::OutOfMemory => write!(f, "out of memory"),
-        }
+        f.write_str(match self {
+            OpenError::NoDeliverSubject => "no deliver subject",
+            OpenError::Failed => "subscription failed",
+            OpenError::OutOfMemory => "out of memory",
+        })
     }
 }
 

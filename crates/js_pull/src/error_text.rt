@@ -9,16 +9,14 @@ impl fmt::Display for MessagesErrorKind {
     ghost output = { λ kind. Some (messages_text kind) };
 
     fn fmt<W: fmt::Write>(&self, f: &mut fmt::Formatter<W>) -> fmt::Result {
-        match self {
-            MessagesErrorKind::MissingHeartbeat => write!(f, "missed idle heartbeat"),
-            MessagesErrorKind::ConsumerDeleted => write!(f, "consumer deleted"),
-            MessagesErrorKind::Pull => write!(f, "pull request failed"),
-            MessagesErrorKind::Other => write!(f, "error"),
-            MessagesErrorKind::NoResponders => write!(f, "no responders"),
-            MessagesErrorKind::RequestLimitExceeded => {
-                write!(f, "pull request exceeded consumer limits")
-            }
-            MessagesErrorKind::PushBasedConsumer => write!(f, "cannot use with push consumer"),
-        }
+        f.write_str(match self {
+            MessagesErrorKind::MissingHeartbeat => "missed idle heartbeat",
+            MessagesErrorKind::ConsumerDeleted => "consumer deleted",
+            MessagesErrorKind::Pull => "pull request failed",
+            MessagesErrorKind::Other => "error",
+            MessagesErrorKind::NoResponders => "no responders",
+            MessagesErrorKind::RequestLimitExceeded => "pull request exceeded consumer limits",
+            MessagesErrorKind::PushBasedConsumer => "cannot use with push consumer",
+        })
     }
 }

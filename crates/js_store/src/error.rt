@@ -24,11 +24,11 @@ impl fmt::Display for KeyValueErrorKind {
     ghost output = { λ kind. Some (key_value_text kind) };
 
     fn fmt<W: fmt::Write>(&self, f: &mut fmt::Formatter<W>) -> fmt::Result {
-        match self {
-            KeyValueErrorKind::InvalidStoreName => write!(f, "invalid Key Value Store name"),
-            KeyValueErrorKind::GetBucket => write!(f, "failed to get the bucket"),
-            KeyValueErrorKind::JetStream => write!(f, "JetStream error"),
-        }
+        f.write_str(match self {
+            KeyValueErrorKind::InvalidStoreName => "invalid Key Value Store name",
+            KeyValueErrorKind::GetBucket => "failed to get the bucket",
+            KeyValueErrorKind::JetStream => "JetStream error",
+        })
     }
 }
 
@@ -62,16 +62,14 @@ impl fmt::Display for CreateKeyValueErrorKind {
     ghost output = { λ kind. Some (create_text kind) };
 
     fn fmt<W: fmt::Write>(&self, f: &mut fmt::Formatter<W>) -> fmt::Result {
-        match self {
-            CreateKeyValueErrorKind::InvalidStoreName => write!(f, "invalid Key Value Store name"),
-            CreateKeyValueErrorKind::TooLongHistory => write!(f, "too long history"),
-            CreateKeyValueErrorKind::JetStream => write!(f, "JetStream error"),
-            CreateKeyValueErrorKind::BucketCreate => write!(f, "bucket creation failed"),
-            CreateKeyValueErrorKind::TimedOut => write!(f, "timed out"),
-            CreateKeyValueErrorKind::LimitMarkersNotSupported => {
-                write!(f, "limit markers not supported")
-            }
-        }
+        f.write_str(match self {
+            CreateKeyValueErrorKind::InvalidStoreName => "invalid Key Value Store name",
+            CreateKeyValueErrorKind::TooLongHistory => "too long history",
+            CreateKeyValueErrorKind::JetStream => "JetStream error",
+            CreateKeyValueErrorKind::BucketCreate => "bucket creation failed",
+            CreateKeyValueErrorKind::TimedOut => "timed out",
+            CreateKeyValueErrorKind::LimitMarkersNotSupported => "limit markers not supported",
+        })
     }
 }
 
@@ -102,17 +100,15 @@ impl fmt::Display for UpdateKeyValueErrorKind {
     ghost output = { λ kind. Some (update_text kind) };
 
     fn fmt<W: fmt::Write>(&self, f: &mut fmt::Formatter<W>) -> fmt::Result {
-        match self {
-            UpdateKeyValueErrorKind::InvalidStoreName => write!(f, "invalid Key Value Store name"),
-            UpdateKeyValueErrorKind::TooLongHistory => write!(f, "too long history"),
-            UpdateKeyValueErrorKind::JetStream => write!(f, "JetStream error"),
-            UpdateKeyValueErrorKind::BucketUpdate => write!(f, "bucket creation failed"),
-            UpdateKeyValueErrorKind::TimedOut => write!(f, "timed out"),
-            UpdateKeyValueErrorKind::LimitMarkersNotSupported => {
-                write!(f, "limit markers not supported")
-            }
-            UpdateKeyValueErrorKind::NotFound => write!(f, "bucket does not exist"),
-        }
+        f.write_str(match self {
+            UpdateKeyValueErrorKind::InvalidStoreName => "invalid Key Value Store name",
+            UpdateKeyValueErrorKind::TooLongHistory => "too long history",
+            UpdateKeyValueErrorKind::JetStream => "JetStream error",
+            UpdateKeyValueErrorKind::BucketUpdate => "bucket creation failed",
+            UpdateKeyValueErrorKind::TimedOut => "timed out",
+            UpdateKeyValueErrorKind::LimitMarkersNotSupported => "limit markers not supported",
+            UpdateKeyValueErrorKind::NotFound => "bucket does not exist",
+        })
     }
 }
 
@@ -138,11 +134,9 @@ impl fmt::Display for ObjectStoreErrorKind {
     ghost output = { λ kind. Some (objects_text kind) };
 
     fn fmt<W: fmt::Write>(&self, f: &mut fmt::Formatter<W>) -> fmt::Result {
-        match self {
-            ObjectStoreErrorKind::InvalidBucketName => {
-                write!(f, "invalid Object Store bucket name")
-            }
-            ObjectStoreErrorKind::GetStore => write!(f, "failed to get Object Store"),
-        }
+        f.write_str(match self {
+            ObjectStoreErrorKind::InvalidBucketName => "invalid Object Store bucket name",
+            ObjectStoreErrorKind::GetStore => "failed to get Object Store",
+        })
     }
 }

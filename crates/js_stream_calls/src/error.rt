@@ -48,13 +48,14 @@ impl fmt::Display for GetStreamErrorKind {
     ghost output = { λ kind. Some (get_text kind) };
 
     fn fmt<W: fmt::Write>(&self, f: &mut fmt::Formatter<W>) -> fmt::Result {
-        match self {
-            GetStreamErrorKind::EmptyName => write!(f, "empty name cannot be empty"),
-            GetStreamErrorKind::Request => write!(f, "request error"),
-            GetStreamErrorKind::InvalidStreamName => write!(f, "invalid stream name"),
-            GetStreamErrorKind::JetStream(error) => write!(f, "jetstream error: {error}"),
-            GetStreamErrorKind::OutOfMemory => write!(f, "out of memory"),
-        }
+        let text = match self {
+            GetStreamErrorKind::EmptyName => "empty name cannot be empty",
+            GetStreamErrorKind::Request => "request error",
+            GetStreamErrorKind::InvalidStreamName => "invalid stream name",
+            GetStreamErrorKind::JetStream(error) => return write!(f, "jetstream error: {error}"),
+            GetStreamErrorKind::OutOfMemory => "out of memory",
+        };
+        f.write_str(text)
     }
 }
 
@@ -106,21 +107,18 @@ impl fmt::Display for CreateStreamErrorKind {
     ghost output = { λ kind. Some (create_text kind) };
 
     fn fmt<W: fmt::Write>(&self, f: &mut fmt::Formatter<W>) -> fmt::Result {
-        match self {
-            CreateStreamErrorKind::EmptyStreamName => write!(f, "stream name cannot be empty"),
-            CreateStreamErrorKind::InvalidStreamName => {
-                write!(f, "stream name cannot contain `.`, `_`")
-            }
-            CreateStreamErrorKind::DomainAndExternalSet => {
-                write!(f, "domain and external are both set")
-            }
-            CreateStreamErrorKind::NotFound => write!(f, "stream not found"),
-            CreateStreamErrorKind::JetStream(error) => write!(f, "jetstream error: {error}"),
-            CreateStreamErrorKind::TimedOut => write!(f, "jetstream request timed out"),
-            CreateStreamErrorKind::JetStreamUnavailable => write!(f, "jetstream unavailable"),
-            CreateStreamErrorKind::ResponseParse => write!(f, "failed to parse server response"),
-            CreateStreamErrorKind::Response => write!(f, "response error"),
-        }
+        let text = match self {
+            CreateStreamErrorKind::EmptyStreamName => "stream name cannot be empty",
+            CreateStreamErrorKind::InvalidStreamName => "stream name cannot contain `.`, `_`",
+            CreateStreamErrorKind::DomainAndExternalSet => "domain and external are both set",
+            CreateStreamErrorKind::NotFound => "stream not found",
+            CreateStreamErrorKind::JetStream(error) => return write!(f, "jetstream error: {error}"),
+            CreateStreamErrorKind::TimedOut => "jetstream request timed out",
+            CreateStreamErrorKind::JetStreamUnavailable => "jetstream unavailable",
+            CreateStreamErrorKind::ResponseParse => "failed to parse server response",
+            CreateStreamErrorKind::Response => "response error",
+        };
+        f.write_str(text)
     }
 }
 

@@ -47,15 +47,16 @@ impl fmt::Display for Status {
     ghost output = { λ s. Some (status_text s) };
 
     fn fmt<W: fmt::Write>(&self, f: &mut fmt::Formatter<W>) -> fmt::Result {
-        match self {
-            Status::Done => write!(f, "Done"),
-            Status::ReadFault => write!(f, "ReadFault"),
-            Status::Usage => write!(f, "Usage"),
-            Status::BadLine { line } => write!(f, "BadLine {line}"),
-            Status::WriteFault => write!(f, "WriteFault"),
-            Status::OutOfMemory => write!(f, "OutOfMemory"),
-            Status::Refused => write!(f, "Refused"),
-            Status::TooLong => write!(f, "TooLong"),
-        }
+        let text = match self {
+            Status::Done => "Done",
+            Status::ReadFault => "ReadFault",
+            Status::Usage => "Usage",
+            Status::BadLine { line } => return write!(f, "BadLine {line}"),
+            Status::WriteFault => "WriteFault",
+            Status::OutOfMemory => "OutOfMemory",
+            Status::Refused => "Refused",
+            Status::TooLong => "TooLong",
+        };
+        f.write_str(text)
     }
 }

@@ -18,11 +18,12 @@ pub(crate) enum Failure {
 
 impl fmt::Display for Failure {
     fn fmt<W: fmt::Write>(&self, f: &mut fmt::Formatter<W>) -> fmt::Result {
-        match self {
-            Failure::OutOfMemory => write!(f, "out of memory"),
-            Failure::BadLine(line) => write!(f, "bad line {line}"),
-            Failure::NotOpened => write!(f, "not opened"),
-        }
+        let text = match self {
+            Failure::OutOfMemory => "out of memory",
+            Failure::BadLine(line) => return write!(f, "bad line {line}"),
+            Failure::NotOpened => "not opened",
+        };
+        f.write_str(text)
     }
 }
 

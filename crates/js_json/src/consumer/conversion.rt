@@ -28,14 +28,10 @@ impl fmt::Display for ConfigError {
     ghost output = { λ e. Some (config_error_text e) };
 
     fn fmt<W: fmt::Write>(&self, f: &mut fmt::Formatter<W>) -> fmt::Result {
-        match self {
-            ConfigError::HasDeliverSubject => {
-                write!(f, "pull consumer cannot have delivery subject")
-            }
-            ConfigError::NoDeliverSubject => {
-                write!(f, "push consumer must have delivery subject")
-            }
-        }
+        f.write_str(match self {
+            ConfigError::HasDeliverSubject => "pull consumer cannot have delivery subject",
+            ConfigError::NoDeliverSubject => "push consumer must have delivery subject",
+        })
     }
 }
 
