@@ -10,9 +10,11 @@ mod telling;
 
 use failure::Failure;
 use happening::happen;
-use js_base::{Moment, Next};
+use js_base::{Message, Moment, Next};
 use js_link::MemoryLink;
-use js_tool::{Payloads, first_line, next_line, push_end, push_outputs};
+use js_ordered_stream::OrderedError;
+use js_table::{Event, Output};
+use js_tool::{Payloads, Setup, first_line, next_line, push_end, push_outputs};
 use reader::Reader;
 use std::alloc::Global;
 use std::io::{BufRead, BufReader, Write};
@@ -37,27 +39,62 @@ fn main(rt: HostRuntime) -> io::Result<()> {
 
 /// Writes what a polled consumer does to whom the transcript happens.
 fn write_twin(alloc: Global, transcript: &str, text: &mut Vec<u8>) -> Result<(), Failure> {
-    let mut lines = transcript.lines();
-    let Some(line) = lines.next() else {
+    let Some(line) = transcript.lines().next() else {
         return Err(Failure::BadLine(1));
     };
     let setup = first_line(alloc, line.as_bytes())?;
-    let mut link = MemoryLink::new(alloc, setup.settings.inbox_prefix.as_str())?;
+    match MemoryLink::new(alloc, setup.settings.inbox_prefix.as_str()) {
+        Ok(link) => write_over(alloc, link, setup, transcript, text),
+        Err(error) => {
+            drop(setup);
+            Err(error.into())
+        }
+    }
+}
+
+/// The same, over a link in memory.
+fn write_over(
+    alloc: Global,
+    mut link: MemoryLink,
+    setup: Setup,
+    transcript: &str,
+    text: &mut Vec<u8>,
+) -> Result<(), Failure> {
     let start = setup.start;
-    let mut reader = Reader::open(alloc, &mut link, setup)?;
-    let mut ended = write_polls(alloc, &mut reader, &mut link, 0, start, text)?;
+    let written = match Reader::open(alloc, &mut link, setup) {
+        Ok(mut reader) => {
+            let written = write_lines(alloc, &mut reader, &mut link, start, transcript, text);
+            drop(reader);
+            written
+        }
+        Err(failure) => Err(failure),
+    };
+    drop(link);
+    written
+}
+
+/// Writes what the consumer does from its start on, line after line.
+fn write_lines(
+    alloc: Global,
+    reader: &mut Reader,
+    link: &mut MemoryLink,
+    start: Moment,
+    transcript: &str,
+    text: &mut Vec<u8>,
+) -> Result<(), Failure> {
+    let mut ended = write_polls(alloc, reader, link, 0, start, text)?;
     let mut payloads = Payloads::new(alloc);
     let mut number: u64 = 0;
-    for line in lines {
+    for line in transcript.lines().skip(1) {
         number = number.saturating_add(1);
-        let event = next_line(
+        let Event { at, what } = next_line(
             alloc,
             &mut payloads,
             number.saturating_add(1),
             line.as_bytes(),
         )?;
-        happen(&mut link, event.what)?;
-        ended = write_polls(alloc, &mut reader, &mut link, number, event.at, text)?;
+        happen(link, what)?;
+        ended = write_polls(alloc, reader, link, number, at, text)?;
     }
     push_end(text, ended, number)?;
     Ok(())
@@ -73,27 +110,53 @@ fn write_polls(
     text: &mut Vec<u8>,
 ) -> Result<bool, Failure> {
     let mut outputs = Vec::new(alloc);
-    let mut ended = false;
+    let ended = gather(alloc, reader, link, now, &mut outputs);
+    let written = push_outputs(text, number, outputs.as_slice());
+    drop(outputs);
+    written?;
+    ended
+}
+
+/// Polls until the consumer waits or has ended, and answers whether it has.
+fn gather(
+    alloc: Global,
+    reader: &mut Reader,
+    link: &mut MemoryLink,
+    now: Moment,
+    outputs: &mut Vec<Output>,
+) -> Result<bool, Failure> {
     for _ in 0..u64::MAX {
         let before = link.sent().len();
         let next = reader.poll_next(alloc, link, now);
-        for sent in link.sent().iter().skip(before) {
-            outputs.push(output_of(sent)?)?;
-        }
+        let gathered = gather_sent(link, before, outputs);
         match next {
-            Next::Item(item) => {
-                if let Some(output) = handed(&item)? {
-                    outputs.push(output)?;
-                }
-            }
-            Next::Pending => break,
-            Next::End => {
-                ended = true;
-                break;
-            }
+            Next::Item(item) => gather_handed(item, outputs)?,
+            Next::Pending => return gathered.map(|()| false),
+            Next::End => return gathered.map(|()| true),
             Next::OutOfMemory => return Err(Failure::OutOfMemory),
         }
+        gathered?;
     }
-    push_outputs(text, number, outputs.as_slice())?;
-    Ok(ended)
+    Ok(false)
+}
+
+/// What was sent since so much was.
+fn gather_sent(link: &MemoryLink, before: usize, outputs: &mut Vec<Output>) -> Result<(), Failure> {
+    for sent in link.sent().iter().skip(before) {
+        outputs.push(output_of(sent)?)?;
+    }
+    Ok(())
+}
+
+/// What a poll hands out.
+fn gather_handed(
+    item: Result<Message, OrderedError>,
+    outputs: &mut Vec<Output>,
+) -> Result<(), Failure> {
+    let output = handed(&item);
+    drop(item);
+    if let Some(output) = output? {
+        outputs.push(output)?;
+    }
+    Ok(())
 }
