@@ -5,9 +5,9 @@ ghost use Rattle.js_base.specs.Errors.{plain};
 ghost use Rattle.js_fields.specs.Reading.{Gives};
 ghost use Rattle.js_base.specs.Clock.{has_come};
 ghost use Rattle.js_call.specs.Wakes.{Sleeps, is_due, request_of};
-ghost use Rattle.js_context.specs.Contexts.{ContextView};
+ghost use Rattle.js_context.specs.Contexts.{ContextView, GivesBack};
 ghost use Rattle.js_context.specs.Clocks.{started};
-ghost use Rattle.js_context.specs.Acks.{ack_in, meaning_of, meaning_read, unreadable, AckPolled, AckReads, AckTurns, Ends, IsAwaitedBy, PermitAfter};
+ghost use Rattle.js_context.specs.Acks.{ack_in, ack_of, meaning_of, meaning_read, unreadable, AckPolled, AckReads, AckTurns, Ends, IsAwaitedBy, PermitAfter};
 ghost use Rattle.js_context.specs.Wakes.{ack_waits_for};
 
 use crate::context::{Context, Detached};
@@ -82,6 +82,16 @@ fn answer_in(alloc: Global, payload: &[u8]) -> Result<Result<PublishAck, Publish
     }
 }
 
+/// What a reply means.
+fn ack_of(alloc: Global, message: &Message) -> Result<Result<PublishAck, PublishError>, OutOfMemory>
+    ensures { IfOk result (λ answer. answer ≡ ack_of message.now) }
+{
+    if has_no_responders(message.status) {
+        return Ok(Err(Error::new(PublishErrorKind::StreamNotFound)));
+    }
+    answer_in(alloc, message.payload.as_slice())
+}
+
 impl PublishAckFuture {
     /// Looks at the answer, and then at the clock. The clock begins at the first poll and runs for the caller's `timeout` of that
     /// moment, in nanoseconds; what is set later changes it no more. The caller is the context that sent the message. Each answer
@@ -128,19 +138,26 @@ impl PublishAckFuture {
         ensures awaited { context.new.awaited + 1 ≡ context.old.awaited }
         ensures list { context.new ≡ record context.old { awaited = context.new.awaited; detached = context.old.detached ++ record { request = self.request; permit = self.permit; window = self.window; since = None } ∷ [] } }
     {
+        context.detach(self.into_detached());
+    }
+
+    /// Itself without its reply and its clock: `reap` begins another one.
+    fn into_detached(self) -> Detached
+        ensures { result ≡ record { request = self.request; permit = self.permit; window = self.window; since = None } }
+    {
         let PublishAckFuture {
             request,
             permit,
             window,
-            clock: _, // `reap` begins another one.
+            clock: _,
             reply: _,
         } = self;
-        context.detach(Detached {
+        Detached {
             request,
             permit,
             window,
             since: None,
-        });
+        }
     }
 
     /// The number of the request whose answer it waits for. None where it is to be polled at once: its clock has not begun, or a
@@ -206,10 +223,7 @@ impl PublishAckFuture {
         ensures reads { AckReads self message result context.old context.new }
         ensures permit { PermitAfter result self context.old context.new }
     {
-        if has_no_responders(message.status) {
-            return self.fail(rt, context, PublishErrorKind::StreamNotFound);
-        }
-        match answer_in(alloc, message.payload.as_slice()) {
+        match ack_of(alloc, &message) {
             Ok(answer) => self.end(rt, context, answer),
             Err(OutOfMemory) => Turn::OutOfMemory(self.keep(message)),
         }
@@ -233,15 +247,17 @@ impl PublishAckFuture {
         requires { IsAwaitedBy self context.old }
         ensures { Ends answer result context.old context.new }
     {
-        let PublishAckFuture {
-            request: _,
-            permit,
-            window: _,
-            clock: _,
-            reply: _,
-        } = self;
-        context.give(rt, permit);
+        self.give_back(rt, context);
         Turn::Ready(answer)
+    }
+
+    /// Gives the permit back.
+    fn give_back<R: Wait>(self, rt: &R, context: &mut Context)
+        requires { IsAwaitedBy self context.old }
+        ensures { GivesBack context.old context.new }
+    {
+        let ack = self.into_detached();
+        context.give(rt, ack.permit);
     }
 
     /// Keeps the reply for a later poll.
