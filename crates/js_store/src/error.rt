@@ -1,5 +1,5 @@
 //! Why a call on a bucket was refused.
-ghost use Rattle.std.specs.Prelude.{Some};
+ghost use Rattle.std.specs.Prelude.{◌≡◌, Some};
 ghost use Rattle.js_store.specs.Errors.{key_value_text, create_text, update_text, objects_text};
 
 use js_base::Error;
@@ -20,15 +20,24 @@ pub enum KeyValueErrorKind {
 /// stream's call.
 pub type KeyValueError = Error<KeyValueErrorKind>;
 
+impl KeyValueErrorKind {
+    fn text(self) -> &'static str
+        ensures { result.now ≡ key_value_text self }
+    {
+        match self {
+            KeyValueErrorKind::InvalidStoreName => "invalid Key Value Store name",
+            KeyValueErrorKind::GetBucket => "failed to get the bucket",
+            KeyValueErrorKind::JetStream => "JetStream error",
+        }
+    }
+}
+
 impl fmt::Display for KeyValueErrorKind {
     ghost output = { λ kind. Some (key_value_text kind) };
 
     fn fmt<W: fmt::Write>(&self, f: &mut fmt::Formatter<W>) -> fmt::Result {
-        match self {
-            KeyValueErrorKind::InvalidStoreName => write!(f, "invalid Key Value Store name"),
-            KeyValueErrorKind::GetBucket => write!(f, "failed to get the bucket"),
-            KeyValueErrorKind::JetStream => write!(f, "JetStream error"),
-        }
+        let text = self.text();
+        write!(f, "{text}")
     }
 }
 
@@ -58,20 +67,27 @@ pub type CreateObjectStoreErrorKind = CreateKeyValueErrorKind;
 /// Why a bucket of objects was not made, as an error.
 pub type CreateObjectStoreError = CreateKeyValueError;
 
+impl CreateKeyValueErrorKind {
+    fn text(self) -> &'static str
+        ensures { result.now ≡ create_text self }
+    {
+        match self {
+            CreateKeyValueErrorKind::InvalidStoreName => "invalid Key Value Store name",
+            CreateKeyValueErrorKind::TooLongHistory => "too long history",
+            CreateKeyValueErrorKind::JetStream => "JetStream error",
+            CreateKeyValueErrorKind::BucketCreate => "bucket creation failed",
+            CreateKeyValueErrorKind::TimedOut => "timed out",
+            CreateKeyValueErrorKind::LimitMarkersNotSupported => "limit markers not supported",
+        }
+    }
+}
+
 impl fmt::Display for CreateKeyValueErrorKind {
     ghost output = { λ kind. Some (create_text kind) };
 
     fn fmt<W: fmt::Write>(&self, f: &mut fmt::Formatter<W>) -> fmt::Result {
-        match self {
-            CreateKeyValueErrorKind::InvalidStoreName => write!(f, "invalid Key Value Store name"),
-            CreateKeyValueErrorKind::TooLongHistory => write!(f, "too long history"),
-            CreateKeyValueErrorKind::JetStream => write!(f, "JetStream error"),
-            CreateKeyValueErrorKind::BucketCreate => write!(f, "bucket creation failed"),
-            CreateKeyValueErrorKind::TimedOut => write!(f, "timed out"),
-            CreateKeyValueErrorKind::LimitMarkersNotSupported => {
-                write!(f, "limit markers not supported")
-            }
-        }
+        let text = self.text();
+        write!(f, "{text}")
     }
 }
 
@@ -98,21 +114,28 @@ pub enum UpdateKeyValueErrorKind {
 /// stands on.
 pub type UpdateKeyValueError = Error<UpdateKeyValueErrorKind>;
 
+impl UpdateKeyValueErrorKind {
+    fn text(self) -> &'static str
+        ensures { result.now ≡ update_text self }
+    {
+        match self {
+            UpdateKeyValueErrorKind::InvalidStoreName => "invalid Key Value Store name",
+            UpdateKeyValueErrorKind::TooLongHistory => "too long history",
+            UpdateKeyValueErrorKind::JetStream => "JetStream error",
+            UpdateKeyValueErrorKind::BucketUpdate => "bucket creation failed",
+            UpdateKeyValueErrorKind::TimedOut => "timed out",
+            UpdateKeyValueErrorKind::LimitMarkersNotSupported => "limit markers not supported",
+            UpdateKeyValueErrorKind::NotFound => "bucket does not exist",
+        }
+    }
+}
+
 impl fmt::Display for UpdateKeyValueErrorKind {
     ghost output = { λ kind. Some (update_text kind) };
 
     fn fmt<W: fmt::Write>(&self, f: &mut fmt::Formatter<W>) -> fmt::Result {
-        match self {
-            UpdateKeyValueErrorKind::InvalidStoreName => write!(f, "invalid Key Value Store name"),
-            UpdateKeyValueErrorKind::TooLongHistory => write!(f, "too long history"),
-            UpdateKeyValueErrorKind::JetStream => write!(f, "JetStream error"),
-            UpdateKeyValueErrorKind::BucketUpdate => write!(f, "bucket creation failed"),
-            UpdateKeyValueErrorKind::TimedOut => write!(f, "timed out"),
-            UpdateKeyValueErrorKind::LimitMarkersNotSupported => {
-                write!(f, "limit markers not supported")
-            }
-            UpdateKeyValueErrorKind::NotFound => write!(f, "bucket does not exist"),
-        }
+        let text = self.text();
+        write!(f, "{text}")
     }
 }
 
@@ -134,15 +157,22 @@ pub type DeleteObjectStoreKind = ObjectStoreErrorKind;
 /// Why a bucket of objects was not deleted, as an error.
 pub type DeleteObjectStore = ObjectStoreError;
 
+impl ObjectStoreErrorKind {
+    fn text(self) -> &'static str
+        ensures { result.now ≡ objects_text self }
+    {
+        match self {
+            ObjectStoreErrorKind::InvalidBucketName => "invalid Object Store bucket name",
+            ObjectStoreErrorKind::GetStore => "failed to get Object Store",
+        }
+    }
+}
+
 impl fmt::Display for ObjectStoreErrorKind {
     ghost output = { λ kind. Some (objects_text kind) };
 
     fn fmt<W: fmt::Write>(&self, f: &mut fmt::Formatter<W>) -> fmt::Result {
-        match self {
-            ObjectStoreErrorKind::InvalidBucketName => {
-                write!(f, "invalid Object Store bucket name")
-            }
-            ObjectStoreErrorKind::GetStore => write!(f, "failed to get Object Store"),
-        }
+        let text = self.text();
+        write!(f, "{text}")
     }
 }

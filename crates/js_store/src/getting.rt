@@ -80,10 +80,10 @@ pub fn get_key_value(
 ) -> Result<GetKeyValue, OutOfMemory>
     ensures { IfOk result (λ call. call ≡ getting scope.now bucket.now) }
 {
-    let stream_name = kv::stream_name(alloc, bucket)?;
-    let asked = get_stream(alloc, scope, stream_name.as_str())?;
     let meaning = GettingBucket {
         bucket: Text::from_str(alloc, bucket)?,
     };
+    let stream_name = kv::stream_name(alloc, bucket)?;
+    let asked = get_stream(alloc, scope, stream_name.as_str())?;
     Ok(BucketCall::new(meaning, asked))
 }
