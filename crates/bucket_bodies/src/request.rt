@@ -3,7 +3,7 @@
 use bytes::Bytes;
 use js_base::{Message, OutOfMemory, Subject};
 use js_call::State;
-use js_link::{MemoryLink, ScriptedServer, Sent};
+use js_link::{Link, MemoryLink, ScriptedServer, Sent};
 use std::alloc::Global;
 
 /// A line, or want of memory.
@@ -23,12 +23,6 @@ fn account(alloc: Global) -> Result<Message, OutOfMemory> {
         description: None,
         length: 0,
     })
-}
-
-fn server(alloc: Global) -> Result<ScriptedServer, OutOfMemory> {
-    let mut server = ScriptedServer::new(alloc, MemoryLink::new(alloc, "_INBOX.t")?);
-    server.script(alloc, "$JS.API.INFO", account(alloc)?)?;
-    Ok(server)
 }
 
 fn line(alloc: Global, sent: Option<&Sent>) -> Line {
@@ -69,14 +63,34 @@ pub fn made<T: Drop>(value: T, outcome: Result<(), OutOfMemory>) -> Result<T, Ou
     }
 }
 
-fn poll<S: State>(alloc: Global, server: &mut ScriptedServer, call: S) {
-    let _turn = call.poll(alloc, server, 0);
+/// A server, of which no more is known where a call is polled.
+trait Server: Link + Drop {
+    /// From here on it tells its account.
+    fn tell_account(&mut self, alloc: Global) -> Result<(), OutOfMemory>;
+
+    /// The last request that it was sent.
+    fn last(&mut self, alloc: Global) -> Line;
+}
+
+impl Server for ScriptedServer {
+    fn tell_account(&mut self, alloc: Global) -> Result<(), OutOfMemory> {
+        self.script(alloc, "$JS.API.INFO", account(alloc)?)
+    }
+
+    fn last(&mut self, alloc: Global) -> Line {
+        line(alloc, self.link().sent().last())
+    }
+}
+
+fn asked_of<V: Server, S: State>(alloc: Global, mut server: V, call: S) -> Line {
+    server.tell_account(alloc)?;
+    let _turn = call.poll(alloc, &mut server, 0);
+    server.last(alloc)
 }
 
 fn asked_by<S: State>(alloc: Global, call: S) -> Line {
-    let mut server = server(alloc)?;
-    poll(alloc, &mut server, call);
-    line(alloc, server.link().sent().last())
+    let link = MemoryLink::new(alloc, "_INBOX.t")?;
+    asked_of(alloc, ScriptedServer::new(alloc, link), call)
 }
 
 /// The last request that the first poll of a call sends, where the server tells its account.

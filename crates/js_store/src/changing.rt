@@ -1,13 +1,15 @@
 //! The calls that change a bucket of keys.
 ghost use Rattle.std.specs.Prelude.{◌≡◌, IfOk};
-ghost use Rattle.js_buckets.specs.KeyValues.{stream_config};
-ghost use Rattle.js_stream_calls.specs.Updates.{Updates, UpdatesOrCreates};
-ghost use Rattle.js_store.specs.Changes.{changed_names, changed_store, changed_bucket, changes_kind, put_row, PutsBucket, PutsStream, update_row, UpdatesBucket, UpdatesStream};
+ghost use Rattle.js_buckets.specs.Origins.{stream_name};
+ghost use Rattle.js_stream_calls.specs.Updates.{Updates};
+ghost use Rattle.js_stream_json.specs.declared.stream.config.Config.{Config};
+ghost use Rattle.js_store.specs.Changes.{changed_names, changed_store, changes_kind, put_row, PutsBucket, PutsStream, update_row, UpdatesBucket, UpdatesStream};
 
+use crate::config::BucketConfig;
 use crate::error::{
     CreateKeyValueError, CreateKeyValueErrorKind, UpdateKeyValueError, UpdateKeyValueErrorKind,
 };
-use crate::level::{AskLevel, IfAllowed, ask_level};
+use crate::level::{AskLevel, IfAllowed, after_level};
 use crate::outcome::{BucketCall, Outcome};
 use crate::refusal::config_refusal;
 use crate::store::{Store, StoreNames, answered_names, store_of};
@@ -18,6 +20,7 @@ use js_stream_calls::{
     CreateOrUpdateStream, CreateStreamError, CreateStreamErrorKind, StreamHandle, UpdateStream,
     UpdateStreamError, create_or_update_stream, update_stream,
 };
+use js_stream_json::stream;
 use js_stream_json::stream::Info;
 use std::alloc::Global;
 
@@ -30,17 +33,15 @@ pub struct ChangedBucket {
 }
 
 impl ChangedBucket {
-    fn of_config(
-        alloc: Global,
-        scope: &ApiScope,
-        config: &kv::Config,
-    ) -> Result<ChangedBucket, OutOfMemory>
-        ensures { IfOk result (λ changed. changed ≡ changed_bucket scope.now config.now) }
+    fn named(alloc: Global, scope: &ApiScope, bucket: &Text) -> Result<ChangedBucket, OutOfMemory>
+        ensures { IfOk result (λ changed. changed ≡ record { bucket = bucket.now; scope = scope.now; stream_name = stream_name bucket.now }) }
     {
+        let stream_name = kv::stream_name(alloc, bucket.as_str())?;
+        let bucket = bucket.try_clone()?;
         Ok(ChangedBucket {
-            bucket: config.bucket.try_clone()?,
+            bucket,
             scope: scope.try_clone()?,
-            stream_name: kv::stream_name(alloc, config.bucket.as_str())?,
+            stream_name,
         })
     }
 
@@ -67,6 +68,46 @@ impl ChangedBucket {
         };
         store_of(bucket, names, stream)
     }
+}
+
+/// The bucket that is changed, and what its stream is changed to. The one refusal is want of memory.
+fn changed<C: BucketConfig>(
+    alloc: Global,
+    scope: &ApiScope,
+    config: C,
+) -> Result<(ChangedBucket, stream::Config), OutOfMemory>
+    ensures { IfOk result (λ changed. (changed.0 ≡ record { bucket = C.bucket config; scope = scope.now; stream_name = stream_name (C.bucket config) }) × (changed.1 ≡ C.stream config)) }
+{
+    let changed = ChangedBucket::named(alloc, scope, config.bucket())?;
+    Ok((changed, config.into_stream(alloc)?))
+}
+
+/// What a stream is changed to.
+trait Change: Drop {
+    ghost change: { Self → Config };
+
+    /// The call that asks for it. The one refusal is want of memory.
+    fn call(&self, alloc: Global, scope: &ApiScope) -> Result<UpdateStream, OutOfMemory>
+        ensures { IfOk result (λ update. Updates scope.now (change self.now) update) };
+}
+
+impl Change for stream::Config {
+    ghost change = { λ config. config };
+
+    fn call(&self, alloc: Global, scope: &ApiScope) -> Result<UpdateStream, OutOfMemory> {
+        update_stream(alloc, scope, self)
+    }
+}
+
+/// The call that asks for a change. The one refusal is want of memory.
+fn update_to<C: Change>(
+    alloc: Global,
+    scope: &ApiScope,
+    change: C,
+) -> Result<UpdateStream, OutOfMemory>
+    ensures { IfOk result (λ update. Updates scope.now (C.change change) update) }
+{
+    change.call(alloc, scope)
 }
 
 /// The row of the second call of `update_key_value`.
@@ -159,18 +200,6 @@ impl Outcome<Info, CreateStreamError> for PuttingBucket {
     }
 }
 
-/// The call that changes the stream which the bucket is.
-fn update_its_stream(
-    alloc: Global,
-    scope: &ApiScope,
-    config: kv::Config,
-) -> Result<UpdateStream, OutOfMemory>
-    ensures { IfOk result (λ update. Updates scope.now (stream_config config) update) }
-{
-    let stream = config.into_stream_config(alloc)?;
-    update_stream(alloc, scope, &stream)
-}
-
 fn update_bucket(
     alloc: Global,
     scope: &ApiScope,
@@ -178,8 +207,8 @@ fn update_bucket(
 ) -> Result<UpdateBucket, OutOfMemory>
     ensures { IfOk result (λ call. UpdatesStream scope.now config call) }
 {
-    let changed = ChangedBucket::of_config(alloc, scope, &config)?;
-    let asked = update_its_stream(alloc, scope, config)?;
+    let (changed, stream) = changed(alloc, scope, config)?;
+    let asked = update_to(alloc, scope, stream)?;
     Ok(BucketCall::new(UpdatingBucket { changed }, asked))
 }
 
@@ -198,33 +227,17 @@ pub fn update_key_value(
 ) -> Result<UpdateKeyValue, OutOfMemory>
     ensures { IfOk result (λ calls. UpdatesBucket scope.now config calls) }
 {
+    let refusal = config_refusal(&config);
     let limit_markers = config.limit_markers.is_some();
-    let first = ask_level(alloc, scope, config_refusal(&config))?;
     let second = update_bucket(alloc, scope, config)?;
-    Ok(Then::First {
-        first,
-        second,
-        decision: IfAllowed { limit_markers },
-    })
-}
-
-/// The calls that change the stream which the bucket is, or make it.
-fn put_its_stream(
-    alloc: Global,
-    scope: &ApiScope,
-    config: kv::Config,
-) -> Result<CreateOrUpdateStream, OutOfMemory>
-    ensures { IfOk result (λ put. UpdatesOrCreates scope.now (stream_config config) put) }
-{
-    let stream = config.into_stream_config(alloc)?;
-    create_or_update_stream(alloc, scope, stream)
+    after_level(alloc, scope, refusal, limit_markers, second)
 }
 
 fn put_bucket(alloc: Global, scope: &ApiScope, config: kv::Config) -> Result<PutBucket, OutOfMemory>
     ensures { IfOk result (λ call. PutsStream scope.now config call) }
 {
-    let changed = ChangedBucket::of_config(alloc, scope, &config)?;
-    let asked = put_its_stream(alloc, scope, config)?;
+    let (changed, stream) = changed(alloc, scope, config)?;
+    let asked = create_or_update_stream(alloc, scope, stream)?;
     Ok(BucketCall::new(PuttingBucket { changed }, asked))
 }
 
@@ -242,12 +255,8 @@ pub fn create_or_update_key_value(
 ) -> Result<CreateOrUpdateKeyValue, OutOfMemory>
     ensures { IfOk result (λ calls. PutsBucket scope.now config calls) }
 {
+    let refusal = config_refusal(&config);
     let limit_markers = config.limit_markers.is_some();
-    let first = ask_level(alloc, scope, config_refusal(&config))?;
     let second = put_bucket(alloc, scope, config)?;
-    Ok(Then::First {
-        first,
-        second,
-        decision: IfAllowed { limit_markers },
-    })
+    after_level(alloc, scope, refusal, limit_markers, second)
 }

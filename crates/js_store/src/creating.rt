@@ -1,20 +1,17 @@
 //! The call that makes a bucket of keys.
 ghost use Rattle.std.specs.Prelude.{◌≡◌, IfOk};
-ghost use Rattle.js_buckets.specs.KeyValues.{stream_config};
-ghost use Rattle.js_stream_calls.specs.Creates.{Creates};
 ghost use Rattle.js_store.specs.Creates.{create_row, creates_kind, CreatesBucket, CreatesStream};
 
+use crate::config::create_its_stream;
 use crate::error::{CreateKeyValueError, CreateKeyValueErrorKind};
-use crate::level::{AskLevel, IfAllowed, ask_level};
+use crate::level::{AskLevel, IfAllowed, after_level};
 use crate::outcome::{BucketCall, Outcome};
 use crate::refusal::config_refusal;
 use crate::store::{Store, StoreNames, answered_names, store_of};
-use js_base::{Error, OutOfMemory, Source, Text, TryClone};
+use js_base::{Error, OutOfMemory, Source, Text};
 use js_buckets::kv;
 use js_call::{ApiScope, Then};
-use js_stream_calls::{
-    CreateStream, CreateStreamError, CreateStreamErrorKind, StreamHandle, create_stream,
-};
+use js_stream_calls::{CreateStream, CreateStreamError, CreateStreamErrorKind, StreamHandle};
 use js_stream_json::stream::Info;
 use std::alloc::Global;
 
@@ -78,18 +75,6 @@ impl Outcome<StreamHandle<Info>, CreateStreamError> for CreatingBucket {
     }
 }
 
-/// The call that makes the stream which the bucket is.
-fn create_its_stream(
-    alloc: Global,
-    scope: &ApiScope,
-    config: kv::Config,
-) -> Result<CreateStream, OutOfMemory>
-    ensures { IfOk result (λ create. Creates scope.now (stream_config config) create) }
-{
-    let stream = config.into_stream_config(alloc)?;
-    create_stream(alloc, scope, stream)
-}
-
 fn create_bucket(
     alloc: Global,
     scope: &ApiScope,
@@ -97,11 +82,8 @@ fn create_bucket(
 ) -> Result<CreateBucket, OutOfMemory>
     ensures { IfOk result (λ call. CreatesStream scope.now config call) }
 {
-    let meaning = CreatingBucket {
-        bucket: config.bucket.try_clone()?,
-    };
-    let asked = create_its_stream(alloc, scope, config)?;
-    Ok(BucketCall::new(meaning, asked))
+    let (bucket, asked) = create_its_stream(alloc, scope, config)?;
+    Ok(BucketCall::new(CreatingBucket { bucket }, asked))
 }
 
 /// Makes a bucket of keys: it asks how far the server's API goes, and then, in the same poll, for the bucket's stream as `create_stream`
@@ -119,12 +101,8 @@ pub fn create_key_value(
 ) -> Result<CreateKeyValue, OutOfMemory>
     ensures { IfOk result (λ calls. CreatesBucket scope.now config calls) }
 {
+    let refusal = config_refusal(&config);
     let limit_markers = config.limit_markers.is_some();
-    let first = ask_level(alloc, scope, config_refusal(&config))?;
     let second = create_bucket(alloc, scope, config)?;
-    Ok(Then::First {
-        first,
-        second,
-        decision: IfAllowed { limit_markers },
-    })
+    after_level(alloc, scope, refusal, limit_markers, second)
 }

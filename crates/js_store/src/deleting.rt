@@ -63,10 +63,10 @@ pub fn delete_key_value(
 ) -> Result<DeleteKeyValue, OutOfMemory>
     ensures { IfOk result (λ call. call ≡ deleting scope.now bucket.now) }
 {
-    let stream_name = kv::stream_name(alloc, bucket)?;
-    let asked = delete_stream(alloc, scope, stream_name.as_str())?;
     let meaning = DeletingBucket {
         bucket: Text::from_str(alloc, bucket)?,
     };
+    let stream_name = kv::stream_name(alloc, bucket)?;
+    let asked = delete_stream(alloc, scope, stream_name.as_str())?;
     Ok(BucketCall::new(meaning, asked))
 }

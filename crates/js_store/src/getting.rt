@@ -1,5 +1,7 @@
 //! The call that gets a bucket of keys.
-ghost use Rattle.std.specs.Prelude.{◌≡◌, IfOk};
+ghost use Rattle.std.specs.Prelude.{◌≡◌, IfOk, Ok, Err, if◌then◌else◌};
+ghost use Rattle.js_base.specs.Errors.{plain};
+ghost use Rattle.js_store.specs.declared.error.KeyValueErrorKind.TheVariants.{InvalidStoreName};
 ghost use Rattle.js_store.specs.Gets.{get_row, getting, got_names, name_refusal};
 
 use crate::error::{KeyValueError, KeyValueErrorKind};
@@ -33,6 +35,17 @@ pub(crate) fn name_refusal(bucket: &str) -> Option<KeyValueErrorKind>
     }
 }
 
+/// What was got, unless its stream keeps no value of a key.
+fn unless<T: Drop>(keeps_nothing: bool, got: T) -> Result<T, KeyValueError>
+    ensures { result ≡ if keeps_nothing then Err (plain InvalidStoreName) else Ok got }
+{
+    if keeps_nothing {
+        Err(Error::new(KeyValueErrorKind::InvalidStoreName))
+    } else {
+        Ok(got)
+    }
+}
+
 impl Outcome<StreamHandle<Info>, GetStreamError> for GettingBucket {
     type Needs = StoreNames;
 
@@ -57,10 +70,8 @@ impl Outcome<StreamHandle<Info>, GetStreamError> for GettingBucket {
     }
 
     fn accept(self, given: StreamHandle<Info>, needs: StoreNames) -> Result<Store, KeyValueError> {
-        if given.info.config.max_messages_per_subject < 1 {
-            return Err(Error::new(KeyValueErrorKind::InvalidStoreName));
-        }
-        Ok(store_of(self.bucket, needs, given))
+        let keeps_nothing = given.info.config.max_messages_per_subject < 1;
+        unless(keeps_nothing, store_of(self.bucket, needs, given))
     }
 
     fn refuse(self, _error: GetStreamError, source: Source) -> Result<Store, KeyValueError> {
@@ -80,10 +91,10 @@ pub fn get_key_value(
 ) -> Result<GetKeyValue, OutOfMemory>
     ensures { IfOk result (λ call. call ≡ getting scope.now bucket.now) }
 {
-    let stream_name = kv::stream_name(alloc, bucket)?;
-    let asked = get_stream(alloc, scope, stream_name.as_str())?;
     let meaning = GettingBucket {
         bucket: Text::from_str(alloc, bucket)?,
     };
+    let stream_name = kv::stream_name(alloc, bucket)?;
+    let asked = get_stream(alloc, scope, stream_name.as_str())?;
     Ok(BucketCall::new(meaning, asked))
 }

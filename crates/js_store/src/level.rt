@@ -1,5 +1,6 @@
 //! How far the server's API goes, which is asked before the stream of a bucket is made or changed.
 ghost use Rattle.std.specs.Prelude.{◌≡◌, IfOk};
+ghost use Rattle.js_call.specs.declared.then.Then.TheVariants.{First};
 ghost use Rattle.js_store.specs.Levels.{asking_level, level_row, refused_with, unless_allowed};
 
 use crate::outcome::{BucketCall, Outcome};
@@ -7,7 +8,7 @@ use crate::refusal::{OfRefusal, Refusal, Refused};
 use crate::store::Store;
 use js_account_calls::{AccountError, QueryAccount, query_account};
 use js_base::{Error, OutOfMemory, Source};
-use js_call::{ApiScope, Decision};
+use js_call::{ApiScope, Decision, Then};
 use js_json::account::Account;
 use std::alloc::Global;
 
@@ -55,7 +56,7 @@ impl Outcome<Account, AccountError> for AskingLevel {
 }
 
 /// The call, which is not sent.
-pub(crate) fn ask_level(
+fn ask_level(
     alloc: Global,
     scope: &ApiScope,
     refusal: Option<Refusal>,
@@ -70,6 +71,24 @@ pub(crate) fn ask_level(
 #[derive(Clone, Copy, Drop)]
 pub struct IfAllowed {
     pub(crate) limit_markers: bool,
+}
+
+/// That call, and after it another where the level allows the markers that are asked for. Neither is sent.
+pub(crate) fn after_level<S: Drop>(
+    alloc: Global,
+    scope: &ApiScope,
+    refusal: Option<Refusal>,
+    limit_markers: bool,
+    second: S,
+) -> Result<Then<AskLevel, S, IfAllowed>, OutOfMemory>
+    ensures { IfOk result (λ calls. calls ≡ First (asking_level scope.now refusal) second (record { limit_markers = limit_markers })) }
+{
+    let first = ask_level(alloc, scope, refusal)?;
+    Ok(Then::First {
+        first,
+        second,
+        decision: IfAllowed { limit_markers },
+    })
 }
 
 impl<K: OfRefusal> Decision<Result<u64, Refused>, Result<Store, Error<K>>> for IfAllowed {

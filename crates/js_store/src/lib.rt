@@ -6,6 +6,7 @@
 
 mod calls;
 mod changing;
+mod config;
 mod creating;
 mod deleting;
 mod error;

@@ -1,21 +1,20 @@
 //! The calls on buckets of objects.
 ghost use Rattle.std.specs.Prelude.{◌≡◌, IfOk};
-ghost use Rattle.js_buckets.specs.Objects.{stream_config};
-ghost use Rattle.js_stream_calls.specs.Creates.{Creates};
 ghost use Rattle.js_store.specs.Objects.{creates_refusal, create_row, CreatesObjects, delete_row, deleting, get_refusal, get_row, getting};
 
+use crate::config::create_its_stream;
 use crate::error::{
     CreateObjectStoreError, CreateObjectStoreErrorKind, DeleteObjectStore, ObjectStoreError,
     ObjectStoreErrorKind,
 };
 use crate::outcome::{BucketCall, Outcome};
 use crate::store::ObjectStore;
-use js_base::{Error, OutOfMemory, Source, Text, TryClone};
+use js_base::{Error, OutOfMemory, Source, Text};
 use js_buckets::{is_valid_bucket_name, object_store};
 use js_call::ApiScope;
 use js_stream_calls::{
     CreateStream, CreateStreamError, DeleteStream, DeleteStreamError, GetStream, GetStreamError,
-    StreamHandle, create_stream, delete_stream, get_stream,
+    StreamHandle, delete_stream, get_stream,
 };
 use js_stream_json::DeleteStatus;
 use js_stream_json::stream::Info;
@@ -90,11 +89,11 @@ pub fn get_object_store(
 ) -> Result<GetObjectStore, OutOfMemory>
     ensures { IfOk result (λ call. call ≡ getting scope.now bucket.now) }
 {
-    let stream_name = object_store::stream_name(alloc, bucket)?;
-    let asked = get_stream(alloc, scope, stream_name.as_str())?;
     let meaning = GettingObjects {
         bucket: Text::from_str(alloc, bucket)?,
     };
+    let stream_name = object_store::stream_name(alloc, bucket)?;
+    let asked = get_stream(alloc, scope, stream_name.as_str())?;
     Ok(BucketCall::new(meaning, asked))
 }
 
@@ -161,18 +160,6 @@ impl Outcome<StreamHandle<Info>, CreateStreamError> for CreatingObjects {
     }
 }
 
-/// The call that makes the stream which the bucket is.
-fn create_its_stream(
-    alloc: Global,
-    scope: &ApiScope,
-    config: object_store::Config,
-) -> Result<CreateStream, OutOfMemory>
-    ensures { IfOk result (λ create. Creates scope.now (stream_config config) create) }
-{
-    let stream = config.into_stream_config(alloc)?;
-    create_stream(alloc, scope, stream)
-}
-
 /// Makes a bucket of objects. A server that has a bucket of that name and configuration already answers it, and refuses another
 /// configuration.
 ///
@@ -185,11 +172,8 @@ pub fn create_object_store(
 ) -> Result<CreateObjectStore, OutOfMemory>
     ensures { IfOk result (λ call. CreatesObjects scope.now config call) }
 {
-    let meaning = CreatingObjects {
-        bucket: config.bucket.try_clone()?,
-    };
-    let asked = create_its_stream(alloc, scope, config)?;
-    Ok(BucketCall::new(meaning, asked))
+    let (bucket, asked) = create_its_stream(alloc, scope, config)?;
+    Ok(BucketCall::new(CreatingObjects { bucket }, asked))
 }
 
 /// The row of `delete_object_store`, which keeps nothing of its arguments.
