@@ -62,8 +62,13 @@ impl<'s> Gathering<'s> {
             setup.start,
         )?;
         let mut entries = Items::new(alloc);
-        add_yields(&mut entries, course.outputs())?;
-        Ok(Gathering { course, entries })
+        match add_yields(&mut entries, course.outputs()) {
+            Ok(()) => Ok(Gathering { course, entries }),
+            Err(OutOfMemory) => {
+                drop(course);
+                Err(OutOfMemory)
+            }
+        }
     }
 
     fn pass(&mut self, alloc: Global, event: &Event) -> Result<(), OutOfMemory>
@@ -100,7 +105,9 @@ fn pass_line(
 {
     let number = gathering.course.count() + 2;
     let event = next_line(alloc, payloads, number, line)?;
-    match gathering.pass(alloc, &event) {
+    let passed = gathering.pass(alloc, &event);
+    drop(event);
+    match passed {
         Ok(()) => Ok(()),
         Err(OutOfMemory) => Err(Unread::OutOfMemory),
     }
@@ -131,6 +138,9 @@ pub(crate) fn gather(alloc: Global, setup: &Setup, lines: &mut Lines) -> Result<
     };
     match pass_lines(alloc, &mut gathering, lines) {
         Ok(()) => Ok(gathering.finish()),
-        Err(unread) => Err(unread),
+        Err(unread) => {
+            drop(gathering);
+            Err(unread)
+        }
     }
 }

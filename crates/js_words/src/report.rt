@@ -146,9 +146,14 @@ pub(crate) fn report_on(
     };
     let ending = match gather(alloc, &setup, &mut lines) {
         Ok(ending) => ending,
-        Err(unread) => return Err(unread),
+        Err(unread) => {
+            drop(setup);
+            return Err(unread);
+        }
     };
-    match report_ending(alloc, command, &setup.setup, ending) {
+    let report = report_ending(alloc, command, &setup.setup, ending);
+    drop(setup);
+    match report {
         Ok(report) => Ok(report),
         Err(OutOfMemory) => Err(Unread::OutOfMemory),
     }
