@@ -31,8 +31,8 @@ returns-in-Err-gather c =
     let read : transcript c.args.bytes ≡ with_lines c.in-Ok.setup left = with_setup c.args.bytes c.line.result.now left c.in-Ok.setup cut c.in-Ok.ensures in
     subst (λ (reading : Result Transcript ℕ). StopsAt c.in-Err-gather.unread reading) (sym read) c.in-Err-gather.ensures
 
-pub returns-in-Ok-report_ending : goal.returns-in-Ok-report_ending
-returns-in-Ok-report_ending c =
+pub returns-in-Ok-report : goal.returns-in-Ok-report
+returns-in-Ok-report c =
     let left = c.read.new.self.left in
     let cut : lines_of c.args.bytes ≡ c.line.result.now ∷ left =
     sym c.new-lines.ensures.lines ∙ c.if-not-read.ensures ∙ ap (λ (line : List ℕ). line ∷ left) (sym c.line.ensures) in
@@ -40,12 +40,12 @@ returns-in-Ok-report_ending c =
     let gathered = c.in-Ok-gather.ensures in
     let t : Transcript = record { setup = c.in-Ok.setup; events = gathered.0 } in
     let start = configured_start c.in-Ok.setup.setup in
-    let made = c.in-Ok-report_ending.ensures in
+    let made = c.in-Ok-report.ensures in
     let reads : transcript c.args.bytes ≡ Ok t = read ∙ gathered.1 in
-    let says : c.in-Ok-report_ending.report ≡ report_of (wanted c.args.command) t = made.report ∙ ap (report_from (wanted c.args.command) c.in-Ok.setup.setup start) gathered.2 in (
+    let says : c.in-Ok-report.report ≡ report_of (wanted c.args.command) t = made.report ∙ ap (report_from (wanted c.args.command) c.in-Ok.setup.setup start) gathered.2 in (
       t,
       reads,
       says,
-      serves_read (wanted c.args.command) c.args.bytes t c.in-Ok-report_ending.report reads says
-          (subst (λ (end : Ending). ServesFrom (wanted c.args.command) c.in-Ok.setup.setup start end c.in-Ok-report_ending.report) gathered.2 made.serves),
+      serves_read (wanted c.args.command) c.args.bytes t c.in-Ok-report.report reads says
+          (subst (λ (end : Ending). ServesFrom (wanted c.args.command) c.in-Ok.setup.setup start end c.in-Ok-report.report) gathered.2 made.serves),
     )

@@ -1,8 +1,8 @@
 use Rattle.js_words.proofs.Passing.{yields_open}
 use Rattle.js_words.proofs.gathering.Gathering.open.Goals as goal
 
-pub returns : goal.returns
-returns c = record {
+pub returns-in-Ok : goal.returns-in-Ok
+returns-in-Ok c = record {
   course = c.in_ok-course.ensures;
-  entries = yields_open _ _ c.in_ok-course.course c.outputs.result.now _ c.in_ok-course.ensures c.outputs.ensures (rw c.new-entries.ensures at c.in_ok-add_yields.ensures);
+  entries = yields_open _ _ c.in_ok-course.course c.outputs.result.now _ c.in_ok-course.ensures c.outputs.ensures (rw c.new-entries.ensures at c.in-Ok.ensures);
 }
