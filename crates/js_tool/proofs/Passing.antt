@@ -19,6 +19,7 @@ use Rattle.js_tool.specs.declared.transcript.Unread.{Unread}
 use Rattle.js_tool.specs.declared.transcript.Unread.TheVariants as unread
 use Rattle.js_tool.specs.Events.{event_line}
 use Rattle.js_lines.specs.Lines.{lines_of}
+use Rattle.js_tool.specs.Setups.{setup_line}
 use Rattle.js_tool.specs.Program.{given, IsReply}
 use Rattle.js_tool.specs.Progress.{text_so_far, HasPassed, read_after, PassesTo, StopsOn, IsReplyOn, IsReplyTo}
 use Rattle.js_tool.specs.Texts.{output_text, step_text, steps_text, last_line, run_text}
@@ -211,3 +212,7 @@ result_to bytes (Err e) read within reads replies = tt
 pub of_lines : (bytes line : List ℕ) (lines : List (List ℕ)) → lines_of bytes ≡ line ∷ lines → transcript bytes ≡ transcript_of (line ∷ lines)
 unfolding transcript
 of_lines bytes line lines cut = ap transcript_of cut
+
+-- a setup, and the lines after it
+pub with_setup : (bytes line : List ℕ) (lines : List (List ℕ)) (setup : Setup) → lines_of bytes ≡ line ∷ lines → numbered 1 (setup_line line) ≡ Ok setup → transcript bytes ≡ with_lines setup lines
+with_setup bytes line lines setup cut reads = of_lines bytes line lines cut ∙ ap (λ (r : Result Setup ℕ). r >>= λ setup. with_lines setup lines) reads
