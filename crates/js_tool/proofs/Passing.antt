@@ -85,7 +85,7 @@ text_ends g start es =
     ap (λ (n : ℕ). text_so_far (fold g start es) ++ last_line (fold g start es).ended n) (steps_count g start es)
 
 -- and so the whole text is there at the end
-pub text_done : (g : ReplayInput) (start : ℕ) (es : List Event) (p : Progress) (ended : Bool) (number : ℕ) (text : List ℕ) → HasPassed g start es p → ended ≡ (fold g start es).ended → number ≡ p.course.count
+pub text_done : (g : ReplayInput) (start : ℕ) (es : List Event) (p : Progress) (ended : Bool) (number : ℕ) (text : List ℕ) → HasPassed g start es p → ended ≡ (fold g start es).ended → number ≡ p.course.value.count
     → text ≡ p.text.items ++ last_line ended number → text ≡ run_text (fold g start es)
 text_done g start es p ended number text passed ends counted says =
     says
@@ -118,7 +118,7 @@ read_none n es line rest fails = ap (λ (r : Result Event ℕ). after_lines es (
 -- ---- passing
 
 -- a line that reads is passed with its event
-pub line_passes : (old new : Progress) (line : List ℕ) (number : ℕ) (e : Event) → number ≡ old.course.count + 2 → numbered number (event_line line) ≡ Ok e
+pub line_passes : (old new : Progress) (line : List ℕ) (number : ℕ) (e : Event) → number ≡ old.course.value.count + 2 → numbered number (event_line line) ≡ Ok e
     → ((g : ReplayInput) (start : ℕ) (es : List Event) → HasPassed g start es old → HasPassed g start (es ++ e ∷ []) new)
     → PassesTo old (line ∷ []) new []
 line_passes old new line number e is reads passes = λ g start es passed.
@@ -126,7 +126,7 @@ line_passes old new line number e is reads passes = λ g start es passed.
     (es ++ e ∷ [], passes g start es passed, λ more. read_one es e line more (subst (λ (n : ℕ). numbered n (event_line line) ≡ Ok e) at reads))
 
 -- or stops
-pub line_stops : (old : Progress) (line : List ℕ) (number : ℕ) (e : Unread) → number ≡ old.course.count + 2 → StopsAt e (numbered number (event_line line)) → StopsOn old (line ∷ []) e
+pub line_stops : (old : Progress) (line : List ℕ) (number : ℕ) (e : Unread) → number ≡ old.course.value.count + 2 → StopsAt e (numbered number (event_line line)) → StopsOn old (line ∷ []) e
 line_stops old line number unread.OutOfMemory is fails = tt
 line_stops old line number (unread.BadLine n) is fails = λ g start es passed more.
     let at : number ≡ length es + 2 = is ∙ ap (λ (n : ℕ). n + 2) passed.course.count in
@@ -208,10 +208,11 @@ result_to bytes (Err e) read within reads replies = tt
 
 -- ---- the bytes
 
-first_line : (line : List ℕ) (lines : List (List ℕ)) (reading : Result Setup ℕ) → numbered 1 (setup_line line) ≡ reading → transcript_of (line ∷ lines) ≡ reading >>= λ setup. with_lines setup lines
-first_line line lines reading reads = ap (λ (r : Result Setup ℕ). r >>= λ setup. with_lines setup lines) reads
+-- they say what their lines say
+pub of_lines : (bytes line : List ℕ) (lines : List (List ℕ)) → lines_of bytes ≡ line ∷ lines → transcript bytes ≡ transcript_of (line ∷ lines)
+unfolding transcript
+of_lines bytes line lines cut = ap transcript_of cut
 
 -- a setup, and the lines after it
 pub with_setup : (bytes line : List ℕ) (lines : List (List ℕ)) (setup : Setup) → lines_of bytes ≡ line ∷ lines → numbered 1 (setup_line line) ≡ Ok setup → transcript bytes ≡ with_lines setup lines
-unfolding transcript
-with_setup bytes line lines setup cut reads = ap transcript_of cut ∙ first_line line lines (Ok setup) reads
+with_setup bytes line lines setup cut reads = of_lines bytes line lines cut ∙ ap (λ (r : Result Setup ℕ). r >>= λ setup. with_lines setup lines) reads

@@ -3,7 +3,10 @@
 ghost use Rattle.std.specs.Prelude.{◌≡◌, ◌≤◌, IfOk};
 ghost use Rattle.std.specs.Io.KnownBytes.{Keeps};
 ghost use Rattle.js_io.specs.Causes.{Rose};
+ghost use Rattle.js_table.specs.declared.run.Run.{Run};
 ghost use Rattle.js_table.specs.Valid.{IsReplay, IsValid};
+ghost use Rattle.js_generate.specs.Counts.{summary};
+ghost use Rattle.js_generate.specs.Transcript as transcript;
 ghost use Rattle.js_tool.specs.Answers.{summary_text};
 ghost use Rattle.js_tool.specs.Program.{AnswersGenerate, IsGenerated, SaysNothing};
 
@@ -59,15 +62,36 @@ fn replayed(alloc: Global, given: &ReplayInput, events: &[Event]) -> Result<Run,
     }
 }
 
-/// The counts of the replay of the first so many events that a seed gives.
+/// The counts of the run of valid events.
+fn run_counts(alloc: Global, given: &ReplayInput, events: &[Event]) -> Result<Summary, OutOfMemory>
+    requires { IsValid given.now 0 events.now }
+    ensures { IfOk result (λ counts. (run : Run) × IsReplay given.now 0 events.now run × (counts ≡ summary run)) }
+{
+    let run = replayed(alloc, given, events)?;
+    summary_of(&run)
+}
+
+/// The counts of the replay of the first so many events that a seed gives, to the consumer of such transcripts.
+fn seed_counts(
+    alloc: Global,
+    given: &ReplayInput,
+    seed: u64,
+    events: u64,
+) -> Result<Summary, OutOfMemory>
+    requires few { events ≤ 200_000 }
+    requires given { given.now ≡ transcript.given }
+    ensures { IfOk result (IsGenerated seed events) }
+{
+    let events = generated(alloc, seed, events)?;
+    run_counts(alloc, given, events.as_slice())
+}
+
 fn counted(alloc: Global, seed: u64, events: u64) -> Result<Summary, OutOfMemory>
     requires { events ≤ 200_000 }
     ensures { IfOk result (IsGenerated seed events) }
 {
     let given = given(alloc)?;
-    let events = generated(alloc, seed, events)?;
-    let run = replayed(alloc, &given, events.as_slice())?;
-    summary_of(&run)
+    seed_counts(alloc, &given, seed, events)
 }
 
 /// The line of how much the replay of a generated transcript puts out.

@@ -6,7 +6,8 @@ ghost use Rattle.js_table.specs.declared.event.Event as events;
 ghost use Rattle.js_lines.specs.Lines.{lines_of};
 ghost use Rattle.js_tool.specs.Program.{given, IsReply};
 ghost use Rattle.js_tool.specs.Progress.{HasPassed, PassesLines, IsReplyOn, IsReplyTo};
-ghost use Rattle.js_tool.specs.Transcripts.{with_lines};
+ghost use Rattle.js_tool.specs.Setups.{setup_line};
+ghost use Rattle.js_tool.specs.Transcripts.{GivesLines, numbered, transcript_of, with_lines};
 
 use crate::program::CommandOutcome;
 use crate::text::{push_end, push_outputs, refusal_line};
@@ -20,7 +21,8 @@ use std::alloc::{AllocError, Global};
 /// How far a replay has come, and the text of what it has put out.
 #[derive(Drop)]
 pub(crate) struct Progress<'s> {
-    course: IncrementalReplay<'s>,
+    // On the heap, so that it is moved with little.
+    course: Box<IncrementalReplay<'s>>,
     text: Vec<u8>,
 }
 
@@ -28,13 +30,14 @@ impl<'s> Progress<'s> {
     fn open(alloc: Global, setup: &'s Setup) -> Result<Progress<'s>, OutOfMemory>
         ensures { IfOk result (λ progress. HasPassed (given setup.now) setup.now.start [] progress) }
     {
-        let course = IncrementalReplay::open(
+        let opened = IncrementalReplay::open(
             alloc,
             &setup.settings,
             &setup.setup,
             &setup.first,
             setup.start,
         )?;
+        let course = Box::new(alloc, opened)?;
         let mut text = Vec::new(alloc);
         push_outputs(&mut text, 0, course.outputs())?;
         Ok(Progress { course, text })
@@ -43,7 +46,7 @@ impl<'s> Progress<'s> {
     fn pass(&mut self, alloc: Global, event: &Event) -> Result<(), OutOfMemory>
         ensures passed { (g : ReplayInput) → (start : ℕ) → (es : List events.Event) → HasPassed g start es self.old
             → OnOk result (HasPassed g start (es ++ event.now ∷ []) self.new) }
-        ensures counted { OnOk result (self.new.course.count ≡ self.old.course.count + 1) }
+        ensures counted { OnOk result (self.new.course.value.count ≡ self.old.course.value.count + 1) }
     {
         self.course.advance(alloc, event)?;
         push_outputs(&mut self.text, self.course.count(), self.course.outputs())?;
@@ -72,9 +75,9 @@ fn pass_line(
     progress: &mut Progress<'_>,
     line: &[u8],
 ) -> Result<(), Unread>
-    requires { progress.old.course.count ≤ 67_108_864 }
+    requires { progress.old.course.value.count ≤ 67_108_864 }
     ensures lines { PassesLines progress.old (line.now ∷ []) progress.new result }
-    ensures counted { OnOk result (progress.new.course.count ≡ progress.old.course.count + 1) }
+    ensures counted { OnOk result (progress.new.course.value.count ≡ progress.old.course.value.count + 1) }
 {
     let number = progress.course.count() + 2;
     let event = next_line(alloc, payloads, number, line)?;
@@ -91,9 +94,9 @@ fn pass_lines(
     progress: &mut Progress<'_>,
     bytes: &[u8],
 ) -> Result<(), Unread>
-    requires { progress.old.course.count + length bytes.now ≤ 67_108_864 }
+    requires { progress.old.course.value.count + length bytes.now ≤ 67_108_864 }
     ensures lines { PassesLines progress.old (lines_of bytes.now) progress.new result }
-    ensures counted { OnOk result (progress.new.course.count ≤ progress.old.course.count + length bytes.now) }
+    ensures counted { OnOk result (progress.new.course.value.count ≤ progress.old.course.value.count + length bytes.now) }
 {
     let mut rest = bytes;
     while !rest.is_empty() {
@@ -110,7 +113,7 @@ fn pass_all(
     piece: &[u8],
     mut bytes: Pieces,
 ) -> Result<(), Unread>
-    requires { progress.old.course.count + length piece.now + length bytes ≤ 67_108_864 }
+    requires { progress.old.course.value.count + length piece.now + length bytes ≤ 67_108_864 }
     ensures { PassesLines progress.old (lines_of piece.now ++ lines_of bytes) progress.new result }
 {
     let mut payloads = Payloads::new(alloc);
@@ -147,6 +150,24 @@ fn replay_events(
     }
 }
 
+// Goes on behind the first line, by what that line says.
+fn replay_rest(
+    alloc: Global,
+    first: &Result<Setup, Unread>,
+    piece: &[u8],
+    bytes: Pieces,
+) -> Result<CommandOutcome, AllocError>
+    requires { length piece.now + length bytes ≤ 67_108_864 }
+    ensures { (line : List ℕ) → GivesLines (λ s. s) first.now (numbered 1 (setup_line line))
+        → IfOk result (λ reply. IsReplyTo (transcript_of (line ∷ (lines_of piece.now ++ lines_of bytes))) reply) }
+{
+    match first {
+        Ok(setup) => replay_events(alloc, setup, piece, bytes),
+        Err(Unread::BadLine(line)) => Ok(CommandOutcome::BadLine(*line)),
+        Err(Unread::OutOfMemory) => Err(AllocError),
+    }
+}
+
 /// What the bytes call for, which are given up as they are read.
 #[tactic(auto, unfolding(crate::specs::Transcripts::transcript))]
 pub(crate) fn replay(alloc: Global, mut bytes: Pieces) -> Result<CommandOutcome, AllocError>
@@ -157,9 +178,6 @@ pub(crate) fn replay(alloc: Global, mut bytes: Pieces) -> Result<CommandOutcome,
         return Ok(CommandOutcome::BadLine(1));
     };
     let (line, rest) = cut_line(&piece);
-    match first_line(alloc, line) {
-        Ok(setup) => replay_events(alloc, &setup, rest, bytes),
-        Err(Unread::BadLine(line)) => Ok(CommandOutcome::BadLine(line)),
-        Err(Unread::OutOfMemory) => Err(AllocError),
-    }
+    let first = first_line(alloc, line);
+    replay_rest(alloc, &first, rest, bytes)
 }

@@ -1,9 +1,16 @@
-use Rattle.std.proofs.Common.{refl}
+use Rattle.std.proofs.Common.{◌≡◌, [], refl, rules}
+use Rattle.js_ordered.specs.IncrementalReplay.{HasCome}
+use Rattle.js_tool.specs.Program.{given}
 use Rattle.js_tool.proofs.Passing.{text_opens}
 use Rattle.js_tool.proofs.progress.Progress.open.Goals as goal
 
 pub returns : goal.returns
-returns c = record {
-  course = c.in_ok-course.ensures;
-  text = text_opens _ _ 0 c.in_ok-course.course c.outputs.result.now _ c.in_ok-course.ensures refl c.outputs.ensures (rw c.new-text.ensures.items at c.in_ok-push_outputs.ensures);
-}
+returns c =
+    let course = c.in_ok-course.course.value in
+    let same : course ≡ c.in_ok-opened.opened = search rules in
+    let come : HasCome (given c.args.setup.now) c.args.setup.now.start [] course = rw same c.in_ok-opened.ensures in
+    let put : c.outputs.result.now ≡ course.outputs = search rules in
+    record {
+      course = come;
+      text = text_opens _ _ 0 course c.outputs.result.now _ come refl put (rw c.new-text.ensures.items at c.in_ok-push_outputs.ensures);
+    }

@@ -1,9 +1,14 @@
+use Rattle.std.proofs.Common.{◌≡◌, rules}
 use Rattle.js_tool.proofs.Passing.{text_passes}
 use Rattle.js_tool.proofs.progress.Progress.pass.Goals as goal
 
 pub returns-clause-passed : goal.returns-clause-passed
 returns-clause-passed c = λ g start es passed.
-    let come = c.in_ok-advance.ensures.passed g start es passed.course in record {
+    let same : c.deref_mut.result.now ≡ c.args.self.now.course.value = search rules in
+    let come = c.in_ok-advance.ensures.passed g start es (rw same passed.course) in
+    let counted : c.count.result ≡ c.advance.new.self.count = search rules in
+    let put : c.outputs.result.now ≡ c.advance.new.self.outputs = search rules in
+    record {
       course = come;
-      text = text_passes g start es c.args.event.now c.args.self.now c.count.result c.advance.new.self c.outputs.result.now _ passed come c.count.ensures c.outputs.ensures c.in_ok-push_outputs.ensures;
+      text = text_passes g start es c.args.event.now c.args.self.now c.count.result c.advance.new.self c.outputs.result.now _ passed come counted put c.in_ok-push_outputs.ensures;
     }
