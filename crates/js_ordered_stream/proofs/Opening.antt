@@ -1,10 +1,10 @@
 -- The beginning of a stream.
-use Rattle.std.proofs.Common.{◌≡◌, ℕ, List, [], ◌∷◌, Option, Some, None, map, ap, refl, sym, ◌∙◌, subst, arith}
-use Rattle.std.specs.Prelude.{Result, Ok, Err, IfSome}
+use Rattle.std.proofs.Common.{◌≡◌, ℕ, List, [], ◌∷◌, Option, map, ap, refl, sym, ◌∙◌, subst, arith}
+use Rattle.std.specs.Prelude.{Ok, IfSome}
 use Rattle.js_json.specs.declared.consumer.info.Info.{Info}
 use Rattle.js_json.specs.declared.pull.OrderedConfig as pull_config
 use Rattle.js_json.specs.declared.push.OrderedConfig as push_config
-use Rattle.js_link.specs.Calls.{Opens, OpensOwn}
+use Rattle.js_link.specs.Calls.{OpensOwn}
 use Rattle.js_link.specs.LinkView.{LinkView}
 use Rattle.js_link.specs.Meets.{Meets}
 use Rattle.js_ordered_stream.specs.declared.left.Left.{Left}
@@ -18,7 +18,6 @@ use Rattle.js_pull.specs.Reader.{new_reader, opening}
 use Rattle.js_pull.specs.declared.reader.Reader.{Reader}
 use Rattle.js_pull.specs.declared.reader.Source.{Source}
 use Rattle.js_table.specs.declared.consumer.Consumer.{Consumer}
-use Rattle.js_table.specs.declared.consumer.Phase.{Phase}
 use Rattle.js_table.specs.declared.consumer.Phase.TheVariants.{Pulls, Pushes, Idle}
 use Rattle.js_table.specs.declared.consumer.ReplayInput.{ReplayInput}
 use Rattle.js_table.specs.declared.row.Row.{Row}

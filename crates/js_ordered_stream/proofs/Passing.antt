@@ -22,8 +22,6 @@ use Rattle.js_ordered_stream.specs.declared.left.Seen.TheVariants as sight
 use Rattle.js_ordered_stream.specs.declared.rows.Handed.{Handed}
 use Rattle.js_ordered_stream.specs.declared.rows.Handed.TheVariants as hands
 use Rattle.js_ordered_stream.specs.declared.rows.Stepped.{Stepped}
-use Rattle.js_ordered_stream.specs.declared.rows.Stop.{Stop}
-use Rattle.js_ordered_stream.specs.declared.rows.Stop.TheVariants as stop
 use Rattle.js_ordered_stream.specs.Rows.{IfAlone, PassesRow, PassesRows, answer_in, arrival_in, handed_list, has_message, inbox_in, is_bare, is_something, message_in, met_row, read_by, replied, seen_by, seen_met}
 use Rattle.js_pull.specs.Asking.{GoesAs}
 use Rattle.js_pull.specs.Reader.{Answer, info_of_reply, reply_to}

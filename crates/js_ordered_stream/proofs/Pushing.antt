@@ -1,11 +1,11 @@
 -- Push's rows of reading over a link: what is looked for, and what is heard.
-use Rattle.std.proofs.Common.{◌≡◌, ℕ, Bool, true, false, List, [], ◌∷◌, Option, Some, None, refl, sym, ap, ◌∙◌, subst}
+use Rattle.std.proofs.Common.{◌≡◌, ℕ, Bool, true, false, List, [], Option, Some, None, refl, sym, ap, ◌∙◌, subst}
 use Rattle.std.specs.Prelude.{IfSome, is_some, Result, Ok, Err, if◌then◌else◌}
 use Rattle.js_base.specs.declared.clock.Timer.{Timer}
 use Rattle.js_base.specs.declared.message.Message.{Message}
 use Rattle.js_link.specs.LinkView.{LinkView}
 use Rattle.js_link.specs.Meets.{Meets}
-use Rattle.js_link.specs.Met.{Wish, Met, Nothing, Publishes, Reads, Unasked, passing_of, message_of}
+use Rattle.js_link.specs.Met.{Wish, Met, Nothing, Publishes, Unasked, passing_of, message_of}
 use Rattle.js_link.specs.Passing.{Passing as Sends}
 use Rattle.js_ordered_rows.specs.declared.task.Heard.{Heard}
 use Rattle.js_ordered_rows.specs.declared.task.Heard.TheVariants as hears
@@ -30,7 +30,6 @@ use Rattle.js_table.specs.declared.kind.PushKind.{PushKind}
 use Rattle.js_table.specs.declared.kind.PushKind.TheVariants as kind
 use Rattle.js_table.specs.declared.row.Arrival.{Arrival}
 use Rattle.js_table.specs.declared.row.Row.TheVariants as row
-use Rattle.js_table.specs.declared.run.Output.{Output}
 use Rattle.js_table.specs.Passes.{listens_to}
 use Rattle.js_table.specs.Reading.{armed, beat_answer, push_kind, silence_row}
 use Rattle.js_table.specs.Recreation.{message_on}
@@ -38,7 +37,7 @@ use Rattle.js_table.specs.State.{Matter, Passed, at_phase, quietly}
 use Rattle.js_table.specs.Turn.{push_rows}
 use Rattle.js_turns.specs.Polling.{poll_wish_at}
 use Rattle.js_turns.specs.Turns.{handed}
-use Rattle.js_turns.specs.Wishes.{arrival_of, beat_wish, matter_of}
+use Rattle.js_turns.specs.Wishes.{beat_wish, matter_of}
 use Rattle.js_ordered_stream.proofs.Hearing.{yields_handed}
 use Rattle.js_ordered_stream.proofs.Meeting.{IsOther, moment_met, untaken}
 use Rattle.js_turns.proofs.Walking.{arrives_here, eqb_same}

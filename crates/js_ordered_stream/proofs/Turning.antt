@@ -4,11 +4,10 @@ use Rattle.std.specs.Prelude.{◌||◌, ◌&&◌, not, is_some, IfSome, Result, 
 use Rattle.js_base.specs.declared.message.Message.{Message}
 use Rattle.js_link.specs.LinkView.{LinkView}
 use Rattle.js_link.specs.Meets.{Meets}
-use Rattle.js_link.specs.Met.{Met, message_of, IsClosing}
+use Rattle.js_link.specs.Met.{Met, IsClosing}
 use Rattle.js_ordered_rows.specs.declared.task.Task.{Task}
 use Rattle.js_ordered_rows.specs.declared.task.Task.TheVariants as task
 use Rattle.js_pull.specs.Steps.{brought}
-use Rattle.js_pull.specs.Reader.{Answer}
 use Rattle.js_pull.specs.declared.reader.Row.{Row as PullRow}
 use Rattle.js_pull.specs.declared.rows.Due.{Due}
 use Rattle.js_table.specs.declared.row.Row.TheVariants as row

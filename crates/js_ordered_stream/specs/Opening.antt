@@ -1,5 +1,5 @@
 -- What the polled consumers of either mode are to a caller, and how one begins.
-use Rattle.std.specs.Prelude.{◌≡◌, ℕ, List, [], ◌∷◌, Option, Some, None, Result, Ok, Err, codes, map}
+use Rattle.std.specs.Prelude.{◌≡◌, ℕ, List, [], ◌∷◌, Some, None, Result, Ok, Err, codes, map}
 use Rattle.js_json.specs.declared.consumer.info.Info.{Info}
 use Rattle.js_json.specs.declared.pull.OrderedConfig as pull_config
 use Rattle.js_json.specs.declared.push.OrderedConfig as push_config

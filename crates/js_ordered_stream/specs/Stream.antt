@@ -1,18 +1,14 @@
 -- Where an ordered stream stands, and what its polls answer.
-use Rattle.std.specs.Prelude.{◌≡◌, ℕ, Bool, true, false, ◌||◌, List, [], Option, Some, None, Result, Ok, Err, codes, is_some, map}
+use Rattle.std.specs.Prelude.{◌≡◌, ℕ, Bool, true, false, ◌||◌, List, [], Option, Some, None, Result, Ok, Err, codes, is_some}
 use Rattle.js_base.specs.declared.error.Error.{Error}
 use Rattle.js_base.specs.Errors.{kind_of}
 use Rattle.js_base.specs.declared.message.Message.{Message}
 use Rattle.js_base.specs.declared.message.State.TheVariants.{Connected}
 use Rattle.js_base.specs.declared.turn.Next.{Next}
 use Rattle.js_base.specs.declared.turn.Next.TheVariants as next
-use Rattle.js_json.specs.declared.consumer.info.Info.{Info}
-use Rattle.js_json.specs.declared.pull.OrderedConfig.{OrderedConfig}
-use Rattle.js_link.specs.Calls.{OpensOwn, RefusedSend}
-use Rattle.js_link.specs.declared.link.LinkError.{LinkError}
 use Rattle.js_link.specs.LinkView.{LinkView}
 use Rattle.js_link.specs.Meets.{Meets}
-use Rattle.js_link.specs.Met.{Met, passing_of, message_of, IsClosing}
+use Rattle.js_link.specs.Met.{Met, passing_of, IsClosing}
 use Rattle.js_ordered_stream.specs.declared.error.OrderedErrorKind.{OrderedErrorKind}
 use Rattle.js_ordered_stream.specs.declared.error.OrderedErrorKind.TheVariants as error
 use Rattle.js_ordered_stream.specs.declared.ordered.Ordered.{Ordered}
@@ -26,22 +22,17 @@ use Rattle.js_ordered_stream.specs.declared.rows.Stepped.{Stepped}
 use Rattle.js_ordered_stream.specs.declared.rows.Stop.{Stop}
 use Rattle.js_ordered_stream.specs.declared.rows.Stop.TheVariants as stop
 use Rattle.js_ordered_stream.specs.Rows.{Fits, PassesRow, later_of, left_rows, seen_by}
-use Rattle.js_pull.specs.declared.reader.Reader.{Reader}
 use Rattle.js_table.specs.OrderedCore.{new_core}
 use Rattle.js_table.specs.State.{Matter}
 use Rattle.js_pull.specs.Asking.{is_shut}
-use Rattle.js_pull.specs.Reader.{new_reader, opening}
 use Rattle.js_table.specs.declared.consumer.Consumer.{Consumer}
 use Rattle.js_table.specs.declared.consumer.ReplayInput.{ReplayInput}
 use Rattle.js_table.specs.declared.consumer.Phase.{Phase}
-use Rattle.js_table.specs.declared.consumer.Phase.TheVariants.{Pulls, Exhausted}
+use Rattle.js_table.specs.declared.consumer.Phase.TheVariants.{Exhausted}
 use Rattle.js_table.specs.declared.row.Row.{Row}
-use Rattle.js_table.specs.declared.row.Row.TheVariants.{Read}
 use Rattle.js_table.specs.declared.run.ItemKind.{ItemKind}
 use Rattle.js_table.specs.declared.run.ItemKind.TheVariants as item
-use Rattle.js_table.specs.declared.setup.OrderedSetup.TheVariants.{Pull}
 use Rattle.js_table.specs.declared.setup.Settings.{Settings}
-use Rattle.js_table.specs.Texts.{source_of}
 use Rattle.js_turns.specs.Polling.{Answer, Yields, Tells, HandsEnd, Waits, Ends, Lacks, poll_wish, has_started, closed_at, handed_by}
 use Rattle.js_turns.specs.Turns.{Position, Stride, Moved, step, first_row, later_rows, handed}
 use Rattle.js_turns.specs.Wishes.{matter_of}

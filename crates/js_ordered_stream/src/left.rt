@@ -155,6 +155,13 @@ pub(crate) fn seen_of(request: u64, met: Met) -> Seen
     }
 }
 
+/// This value takes the place of another one.
+pub(crate) fn put<T: Drop>(place: &mut T, value: T)
+    ensures { place.new ≡ value }
+{
+    *place = value;
+}
+
 impl Seen {
     pub(crate) fn is_something(&self) -> bool
         ensures { result ≡ has_seen self.now }
@@ -195,7 +202,7 @@ impl Seen {
         ensures { self.new ≡ kept_if looked self.old }
     {
         if !looked {
-            *self = Seen::Nothing;
+            put(self, Seen::Nothing);
         }
     }
 
@@ -253,9 +260,18 @@ impl Todo {
     {
         match mem::replace(self, Todo::Nothing) {
             Todo::Nothing => None,
-            Todo::One(_) => None,
-            Todo::Two(_, later) => Some(later),
-            Todo::Three(_, _, _) => None,
+            Todo::One(passed) => {
+                drop(passed);
+                None
+            }
+            Todo::Two(passed, later) => {
+                drop(passed);
+                Some(later)
+            }
+            todo => {
+                drop(todo);
+                None
+            }
         }
     }
 
@@ -265,7 +281,7 @@ impl Todo {
         ensures { (m : Matter) → todo_rows m self.new ≡ next_rows m next ++ later_of m self.old }
     {
         let later = self.take_later();
-        *self = before(next, later);
+        put(self, before(next, later));
     }
 }
 
@@ -312,6 +328,6 @@ impl Left {
     pub(crate) fn clear(&mut self)
         ensures { left_rows self.new ≡ [] }
     {
-        self.todo = Todo::Nothing;
+        put(&mut self.todo, Todo::Nothing);
     }
 }

@@ -10,15 +10,15 @@ ghost use Rattle.js_table.specs.Recreation.{message_on};
 ghost use Rattle.js_table.specs.declared.row.Row.TheVariants as row;
 ghost use Rattle.js_turns.specs.Wishes as wishes;
 
-use crate::left::Seen;
+use crate::left::{Seen, put};
 use crate::reading::handed_heard;
-use crate::rows::{Handed, Stepped, Stop, quietly, untaken};
+use crate::rows::{Handed, Stepped, Stop, ask_for, quietly, untaken};
 use bytes::Bytes;
 use js_base::{Message, OutOfMemory, TryClone};
 use js_link::{InboxId, Link, Taken};
 use js_ordered_rows::listening::{arrival_next, heard_as, listen, pass_hear, pass_silence};
 use js_ordered_rows::{Heard, NextTasks};
-use js_pull::{Wish, ask};
+use js_pull::Wish;
 use js_table::{Consumer, EventContext, Phase};
 use std::alloc::Global;
 
@@ -33,10 +33,11 @@ fn look_into<L: Link>(link: &mut L, inbox: u64, seen: &mut Seen) -> Result<Stepp
         Taken::Closed => Err(Stop::Closed),
         Taken::Empty => Ok(quietly(arrival_next(inbox, false))),
         Taken::Message(message) => {
-            *seen = Seen::Message {
+            let taken = Seen::Message {
                 unheard: Some(inbox),
                 message,
             };
+            put(seen, taken);
             Ok(Stepped {
                 handed: Handed::Nothing,
                 looked: true,
@@ -146,7 +147,8 @@ fn answer<L: Link>(
         return Ok(heard);
     }
     let wish = answer_wish(heard, message)?;
-    let _met = ask(alloc, link, &wish)?;
+    let met = ask_for(alloc, link, wish)?;
+    drop(met);
     Ok(heard)
 }
 

@@ -11,7 +11,7 @@ ghost use Rattle.js_turns.specs.Polling.{IsPoll, closed_at, is_reading as reads_
 ghost use Rattle.js_turns.specs.Wakes.{phase_due};
 
 use crate::error::{OrderedError, error_of, sequence_end};
-use crate::left::{First, Left, Seen, Todo};
+use crate::left::{First, Left, Seen, Todo, put};
 use crate::rows::{Handed, Stepped, Stop, begin, pass};
 use crate::wakes::phase_end;
 use js_base::{Boxed, Message, Moment, Next, OutOfMemory, State, Text};
@@ -269,7 +269,7 @@ impl Ordered {
         ensures given { given_to self.new ≡ given_to self.old }
         ensures place { position_of self.new ≡ closed_at true (position_of self.old) }
     {
-        self.consumer.phase = Phase::Ended;
+        put(&mut self.consumer.phase, Phase::Ended);
         self.left.clear();
     }
 

@@ -10,14 +10,14 @@ ghost use Rattle.js_table.specs.Passes.{given_of};
 ghost use Rattle.js_table.specs.State.{Matter};
 ghost use Rattle.js_table.specs.declared.row.Row.TheVariants as row;
 
-use crate::left::{Seen, seen_of};
-use crate::rows::{Handed, Stepped, Stop, handed_of};
+use crate::left::{Seen, put, seen_of};
+use crate::rows::{Handed, Stepped, Stop, ask_for, handed_of};
 use js_base::{Message, OutOfMemory};
 use js_link::{InboxId, Link, Taken as Found};
 use js_ordered_rows::listening::heard_from;
 use js_ordered_rows::reading::{take_message, take_notice};
 use js_ordered_rows::{Heard, NextTasks, Step};
-use js_pull::{Due, Met, Notice, Reader, Reason, Spare, ask, informed_of};
+use js_pull::{Due, Met, Notice, Reader, Reason, Spare, informed_of};
 use js_table::{Consumer, EventContext, ItemKind, Phase};
 use std::alloc::Global;
 
@@ -57,8 +57,9 @@ fn read_met<L: Link>(
     }
     let informed = told_by(alloc, due, seen)?;
     let wish = reader.wish(alloc, due)?;
-    let met = ask(alloc, link, &wish)?;
+    let met = ask_for(alloc, link, wish)?;
     if met.is_shut() {
+        drop(met);
         return Err(Stop::Closed);
     }
     Ok(ReadMet { met, informed })
@@ -197,10 +198,11 @@ fn pass_arrival<L: Link>(
         }
         Found::Message(message) => {
             let step = reader.hear_arrival(context.moment, &message, None);
-            *seen = Seen::Message {
+            let taken = Seen::Message {
                 unheard: None,
                 message,
             };
+            put(seen, taken);
             let Taken { handed, next } = take_in(consumer, step.told, seen, step.next);
             Ok(Stepped {
                 handed,
@@ -234,7 +236,7 @@ fn pass_asking<L: Link>(
     };
     let step = reader.pass(context.moment, due, spare, &met);
     // A reader reads its answer without the number of its request.
-    *seen = seen_of(0, met);
+    put(seen, seen_of(0, met));
     let Taken { handed, next } = take_in(consumer, step.told, seen, step.next);
     Ok(Stepped {
         handed,

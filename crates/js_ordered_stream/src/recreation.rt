@@ -14,7 +14,7 @@ ghost use Rattle.js_table.specs.declared.row.Row.TheVariants as row;
 ghost use Rattle.js_turns.specs.Wishes as wishes;
 
 use crate::left::{Seen, seen_of};
-use crate::rows::{Handed, Stepped, Stop, quietly, untaken};
+use crate::rows::{Handed, Stepped, Stop, ask_for, quietly, untaken};
 use crate::success::{inbox_met, succeed};
 use bytes::Bytes;
 use js_base::{Boxed, Message, OutOfMemory, TryClone};
@@ -86,8 +86,16 @@ pub(crate) fn start<L: Link>(
         context,
         consumer.core.recreation_count.saturating_add(1),
     )?;
-    let again = name.try_clone()?;
-    let _met = ask(alloc, link, &dropped(&consumer.phase))?;
+    let Ok(again) = name.try_clone() else {
+        drop(name);
+        return Err(Stop::OutOfMemory);
+    };
+    let Ok(met) = ask_for(alloc, link, dropped(&consumer.phase)) else {
+        drop(name);
+        drop(again);
+        return Err(Stop::OutOfMemory);
+    };
+    drop(met);
     Ok(untaken(pass_start(context, consumer, name, again)))
 }
 

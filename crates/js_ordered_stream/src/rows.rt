@@ -1,7 +1,7 @@
 //! One row over a link: what it asks is made first, then its link is asked, and it is passed with what it met.
 //!
 //! Until the link was asked nothing has changed. After that a row takes no memory.
-ghost use Rattle.std.specs.Prelude.{◌≡◌, OnErr, Option, false};
+ghost use Rattle.std.specs.Prelude.{◌≡◌, IfOk, OnErr, Option, false};
 ghost use Rattle.js_base.specs.declared.message.Message.{Message as SpecMessage};
 ghost use Rattle.js_ordered_rows.specs.Tasks.{rows_of, told_outputs};
 ghost use Rattle.js_ordered_stream.specs.Rows.{PassesRow, PassesRows, handed_list, read_in, seen_after};
@@ -9,7 +9,8 @@ ghost use Rattle.js_table.specs.Passes.{change_shown, given_of};
 ghost use Rattle.js_table.specs.declared.row.Row.TheVariants as row;
 ghost use Rattle.js_turns.specs.Turns.{handed};
 ghost use Rattle.js_turns.specs.Wishes.{change_of};
-ghost use Rattle.js_pull.specs.Asking.{watch_met};
+ghost use Rattle.js_link.specs.Meets.{Meets};
+ghost use Rattle.js_pull.specs.Asking.{met_shown, watch_met, wish_shown};
 
 use crate::left::Seen;
 use crate::listening::{arm, hear, look, look_at_silence};
@@ -19,6 +20,7 @@ use js_base::OutOfMemory;
 use js_link::{Link, Watch};
 use js_ordered_rows::event::{is_over, pass_event};
 use js_ordered_rows::{NextTasks, RowOutput, Step, Task};
+use js_pull::{Met, Wish, ask};
 use js_table::{Change, Consumer, EventContext, ItemKind};
 use std::alloc::Global;
 
@@ -93,6 +95,16 @@ pub(crate) fn untaken(step: Step) -> Stepped
         looked: false,
         next,
     }
+}
+
+/// A link is asked for what a row wishes, which is let go. Where there is no memory, nothing was asked.
+pub(crate) fn ask_for<L: Link>(alloc: Global, link: &mut L, wish: Wish) -> Result<Met, OutOfMemory>
+    ensures met { IfOk result (λ met. Meets (wish_shown wish) (met_shown met) (L.view link.old) (L.view link.new)) }
+    ensures refused { OnErr result (L.view link.new ≡ L.view link.old) }
+{
+    let asked = ask(alloc, link, &wish);
+    drop(wish);
+    asked
 }
 
 // ---- a turn begins

@@ -1,7 +1,6 @@
 use Rattle.std.proofs.Common.{None, false, refl, sym}
 use Rattle.std.specs.Prelude.{Ok}
-use Rattle.js_link.specs.Met.{Wish, Unasked}
-use Rattle.js_link.specs.Meets.{Meets}
+use Rattle.js_link.specs.Met.{Unasked}
 use Rattle.js_ordered_stream.specs.declared.left.Seen.TheVariants as sight
 use Rattle.js_ordered_stream.specs.declared.rows.Stepped.{Stepped}
 use Rattle.js_ordered_stream.specs.Rows.{read_by}

@@ -1,11 +1,12 @@
-use Rattle.std.proofs.Common.{Some, None, true, false, refl}
+use Rattle.std.proofs.Common.{Some, None, true, false, refl, sym, ap}
 use Rattle.std.specs.Prelude.{Ok, Err}
 use Rattle.js_link.specs.Met.{Empty, Took}
 use Rattle.js_ordered_stream.specs.declared.left.Seen.{Seen}
 use Rattle.js_ordered_stream.specs.declared.left.Seen.TheVariants as sight
 use Rattle.js_ordered_stream.specs.declared.rows.Stop.TheVariants as stop
 use Rattle.js_ordered_stream.specs.declared.rows.Stepped.{Stepped}
-use Rattle.js_ordered_stream.specs.Rows.{read_by}
+use Rattle.js_ordered_stream.specs.Rows.{answer_in, has_message, is_something, message_in, read_by, read_in}
+use Rattle.js_pull.specs.Steps.{brought}
 use Rattle.js_pull.specs.declared.reader.Row.TheVariants as read
 use Rattle.js_table.specs.Passes.{given_of}
 use Rattle.js_table.specs.declared.consumer.Phase.TheVariants.{Pulls}
@@ -40,8 +41,9 @@ returns-in-Message-clause-passes g c =
     let given = given_of c.args.context.now in
     let now = c.args.context.now.moment in
     let message = c.in-Message.message in
-    let seen : Seen = sight.Message None message in
+    let seen = c.put.new.place in
+    let is = c.put.ensures in
     let done : Stepped = record { handed = c.take_in-handed.result.handed; looked = true; next = c.take_in-handed.result.next } in
     row_at_phase given now (row.Read read.CheckArrival) (Pulls c.in-Pulls.reader) c.args.consumer.now c.take_in-handed.new.consumer old new seen (Ok done) c.in-Pulls.is
     (read_passes given now read.CheckArrival c.in-Pulls.reader c.hear_arrival-step.new.self c.args.consumer.now c.take_in-handed.new.consumer (Took message) c.hear_arrival-step.result c.take_in-handed.result seen done old new
-    c.in-Message.ensures refl c.hear_arrival-step.ensures refl refl refl (c.take_in-handed.ensures (read_by None None)) refl)
+    c.in-Message.ensures refl c.hear_arrival-step.ensures (ap message_in is) (ap has_message is) (ap (λ (s : Seen). brought (answer_in s)) is) (c.take_in-handed.ensures (read_in seen)) (ap (λ b. record done { looked = b }) (sym (ap is_something is))))

@@ -1,5 +1,5 @@
-use Rattle.std.proofs.Common.{None, refl, sym, ap, ◌∙◌}
-use Rattle.std.specs.Prelude.{Ok, is_some}
+use Rattle.std.proofs.Common.{ap, ◌∙◌}
+use Rattle.std.specs.Prelude.{Ok}
 use Rattle.js_link.specs.Met.{message_of}
 use Rattle.js_ordered_stream.specs.declared.rows.Stepped.{Stepped}
 use Rattle.js_ordered_stream.specs.Rows.{answer_in, has_message, message_in, read_in}
@@ -26,9 +26,9 @@ returns-clause-passes g c =
     let reply = brought (answer_in c.args.seen.now) in
     let one = row_of reply c.args.due in
     let met = met_shown c.in_ok-found.found.met in
-    let seen = c.seen_of.result in
+    let seen = c.put.new.place in
     let done : Stepped = record { handed = c.take_in-handed.result.handed; looked = c.is_something.result; next = c.take_in-handed.result.next } in
-    let is = c.seen_of.ensures in
+    let is = c.put.ensures ∙ c.seen_of.ensures in
     row_at_phase given now (row.Read one) (Pulls c.in-Pulls.reader) c.args.consumer.now c.take_in-handed.new.consumer old new _ (Ok done) c.in-Pulls.is
     (seen_kept given now (row.Read one) _ c.take_in-handed.new.consumer old new seen done
     (read_passes given now one c.in-Pulls.reader c.pass-step.new.self c.args.consumer.now c.take_in-handed.new.consumer met c.pass-step.result c.take_in-handed.result seen done old new

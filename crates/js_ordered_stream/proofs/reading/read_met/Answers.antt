@@ -14,8 +14,8 @@ returns-then-is_shut g c =
     let reply = brought (answer_in c.args.seen.now) in
     let met = met_shown c.in_ok-met.met in
     let asked = wish (row_of reply c.args.due) c.args.reader.now in
-    closing asked met (view c.args.link.now) (view c.ask.new.link)
-    (meets_as _ asked met (view c.args.link.now) (view c.ask.new.link) (c.in_ok-wish.ensures reply) c.in_ok-met.ensures.met) (sym c.is_shut.ensures ∙ c.if-is_shut.true)
+    closing asked met (view c.args.link.now) (view c.ask_for.new.link)
+    (meets_as _ asked met (view c.args.link.now) (view c.ask_for.new.link) (c.in_ok-wish.ensures reply) c.in_ok-met.ensures.met) (sym c.is_shut.ensures ∙ c.if-is_shut.true)
 
 pub returns : goal.returns
 returns g c =
@@ -24,7 +24,7 @@ returns g c =
     let met = met_shown c.in_ok-met.met in
     let asked = wish (row_of reply c.args.due) c.args.reader.now in (
       record {
-        meets = meets_as _ asked met (view c.args.link.now) (view c.ask.new.link) (c.in_ok-wish.ensures reply) c.in_ok-met.ensures.met;
+        meets = meets_as _ asked met (view c.args.link.now) (view c.ask_for.new.link) (c.in_ok-wish.ensures reply) c.in_ok-met.ensures.met;
         is_open = sym c.is_shut.ensures ∙ c.if-is_shut.false;
         informed = c.in_ok-informed.ensures;
       },

@@ -8,6 +8,6 @@ use Rattle.js_ordered_stream.proofs.recreation.start.Goals as goal
 pub returns : goal.returns
 returns g c =
     let view = g.L.Link.view in
-    let met = met_shown c.in_ok-_met._met in
-    start_passes (given_of c.args.context.now) c.args.context.now.moment c.args.consumer.now c.pass_start.new.consumer met c.pass_start.result.told c.pass_start.result.next c.untaken.result (view c.args.link.now) (view c.ask.new.link)
-    (meets_as _ _ met (view c.args.link.now) (view c.ask.new.link) c.dropped.ensures c.in_ok-_met.ensures.met) (c.pass_start.ensures (read_by None None)) (c.untaken.ensures.handed None) c.untaken.ensures.rest
+    let met = met_shown c.in-Ok-ask_for.met in
+    start_passes (given_of c.args.context.now) c.args.context.now.moment c.args.consumer.now c.pass_start.new.consumer met c.pass_start.result.told c.pass_start.result.next c.untaken.result (view c.args.link.now) (view c.ask_for.new.link)
+    (meets_as _ _ met (view c.args.link.now) (view c.ask_for.new.link) c.dropped.ensures c.in-Ok-ask_for.ensures.met) (c.pass_start.ensures (read_by None None)) (c.untaken.ensures.handed None) c.untaken.ensures.rest
