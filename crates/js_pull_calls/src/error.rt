@@ -23,11 +23,11 @@ impl fmt::Display for StreamErrorKind {
     ghost output = { λ kind. Some (stream_text kind) };
 
     fn fmt<W: fmt::Write>(&self, f: &mut fmt::Formatter<W>) -> fmt::Result {
-        match self {
-            StreamErrorKind::TimedOut => write!(f, "timed out"),
-            StreamErrorKind::Other => write!(f, "failed"),
-            StreamErrorKind::OutOfMemory => write!(f, "out of memory"),
-        }
+        f.write_str(match self {
+            StreamErrorKind::TimedOut => "timed out",
+            StreamErrorKind::Other => "failed",
+            StreamErrorKind::OutOfMemory => "out of memory",
+        })
     }
 }
 
@@ -55,16 +55,14 @@ impl fmt::Display for BatchErrorKind {
     ghost output = { λ kind. Some (batch_text kind) };
 
     fn fmt<W: fmt::Write>(&self, f: &mut fmt::Formatter<W>) -> fmt::Result {
-        match self {
-            BatchErrorKind::Subscribe => write!(f, "subscribe failed"),
-            BatchErrorKind::Pull => write!(f, "pull request failed"),
-            BatchErrorKind::Flush => write!(f, "flush failed"),
-            BatchErrorKind::Serialize => write!(f, "serialize failed"),
-            BatchErrorKind::PinnedClient => {
-                write!(f, "pinned client consumers need a pull stream")
-            }
-            BatchErrorKind::OutOfMemory => write!(f, "out of memory"),
-        }
+        f.write_str(match self {
+            BatchErrorKind::Subscribe => "subscribe failed",
+            BatchErrorKind::Pull => "pull request failed",
+            BatchErrorKind::Flush => "flush failed",
+            BatchErrorKind::Serialize => "serialize failed",
+            BatchErrorKind::PinnedClient => "pinned client consumers need a pull stream",
+            BatchErrorKind::OutOfMemory => "out of memory",
+        })
     }
 }
 
@@ -88,11 +86,11 @@ impl fmt::Display for BatchRequestErrorKind {
     ghost output = { λ kind. Some (request_text kind) };
 
     fn fmt<W: fmt::Write>(&self, f: &mut fmt::Formatter<W>) -> fmt::Result {
-        match self {
-            BatchRequestErrorKind::Publish => write!(f, "publish failed"),
-            BatchRequestErrorKind::Flush => write!(f, "flush failed"),
-            BatchRequestErrorKind::Serialize => write!(f, "serialize failed"),
-            BatchRequestErrorKind::OutOfMemory => write!(f, "out of memory"),
-        }
+        f.write_str(match self {
+            BatchRequestErrorKind::Publish => "publish failed",
+            BatchRequestErrorKind::Flush => "flush failed",
+            BatchRequestErrorKind::Serialize => "serialize failed",
+            BatchRequestErrorKind::OutOfMemory => "out of memory",
+        })
     }
 }
