@@ -25,11 +25,11 @@ impl fmt::Display for MessagesErrorKind {
     ghost output = { λ kind. Some (messages_text kind) };
 
     fn fmt<W: fmt::Write>(&self, f: &mut fmt::Formatter<W>) -> fmt::Result {
-        match self {
-            MessagesErrorKind::MissingHeartbeat => write!(f, "missed idle heartbeat"),
-            MessagesErrorKind::ConsumerDeleted => write!(f, "consumer deleted"),
-            MessagesErrorKind::PullBasedConsumer => write!(f, "cannot use with pull consumer"),
-            MessagesErrorKind::Other => write!(f, "error"),
-        }
+        f.write_str(match self {
+            MessagesErrorKind::MissingHeartbeat => "missed idle heartbeat",
+            MessagesErrorKind::ConsumerDeleted => "consumer deleted",
+            MessagesErrorKind::PullBasedConsumer => "cannot use with pull consumer",
+            MessagesErrorKind::Other => "error",
+        })
     }
 }
