@@ -40,15 +40,22 @@ pub(crate) enum Heard {
 }
 
 /// What a message is.
-fn heard_message(message: js_base::Message) -> Heard
+fn heard_message(mut message: js_base::Message) -> Heard
     ensures { result ≡ heard_message (arrival_of message.status) message }
 {
     match arrival_of(message.status) {
         Arrival::Delivered => Heard::Hands(message),
-        Arrival::Heartbeat => Heard::Skips,
-        Arrival::Over => Heard::Ends,
+        Arrival::Heartbeat => {
+            drop(message);
+            Heard::Skips
+        }
+        Arrival::Over => {
+            drop(message);
+            Heard::Ends
+        }
         Arrival::Refusal(status) => {
-            let js_base::Message { description, .. } = message;
+            let description = message.description.take();
+            drop(message);
             Heard::Refuses(BatchItemError {
                 status,
                 description,

@@ -7,7 +7,7 @@ use crate::batch::Batch;
 use crate::error::BatchError;
 use crate::opening::open_batch;
 use crate::settings::{BuilderKind, Settings, defaults_of};
-use js_base::{Moment, Nanos, OutOfMemory, Text};
+use js_base::{Moment, Nanos, OutOfMemory};
 use js_consumer_calls::PullConsumer;
 use js_link::Link;
 use std::alloc::Global;
@@ -36,11 +36,11 @@ impl<'a> BatchBuilder<'a> {
         ensures consumer { result.consumer.now ≡ self.entry.consumer.now }
         ensures settings { result.settings ≡ record self.entry.settings { max_bytes = max_bytes } }
     {
-        let BatchBuilder { consumer, settings } = self;
-        let settings = Settings {
-            max_bytes,
-            ..settings
-        };
+        let BatchBuilder {
+            consumer,
+            mut settings,
+        } = self;
+        settings.max_bytes = max_bytes;
         BatchBuilder { consumer, settings }
     }
 
@@ -49,11 +49,11 @@ impl<'a> BatchBuilder<'a> {
         ensures consumer { result.consumer.now ≡ self.entry.consumer.now }
         ensures settings { result.settings ≡ record self.entry.settings { batch = Some batch } }
     {
-        let BatchBuilder { consumer, settings } = self;
-        let settings = Settings {
-            batch: Some(batch),
-            ..settings
-        };
+        let BatchBuilder {
+            consumer,
+            mut settings,
+        } = self;
+        settings.batch = Some(batch);
         BatchBuilder { consumer, settings }
     }
 
@@ -62,11 +62,11 @@ impl<'a> BatchBuilder<'a> {
         ensures consumer { result.consumer.now ≡ self.entry.consumer.now }
         ensures settings { result.settings ≡ record self.entry.settings { heartbeat = heartbeat } }
     {
-        let BatchBuilder { consumer, settings } = self;
-        let settings = Settings {
-            heartbeat,
-            ..settings
-        };
+        let BatchBuilder {
+            consumer,
+            mut settings,
+        } = self;
+        settings.heartbeat = heartbeat;
         BatchBuilder { consumer, settings }
     }
 
@@ -75,11 +75,11 @@ impl<'a> BatchBuilder<'a> {
         ensures consumer { result.consumer.now ≡ self.entry.consumer.now }
         ensures settings { result.settings ≡ record self.entry.settings { min_pending = Some min_pending } }
     {
-        let BatchBuilder { consumer, settings } = self;
-        let settings = Settings {
-            min_pending: Some(min_pending),
-            ..settings
-        };
+        let BatchBuilder {
+            consumer,
+            mut settings,
+        } = self;
+        settings.min_pending = Some(min_pending);
         BatchBuilder { consumer, settings }
     }
 
@@ -88,11 +88,11 @@ impl<'a> BatchBuilder<'a> {
         ensures consumer { result.consumer.now ≡ self.entry.consumer.now }
         ensures settings { result.settings ≡ record self.entry.settings { min_ack_pending = Some min_ack_pending } }
     {
-        let BatchBuilder { consumer, settings } = self;
-        let settings = Settings {
-            min_ack_pending: Some(min_ack_pending),
-            ..settings
-        };
+        let BatchBuilder {
+            consumer,
+            mut settings,
+        } = self;
+        settings.min_ack_pending = Some(min_ack_pending);
         BatchBuilder { consumer, settings }
     }
 
@@ -101,11 +101,11 @@ impl<'a> BatchBuilder<'a> {
         ensures consumer { result.consumer.now ≡ self.entry.consumer.now }
         ensures settings { result.settings ≡ record self.entry.settings { expires = Some expires } }
     {
-        let BatchBuilder { consumer, settings } = self;
-        let settings = Settings {
-            expires: Some(expires),
-            ..settings
-        };
+        let BatchBuilder {
+            consumer,
+            mut settings,
+        } = self;
+        settings.expires = Some(expires);
         BatchBuilder { consumer, settings }
     }
 
@@ -115,8 +115,7 @@ impl<'a> BatchBuilder<'a> {
         ensures settings { IfOk result (λ builder. builder.settings ≡ record self.entry.settings { group = Some group.now }) }
     {
         let BatchBuilder { consumer, settings } = self;
-        let group = Some(Text::from_str(alloc, group)?);
-        let settings = Settings { group, ..settings };
+        let settings = settings.with_group(alloc, group)?;
         Ok(BatchBuilder { consumer, settings })
     }
 
@@ -134,6 +133,8 @@ impl<'a> BatchBuilder<'a> {
     {
         let BatchBuilder { consumer, settings } = self;
         let config = settings.request(defaults_of(BuilderKind::Batches, &consumer.info.config));
-        open_batch(alloc, link, now, consumer, config)
+        let opened = open_batch(alloc, link, now, consumer, &config);
+        drop(config);
+        opened
     }
 }

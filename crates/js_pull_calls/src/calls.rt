@@ -108,7 +108,10 @@ impl PullCalls for PullConsumer {
     }
 
     fn sequence(&self, alloc: Global, batch: u64) -> Result<Sequence, BatchError> {
-        Sequence::open(alloc, self, &sequence_config(batch, self))
+        let config = sequence_config(batch, self);
+        let opened = Sequence::open(alloc, self, &config);
+        drop(config);
+        opened
     }
 
     fn request_batch<L: Link>(
@@ -118,11 +121,15 @@ impl PullCalls for PullConsumer {
         batch: BatchConfig,
         inbox: &str,
     ) -> Result<(), BatchRequestError> {
-        let request = match PullRequest::of(alloc, self, &batch) {
+        let made = PullRequest::of(alloc, self, &batch);
+        drop(batch);
+        let request = match made {
             Ok(request) => request,
             Err(OutOfMemory) => return Err(Error::new(BatchRequestErrorKind::OutOfMemory)),
         };
-        match request.publish(alloc, link, inbox) {
+        let sent = request.publish(alloc, link, inbox);
+        drop(request);
+        match sent {
             Ok(()) => Ok(()),
             Err(error) => Err(Error::new(request_fault(error))),
         }

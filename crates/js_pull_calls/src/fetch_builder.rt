@@ -7,7 +7,7 @@ use crate::batch::Batch;
 use crate::error::BatchError;
 use crate::opening::open_batch;
 use crate::settings::{BuilderKind, Settings, defaults_of};
-use js_base::{Moment, Nanos, OutOfMemory, Text};
+use js_base::{Moment, Nanos, OutOfMemory};
 use js_consumer_calls::PullConsumer;
 use js_link::Link;
 use std::alloc::Global;
@@ -36,11 +36,11 @@ impl<'a> FetchBuilder<'a> {
         ensures consumer { result.consumer.now ≡ self.entry.consumer.now }
         ensures settings { result.settings ≡ record self.entry.settings { max_bytes = max_bytes } }
     {
-        let FetchBuilder { consumer, settings } = self;
-        let settings = Settings {
-            max_bytes,
-            ..settings
-        };
+        let FetchBuilder {
+            consumer,
+            mut settings,
+        } = self;
+        settings.max_bytes = max_bytes;
         FetchBuilder { consumer, settings }
     }
 
@@ -49,11 +49,11 @@ impl<'a> FetchBuilder<'a> {
         ensures consumer { result.consumer.now ≡ self.entry.consumer.now }
         ensures settings { result.settings ≡ record self.entry.settings { batch = Some batch } }
     {
-        let FetchBuilder { consumer, settings } = self;
-        let settings = Settings {
-            batch: Some(batch),
-            ..settings
-        };
+        let FetchBuilder {
+            consumer,
+            mut settings,
+        } = self;
+        settings.batch = Some(batch);
         FetchBuilder { consumer, settings }
     }
 
@@ -62,11 +62,11 @@ impl<'a> FetchBuilder<'a> {
         ensures consumer { result.consumer.now ≡ self.entry.consumer.now }
         ensures settings { result.settings ≡ record self.entry.settings { heartbeat = heartbeat } }
     {
-        let FetchBuilder { consumer, settings } = self;
-        let settings = Settings {
-            heartbeat,
-            ..settings
-        };
+        let FetchBuilder {
+            consumer,
+            mut settings,
+        } = self;
+        settings.heartbeat = heartbeat;
         FetchBuilder { consumer, settings }
     }
 
@@ -75,11 +75,11 @@ impl<'a> FetchBuilder<'a> {
         ensures consumer { result.consumer.now ≡ self.entry.consumer.now }
         ensures settings { result.settings ≡ record self.entry.settings { expires = Some expires } }
     {
-        let FetchBuilder { consumer, settings } = self;
-        let settings = Settings {
-            expires: Some(expires),
-            ..settings
-        };
+        let FetchBuilder {
+            consumer,
+            mut settings,
+        } = self;
+        settings.expires = Some(expires);
         FetchBuilder { consumer, settings }
     }
 
@@ -88,11 +88,11 @@ impl<'a> FetchBuilder<'a> {
         ensures consumer { result.consumer.now ≡ self.entry.consumer.now }
         ensures settings { result.settings ≡ record self.entry.settings { min_pending = Some min_pending } }
     {
-        let FetchBuilder { consumer, settings } = self;
-        let settings = Settings {
-            min_pending: Some(min_pending),
-            ..settings
-        };
+        let FetchBuilder {
+            consumer,
+            mut settings,
+        } = self;
+        settings.min_pending = Some(min_pending);
         FetchBuilder { consumer, settings }
     }
 
@@ -101,11 +101,11 @@ impl<'a> FetchBuilder<'a> {
         ensures consumer { result.consumer.now ≡ self.entry.consumer.now }
         ensures settings { result.settings ≡ record self.entry.settings { priority = Some priority } }
     {
-        let FetchBuilder { consumer, settings } = self;
-        let settings = Settings {
-            priority: Some(priority),
-            ..settings
-        };
+        let FetchBuilder {
+            consumer,
+            mut settings,
+        } = self;
+        settings.priority = Some(priority);
         FetchBuilder { consumer, settings }
     }
 
@@ -114,11 +114,11 @@ impl<'a> FetchBuilder<'a> {
         ensures consumer { result.consumer.now ≡ self.entry.consumer.now }
         ensures settings { result.settings ≡ record self.entry.settings { min_ack_pending = Some min_ack_pending } }
     {
-        let FetchBuilder { consumer, settings } = self;
-        let settings = Settings {
-            min_ack_pending: Some(min_ack_pending),
-            ..settings
-        };
+        let FetchBuilder {
+            consumer,
+            mut settings,
+        } = self;
+        settings.min_ack_pending = Some(min_ack_pending);
         FetchBuilder { consumer, settings }
     }
 
@@ -128,8 +128,7 @@ impl<'a> FetchBuilder<'a> {
         ensures settings { IfOk result (λ builder. builder.settings ≡ record self.entry.settings { group = Some group.now }) }
     {
         let FetchBuilder { consumer, settings } = self;
-        let group = Some(Text::from_str(alloc, group)?);
-        let settings = Settings { group, ..settings };
+        let settings = settings.with_group(alloc, group)?;
         Ok(FetchBuilder { consumer, settings })
     }
 
@@ -147,6 +146,8 @@ impl<'a> FetchBuilder<'a> {
     {
         let FetchBuilder { consumer, settings } = self;
         let config = settings.request(defaults_of(BuilderKind::Fetches, &consumer.info.config));
-        open_batch(alloc, link, now, consumer, config)
+        let opened = open_batch(alloc, link, now, consumer, &config);
+        drop(config);
+        opened
     }
 }

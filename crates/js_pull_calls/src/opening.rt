@@ -41,18 +41,20 @@ pub(crate) fn open_batch<L: Link>(
     link: &mut L,
     now: Moment,
     consumer: &PullConsumer,
-    config: BatchConfig,
+    config: &BatchConfig,
 ) -> Result<Batch, BatchError>
-    ensures { OpensBatch result now consumer.now config (L.view link.old) (L.view link.new) }
+    ensures { OpensBatch result now consumer.now config.now (L.view link.old) (L.view link.new) }
 {
     if is_pinned(consumer.config.priority_policy) {
         return Err(Error::new(BatchErrorKind::PinnedClient));
     }
-    let request = match PullRequest::of(alloc, consumer, &config) {
+    let request = match PullRequest::of(alloc, consumer, config) {
         Ok(request) => request,
         Err(OutOfMemory) => return Err(Error::new(BatchErrorKind::OutOfMemory)),
     };
-    match request.open(alloc, link) {
+    let opened = request.open(alloc, link);
+    drop(request);
+    match opened {
         Ok(inbox) => {
             let timer = batch_timer(now, config.expires);
             let timeout = message_timeout(&consumer.scope);

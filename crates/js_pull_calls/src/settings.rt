@@ -1,11 +1,12 @@
 //! What a pull request asks for: what was set at its builder, and else the default of the builder's row.
-ghost use Rattle.std.specs.Prelude.{◌≡◌};
+ghost use Rattle.std.specs.Prelude.{◌≡◌, IfOk, Some};
 ghost use Rattle.js_pull_calls.specs.Builders.{KeepsLimits, asked_for, defaults_of, heartbeat_of, unset};
 
-use js_base::{Nanos, Text};
+use js_base::{Nanos, OutOfMemory, Text};
 use js_json::consumer::Config;
 use js_json::pull::BatchConfig;
 use js_pull::{clamp_batch, clamp_expires, clamp_heartbeat};
+use std::alloc::Global;
 
 const SECOND: Nanos = 1_000_000_000;
 
@@ -94,6 +95,22 @@ impl Settings {
             min_ack_pending: None,
             group: None,
             priority: None,
+        }
+    }
+
+    /// With that group. Where memory runs out the settings are given up.
+    pub fn with_group(self, alloc: Global, group: &str) -> Result<Settings, OutOfMemory>
+        ensures { IfOk result (λ settings. settings ≡ record self { group = Some group.now }) }
+    {
+        match Text::from_str(alloc, group) {
+            Ok(text) => Ok(Settings {
+                group: Some(text),
+                ..self
+            }),
+            Err(OutOfMemory) => {
+                drop(self);
+                Err(OutOfMemory)
+            }
         }
     }
 

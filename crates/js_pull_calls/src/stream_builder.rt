@@ -6,7 +6,7 @@ ghost use Rattle.js_pull_calls.specs.Streams.{OpensMessages};
 use crate::error::StreamError;
 use crate::settings::{BuilderKind, Settings, defaults_of};
 use crate::stream::Stream;
-use js_base::{Nanos, OutOfMemory, Text};
+use js_base::{Nanos, OutOfMemory};
 use js_consumer_calls::PullConsumer;
 use js_link::Link;
 use std::alloc::Global;
@@ -35,11 +35,11 @@ impl<'a> StreamBuilder<'a> {
         ensures consumer { result.consumer.now ≡ self.entry.consumer.now }
         ensures settings { result.settings ≡ record self.entry.settings { max_bytes = max_bytes } }
     {
-        let StreamBuilder { consumer, settings } = self;
-        let settings = Settings {
-            max_bytes,
-            ..settings
-        };
+        let StreamBuilder {
+            consumer,
+            mut settings,
+        } = self;
+        settings.max_bytes = max_bytes;
         StreamBuilder { consumer, settings }
     }
 
@@ -48,11 +48,11 @@ impl<'a> StreamBuilder<'a> {
         ensures consumer { result.consumer.now ≡ self.entry.consumer.now }
         ensures settings { result.settings ≡ record self.entry.settings { batch = Some batch } }
     {
-        let StreamBuilder { consumer, settings } = self;
-        let settings = Settings {
-            batch: Some(batch),
-            ..settings
-        };
+        let StreamBuilder {
+            consumer,
+            mut settings,
+        } = self;
+        settings.batch = Some(batch);
         StreamBuilder { consumer, settings }
     }
 
@@ -61,11 +61,11 @@ impl<'a> StreamBuilder<'a> {
         ensures consumer { result.consumer.now ≡ self.entry.consumer.now }
         ensures settings { result.settings ≡ record self.entry.settings { heartbeat = heartbeat } }
     {
-        let StreamBuilder { consumer, settings } = self;
-        let settings = Settings {
-            heartbeat,
-            ..settings
-        };
+        let StreamBuilder {
+            consumer,
+            mut settings,
+        } = self;
+        settings.heartbeat = heartbeat;
         StreamBuilder { consumer, settings }
     }
 
@@ -74,11 +74,11 @@ impl<'a> StreamBuilder<'a> {
         ensures consumer { result.consumer.now ≡ self.entry.consumer.now }
         ensures settings { result.settings ≡ record self.entry.settings { expires = Some expires } }
     {
-        let StreamBuilder { consumer, settings } = self;
-        let settings = Settings {
-            expires: Some(expires),
-            ..settings
-        };
+        let StreamBuilder {
+            consumer,
+            mut settings,
+        } = self;
+        settings.expires = Some(expires);
         StreamBuilder { consumer, settings }
     }
 
@@ -87,11 +87,11 @@ impl<'a> StreamBuilder<'a> {
         ensures consumer { result.consumer.now ≡ self.entry.consumer.now }
         ensures settings { result.settings ≡ record self.entry.settings { min_pending = Some min_pending } }
     {
-        let StreamBuilder { consumer, settings } = self;
-        let settings = Settings {
-            min_pending: Some(min_pending),
-            ..settings
-        };
+        let StreamBuilder {
+            consumer,
+            mut settings,
+        } = self;
+        settings.min_pending = Some(min_pending);
         StreamBuilder { consumer, settings }
     }
 
@@ -100,11 +100,11 @@ impl<'a> StreamBuilder<'a> {
         ensures consumer { result.consumer.now ≡ self.entry.consumer.now }
         ensures settings { result.settings ≡ record self.entry.settings { priority = Some priority } }
     {
-        let StreamBuilder { consumer, settings } = self;
-        let settings = Settings {
-            priority: Some(priority),
-            ..settings
-        };
+        let StreamBuilder {
+            consumer,
+            mut settings,
+        } = self;
+        settings.priority = Some(priority);
         StreamBuilder { consumer, settings }
     }
 
@@ -113,11 +113,11 @@ impl<'a> StreamBuilder<'a> {
         ensures consumer { result.consumer.now ≡ self.entry.consumer.now }
         ensures settings { result.settings ≡ record self.entry.settings { min_ack_pending = Some min_ack_pending } }
     {
-        let StreamBuilder { consumer, settings } = self;
-        let settings = Settings {
-            min_ack_pending: Some(min_ack_pending),
-            ..settings
-        };
+        let StreamBuilder {
+            consumer,
+            mut settings,
+        } = self;
+        settings.min_ack_pending = Some(min_ack_pending);
         StreamBuilder { consumer, settings }
     }
 
@@ -127,8 +127,7 @@ impl<'a> StreamBuilder<'a> {
         ensures settings { IfOk result (λ builder. builder.settings ≡ record self.entry.settings { group = Some group.now }) }
     {
         let StreamBuilder { consumer, settings } = self;
-        let group = Some(Text::from_str(alloc, group)?);
-        let settings = Settings { group, ..settings };
+        let settings = settings.with_group(alloc, group)?;
         Ok(StreamBuilder { consumer, settings })
     }
 

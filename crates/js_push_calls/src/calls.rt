@@ -59,6 +59,8 @@ impl PushCalls for PushConsumer {
     ghost pushes = { λ consumer. consumer };
 
     fn messages<L: Link>(self, alloc: Global, link: &mut L) -> Result<Messages, StreamError> {
-        open(alloc, link, &self)
+        let opened = open(alloc, link, &self);
+        drop(self);
+        opened
     }
 }

@@ -14,6 +14,7 @@ use js_link::{InboxId, Link, Taken};
 use js_message::Message;
 use js_pull::armed_silence;
 use std::alloc::Global;
+use std::mem;
 
 /// The messages of a push consumer, in the order in which they come.
 ///
@@ -61,7 +62,8 @@ impl Messages {
     fn follow(&mut self, row: Row)
         ensures { self.new ≡ next_row row self.old }
     {
-        self.next = row;
+        let passed = mem::replace(&mut self.next, row);
+        drop(passed);
     }
 
     /// What is made of a message.
@@ -74,7 +76,10 @@ impl Messages {
                 self.follow(Row::Answer(message));
                 Told::Nothing
             }
-            Some(_) => Told::Nothing,
+            Some(_) => {
+                drop(message);
+                Told::Nothing
+            }
         }
     }
 
