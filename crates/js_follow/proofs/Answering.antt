@@ -12,18 +12,18 @@ use Rattle.js_tool.specs.declared.transcript.setup.Setup.{Setup}
 use Rattle.js_tool.specs.Events.{event_line}
 use Rattle.js_tool.specs.Program.{given}
 use Rattle.js_tool.specs.Setups.{setup_line}
-use Rattle.js_tool.specs.Texts.{refusal_text, last_line}
+use Rattle.js_tool.specs.Texts.{last_line}
 use Rattle.js_tool.specs.Transcripts.{numbered}
 use Rattle.js_tool.proofs.Passing.{text_first, text_on, text_ends}
 use Rattle.js_follow.specs.declared.answer.Answer.{Answer}
 use Rattle.js_follow.specs.declared.answer.Listener.{Listener}
 use Rattle.js_follow.specs.Answered.{last_text, AnswersEvents, AnswersLine, AnswersEnd, IsEnding, IsTold}
-use Rattle.js_follow.specs.Standing.{Standing, Unopened, Going, Over, text_to, passed, opened, went_on, next, standing, said, said_in_all, end_of, answered}
+use Rattle.js_follow.specs.Standing.{Standing, Going, Over, text_to, passed, opened, went_on, next, standing, said, said_in_all, end_of, answered}
 use Rattle.js_follow.proofs.Standings.{one_more, one_told, is_run}
 
 -- events that were answered behind a text stand so
 answered_events : (setup : Setup) (es : List Event) (before text : List ℕ) (lines : List (List ℕ)) (ending : Option Status) (listener : Listener)
-    → standing lines ≡ passed setup es before (refuse (given setup) setup.start es) → text_to setup es ≡ before ++ last_text setup es → HasCome (given setup) setup.start es listener.replay → AnswersEvents setup es text ending
+    → standing lines ≡ passed setup es before (refuse (given setup) setup.start es) → text_to setup es ≡ before ++ last_text setup es → HasCome (given setup) setup.start es listener.replay.value → AnswersEvents setup es text ending
     → AnswersLine before lines text ending listener
 answered_events setup es before text lines None listener stands adds come (accepted, says) =
     let goes : standing lines ≡ Going setup es = stands ∙ ap (passed setup es before) accepted in
@@ -37,14 +37,14 @@ answered_events setup es before text lines (Some s) listener stands adds come (r
     ends_so s is = subst (λ (x : Status). IsEnding x) (sym is) tt
 
 -- the opening
-pub answered_opening : (setup : Setup) (line text : List ℕ) (ending : Option Status) (listener : Listener) → HasCome (given setup) setup.start [] listener.replay → numbered 1 (setup_line line) ≡ Ok setup
+pub answered_opening : (setup : Setup) (line text : List ℕ) (ending : Option Status) (listener : Listener) → HasCome (given setup) setup.start [] listener.replay.value → numbered 1 (setup_line line) ≡ Ok setup
     → AnswersEvents setup [] text ending → AnswersLine [] (line ∷ []) text ending listener
 answered_opening setup line text ending listener come reads answers =
     answered_events setup [] [] text (line ∷ []) ending listener (one_told line ∙ ap opened reads) (text_first (given setup) setup.start) come answers
 
 -- an event more
 pub answered_event : (lines : List (List ℕ)) (line text : List ℕ) (setup : Setup) (es : List Event) (e : Event) (ending : Option Status) (listener : Listener) → standing lines ≡ Going setup es
-    → numbered (length es + 2) (event_line line) ≡ Ok e → HasCome (given setup) setup.start (es ++ e ∷ []) listener.replay → AnswersEvents setup (es ++ e ∷ []) text ending
+    → numbered (length es + 2) (event_line line) ≡ Ok e → HasCome (given setup) setup.start (es ++ e ∷ []) listener.replay.value → AnswersEvents setup (es ++ e ∷ []) text ending
     → AnswersLine (answered lines) (lines ++ line ∷ []) text ending listener
 answered_event lines line text setup es e ending listener stands reads come answers =
     subst (λ (before : List ℕ). AnswersLine before (lines ++ line ∷ []) text ending listener) (sym (ap said stands))
@@ -96,7 +96,7 @@ end_so (Ok answer) lines listener ended number told ends counted says = answered
 end_so (Err e) lines listener ended number told ends counted says = tt
 
 pub event_so : {E : Type 0} (result : Result Answer E) (lines : List (List ℕ)) (line : List ℕ) (setup : Setup) (es : List Event) (e : Event) (number : ℕ) (listener : Listener) → standing lines ≡ Going setup es → number ≡ length es + 2
-    → numbered number (event_line line) ≡ Ok e → HasCome (given setup) setup.start (es ++ e ∷ []) listener.replay → IfOk result (λ answer. AnswersEvents setup (es ++ e ∷ []) answer.text.items answer.ending)
+    → numbered number (event_line line) ≡ Ok e → HasCome (given setup) setup.start (es ++ e ∷ []) listener.replay.value → IfOk result (λ answer. AnswersEvents setup (es ++ e ∷ []) answer.text.items answer.ending)
     → IfOk result (λ answer. AnswersLine (answered lines) (lines ++ line ∷ []) answer.text.items answer.ending listener)
 event_so (Ok answer) lines line setup es e number listener stands counted reads come says =
     answered_event lines line answer.text.items setup es e answer.ending listener stands (subst (λ (n : ℕ). numbered n (event_line line) ≡ Ok e) counted reads) come says

@@ -1,5 +1,5 @@
 -- What is answered to a line, by what was told before.
-use Rattle.std.specs.Prelude.{◌≡◌, ℕ, ◌+◌, List, [], ◌∷◌, ◌++◌, length, flat_map, Option, Some, None, ⊤}
+use Rattle.std.specs.Prelude.{◌≡◌, ℕ, List, ◌++◌, length, flat_map, Option, Some, None, ⊤}
 use Rattle.js_ordered.specs.IncrementalReplay.{HasCome, last}
 use Rattle.js_table.specs.declared.event.Event.{Event}
 use Rattle.js_table.specs.declared.run.ReplayError.{ReplayError}
@@ -27,7 +27,7 @@ pub record IsTold (lines : List (List ℕ)) (listener : Listener) : Type 0 where
   pub setup : Setup
   pub es : List Event
   pub stands : standing lines ≡ Going setup es
-  pub come : HasCome (given setup) setup.start es listener.replay
+  pub come : HasCome (given setup) setup.start es listener.replay.value
 
 -- with these statuses a replay is over by itself
 abbrev pub IsEnding : Status → Type 0

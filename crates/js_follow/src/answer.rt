@@ -56,14 +56,15 @@ fn last_line(alloc: Global, ended: bool, events: u64) -> Result<Answer, AllocErr
 /// A replay that is told the lines behind a setup.
 #[derive(Drop)]
 pub(crate) struct Listener<'s> {
-    replay: IncrementalReplay<'s>,
+    // On the heap, so that it is moved with little.
+    replay: Box<IncrementalReplay<'s>>,
     payloads: Payloads,
 }
 
 impl<'s> Listener<'s> {
     /// None is told yet.
     pub(crate) fn open(alloc: Global, setup: &'s Setup) -> Result<Listener<'s>, AllocError>
-        ensures { IfOk result (λ listener. HasCome (given setup.now) setup.now.start [] listener.replay) }
+        ensures { IfOk result (λ listener. HasCome (given setup.now) setup.now.start [] listener.replay.value) }
     {
         match IncrementalReplay::open(
             alloc,
@@ -73,7 +74,7 @@ impl<'s> Listener<'s> {
             setup.start,
         ) {
             Ok(replay) => Ok(Listener {
-                replay,
+                replay: Box::new(alloc, replay)?,
                 payloads: Payloads::new(alloc),
             }),
             Err(OutOfMemory) => Err(AllocError),
@@ -82,7 +83,7 @@ impl<'s> Listener<'s> {
 
     // The lines of what the last event, or the opening, has put out.
     fn outputs(&self, alloc: Global) -> Result<Vec<u8>, AllocError>
-        ensures { (setup : setups.Setup) → (es : List events.Event) → HasCome (given setup) setup.start es self.now.replay
+        ensures { (setup : setups.Setup) → (es : List events.Event) → HasCome (given setup) setup.start es self.now.replay.value
             → IfOk result (λ text. text.items ≡ last_text setup es) }
     {
         let mut text = Vec::new(alloc);
@@ -92,7 +93,7 @@ impl<'s> Listener<'s> {
 
     // What the last event, or the opening, has put out.
     fn go_on(&self, alloc: Global) -> Result<Answer, AllocError>
-        ensures { (setup : setups.Setup) → (es : List events.Event) → HasCome (given setup) setup.start es self.now.replay
+        ensures { (setup : setups.Setup) → (es : List events.Event) → HasCome (given setup) setup.start es self.now.replay.value
             → IfOk result (λ answer. (answer.text.items ≡ last_text setup es) × (answer.ending ≡ None)) }
     {
         Ok(Answer {
@@ -103,7 +104,7 @@ impl<'s> Listener<'s> {
 
     /// The answer to the last event, or to the opening before the first: what it has put out, or its refusal.
     pub(crate) fn answer(&self, alloc: Global) -> Result<Answer, AllocError>
-        ensures { (setup : setups.Setup) → (es : List events.Event) → HasCome (given setup) setup.start es self.now.replay
+        ensures { (setup : setups.Setup) → (es : List events.Event) → HasCome (given setup) setup.start es self.now.replay.value
             → IfOk result (λ answer. AnswersEvents setup es answer.text.items answer.ending) }
     {
         match self.replay.end() {

@@ -5,7 +5,7 @@ ghost use Rattle.js_io.specs.Causes.{Rose};
 ghost use Rattle.js_ordered.specs.IncrementalReplay.{HasCome};
 ghost use Rattle.js_tool.specs.Program.{given, IsUnlessFailed};
 ghost use Rattle.js_tool.specs.Setups.{setup_line};
-ghost use Rattle.js_tool.specs.Transcripts.{numbered};
+ghost use Rattle.js_tool.specs.Transcripts.{GivesLines, numbered};
 ghost use Rattle.js_tool.specs.declared.transcript.setup.Setup as setups;
 ghost use Rattle.js_lines.specs.Lines.{lines_of};
 ghost use Rattle.js_follow.specs.Answered.{IsTold};
@@ -40,11 +40,11 @@ fn reply<P: Peer>(answer: &Answer, peer: &mut P) -> Option<Status>
 // Answers the opening.
 fn greet<P: Peer>(alloc: Global, listener: &Listener<'_>, peer: &mut P) -> Option<Status>
     ensures greeted { (from : Dialogue) → (setup : setups.Setup) → (line : List ℕ) → (left : Option (List (List ℕ)))
-        → HasCome (given setup) setup.start [] listener.now.replay → numbered 1 (setup_line line) ≡ Ok setup
+        → HasCome (given setup) setup.start [] listener.now.replay.value → numbered 1 (setup_line line) ≡ Ok setup
         → HasGone from (P.view peer.old) → (P.view peer.old).taken ≡ from.taken → IsCut (all_lines from) (line ∷ []) left
         → StandsOr from (P.view peer.new) (line ∷ []) left listener.now result }
     ensures said { (setup : setups.Setup) → (line held : List ℕ)
-        → HasCome (given setup) setup.start [] listener.now.replay → numbered 1 (setup_line line) ≡ Ok setup
+        → HasCome (given setup) setup.start [] listener.now.replay.value → numbered 1 (setup_line line) ≡ Ok setup
         → Holds (P.view peer.old).turns (Has (line ∷ []) held [] []) → result ≡ None
         → Holds (P.view peer.new).turns (Has (line ∷ []) held (answered (line ∷ [])) (answered (line ∷ []))) }
     ensures punctual { Holds (P.view peer.old).turns IsPunctual → Holds (P.view peer.new).turns IsPunctual }
@@ -194,15 +194,30 @@ fn open<P: Peer>(
     }
 }
 
+// Goes on behind the first line, by what that line says.
+fn begin_with<P: Peer>(
+    alloc: Global,
+    first: &Result<Setup, Unread>,
+    more: bool,
+    lines: &mut IncomingLines,
+    peer: &mut P,
+) -> Status
+    ensures { (from : Dialogue) → (line : List ℕ) → GivesLines (λ s. s) first.now (numbered 1 (setup_line line))
+        → HasBegun from (P.view peer.old) more line lines.old.left → IsOver from (P.view peer.new) result }
+{
+    match first {
+        Ok(setup) => open(alloc, setup, more, lines, peer),
+        Err(Unread::BadLine(line)) => Status::BadLine { line: *line },
+        Err(Unread::OutOfMemory) => Status::OutOfMemory,
+    }
+}
+
 // Hears the first line, which was read, and those behind it.
 fn begin<P: Peer>(alloc: Global, more: bool, lines: &mut IncomingLines, peer: &mut P) -> Status
     ensures { (from : Dialogue) → HasBegun from (P.view peer.old) more lines.old.line lines.old.left → IsOver from (P.view peer.new) result }
 {
-    match first_line(alloc, lines.line()) {
-        Ok(setup) => open(alloc, &setup, more, lines, peer),
-        Err(Unread::BadLine(line)) => Status::BadLine { line },
-        Err(Unread::OutOfMemory) => Status::OutOfMemory,
-    }
+    let first = first_line(alloc, lines.line());
+    begin_with(alloc, &first, more, lines, peer)
 }
 
 // Hears all lines.

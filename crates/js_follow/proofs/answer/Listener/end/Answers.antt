@@ -1,12 +1,16 @@
-use Rattle.std.proofs.Common.{◌∙◌}
+use Rattle.std.proofs.Common.{◌≡◌, ◌∙◌, rules}
 use Rattle.js_tool.specs.Program.{given}
 use Rattle.js_follow.proofs.Answering.{end_so, never_refused}
 use Rattle.js_follow.proofs.answer.Listener.end.Goals as goal
 
 pub returns-in-Ok : goal.returns-in-Ok
 returns-in-Ok c = λ lines told.
-    let ends = c.in-Ok.ensures.ended (given told.setup) told.setup.start told.es told.come in
-    end_so c.last_line.result lines c.args.self.now c.in-Ok.ended c.count.result told ends.1 (c.count.ensures ∙ told.come.count) c.last_line.ensures
+    let same : c.deref.result.now ≡ c.args.self.now.replay.value = search rules in
+    let ends = c.in-Ok.ensures.ended (given told.setup) told.setup.start told.es (rw same told.come) in
+    let counted : c.count.result ≡ c.args.self.now.replay.value.count = search rules in
+    end_so c.last_line.result lines c.args.self.now c.in-Ok.ended c.count.result told ends.1 (counted ∙ told.come.count) c.last_line.ensures
 
 pub returns-in-Err : goal.returns-in-Err
-returns-in-Err c = λ lines told. absurd (never_refused lines c.args.self.now c.in-Err.error told (c.in-Err.ensures.ended (given told.setup) told.setup.start told.es told.come))
+returns-in-Err c = λ lines told.
+    let same : c.deref.result.now ≡ c.args.self.now.replay.value = search rules in
+    absurd (never_refused lines c.args.self.now c.in-Err.error told (c.in-Err.ensures.ended (given told.setup) told.setup.start told.es (rw same told.come)))
