@@ -53,15 +53,18 @@ fn pass_recreating(
             success::succeed(alloc, context, state, recreation, info.get(), outputs)
         }
         Task::Fail => recreation::fail(context, state, recreation, outputs),
-        Task::Event => Ok(NextTasks::Nothing),
-        Task::Start => Ok(NextTasks::Nothing),
-        Task::Hold => Ok(NextTasks::Nothing),
-        Task::CheckArrival => Ok(NextTasks::Nothing),
-        Task::Hear { .. } => Ok(NextTasks::Nothing),
-        Task::HearHeld(_) => Ok(NextTasks::Nothing),
-        Task::CheckSilence => Ok(NextTasks::Nothing),
-        Task::Arm => Ok(NextTasks::Nothing),
-        Task::Read(_) => Ok(NextTasks::Nothing),
+        Task::Event
+        | Task::Start
+        | Task::Hold
+        | Task::CheckArrival
+        | Task::Hear { .. }
+        | Task::HearHeld(_)
+        | Task::CheckSilence
+        | Task::Arm
+        | Task::Read(_) => {
+            drop(recreation);
+            Ok(NextTasks::Nothing)
+        }
     }
 }
 
@@ -83,29 +86,30 @@ fn pass_try(
             pass_recreating(alloc, context, state, recreation, task, outputs)
         }
         Phase::Pulls(reader) => {
-            state.consumer.phase = Phase::Pulls(reader);
+            drop(mem::replace(&mut state.consumer.phase, Phase::Pulls(reader)));
             Ok(NextTasks::Nothing)
         }
         Phase::Pushes {
             inbox,
             heartbeat_timer,
         } => {
-            state.consumer.phase = Phase::Pushes {
+            let phase = Phase::Pushes {
                 inbox,
                 heartbeat_timer,
             };
+            drop(mem::replace(&mut state.consumer.phase, phase));
             Ok(NextTasks::Nothing)
         }
         Phase::Idle => {
-            state.consumer.phase = Phase::Idle;
+            drop(mem::replace(&mut state.consumer.phase, Phase::Idle));
             Ok(NextTasks::Nothing)
         }
         Phase::Ended => {
-            state.consumer.phase = Phase::Ended;
+            drop(mem::replace(&mut state.consumer.phase, Phase::Ended));
             Ok(NextTasks::Nothing)
         }
         Phase::Exhausted => {
-            state.consumer.phase = Phase::Exhausted;
+            drop(mem::replace(&mut state.consumer.phase, Phase::Exhausted));
             Ok(NextTasks::Nothing)
         }
     }

@@ -20,6 +20,7 @@ use js_table::{
     ReplayError, ReplayState, Run, Settings, Step, refuse_input, texts,
 };
 use std::alloc::Global;
+use std::mem;
 
 // ---- the opening
 
@@ -35,11 +36,12 @@ fn first_reader(alloc: Global, context: &EventContext<'_>) -> Result<Reader, Out
 fn first_state(context: &EventContext<'_>) -> Result<ReplayState, OutOfMemory>
     ensures { IfOk result (λ state. state ≡ at Phase.Idle (fold.first_state (given_of context.now) context.now.moment)) }
 {
+    let name = context.first.name.try_clone()?;
     Ok(ReplayState {
         consumer: Consumer {
             phase: Phase::Idle,
             core: OrderedCore::new(context.setup.configured_start()),
-            name: context.first.name.try_clone()?,
+            name,
             missed: false,
             limited: false,
             connection: State::Connected,
@@ -68,7 +70,7 @@ fn open_pull(
     ensures rested { OnOk result (todo.new.tasks.items ≡ []) }
 {
     let reader = first_reader(alloc, context)?;
-    state.consumer.phase = Phase::Pulls(reader);
+    drop(mem::replace(&mut state.consumer.phase, Phase::Pulls(reader)));
     todo.make_room()?;
     todo.put(NextTasks::Two(Task::Read(Due::Threshold), Task::Read(Due::Arm)));
     pass_left(alloc, context, state, todo, outputs)?;
@@ -93,8 +95,13 @@ pub(crate) fn open(
     let mut state = first_state(context)?;
     match context.setup {
         OrderedSetup::Pull(_) => {
-            open_pull(alloc, context, &mut state, todo, outputs)?;
-            Ok(state)
+            match open_pull(alloc, context, &mut state, todo, outputs) {
+                Ok(()) => Ok(state),
+                Err(OutOfMemory) => {
+                    drop(state);
+                    Err(OutOfMemory)
+                }
+            }
         }
         OrderedSetup::Push(_) => {
             listen(context, &mut state.consumer, 0);
@@ -224,8 +231,58 @@ fn steps_of(
 
 // ---- a replay
 
-/// The run of the events of input that is not refused.
+/// The run of the events, from a state that was just opened on.
 #[tactic(auto, using(crate::proofs::Replaying::run_folded, crate::proofs::Replaying::end_folded))]
+fn run_from(
+    alloc: Global,
+    context: &EventContext<'_>,
+    state: &mut ReplayState,
+    todo: &mut Todo,
+    outputs: &mut Vec<Output>,
+    events: &[Event],
+) -> Result<Run, ReplayError>
+    requires accepted { refuse_input (given_of context.now) context.now.moment events.now ≡ None }
+    requires rested { todo.old.tasks.items ≡ [] }
+    requires first { state.old ≡ (fold.opening (given_of context.now) context.now.moment).state }
+    requires opened { outputs.old.items ≡ (fold.opening (given_of context.now) context.now.moment).outputs }
+    ensures { IsFolded (given_of context.now) context.now.moment events.now result }
+{
+    let opening = take_step(outputs)?;
+    match steps_of(alloc, context, state, todo, outputs, events) {
+        Ok(steps) => Ok(Run {
+            opening,
+            steps,
+            ended: is_over(&state.consumer.phase),
+        }),
+        Err(refused) => {
+            drop(opening);
+            Err(refused)
+        }
+    }
+}
+
+/// The run of the events of input that is not refused, from the opening on.
+#[tactic(auto, using(crate::proofs::Replaying::end_folded))]
+fn run_over(
+    alloc: Global,
+    context: &EventContext<'_>,
+    todo: &mut Todo,
+    outputs: &mut Vec<Output>,
+    events: &[Event],
+) -> Result<Run, ReplayError>
+    requires tick { context.now.what.now ≡ Tick }
+    requires accepted { refuse_input (given_of context.now) context.now.moment events.now ≡ None }
+    requires rested { todo.old.tasks.items ≡ [] }
+    requires empty { outputs.old.items ≡ [] }
+    ensures { IsFolded (given_of context.now) context.now.moment events.now result }
+{
+    let mut state = open(alloc, context, todo, outputs)?;
+    let ran = run_from(alloc, context, &mut state, todo, outputs, events);
+    drop(state);
+    ran
+}
+
+/// The run of the events of input that is not refused.
 fn run(alloc: Global, context: &EventContext<'_>, events: &[Event]) -> Result<Run, ReplayError>
     requires tick { context.now.what.now ≡ Tick }
     requires accepted { refuse_input (given_of context.now) context.now.moment events.now ≡ None }
@@ -233,14 +290,10 @@ fn run(alloc: Global, context: &EventContext<'_>, events: &[Event]) -> Result<Ru
 {
     let mut todo = Todo::new(alloc);
     let mut outputs = Vec::new(alloc);
-    let mut state = open(alloc, context, &mut todo, &mut outputs)?;
-    let opening = take_step(&mut outputs)?;
-    let steps = steps_of(alloc, context, &mut state, &mut todo, &mut outputs, events)?;
-    Ok(Run {
-        opening,
-        steps,
-        ended: is_over(&state.consumer.phase),
-    })
+    let ran = run_over(alloc, context, &mut todo, &mut outputs, events);
+    drop(outputs);
+    drop(todo);
+    ran
 }
 
 /// The run, or the refusal that applies.

@@ -20,6 +20,13 @@ use js_table::{
 use std::alloc::Global;
 use std::mem;
 
+/// The consumer is at this phase from now on.
+fn enter(consumer: &mut Consumer, phase: Phase)
+    ensures { consumer.new ≡ record consumer.old { phase = phase } }
+{
+    drop(mem::replace(&mut consumer.phase, phase));
+}
+
 // ---- a recreation starts
 
 /// A recreation starts: what is current was dropped, and the first try follows. The name is the next consumer's.
@@ -34,7 +41,7 @@ pub fn pass_start(
     ensures { (m : Matter) → StepsTo m (rows.start_row (given_of context.now) consumer.old) (told_outputs result.told) consumer.new result.next }
 {
     let Ok(start) = consumer.core.restart() else {
-        consumer.phase = Phase::Exhausted;
+        enter(consumer, Phase::Exhausted);
         return quietly(NextTasks::Nothing);
     };
     let recreation_count = consumer.core.recreation_count;
@@ -81,7 +88,7 @@ pub fn pass_try(
 {
     match request {
         None => {
-            consumer.phase = Phase::Recreates(recreation);
+            enter(consumer, Phase::Recreates(recreation));
             NextTasks::One(Task::Create)
         }
         Some(request) => {
@@ -89,7 +96,7 @@ pub fn pass_try(
                 request,
                 timeout: timeout(context),
             };
-            consumer.phase = Phase::Recreates(recreation);
+            enter(consumer, Phase::Recreates(recreation));
             NextTasks::Nothing
         }
     }
@@ -109,12 +116,12 @@ pub fn pass_create(
 {
     match context.setup {
         OrderedSetup::Pull(_) => {
-            consumer.phase = Phase::Recreates(recreation);
+            enter(consumer, Phase::Recreates(recreation));
             NextTasks::One(Task::Ask)
         }
         OrderedSetup::Push(_) => match inbox {
             None => {
-                consumer.phase = Phase::Recreates(recreation);
+                enter(consumer, Phase::Recreates(recreation));
                 NextTasks::One(Task::Fail)
             }
             Some(Inbox { number, subject }) => {
@@ -123,7 +130,7 @@ pub fn pass_create(
                     subject,
                     held: Items::new(alloc),
                 });
-                consumer.phase = Phase::Recreates(recreation);
+                enter(consumer, Phase::Recreates(recreation));
                 NextTasks::One(Task::Ask)
             }
         },
@@ -143,7 +150,7 @@ pub fn pass_ask(
 {
     match request {
         None => {
-            consumer.phase = Phase::Recreates(recreation);
+            enter(consumer, Phase::Recreates(recreation));
             NextTasks::One(Task::Fail)
         }
         Some(request) => {
@@ -151,7 +158,7 @@ pub fn pass_ask(
                 request,
                 timeout: timeout(context),
             };
-            consumer.phase = Phase::Recreates(recreation);
+            enter(consumer, Phase::Recreates(recreation));
             NextTasks::Nothing
         }
     }
@@ -184,14 +191,15 @@ pub fn pass_fail(
         (told_outputs result.told) consumer.new result.next }
 {
     if recreation.failures >= u64::from(context.settings.retries) {
-        consumer.phase = Phase::Idle;
+        drop(recreation);
+        enter(consumer, Phase::Idle);
         return Step {
             told: RowOutput::Tells(ItemKind::Recreate),
             next: NextTasks::Nothing,
         };
     }
     rest(&mut recreation, context.moment);
-    consumer.phase = Phase::Recreates(recreation);
+    enter(consumer, Phase::Recreates(recreation));
     quietly(NextTasks::Nothing)
 }
 
@@ -266,7 +274,7 @@ pub fn pass_await(
         [] consumer.new result }
 {
     let next = stage_next(context, recreation.stage, is_answered);
-    consumer.phase = Phase::Recreates(recreation);
+    enter(consumer, Phase::Recreates(recreation));
     next
 }
 
@@ -309,7 +317,7 @@ pub fn pass_answered(
         → StepsTo m (passes_quietly (at_phase (Phase.Recreates recreation) consumer.old) (rows.answered context.now.setup.now info ∷ [])) [] consumer.new result }
 {
     let task = answered(context.setup, info);
-    consumer.phase = Phase::Recreates(recreation);
+    enter(consumer, Phase::Recreates(recreation));
     NextTasks::One(task)
 }
 
@@ -327,13 +335,15 @@ pub fn pass_succeed_pull(
 {
     match inbox {
         None => {
-            consumer.phase = Phase::Recreates(recreation);
+            drop(source);
+            enter(consumer, Phase::Recreates(recreation));
             NextTasks::One(Task::Fail)
         }
         Some(Inbox { number, subject }) => {
+            drop(recreation);
             source.inbox = number;
             source.subject = subject;
-            consumer.phase = Phase::Pulls(Reader::new(source));
+            enter(consumer, Phase::Pulls(Reader::new(source)));
             NextTasks::Two(Task::Read(Due::Threshold), Task::Read(Due::Arm))
         }
     }
@@ -350,7 +360,7 @@ pub fn pass_succeed_push(
 {
     match recreation.opened.take() {
         None => {
-            consumer.phase = Phase::Recreates(recreation);
+            enter(consumer, Phase::Recreates(recreation));
             NextTasks::Nothing
         }
         Some(
@@ -360,13 +370,15 @@ pub fn pass_succeed_push(
                 ..
             },
         ) => {
-            consumer.phase = Phase::Pushes {
+            let phase = Phase::Pushes {
                 inbox,
                 heartbeat_timer: Timer {
                     set: context.moment,
                     wait: 10_000_000_000,
                 },
             };
+            enter(consumer, phase);
+            drop(recreation);
             let held = Held {
                 inbox,
                 messages,

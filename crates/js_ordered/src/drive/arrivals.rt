@@ -70,7 +70,10 @@ fn hear_message(
 {
     match &mut state.consumer.phase {
         Phase::Pulls(reader) => {
-            note(alloc, context, reader, message)?;
+            let Ok(()) = note(alloc, context, reader, message) else {
+                drop(ready);
+                return Err(OutOfMemory);
+            };
             reader.lower(1, message.length);
             let next = reading::take_message(
                 &mut state.consumer,
@@ -80,7 +83,10 @@ fn hear_message(
             put(ready.output, outputs);
             Ok(next)
         }
-        _ => Ok(NextTasks::Nothing),
+        _ => {
+            drop(ready);
+            Ok(NextTasks::Nothing)
+        }
     }
 }
 

@@ -26,6 +26,7 @@ use js_table::{
     RequestOutcome, Stage, texts,
 };
 use std::alloc::Global;
+use std::mem;
 
 // ---- a recreation starts
 
@@ -69,6 +70,14 @@ fn try_request(
     Ok(Some(request))
 }
 
+/// A recreation stays open.
+pub(crate) fn keep_open(state: &mut ReplayState, recreation: Recreation)
+    ensures { state.new ≡ at (Phase.Recreates recreation) state.old }
+{
+    let phase = Phase::Recreates(recreation);
+    drop(mem::replace(&mut state.consumer.phase, phase));
+}
+
 /// A try begins.
 pub(crate) fn begin_try(
     alloc: Global,
@@ -82,7 +91,7 @@ pub(crate) fn begin_try(
 {
     match try_request(alloc, context, state, &recreation) {
         Err(refused) => {
-            state.consumer.phase = Phase::Recreates(recreation);
+            keep_open(state, recreation);
             Err(refused)
         }
         Ok(request) => {
@@ -122,7 +131,7 @@ fn create_push(
 {
     match create_inbox(alloc, context, state) {
         Err(refused) => {
-            state.consumer.phase = Phase::Recreates(recreation);
+            keep_open(state, recreation);
             Err(refused)
         }
         Ok(opening) => {
@@ -194,7 +203,7 @@ pub(crate) fn ask(
 {
     match create_request(alloc, context, state, &recreation) {
         Err(refused) => {
-            state.consumer.phase = Phase::Recreates(recreation);
+            keep_open(state, recreation);
             Err(refused)
         }
         Ok(request) => {
@@ -295,12 +304,12 @@ pub(crate) fn answered(
 {
     match reply_told(alloc, context.what, request) {
         Err(refused) => {
-            state.consumer.phase = Phase::Recreates(recreation);
+            keep_open(state, recreation);
             Err(refused)
         }
         Ok(told) => match told {
             None => {
-                state.consumer.phase = Phase::Recreates(recreation);
+                keep_open(state, recreation);
                 Ok(NextTasks::Nothing)
             }
             Some(info) => Ok(pass_answered(context, &mut state.consumer, recreation, info)),

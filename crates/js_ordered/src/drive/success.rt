@@ -12,7 +12,7 @@ ghost use Rattle.js_table.specs.Texts as texts_of;
 ghost use Rattle.js_table.specs.declared.row.Row.TheVariants as row;
 
 use crate::drive::give::{Opening, Sending, inbox_for, request_for, send, subscribe, tell};
-use crate::drive::recreation::create_inbox;
+use crate::drive::recreation::{create_inbox, keep_open};
 use bytes::Bytes;
 use js_base::{Boxed, Message, OutOfMemory, Subject, TryClone};
 use js_json::consumer::Info;
@@ -77,7 +77,7 @@ fn succeed_pull(
 {
     match reading_for(alloc, context, state, info) {
         Err(refused) => {
-            state.consumer.phase = Phase::Recreates(recreation);
+            keep_open(state, recreation);
             Err(refused)
         }
         Ok(Reading { source, opening }) => {

@@ -13,8 +13,8 @@ use Rattle.js_ordered_rows.proofs.Stepping.{of_stream}
 use Rattle.js_ordered.proofs.Nowhere.{reads_here, reads_nowhere}
 use Rattle.js_ordered.proofs.drive.arrivals.hear_message.Goals as goal
 
-pub returns-in_ok-note-in-Pulls : goal.returns-in_ok-note-in-Pulls
-returns-in_ok-note-in-Pulls c =
+pub returns-in-Ok : goal.returns-in-Ok
+returns-in-Ok c =
     let g = given_of c.args.context.now in
     let now = c.args.context.now.moment in
     let m = matter_now c.args.context.now in
@@ -23,7 +23,7 @@ returns-in_ok-note-in-Pulls c =
     let arrives = subst (λ (q : Phase). Arrives m c.args.message.now q) c.in-Pulls.is c.requires.arrives in
     reads_here g now m read.CheckArrival r w _ c.args.outputs.now.items _ (next_rows m c.take_message-next.result) c.in-Pulls.is
     (leads_heard g now m c.args.message.now c.args.ready.heard r c.lower.new.self w _ c.args.outputs.now.items c.put.new.outputs.items c.take_message-next.new.consumer c.take_message-next.result arrives c.requires.kind c.requires.heard
-    (c.lower.ensures ∙ ap (λ (x : Reader). pull.lowered 1 c.args.message.now.length x) c.in_ok-note-in-Pulls.ensures.heard)
+    (c.lower.ensures ∙ ap (λ (x : Reader). pull.lowered 1 c.args.message.now.length x) c.in-Ok.ensures.heard)
     (c.take_message-next.ensures m (passing g now w) c.args.message.now) (c.put.ensures ∙ ap (λ (o : List Output). c.args.outputs.now.items ++ o) c.requires.output) refl)
 
 pub returns-in_default : goal.returns-in_default
