@@ -2,7 +2,7 @@
 ghost use Rattle.std.specs.Prelude.{◌≡◌};
 ghost use Rattle.js_consumer_info.specs.Renewals.{copies_fields};
 
-use js_base::TryClone;
+use js_base::{OutOfMemory, TryClone};
 use js_fields::{FromValue, ReadError};
 use js_json::consumer::Info;
 use serde_json::Value;
@@ -21,7 +21,12 @@ impl FromValue for InfoCopies {
     #[tactic(auto, unfolding(crate::specs::Renewals::copies_fields))]
     fn from_fields(alloc: Global, object: &Value) -> Result<InfoCopies, ReadError> {
         let answered = Info::from_fields(alloc, object)?;
-        let kept = answered.try_clone()?;
-        Ok(InfoCopies { kept, answered })
+        match answered.try_clone() {
+            Ok(kept) => Ok(InfoCopies { kept, answered }),
+            Err(OutOfMemory) => {
+                drop(answered);
+                Err(ReadError::OutOfMemory)
+            }
+        }
     }
 }

@@ -16,7 +16,12 @@ pub(crate) fn renewed<T: Drop, K: Drop>(
 {
     match told {
         Ok(InfoCopies { kept, answered }) => {
-            let Consumer { scope, config, .. } = consumer;
+            let Consumer {
+                scope,
+                config,
+                info,
+            } = consumer;
+            drop(info);
             (Consumer::new(config, kept, scope), Ok(answered))
         }
         Err(error) => (consumer, Err(error)),

@@ -12,6 +12,7 @@ use js_base::{Message, OutOfMemory};
 use js_link::{InboxId, Link, Taken};
 use js_pull::{Due, Met, Reader, Spare, ask, informed_of, take};
 use std::alloc::Global;
+use std::mem;
 
 /// What a row met, and what took memory for it.
 #[derive(Drop)]
@@ -23,7 +24,8 @@ pub(crate) struct Meeting {
 fn hold(held: &mut Option<Message>, message: Option<Message>)
     ensures { held.new ≡ message }
 {
-    *held = message;
+    let before = mem::replace(held, message);
+    drop(before);
 }
 
 /// The first message of the inbox, if there is one.
@@ -72,13 +74,17 @@ fn take_held<L: Link>(
             Err(OutOfMemory)
         }
         Ok(pin) => match link.take(InboxId(reader.source.inbox)) {
-            Taken::Closed => Ok(Meeting {
-                met: Met::Shut,
-                spare: Spare {
-                    informed: None,
-                    pin: None,
-                },
-            }),
+            Taken::Closed => {
+                drop(met);
+                drop(pin);
+                Ok(Meeting {
+                    met: Met::Shut,
+                    spare: Spare {
+                        informed: None,
+                        pin: None,
+                    },
+                })
+            }
             Taken::Empty => Ok(Meeting {
                 met,
                 spare: Spare {
@@ -114,7 +120,9 @@ fn ask_for<L: Link>(
 {
     let informed = informed_of(alloc, due, reply)?;
     let wish = reader.wish(alloc, due)?;
-    let met = ask(alloc, link, &wish)?;
+    let asked = ask(alloc, link, &wish);
+    drop(wish);
+    let met = asked?;
     Ok(Meeting {
         met,
         spare: Spare {

@@ -6,6 +6,7 @@ ghost use Rattle.js_pull_stream.specs.Turns.{FirstOf, left_rows, rows_empty};
 
 use js_base::Message;
 use js_pull::{Due, Todo};
+use std::mem;
 
 /// The rows that are left of an event, with the reply that the first of them reads.
 #[derive(Drop)]
@@ -58,7 +59,8 @@ impl Left {
     fn put(&mut self, left: Left)
         ensures { self.new ≡ left }
     {
-        *self = left;
+        let before = mem::replace(self, left);
+        drop(before);
     }
 
     /// Puts other rows in the place of all, of which none reads a reply.
@@ -74,7 +76,10 @@ impl Left {
     {
         let later = self.later();
         match next {
-            None => self.put(Left::of(only(later))),
+            None => {
+                drop(reply);
+                self.put(Left::of(only(later)));
+            }
             Some(next) => self.put(Left::before(next, reply, later)),
         }
     }

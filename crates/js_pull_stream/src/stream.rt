@@ -81,7 +81,10 @@ fn turn_of(told: Notice, message: Option<Message>) -> Turned
     match told {
         Notice::Nothing => match message {
             None => Turned::Silent,
-            Some(_) => Turned::Took,
+            Some(message) => {
+                drop(message);
+                Turned::Took
+            }
         },
         Notice::Hands => match message {
             None => Turned::Silent,
@@ -100,12 +103,15 @@ fn text_of(kind: MessagesErrorKind, message: Option<Message>) -> Option<Text>
 {
     match kind {
         MessagesErrorKind::RequestLimitExceeded => description_of(message),
-        MessagesErrorKind::MissingHeartbeat => None,
-        MessagesErrorKind::ConsumerDeleted => None,
-        MessagesErrorKind::Pull => None,
-        MessagesErrorKind::Other => None,
-        MessagesErrorKind::NoResponders => None,
-        MessagesErrorKind::PushBasedConsumer => None,
+        MessagesErrorKind::MissingHeartbeat
+        | MessagesErrorKind::ConsumerDeleted
+        | MessagesErrorKind::Pull
+        | MessagesErrorKind::Other
+        | MessagesErrorKind::NoResponders
+        | MessagesErrorKind::PushBasedConsumer => {
+            drop(message);
+            None
+        }
     }
 }
 
@@ -114,8 +120,9 @@ fn description_of(message: Option<Message>) -> Option<Text>
 {
     match message {
         None => None,
-        Some(message) => {
-            let Message { description, .. } = message;
+        Some(mut message) => {
+            let description = message.description.take();
+            drop(message);
             description
         }
     }
@@ -240,6 +247,8 @@ impl Stream {
     {
         let Meeting { met, spare } = meeting;
         if met.is_shut() {
+            drop(met);
+            drop(spare);
             self.close();
             return Turned::Closed;
         }
