@@ -30,8 +30,7 @@ pub struct Config {
     pub deliver_policy: DeliverPolicy,
     /// How messages are acknowledged.
     pub ack_policy: AckPolicy,
-    /// How long the server waits for an acknowledgement before it delivers again, in nanoseconds; 0 leaves it to the
-    /// server, which takes 30 seconds.
+    /// How long the server waits for an acknowledgement, in nanoseconds, before it delivers again; 0 for its 30 seconds.
     pub ack_wait: Nanos,
     /// How often a message is delivered at most, the first time counted; -1 is no bound, and 0 leaves it to the
     /// server, which sets none.
@@ -46,8 +45,7 @@ pub struct Config {
     pub rate_limit: u64,
     /// The share of acknowledgements that are sampled, in percent.
     pub sample_frequency: u8,
-    /// How many pull requests may wait at once; 0 leaves it to the server, which takes 512. It serves pull
-    /// consumers alone.
+    /// How many pull requests may wait at once; 0 leaves it to the server, which takes 512.
     pub max_waiting: i64,
     /// How many messages may wait for their acknowledgement at once; -1 is no bound, and 0 leaves it to the server,
     /// which takes 1,000.
@@ -270,8 +268,7 @@ pub struct OrderedConfig {
     pub headers_only: bool,
     /// Where it begins.
     pub deliver_policy: DeliverPolicy,
-    /// How many pull requests may wait at once; 0 leaves it to the server, which takes 512. It serves pull
-    /// consumers alone.
+    /// How many pull requests may wait at once; 0 leaves it to the server, which takes 512.
     pub max_waiting: i64,
     /// Names and values for people and tools.
     pub metadata: TextMap,
