@@ -245,7 +245,8 @@ impl Met {
     pub fn into_message(self) -> Option<Message>
         ensures { result ≡ message_of (met_shown self) }
     {
-        let (message, _) = self.into_parts();
+        let (message, reply) = self.into_parts();
+        drop(reply);
         message
     }
 

@@ -43,11 +43,14 @@ pub fn informed_of(
 pub fn reason_of(alloc: Global, reply: Option<&Message>) -> Result<Option<Reason>, OutOfMemory>
     ensures { IfOk result (λ reason. reason ≡ informed_by (rows.info_of_reply (option_copied reply.entry))) }
 {
-    match info_of_reply(alloc, reply)? {
-        None => Ok(None),
-        Some(info) => Ok(Some(Reason::Informed {
-            reset: info.num_waiting == 0,
-        })),
+    match info_of_reply(alloc, reply) {
+        Ok(None) => Ok(None),
+        Ok(Some(info)) => {
+            let reset = info.num_waiting == 0;
+            drop(info);
+            Ok(Some(Reason::Informed { reset }))
+        }
+        Err(OutOfMemory) => Err(OutOfMemory),
     }
 }
 

@@ -27,13 +27,18 @@ fn response_info(alloc: Global, payload: &[u8]) -> Result<Option<Info>, OutOfMem
 {
     match response_as::<Info>(alloc, payload) {
         Ok(Response::Ok(info)) => Ok(Some(info)),
-        Ok(Response::Err { .. }) => Ok(None),
+        Ok(Response::Err { error }) => {
+            drop(error);
+            Ok(None)
+        }
         Err(ReadError::OutOfMemory) => Err(OutOfMemory),
-        Err(ReadError::Missing { .. }) => Ok(None),
-        Err(ReadError::WrongKind { .. }) => Ok(None),
-        Err(ReadError::OutOfRange { .. }) => Ok(None),
-        Err(ReadError::Float) => Ok(None),
-        Err(ReadError::NotJson) => Ok(None),
+        Err(
+            ReadError::Missing { .. }
+            | ReadError::WrongKind { .. }
+            | ReadError::OutOfRange { .. }
+            | ReadError::Float
+            | ReadError::NotJson,
+        ) => Ok(None),
     }
 }
 
@@ -101,8 +106,11 @@ fn keep_brought(pin: &mut Option<Text>, message: &Message, brought: Option<Text>
     match message.status {
         None => keep_newer(pin, brought),
         Some(StatusCode(200)) => keep_newer(pin, brought),
-        Some(StatusCode(423)) => *pin = None,
-        Some(_) => {}
+        Some(StatusCode(423)) => {
+            drop(brought);
+            *pin = None;
+        }
+        Some(_) => drop(brought),
     }
 }
 
@@ -115,6 +123,7 @@ impl Reader {
         if self.source.pinned {
             keep_brought(&mut self.pin, message, brought);
         } else {
+            drop(brought);
             self.pin = None;
         }
     }

@@ -309,7 +309,10 @@ impl Reader {
             | Met::Gone
             | Met::Got(_)
             | Met::Stands(_)
-            | Met::WatchOver => quietly(Some(Due::CheckSilence)),
+            | Met::WatchOver => {
+                drop(pin);
+                quietly(Some(Due::CheckSilence))
+            }
         }
     }
 
