@@ -9,6 +9,7 @@ ghost use Rattle.js_table.specs.State.{Matter};
 ghost use Rattle.js_table.specs.Turn as turns;
 
 use crate::reading::begin;
+use crate::recreation::enter;
 use crate::task::{NextTasks, RowOutput, Step, Task};
 use js_base::State;
 use js_table::{Change, Consumer, EventContext, ItemKind, OrderedSetup, Phase, Recreation};
@@ -136,7 +137,7 @@ pub fn pass_event(context: &EventContext<'_>, consumer: &mut Consumer, change: C
         Change::WatcherEnds => match context.setup {
             OrderedSetup::Pull(_) => quietly(go_on(context, consumer, None)),
             OrderedSetup::Push(_) => {
-                consumer.phase = Phase::Ended;
+                enter(consumer, Phase::Ended);
                 Step {
                     told: RowOutput::Tells(ItemKind::Other),
                     next: NextTasks::Nothing,

@@ -13,6 +13,7 @@ ghost use Rattle.js_table.specs.State.{Matter, at_phase};
 ghost use Rattle.js_table.specs.declared.row.Row.TheVariants as row;
 
 use crate::event;
+use crate::recreation::enter;
 use crate::task::{Heard, NextTasks, RowOutput, Step, Task};
 use js_base::{Moment, State};
 use js_pull::{Due, MessagesErrorKind, Notice, Reader, Reason, Step as Read, Todo};
@@ -135,7 +136,7 @@ fn ends(consumer: &mut Consumer, kind: ItemKind, due: Option<Due>) -> Step
     ensures told { result.told ≡ RowOutput.Tells kind }
     ensures next { (m : Matter) → next_rows m result.next ≡ reader_rows m due }
 {
-    consumer.phase = Phase::Ended;
+    enter(consumer, Phase::Ended);
     puts(kind, due)
 }
 

@@ -21,7 +21,7 @@ use std::alloc::Global;
 use std::mem;
 
 /// The consumer is at this phase from now on.
-fn enter(consumer: &mut Consumer, phase: Phase)
+pub(crate) fn enter(consumer: &mut Consumer, phase: Phase)
     ensures { consumer.new ≡ record consumer.old { phase = phase } }
 {
     drop(mem::replace(&mut consumer.phase, phase));
@@ -46,14 +46,15 @@ pub fn pass_start(
     };
     let recreation_count = consumer.core.recreation_count;
     let old_name = mem::replace(&mut consumer.name, name);
-    consumer.phase = Phase::Recreates(Recreation {
+    let recreation = Recreation {
         old_name,
         new_name,
         start,
         failures: 0,
         opened: None,
         stage: Stage::Between,
-    });
+    };
+    enter(consumer, Phase::Recreates(recreation));
     Step {
         told: RowOutput::Recreates {
             recreation_count,
