@@ -44,12 +44,19 @@ pub fn place_of(message: &Message) -> Option<Place>
 pub fn yield_of(message: &Message, place: Place) -> Result<Output, OutOfMemory>
     ensures { IfOk result (λ output. output ≡ Output.Yield place.sequence place.number message.now.subject message.now.payload) }
 {
-    Ok(Output::Yield {
-        stream_sequence: place.sequence,
-        consumer_sequence: place.number,
-        subject: message.subject.try_clone()?,
-        payload: message.payload.clone()?,
-    })
+    let subject = message.subject.try_clone()?;
+    match message.payload.clone() {
+        Ok(payload) => Ok(Output::Yield {
+            stream_sequence: place.sequence,
+            consumer_sequence: place.number,
+            subject,
+            payload,
+        }),
+        Err(_) => {
+            drop(subject);
+            Err(OutOfMemory)
+        }
+    }
 }
 
 impl Consumer {

@@ -3,6 +3,7 @@ ghost use Rattle.std.specs.Prelude.{◌≡◌, ◌+◌, IfOk, OnOk};
 
 use crate::consumer::{Consumer, Phase};
 use js_base::OutOfMemory;
+use std::mem;
 
 /// A consumer beside the link of a replay.
 #[derive(Drop)]
@@ -35,7 +36,7 @@ impl ReplayState {
     pub fn enter(&mut self, phase: Phase)
         ensures { self.new ≡ at phase self.old }
     {
-        self.consumer.phase = phase;
+        drop(mem::replace(&mut self.consumer.phase, phase));
     }
 
     /// The number of the request that goes out next.

@@ -1,5 +1,6 @@
 //! Names, subjects, bodies and timeouts of an ordered consumer.
-ghost use Rattle.std.specs.Prelude.{◌≡◌, IfOk, decimal, string_bytes, ◌++◌};
+ghost use Rattle.std.specs.Prelude.{◌≡◌, IfOk, Some, decimal, string_bytes, ◌++◌};
+ghost use Rattle.js_pull.specs.Limits.{body_of};
 ghost use Rattle.js_table.specs.Passes.{given_of};
 ghost use Rattle.js_table.specs.Texts as texts;
 ghost use Rattle.js_subjects.specs.Subjects.{under, of_consumer, named_subject};
@@ -15,6 +16,7 @@ use js_json::consumer::{Action, Config, CreateRequest, DeliverPolicy, Info, Into
 use js_pull::{Source, ordered_batch_config};
 use js_subjects::{named_subject, of_consumer, with_word};
 use std::alloc::{AllocError, Global};
+use std::mem;
 
 // ---- timeouts
 
@@ -51,14 +53,27 @@ fn info_timeout(recreation_count: u64, settings: &Settings) -> Option<Nanos>
 
 // ---- setups
 
+/// What a configuration asks the server for. It is generic, since what a configuration is made of is then not looked into.
+fn asked_by<C: TryClone + IntoConsumerConfig>(
+    alloc: Global,
+    config: &C,
+) -> Result<Config, OutOfMemory>
+    ensures { IfOk result (λ asked. asked ≡ C.config config.now) }
+{
+    match config.try_clone() {
+        Ok(config) => Ok(config.into_consumer_config(alloc)),
+        Err(OutOfMemory) => Err(OutOfMemory),
+    }
+}
+
 impl OrderedSetup {
     /// What the setup asks the server for.
     fn to_config(&self, alloc: Global) -> Result<Config, OutOfMemory>
         ensures { IfOk result (λ config. config ≡ texts.config_of self.now) }
     {
         match self {
-            OrderedSetup::Pull(config) => Ok(config.try_clone()?.into_consumer_config(alloc)),
-            OrderedSetup::Push(config) => Ok(config.try_clone()?.into_consumer_config(alloc)),
+            OrderedSetup::Pull(config) => asked_by(alloc, config),
+            OrderedSetup::Push(config) => asked_by(alloc, config),
         }
     }
 
@@ -135,7 +150,9 @@ fn consumer_subject(
 {
     let subject = of_consumer(alloc, words, context.first.stream_name.as_str(), name)?;
     let prefix = context.settings.api_prefix.as_str();
-    Ok(Subject::from(with_word(alloc, prefix, subject.as_str())?))
+    let whole = with_word(alloc, prefix, subject.as_str());
+    drop(subject);
+    Ok(Subject::from(whole?))
 }
 
 /// The subject of a request that names a consumer, and what it reads.
@@ -149,9 +166,13 @@ fn filtered_subject(
     ensures { IfOk result (λ subject. subject ≡ under context.now.settings.now.api_prefix (named_subject (under words.now context.now.first.now.stream_name) name.now filter.now)) }
 {
     let on_stream = with_word(alloc, words, context.first.stream_name.as_str())?;
-    let subject = named_subject(alloc, on_stream.as_str(), name, filter)?;
+    let named = named_subject(alloc, on_stream.as_str(), name, filter);
+    drop(on_stream);
+    let subject = named?;
     let prefix = context.settings.api_prefix.as_str();
-    Ok(Subject::from(with_word(alloc, prefix, subject.as_str())?))
+    let whole = with_word(alloc, prefix, subject.as_str());
+    drop(subject);
+    Ok(Subject::from(whole?))
 }
 
 /// The subject of the request that deletes the old consumer.
@@ -207,6 +228,35 @@ fn opened_subject(alloc: Global, opened: &Option<Opened>) -> Result<Option<Text>
     }
 }
 
+/// The setup's configuration with this name, start and inbox. The texts are there already, so that nothing can go wrong beside the configuration.
+fn config_with(
+    alloc: Global,
+    context: &EventContext<'_>,
+    name: Text,
+    start: Start,
+    deliver_subject: Option<Text>,
+) -> Result<Config, OutOfMemory>
+    ensures { IfOk result (λ config. config ≡ record (texts.config_of context.now.setup.now) {
+      name = Some name;
+      deliver_policy = texts.policy_of start;
+      deliver_subject = deliver_subject;
+    }) }
+{
+    match context.setup.to_config(alloc) {
+        Ok(mut config) => {
+            drop(mem::replace(&mut config.name, Some(name)));
+            config.deliver_policy = policy_of(start);
+            drop(mem::replace(&mut config.deliver_subject, deliver_subject));
+            Ok(config)
+        }
+        Err(OutOfMemory) => {
+            drop(name);
+            drop(deliver_subject);
+            Err(OutOfMemory)
+        }
+    }
+}
+
 fn asked_config(
     alloc: Global,
     context: &EventContext<'_>,
@@ -214,11 +264,28 @@ fn asked_config(
 ) -> Result<Config, OutOfMemory>
     ensures { IfOk result (λ config. config ≡ texts.asked_config (given_of context.now) recreation.now) }
 {
-    let mut config = context.setup.to_config(alloc)?;
-    config.name = Some(recreation.new_name.try_clone()?);
-    config.deliver_policy = policy_of(recreation.start);
-    config.deliver_subject = opened_subject(alloc, &recreation.opened)?;
-    Ok(config)
+    let name = recreation.new_name.try_clone()?;
+    match opened_subject(alloc, &recreation.opened) {
+        Ok(deliver_subject) => {
+            config_with(alloc, context, name, recreation.start, deliver_subject)
+        }
+        Err(OutOfMemory) => {
+            drop(name);
+            Err(OutOfMemory)
+        }
+    }
+}
+
+/// The body of a request that is let go.
+fn request_body<R: ToValue + Drop>(alloc: Global, request: R) -> Result<Bytes, OutOfMemory>
+    ensures { IfOk result (λ body. body ≡ body_of (R.written request)) }
+{
+    let text = request.to_text(alloc);
+    drop(request);
+    match text {
+        Ok(text) => Ok(Bytes::from_string(text)?),
+        Err(_) => Err(OutOfMemory),
+    }
 }
 
 /// The body of the request that makes the new consumer.
@@ -229,18 +296,35 @@ pub fn create_body(
 ) -> Result<Bytes, OutOfMemory>
     ensures { IfOk result (λ body. body ≡ texts.create_body (given_of context.now) recreation.now) }
 {
-    let request = CreateRequest {
-        action: Action::CreateOrUpdate,
-        config: asked_config(alloc, context, recreation)?,
-        stream_name: context.first.stream_name.try_clone()?,
-    };
-    match request.to_text(alloc) {
-        Ok(text) => Ok(Bytes::from_string(text)?),
-        Err(_) => Err(OutOfMemory),
+    let stream_name = context.first.stream_name.try_clone()?;
+    match asked_config(alloc, context, recreation) {
+        Ok(config) => request_body(
+            alloc,
+            CreateRequest {
+                action: Action::CreateOrUpdate,
+                config,
+                stream_name,
+            },
+        ),
+        Err(OutOfMemory) => {
+            drop(stream_name);
+            Err(OutOfMemory)
+        }
     }
 }
 
 // ---- readers
+
+/// A copy of each of three values. The one refusal is want of memory.
+fn each_copied<A: TryClone, B: TryClone, C: TryClone>(
+    a: &A,
+    b: &B,
+    c: &C,
+) -> Result<(A, B, C), OutOfMemory>
+    ensures { IfOk result (λ copies. copies ≡ (a.now, b.now, c.now)) }
+{
+    Ok((a.try_clone()?, b.try_clone()?, c.try_clone()?))
+}
 
 /// Whom the reader of a consumer with this info asks.
 pub fn source_of(
@@ -252,14 +336,20 @@ pub fn source_of(
 ) -> Result<Source, OutOfMemory>
     ensures { IfOk result (λ source. source ≡ texts.source_of (given_of context.now) recreation_count inbox subject info.now) }
 {
-    Ok(Source {
-        api: context.settings.api_prefix.try_clone()?,
-        stream: info.stream_name.try_clone()?,
-        name: info.name.try_clone()?,
-        inbox,
-        subject,
-        info_timeout: info_timeout(recreation_count, context.settings),
-        config: ordered_batch_config(info),
-        pinned: false,
-    })
+    match each_copied(&context.settings.api_prefix, &info.stream_name, &info.name) {
+        Ok((api, stream, name)) => Ok(Source {
+            api,
+            stream,
+            name,
+            inbox,
+            subject,
+            info_timeout: info_timeout(recreation_count, context.settings),
+            config: ordered_batch_config(info),
+            pinned: false,
+        }),
+        Err(OutOfMemory) => {
+            drop(subject);
+            Err(OutOfMemory)
+        }
+    }
 }
