@@ -99,7 +99,7 @@ replied_nowhere g now m (Some reply) w u outputs phase closed is to =
     idle_row g now m (row.Answered reply) w u outputs phase is to (answered_nowhere g (passing g now w) m reply phase w.consumer closed)
 
 -- a row of a recreation does nothing where none is open
-pub tries_nowhere : (g : ReplayInput) (now : ℕ) (m : Matter) (one : Task) (w u : ReplayState) (outputs : List Output) (phase : Phase) → IsTry one → IsClosed phase → w.consumer.phase ≡ phase → u ≡ at phase w
+tries_nowhere : (g : ReplayInput) (now : ℕ) (m : Matter) (one : Task) (w u : ReplayState) (outputs : List Output) (phase : Phase) → IsTry one → IsClosed phase → w.consumer.phase ≡ phase → u ≡ at phase w
     → Leads g now m (rows_of m one) w outputs [] u outputs
 tries_nowhere g now m task.Try w u outputs phase one closed is to = idle_row g now m row.Try w u outputs phase is to (try_nowhere g (passing g now w) m phase w.consumer closed)
 tries_nowhere g now m task.Create w u outputs phase one closed is to = idle_row g now m row.Create w u outputs phase is to (create_nowhere g (passing g now w) m phase w.consumer closed)
@@ -118,6 +118,19 @@ tries_nowhere g now m (task.HearHeld held) w u outputs phase one closed is to = 
 tries_nowhere g now m task.CheckSilence w u outputs phase one closed is to = absurd one
 tries_nowhere g now m task.Arm w u outputs phase one closed is to = absurd one
 tries_nowhere g now m (task.Read due) w u outputs phase one closed is to = absurd one
+
+closed_elsewhere : (phase : Phase) → ((r : Recreation) → phase ≡ Recreates r → ⊥) → IsClosed phase
+closed_elsewhere (Pulls reader) other = tt
+closed_elsewhere (Pushes inbox heartbeat_timer) other = tt
+closed_elsewhere (Recreates r) other = absurd (other r refl)
+closed_elsewhere Idle other = tt
+closed_elsewhere Ended other = tt
+closed_elsewhere Exhausted other = tt
+
+-- and so in any other phase
+pub tries_elsewhere : (g : ReplayInput) (now : ℕ) (m : Matter) (one : Task) (w u : ReplayState) (outputs : List Output) (phase : Phase) → IsTry one → ((r : Recreation) → phase ≡ Recreates r → ⊥) → w.consumer.phase ≡ phase → u ≡ at phase w
+    → Leads g now m (rows_of m one) w outputs [] u outputs
+tries_elsewhere g now m one w u outputs phase tried other is to = tries_nowhere g now m one w u outputs phase tried (closed_elsewhere phase other) is to
 
 -- and where one is open it was passed there
 pub tries_here : {E : Type 0} (context : EventContext) (one : Task) (r : Recreation) (w u : ReplayState) (before after : List Output) (result : Result NextTasks E) → w.consumer.phase ≡ Recreates r

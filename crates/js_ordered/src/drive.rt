@@ -69,7 +69,6 @@ fn pass_recreating(
 }
 
 /// A row that belongs to an open recreation is passed. Where none is open, it does nothing.
-#[tactic(auto, using(std::proofs::lemmas::Grind::common_steps, crate::proofs::Nowhere::tries_nowhere))]
 fn pass_try(
     alloc: Global,
     context: &EventContext<'_>,
@@ -85,31 +84,8 @@ fn pass_try(
         Phase::Recreates(recreation) => {
             pass_recreating(alloc, context, state, recreation, task, outputs)
         }
-        Phase::Pulls(reader) => {
-            drop(mem::replace(&mut state.consumer.phase, Phase::Pulls(reader)));
-            Ok(NextTasks::Nothing)
-        }
-        Phase::Pushes {
-            inbox,
-            heartbeat_timer,
-        } => {
-            let phase = Phase::Pushes {
-                inbox,
-                heartbeat_timer,
-            };
-            drop(mem::replace(&mut state.consumer.phase, phase));
-            Ok(NextTasks::Nothing)
-        }
-        Phase::Idle => {
-            drop(mem::replace(&mut state.consumer.phase, Phase::Idle));
-            Ok(NextTasks::Nothing)
-        }
-        Phase::Ended => {
-            drop(mem::replace(&mut state.consumer.phase, Phase::Ended));
-            Ok(NextTasks::Nothing)
-        }
-        Phase::Exhausted => {
-            drop(mem::replace(&mut state.consumer.phase, Phase::Exhausted));
+        other => {
+            state.enter(other);
             Ok(NextTasks::Nothing)
         }
     }
@@ -196,13 +172,13 @@ fn pass(
     match task {
         Task::Event => Ok(event(context, state, outputs)),
         Task::Start => recreation::start(alloc, context, state, outputs),
-        Task::Try => pass_try(alloc, context, state, task, outputs),
-        Task::Create => pass_try(alloc, context, state, task, outputs),
-        Task::Ask => pass_try(alloc, context, state, task, outputs),
-        Task::Await => pass_try(alloc, context, state, task, outputs),
-        Task::Answered { .. } => pass_try(alloc, context, state, task, outputs),
-        Task::Succeed(_) => pass_try(alloc, context, state, task, outputs),
-        Task::Fail => pass_try(alloc, context, state, task, outputs),
+        Task::Try
+        | Task::Create
+        | Task::Ask
+        | Task::Await
+        | Task::Answered { .. }
+        | Task::Succeed(_)
+        | Task::Fail => pass_try(alloc, context, state, task, outputs),
         Task::Hold => hold(context, state, outputs),
         Task::CheckArrival => Ok(listening::look(context, state)),
         Task::Hear { inbox } => hear_brought(context, state, *inbox, outputs),
@@ -234,6 +210,7 @@ fn held_left(held: Held) -> NextTasks
             place: place + 1,
         }));
     }
+    drop(messages);
     NextTasks::Nothing
 }
 
@@ -244,21 +221,24 @@ fn left_of(task: Task) -> NextTasks
 {
     match task {
         Task::HearHeld(held) => held_left(held),
-        Task::Event => NextTasks::Nothing,
-        Task::Start => NextTasks::Nothing,
-        Task::Try => NextTasks::Nothing,
-        Task::Create => NextTasks::Nothing,
-        Task::Ask => NextTasks::Nothing,
-        Task::Await => NextTasks::Nothing,
-        Task::Answered { .. } => NextTasks::Nothing,
-        Task::Hold => NextTasks::Nothing,
-        Task::Succeed(_) => NextTasks::Nothing,
-        Task::Fail => NextTasks::Nothing,
-        Task::CheckArrival => NextTasks::Nothing,
-        Task::Hear { .. } => NextTasks::Nothing,
-        Task::CheckSilence => NextTasks::Nothing,
-        Task::Arm => NextTasks::Nothing,
-        Task::Read(_) => NextTasks::Nothing,
+        Task::Event
+        | Task::Start
+        | Task::Try
+        | Task::Create
+        | Task::Ask
+        | Task::Await
+        | Task::Answered { .. }
+        | Task::Hold
+        | Task::Succeed(_)
+        | Task::Fail
+        | Task::CheckArrival
+        | Task::Hear { .. }
+        | Task::CheckSilence
+        | Task::Arm
+        | Task::Read(_) => {
+            drop(task);
+            NextTasks::Nothing
+        }
     }
 }
 
@@ -332,7 +312,9 @@ pub(crate) fn pass_left(
         if todo.is_empty() {
             return Ok(());
         }
-        pass_next(alloc, context, state, todo, outputs)?;
+        let Ok(()) = pass_next(alloc, context, state, todo, outputs) else {
+            return Err(OutOfMemory);
+        };
     }
     if todo.is_empty() {
         return Ok(());

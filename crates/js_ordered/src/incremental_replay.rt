@@ -49,13 +49,20 @@ fn first_place(found: Option<u64>, is_here: bool, place: u64) -> Option<u64>
     }
 }
 
+/// These are the outputs from now on.
+fn replace_outputs(outputs: &mut Items<Output>, made: Vec<Output>)
+    ensures { outputs.new ≡ made.items }
+{
+    drop(mem::replace(outputs, Items::from(made)));
+}
+
 /// No outputs, in the room of those that there were.
 fn empty(alloc: Global, outputs: &mut Items<Output>)
     ensures { outputs.new ≡ [] }
 {
     let mut room = mem::replace(outputs, Items::new(alloc)).into_vec();
     room.clear();
-    *outputs = Items::from(room);
+    replace_outputs(outputs, room);
 }
 
 impl<'a> IncrementalReplay<'a> {
@@ -79,19 +86,25 @@ impl<'a> IncrementalReplay<'a> {
         };
         let mut outputs = Vec::new(alloc);
         let mut todo = Todo::new(alloc);
-        let state = open(alloc, &context, &mut todo, &mut outputs)?;
-        Ok(IncrementalReplay {
-            settings,
-            setup,
-            first,
-            moment: start,
-            count: 0,
-            early: None,
-            exhausted: None,
-            state,
-            outputs: Items::from(outputs),
-            todo,
-        })
+        match open(alloc, &context, &mut todo, &mut outputs) {
+            Ok(state) => Ok(IncrementalReplay {
+                settings,
+                setup,
+                first,
+                moment: start,
+                count: 0,
+                early: None,
+                exhausted: None,
+                state,
+                outputs: Items::from(outputs),
+                todo,
+            }),
+            Err(OutOfMemory) => {
+                drop(outputs);
+                drop(todo);
+                Err(OutOfMemory)
+            }
+        }
     }
 
     // An event begins.
@@ -143,7 +156,7 @@ impl<'a> IncrementalReplay<'a> {
             &mut self.todo,
             &mut outputs,
         );
-        self.outputs = Items::from(outputs);
+        replace_outputs(&mut self.outputs, outputs);
         passed
     }
 

@@ -20,7 +20,6 @@ use js_table::{
     ReplayError, ReplayState, Run, Settings, Step, refuse_input, texts,
 };
 use std::alloc::Global;
-use std::mem;
 
 // ---- the opening
 
@@ -70,7 +69,7 @@ fn open_pull(
     ensures rested { OnOk result (todo.new.tasks.items ≡ []) }
 {
     let reader = first_reader(alloc, context)?;
-    drop(mem::replace(&mut state.consumer.phase, Phase::Pulls(reader)));
+    state.enter(Phase::Pulls(reader));
     todo.make_room()?;
     todo.put(NextTasks::Two(Task::Read(Due::Threshold), Task::Read(Due::Arm)));
     pass_left(alloc, context, state, todo, outputs)?;
@@ -199,8 +198,43 @@ fn steps_for(alloc: Global, events: &[Event]) -> Result<Items<Step>, OutOfMemory
     Ok(Items::from(Vec::with_capacity(alloc, events.len())?))
 }
 
-/// The steps of a list of events, one for each.
+/// The steps of a list of events, one for each, are put where there are none.
 #[tactic(auto, using(crate::proofs::Replaying::goes_first, crate::proofs::Replaying::goes_no_further, crate::proofs::Replaying::steps_all, crate::proofs::Replaying::state_last, crate::proofs::Replaying::none_refused))]
+fn put_steps(
+    alloc: Global,
+    context: &EventContext<'_>,
+    state: &mut ReplayState,
+    todo: &mut Todo,
+    outputs: &mut Vec<Output>,
+    events: &[Event],
+    steps: &mut Items<Step>,
+) -> Result<(), ReplayError>
+    requires rested { todo.old.tasks.items ≡ [] }
+    requires empty { outputs.old.items ≡ [] }
+    requires none { steps.old ≡ [] }
+    ensures steps { OnOk result (steps.new ≡ map fold.step_of (fold.run_events (given_of context.now) events.now state.old)) }
+    ensures state { OnOk result (state.new ≡ fold.last_state state.old (fold.run_events (given_of context.now) events.now state.old)) }
+    ensures accepted { OnOk result (refuse_end (fold.run_events (given_of context.now) events.now state.old) ≡ None) }
+    ensures refused { IfErr result (λ e. e ≢ ReplayError.OutOfMemory → refuse_end (fold.run_events (given_of context.now) events.now state.old) ≡ Some e) }
+{
+    for (place, event) in events.iter().enumerate() {
+        let Ok(step) = step(alloc, context, event, state, todo, outputs) else {
+            return Err(ReplayError::OutOfMemory);
+        };
+        if is_exhausted(&state.consumer.phase) {
+            drop(step);
+            return Err(ReplayError::SequenceEnd {
+                place: place as u64,
+            });
+        }
+        let Ok(()) = steps.push(step) else {
+            return Err(ReplayError::OutOfMemory);
+        };
+    }
+    Ok(())
+}
+
+/// The steps of a list of events, one for each.
 fn steps_of(
     alloc: Global,
     context: &EventContext<'_>,
@@ -217,16 +251,13 @@ fn steps_of(
     ensures refused { IfErr result (λ e. e ≢ ReplayError.OutOfMemory → refuse_end (fold.run_events (given_of context.now) events.now state.old) ≡ Some e) }
 {
     let mut steps = steps_for(alloc, events)?;
-    for (place, event) in events.iter().enumerate() {
-        let step = step(alloc, context, event, state, todo, outputs)?;
-        if is_exhausted(&state.consumer.phase) {
-            return Err(ReplayError::SequenceEnd {
-                place: place as u64,
-            });
+    match put_steps(alloc, context, state, todo, outputs, events, &mut steps) {
+        Ok(()) => Ok(steps),
+        Err(refused) => {
+            drop(steps);
+            Err(refused)
         }
-        steps.push(step)?;
     }
-    Ok(steps)
 }
 
 // ---- a replay

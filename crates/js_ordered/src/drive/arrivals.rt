@@ -105,7 +105,9 @@ fn hear_status(
 {
     match &mut state.consumer.phase {
         Phase::Pulls(reader) => {
-            note(alloc, context, reader, message)?;
+            let Ok(()) = note(alloc, context, reader, message) else {
+                return Err(OutOfMemory);
+            };
             let step = reader.hear(message);
             Ok(finish(state, step, outputs))
         }

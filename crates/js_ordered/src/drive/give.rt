@@ -47,7 +47,10 @@ pub(crate) fn inbox_for(inboxes_opened: u64, subject: Subject) -> Result<Opening
     ensures { IfOk result (λ opening. IsOpening true inboxes_opened subject (Some opening)) }
 {
     let after = next_number(inboxes_opened)?;
-    let copy = subject.try_clone()?;
+    let Ok(copy) = subject.try_clone() else {
+        drop(subject);
+        return Err(OutOfMemory);
+    };
     Ok(Opening {
         inbox: Inbox {
             number: inboxes_opened,

@@ -62,12 +62,13 @@ fn ask(
     ensures { PassesTo context.now (row.Read (read.Ask reason) ∷ []) state.old state.new outputs.old.items outputs.new.items result }
 {
     match &mut state.consumer.phase {
-        Phase::Pulls(reader) => match pull_request(alloc, state.link_up, reader)? {
-            None => {
+        Phase::Pulls(reader) => match pull_request(alloc, state.link_up, reader) {
+            Err(OutOfMemory) => Err(OutOfMemory),
+            Ok(None) => {
                 let step = reading::ask(reader, context.moment, reason, false);
                 Ok(finish(state, step, outputs))
             }
-            Some(output) => {
+            Ok(Some(output)) => {
                 reading::ask(reader, context.moment, reason, true);
                 outputs.push_reserved(output);
                 Ok(NextTasks::Nothing)

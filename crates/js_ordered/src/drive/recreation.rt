@@ -26,7 +26,6 @@ use js_table::{
     RequestOutcome, Stage, texts,
 };
 use std::alloc::Global;
-use std::mem;
 
 // ---- a recreation starts
 
@@ -45,7 +44,10 @@ pub(crate) fn start(
         context,
         state.consumer.core.recreation_count.saturating_add(1),
     )?;
-    let again = name.try_clone()?;
+    let Ok(again) = name.try_clone() else {
+        drop(name);
+        return Err(OutOfMemory);
+    };
     let Step { told, next } = pass_start(context, &mut state.consumer, name, again);
     tell(told, outputs);
     Ok(next)
@@ -74,8 +76,7 @@ fn try_request(
 pub(crate) fn keep_open(state: &mut ReplayState, recreation: Recreation)
     ensures { state.new ≡ at (Phase.Recreates recreation) state.old }
 {
-    let phase = Phase::Recreates(recreation);
-    drop(mem::replace(&mut state.consumer.phase, phase));
+    state.enter(Phase::Recreates(recreation));
 }
 
 /// A try begins.
@@ -266,14 +267,21 @@ pub(crate) fn look_on(
     Ok(pass_await(context, &mut state.consumer, recreation, answered))
 }
 
+/// What was read, in a box. It is generic, since an info is large.
+fn in_box<T: Drop>(alloc: Global, read: Option<T>) -> Result<Option<Boxed<T>>, OutOfMemory>
+    ensures { IfOk result (λ boxed. boxed ≡ read) }
+{
+    match read {
+        None => Ok(None),
+        Some(value) => Ok(Some(Boxed::new(alloc, value)?)),
+    }
+}
+
 /// What a message tells, in a box.
 fn told_by(alloc: Global, message: &Message) -> Result<Option<Boxed<Info>>, OutOfMemory>
     ensures { IfOk result (λ info. info ≡ info_in (Some message.now)) }
 {
-    match info_of_reply(alloc, Some(message))? {
-        None => Ok(None),
-        Some(info) => Ok(Some(Boxed::new(alloc, info)?)),
-    }
+    in_box(alloc, info_of_reply(alloc, Some(message))?)
 }
 
 /// What the reply to a request tells, where the event brings one.

@@ -38,7 +38,7 @@ fn source_for(
     ensures { IfOk result (λ source. source ≡ texts_of.source_of (given_of context.now) recreation_count 0 [] info.now) }
 {
     let unknown = Subject::from(String::new(alloc));
-    Ok(texts::source_of(context, recreation_count, 0, unknown, info)?)
+    texts::source_of(context, recreation_count, 0, unknown, info)
 }
 
 /// What pull needs for its next reader.
@@ -58,8 +58,13 @@ fn reading_for(
     ensures opening { IfOk result (λ reading. IsOpening state.now.link_up state.now.inboxes_opened (texts_of.inbox_subject (given_of context.now) state.now.inboxes_opened) reading.opening) }
 {
     let source = source_for(alloc, context, state.consumer.core.recreation_count, info)?;
-    let opening = create_inbox(alloc, context, state)?;
-    Ok(Reading { source, opening })
+    match create_inbox(alloc, context, state) {
+        Ok(opening) => Ok(Reading { source, opening }),
+        Err(OutOfMemory) => {
+            drop(source);
+            Err(OutOfMemory)
+        }
+    }
 }
 
 /// Pull subscribes the next inbox, and reads it.

@@ -9,8 +9,8 @@ use Rattle.js_ordered.proofs.ReadDriving.{leads_status}
 use Rattle.js_ordered.proofs.Nowhere.{reads_here, reads_nowhere}
 use Rattle.js_ordered.proofs.drive.arrivals.hear_status.Goals as goal
 
-pub returns-in_ok-note-in-Pulls : goal.returns-in_ok-note-in-Pulls
-returns-in_ok-note-in-Pulls c =
+pub returns-in-Ok : goal.returns-in-Ok
+returns-in-Ok c =
     let g = given_of c.args.context.now in
     let now = c.args.context.now.moment in
     let m = matter_now c.args.context.now in
@@ -18,7 +18,7 @@ returns-in_ok-note-in-Pulls c =
     let r = c.in-Pulls.reader in
     let arrives = subst (λ (q : Phase). Arrives m c.args.message.now q) c.in-Pulls.is c.requires.arrives in
     reads_here g now m read.CheckArrival r w _ c.args.outputs.now.items _ (next_rows m c.finish.result) c.in-Pulls.is
-    (leads_status g now m c.args.message.now r c.note.new.reader c.hear-step.new.self w _ c.hear-step.result c.args.outputs.now.items _ c.finish.result arrives c.requires.kind c.in_ok-note-in-Pulls.ensures.heard
+    (leads_status g now m c.args.message.now r c.note.new.reader c.hear-step.new.self w _ c.hear-step.result c.args.outputs.now.items _ c.finish.result arrives c.requires.kind c.in-Ok.ensures.heard
     (c.hear-step.ensures (brought m.answer)) (c.finish.ensures m))
 
 pub returns-in_default : goal.returns-in_default

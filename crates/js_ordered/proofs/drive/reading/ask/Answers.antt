@@ -12,8 +12,8 @@ use Rattle.js_ordered.proofs.ReadDriving.{leads_asked, leads_finish, sent_is}
 use Rattle.js_ordered.proofs.Nowhere.{reads_here, reads_nowhere}
 use Rattle.js_ordered.proofs.drive.reading.ask.Goals as goal
 
-pub returns-in-None : goal.returns-in-None
-returns-in-None c =
+pub returns-in-Ok-None : goal.returns-in-Ok-None
+returns-in-Ok-None c =
     let g = given_of c.args.context.now in
     let now = c.args.context.now.moment in
     let m = matter_now c.args.context.now in
@@ -22,19 +22,19 @@ returns-in-None c =
     let p = record (passing g now w) { up = false } in
     reads_here g now m (read.Ask c.args.reason) r w _ c.args.outputs.now.items _ (next_rows m c.finish.result) c.in-Pulls.is
     (leads_finish g now m (read.Ask c.args.reason) r c.ask-step.new.reader w _ p c.ask-step.result (pull.ask p c.args.reason r) c.args.outputs.now.items _ c.finish.result
-    (sent_is g now w false (ok_holds (λ output. IsPublishing w.link_up r output) c.pull_request.result None (c.in_ok-pull_request-in-Pulls.was ∙ ap Ok c.in-None.is) c.pull_request.ensures)) refl
+    (sent_is g now w false (ok_holds (λ output. IsPublishing w.link_up r output) c.pull_request.result None (c.in-Ok-None.is ∙ ap Ok c.in-Ok-None.field-0-is) c.pull_request.ensures)) refl
     (c.ask-step.ensures (passing g now w) (brought m.answer) None) refl (c.finish.ensures m))
 
-pub returns-in-Some : goal.returns-in-Some
-returns-in-Some c =
+pub returns-in-Ok-Some : goal.returns-in-Ok-Some
+returns-in-Ok-Some c =
     let g = given_of c.args.context.now in
     let now = c.args.context.now.moment in
     let m = matter_now c.args.context.now in
     let w = c.args.state.now in
     let r = c.in-Pulls.reader in
-    let ready = ok_holds (λ output. IsPublishing w.link_up r output) c.pull_request.result (Some c.in-Some.output) (c.in_ok-pull_request-in-Pulls.was ∙ ap Ok c.in-Some.is) c.pull_request.ensures in
+    let ready = ok_holds (λ output. IsPublishing w.link_up r output) c.pull_request.result (Some c.in-Ok-Some.output) (c.in-Ok-Some.is ∙ ap Ok c.in-Ok-Some.field-0-is) c.pull_request.ensures in
     reads_here g now m (read.Ask c.args.reason) r w _ c.args.outputs.now.items _ [] c.in-Pulls.is
-    (leads_asked g now m c.args.reason r c.ask.new.reader w _ c.in-Some.output c.args.outputs.now.items _ ready.0 (c.ask.ensures (passing g now w) (brought m.answer) None).reader ready.1 c.push_reserved.ensures.items refl)
+    (leads_asked g now m c.args.reason r c.ask.new.reader w _ c.in-Ok-Some.output c.args.outputs.now.items _ ready.0 (c.ask.ensures (passing g now w) (brought m.answer) None).reader ready.1 c.push_reserved.ensures.items refl)
 
 pub returns-in_default : goal.returns-in_default
 returns-in_default c =

@@ -6,9 +6,9 @@ use Rattle.js_ordered.proofs.incremental_replay.IncrementalReplay.go_on.Goals as
 pub returns-clause-passed : goal.returns-clause-passed
 returns-clause-passed c =
     on_ok c.pass_left-passed.result (λ over. rest_passed_as (course_given c.args.self.now) c.args.event.now c.args.self.now.todo.tasks.items c.pass_left-passed.new.todo.tasks.items c.args.self.now.state c.pass_left-passed.new.state
-    c.args.self.now.outputs c.into_vec-outputs.result.items c.pass_left-passed.new.outputs.items c.from.result (c.into_vec-outputs.ensures ∙ c.replace.ensures.value) c.from.ensures c.requires.left over c.pass_left-passed.ensures.leads) c.pass_left-passed.ensures.rested
+    c.args.self.now.outputs c.into_vec-outputs.result.items c.pass_left-passed.new.outputs.items c.replace_outputs.new.outputs (c.into_vec-outputs.ensures ∙ c.replace.ensures.value) c.replace_outputs.ensures c.requires.left over c.pass_left-passed.ensures.leads) c.pass_left-passed.ensures.rested
 
 pub returns-clause-refused : goal.returns-clause-refused
 returns-clause-refused c =
     on_err c.pass_left-passed.result (λ left. rest_kept_as (course_given c.args.self.now) c.args.event.now c.args.self.now.todo.tasks.items c.pass_left-passed.new.todo.tasks.items c.args.self.now.state c.pass_left-passed.new.state
-    c.args.self.now.outputs c.into_vec-outputs.result.items c.pass_left-passed.new.outputs.items c.from.result (c.into_vec-outputs.ensures ∙ c.replace.ensures.value) c.from.ensures c.requires.left left c.pass_left-passed.ensures.leads) c.pass_left-passed.ensures.refused
+    c.args.self.now.outputs c.into_vec-outputs.result.items c.pass_left-passed.new.outputs.items c.replace_outputs.new.outputs (c.into_vec-outputs.ensures ∙ c.replace.ensures.value) c.replace_outputs.ensures c.requires.left left c.pass_left-passed.ensures.leads) c.pass_left-passed.ensures.refused

@@ -1,7 +1,7 @@
 use Rattle.std.proofs.Common.{◌≡◌, []}
 use Rattle.js_table.specs.Passes.{given_of}
 use Rattle.js_ordered.proofs.Replaying.{Goes}
-use Rattle.js_ordered.proofs.replay.steps_of.Given as goal
+use Rattle.js_ordered.proofs.replay.put_steps.Given as goal
 
 abbrev pub invariant-loop-place : goal.invariant-loop-place
 invariant-loop-place l = record {
