@@ -1,10 +1,9 @@
 -- The beginning of a stream.
-use Rattle.std.proofs.Common.{◌≡◌, ℕ, List, [], ◌∷◌, Option, map, ap, refl, sym, ◌∙◌, subst, arith}
+use Rattle.std.proofs.Common.{◌≡◌, ℕ, List, [], ◌∷◌, map, ap, refl, sym, ◌∙◌, subst, arith}
 use Rattle.std.specs.Prelude.{Ok, IfSome}
 use Rattle.js_json.specs.declared.consumer.info.Info.{Info}
 use Rattle.js_json.specs.declared.pull.OrderedConfig as pull_config
 use Rattle.js_json.specs.declared.push.OrderedConfig as push_config
-use Rattle.js_link.specs.Calls.{OpensOwn}
 use Rattle.js_link.specs.LinkView.{LinkView}
 use Rattle.js_link.specs.Meets.{Meets}
 use Rattle.js_ordered_stream.specs.declared.left.Left.{Left}
@@ -13,12 +12,9 @@ use Rattle.js_ordered_stream.specs.declared.pull.Ordered as pulls
 use Rattle.js_ordered_stream.specs.declared.push.Ordered as pushes
 use Rattle.js_ordered_stream.specs.Opening.{ListensFirst, OpensConsumer, OpensDelivery, OpensOrdered, OpensPushed, IsGaplessPull, IsGaplessPush, given_of_pull, given_of_push, listens_first, opened_at, reads_first}
 use Rattle.js_ordered_stream.specs.Rows.{left_rows}
-use Rattle.js_ordered_stream.specs.Stream.{first_at, with_retries}
-use Rattle.js_pull.specs.Reader.{new_reader, opening}
-use Rattle.js_pull.specs.declared.reader.Reader.{Reader}
-use Rattle.js_pull.specs.declared.reader.Source.{Source}
+use Rattle.js_ordered_stream.specs.Stream.{with_retries}
+use Rattle.js_pull.specs.Reader.{opening}
 use Rattle.js_table.specs.declared.consumer.Consumer.{Consumer}
-use Rattle.js_table.specs.declared.consumer.Phase.TheVariants.{Pulls, Pushes, Idle}
 use Rattle.js_table.specs.declared.consumer.ReplayInput.{ReplayInput}
 use Rattle.js_table.specs.declared.row.Row.{Row}
 use Rattle.js_table.specs.declared.row.Row.TheVariants.{Arm, Read}
@@ -27,9 +23,7 @@ use Rattle.js_table.specs.declared.setup.OrderedSetup.TheVariants.{Pull, Push}
 use Rattle.js_table.specs.declared.setup.Settings.{Settings}
 use Rattle.js_table.specs.Gapless.{Server}
 use Rattle.js_table.specs.Kept.{IsKeptOn}
-use Rattle.js_table.specs.Reading.{armed}
-use Rattle.js_table.specs.State.{at_phase}
-use Rattle.js_table.specs.Texts.{configured_start, source_of}
+use Rattle.js_table.specs.Texts.{configured_start}
 use Rattle.js_turns.specs.Lifetime.{IsGaplessFrom}
 use Rattle.js_turns.specs.Turns.{Position}
 use Rattle.js_turns.proofs.Lifetime.{polls_gapless}
@@ -39,21 +33,7 @@ position_at c todo = record { consumer = c; todo = todo }
 
 -- ---- pull
 
--- the reader of the first consumer reads the inbox that was opened
-pub opens_consumer : (g : ReplayInput) (inbox : ℕ) (unknown subject name : List ℕ) (source : Source) (start : Option ℕ) (r : Reader) (c : Consumer) (old new : LinkView)
-    → OpensOwn inbox subject old new → source ≡ source_of g 0 0 unknown g.first → r ≡ new_reader (record source { inbox = inbox; subject = subject })
-    → name ≡ g.first.name → start ≡ configured_start g.setup → c ≡ first_at start name (Pulls r)
-    → OpensConsumer (Ok c) g old new
-opens_consumer g inbox unknown subject name source start r c old new opens asks reads named starts first = (
-  inbox,
-  subject,
-  opens,
-  (first ∙ ap (λ (n : List ℕ). first_at start n (Pulls r)) named
-      ∙ ap (λ (s : Option ℕ). first_at s g.first.name (Pulls r)) starts
-      ∙ ap (λ (x : Reader). first_at (configured_start g.setup) g.first.name (Pulls x)) (reads ∙ ap (λ (s : Source). new_reader (record s { inbox = inbox; subject = subject })) asks)),
-)
-
--- and the rows of its opening are left
+-- the rows of an opening are left
 pub opens_ordered : (g given : ReplayInput) (c : Consumer) (left : Left) (o : polled.Ordered) (settings : Settings) (config : pull_config.OrderedConfig) (first : Info) (old new : LinkView)
     → OpensConsumer (Ok c) g old new → g ≡ given → given ≡ record { settings = with_retries settings; setup = Pull config; first = first }
     → left_rows left ≡ map Read opening → o ≡ record { given = given; consumer = c; left = left }
@@ -70,18 +50,7 @@ opens_ordered g given c left o settings config first old new (inbox, subject, op
 
 -- ---- push
 
--- the first consumer listens to the inbox that was opened
-pub listens_at : (g : ReplayInput) (inbox : ℕ) (name : List ℕ) (start : Option ℕ) (c d : Consumer) (old new : LinkView) → OpensDelivery inbox g.first old new → name ≡ g.first.name
-    → start ≡ configured_start g.setup → c ≡ first_at start name Idle
-    → d ≡ at_phase (Pushes inbox (armed 0)) c → ListensFirst (Ok d) g old new
-listens_at g inbox name start c d old new opens named starts first leads = (
-  inbox,
-  opens,
-  (leads ∙ ap (λ (x : Consumer). at_phase (Pushes inbox (armed 0)) x) first ∙ ap (λ (n : List ℕ). first_at start n (Pushes inbox (armed 0))) named
-      ∙ ap (λ (s : Option ℕ). first_at s g.first.name (Pushes inbox (armed 0))) starts),
-)
-
--- and arms its heartbeat next
+-- the first consumer arms its heartbeat next
 pub opens_pushed : (g given : ReplayInput) (c : Consumer) (left : Left) (o : polled.Ordered) (settings : Settings) (config : push_config.OrderedConfig) (first : Info) (old new : LinkView)
     → ListensFirst (Ok c) g old new → g ≡ given → given ≡ record { settings = with_retries settings; setup = Push config; first = first }
     → left_rows left ≡ Arm ∷ [] → o ≡ record { given = given; consumer = c; left = left }

@@ -372,6 +372,12 @@ meets_as w x met v u is meets = subst (λ (y : Wish). Meets y met v u) is meets
 pub phase_kept : (c : Consumer) (phase : Phase) → phase ≡ c.phase → at_phase phase c ≡ c
 phase_kept c phase is = ap (λ (q : Phase). at_phase q c) is
 
+-- what a reply tells is the same in a box
+pub told_boxed : {E : Type 0} (reply read : Option Message) (found told : Result (Option Info) E) → read ≡ reply → IfOk found (λ info. info ≡ info_of_reply read)
+    → IfOk told (λ info. found ≡ Ok info) → IfOk told (λ info. info ≡ info_of_reply reply)
+told_boxed reply read found (Err e) is tells same = tt
+told_boxed reply read found (Ok info) is tells same = subst (λ r. IfOk r (λ x. x ≡ info_of_reply read)) same tells ∙ ap info_of_reply is
+
 -- what a reply tells, to the request that it answers
 pub reply_told : {E : Type 0} (request : ℕ) (seen : Seen) (reply : Reply) (told : Result (Option Info) E) → seen ≡ sight.Reply reply → reply.request ≡ request
     → IfOk told (λ info. info ≡ info_of_reply reply.message) → IfOk told (λ info. option_map info_of_reply (reply_to request (answer_in seen)) ≡ Some info)

@@ -141,17 +141,10 @@ pub(crate) fn seen_of(request: u64, met: Met) -> Seen
             request,
             message: None,
         }),
-        Met::Unasked
-        | Met::GoneOut
-        | Met::Refused
-        | Met::Dropped
-        | Met::Requested { .. }
-        | Met::Opened { .. }
-        | Met::Empty
-        | Met::Shut
-        | Met::Waiting
-        | Met::Stands(_)
-        | Met::WatchOver => Seen::Nothing,
+        met => {
+            drop(met);
+            Seen::Nothing
+        }
     }
 }
 

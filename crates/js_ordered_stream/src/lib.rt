@@ -1,6 +1,7 @@
 //! The polled stream of an ordered consumer: it reads over any link, row after row, and may stop between any two.
 #![tactic(auto)]
 
+mod answer;
 mod error;
 mod left;
 mod listening;

@@ -1,20 +1,22 @@
 //! The stream of an ordered pull consumer.
-ghost use Rattle.std.specs.Prelude.{◌≡◌, ◌<◌, ◌^◌, ℕ, IfOk};
+ghost use Rattle.std.specs.Prelude.{◌≡◌, ◌<◌, ◌^◌, ℕ, [], IfOk};
 ghost use Rattle.js_link.specs.Meets.{Meets};
 ghost use Rattle.js_ordered_stream.specs.Opening.{IsGaplessPull, OpensConsumer, OpensOrdered, given_of_pull, position_of_pull};
 ghost use Rattle.js_ordered_stream.specs.Stream.{poll_answer};
 ghost use Rattle.js_base.specs.Clock.{has_come};
+ghost use Rattle.js_pull.specs.Reader.{new_reader};
+ghost use Rattle.js_table.specs.Texts.{source_of};
 ghost use Rattle.js_turns.specs.Polling.{IsPoll};
 ghost use Rattle.js_turns.specs.Wakes.{SleepsIfLeftAlone, phase_due};
 
 use crate::error::OrderedError;
-use crate::left::Left;
+use crate::left::{Left, put};
 use crate::ordered;
-use js_base::{Message, Moment, Next, Subject, TryClone};
+use js_base::{Message, Moment, Next, OutOfMemory, Subject, TryClone};
 use js_json::consumer::Info;
 use js_json::pull::OrderedConfig;
 use js_link::{Link, LinkError};
-use js_pull::Reader;
+use js_pull::{Reader, Source};
 use js_table::{
     Consumer, EventContext, EventKind, OrderedSetup, Phase, ReplayInput, Settings, texts,
 };
@@ -26,13 +28,9 @@ pub struct Ordered {
     polled: ordered::Ordered,
 }
 
-/// Opens an inbox for the reader of the first consumer.
-fn open_consumer<L: Link>(
-    alloc: Global,
-    link: &mut L,
-    given: &ReplayInput,
-) -> Result<Consumer, LinkError>
-    ensures { OpensConsumer result given.now (L.view link.old) (L.view link.new) }
+/// Whom the reader of the first consumer asks, but for its inbox.
+fn first_source(alloc: Global, given: &ReplayInput) -> Result<Source, OutOfMemory>
+    ensures { IfOk result (λ source. source ≡ source_of given.now 0 0 [] given.now.first) }
 {
     let tick = EventKind::Tick;
     let context = EventContext {
@@ -43,13 +41,43 @@ fn open_consumer<L: Link>(
         what: &tick,
     };
     let unknown = Subject::from(String::new(alloc));
-    let mut source = texts::source_of(&context, 0, 0, unknown, &given.first)?;
+    texts::source_of(&context, 0, 0, unknown, &given.first)
+}
+
+/// A reader that reads this inbox, and has read nothing yet.
+fn reader_at(mut source: Source, inbox: u64, subject: Subject) -> Reader
+    ensures { result ≡ new_reader (record source { inbox = inbox; subject = subject }) }
+{
+    source.inbox = inbox;
+    put(&mut source.subject, subject);
+    Reader::new(source)
+}
+
+/// Opens an inbox for the reader of the first consumer.
+fn open_consumer<L: Link>(
+    alloc: Global,
+    link: &mut L,
+    given: &ReplayInput,
+) -> Result<Consumer, LinkError>
+    ensures { OpensConsumer result given.now (L.view link.old) (L.view link.new) }
+{
     let name = given.first.name.try_clone()?;
-    let (inbox, subject) = link.open_inbox(alloc)?;
-    source.inbox = inbox.0;
-    source.subject = subject;
-    let start = given.setup.configured_start();
-    Ok(ordered::first_consumer(start, name, Phase::Pulls(Reader::new(source))))
+    let Ok(source) = first_source(alloc, given) else {
+        drop(name);
+        return Err(LinkError::OutOfMemory);
+    };
+    match link.open_inbox(alloc) {
+        Err(refused) => {
+            drop(source);
+            drop(name);
+            Err(refused)
+        }
+        Ok((inbox, subject)) => {
+            let start = given.setup.configured_start();
+            let reader = reader_at(source, inbox.0, subject);
+            Ok(ordered::first_consumer(start, name, Phase::Pulls(reader)))
+        }
+    }
 }
 
 impl Ordered {
@@ -74,10 +102,15 @@ impl Ordered {
         ensures gapless { IfOk result IsGaplessPull }
     {
         let given = ordered::given_with(alloc, settings, OrderedSetup::Pull(config), first)?;
-        let consumer = open_consumer(alloc, link, given.get())?;
-        Ok(Ordered {
-            polled: ordered::Ordered::new(given, consumer, Left::opening()),
-        })
+        match open_consumer(alloc, link, given.get()) {
+            Err(refused) => {
+                drop(given);
+                Err(refused)
+            }
+            Ok(consumer) => Ok(Ordered {
+                polled: ordered::Ordered::new(given, consumer, Left::opening()),
+            }),
+        }
     }
 
     /// Reads the next message or error. It waits after a turn in which nothing came.

@@ -85,9 +85,6 @@ fn open_consumer<L: Link>(
     ensures { ListensFirst result given.now (L.view link.old) (L.view link.new) }
 {
     let name = given.first.name.try_clone()?;
-    let inbox = subscribe(alloc, link, &given.first)?;
-    let start = given.setup.configured_start();
-    let mut consumer = ordered::first_consumer(start, name, Phase::Idle);
     let tick = EventKind::Tick;
     let context = EventContext {
         settings: &given.settings,
@@ -96,8 +93,18 @@ fn open_consumer<L: Link>(
         moment: 0,
         what: &tick,
     };
-    listen(&context, &mut consumer, inbox);
-    Ok(consumer)
+    match subscribe(alloc, link, &given.first) {
+        Err(refused) => {
+            drop(name);
+            Err(refused)
+        }
+        Ok(inbox) => {
+            let start = given.setup.configured_start();
+            let mut consumer = ordered::first_consumer(start, name, Phase::Idle);
+            listen(&context, &mut consumer, inbox);
+            Ok(consumer)
+        }
+    }
 }
 
 impl Ordered {
@@ -125,10 +132,15 @@ impl Ordered {
         ensures gapless { IfOk result IsGaplessPush }
     {
         let given = ordered::given_with(alloc, settings, OrderedSetup::Push(config), first)?;
-        let consumer = open_consumer(alloc, link, given.get())?;
-        Ok(Ordered {
-            polled: ordered::Ordered::new(given, consumer, Left::arming()),
-        })
+        match open_consumer(alloc, link, given.get()) {
+            Err(refused) => {
+                drop(given);
+                Err(refused)
+            }
+            Ok(consumer) => Ok(Ordered {
+                polled: ordered::Ordered::new(given, consumer, Left::arming()),
+            }),
+        }
     }
 
     /// Reads the next message or error. It waits after a turn in which nothing came.

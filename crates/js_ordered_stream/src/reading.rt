@@ -30,14 +30,24 @@ pub(crate) struct ReadMet {
     pub informed: Option<Reason>,
 }
 
+/// What a row is told that reads no answer.
+fn untold(alloc: Global, due: Due) -> Result<Option<Reason>, OutOfMemory>
+    ensures { IfOk result (λ reason. IsInformed (row_of None due) reason) }
+{
+    let reply = None;
+    let told = informed_of(alloc, due, &reply);
+    drop(reply);
+    told
+}
+
 /// What the reply tells to the row that reads it.
 fn told_by(alloc: Global, due: Due, seen: &Seen) -> Result<Option<Reason>, OutOfMemory>
     ensures { IfOk result (λ reason. IsInformed (row_of (brought (answer_in seen.now)) due) reason) }
 {
     match seen {
         Seen::Reply(reply) => informed_of(alloc, due, &reply.message),
-        Seen::Nothing => informed_of(alloc, due, &None),
-        Seen::Message { .. } => informed_of(alloc, due, &None),
+        Seen::Nothing => untold(alloc, due),
+        Seen::Message { .. } => untold(alloc, due),
     }
 }
 

@@ -1,30 +1,29 @@
 //! The rows of a recreation over a link.
-ghost use Rattle.std.specs.Prelude.{◌≡◌, IfOk, OnErr, Some, codes, option_map};
+ghost use Rattle.std.specs.Prelude.{◌≡◌, IfOk, OnErr, codes};
 ghost use Rattle.js_link.specs.Meets.{Meets};
 ghost use Rattle.js_link.specs.LinkView.{LinkView};
 ghost use Rattle.js_link.specs.Met.{Requests};
 ghost use Rattle.js_ordered_rows.specs.Tasks.{rows_of};
-ghost use Rattle.js_ordered_stream.specs.Rows.{PassesRow, PassesRows, answer_in, read_in, replied, seen_after};
-ghost use Rattle.js_pull.specs.Asking.{met_shown, wish_shown};
-ghost use Rattle.js_pull.specs.Reader.{info_of_reply as info_in, reply_to};
+ghost use Rattle.js_ordered_stream.specs.Rows.{PassesRow, PassesRows, read_in, replied, seen_after};
+ghost use Rattle.js_pull.specs.Asking.{GoesAs, met_shown, wish_shown};
 ghost use Rattle.js_table.specs.Kept.{IsPush};
 ghost use Rattle.js_table.specs.Passes.{given_of};
 ghost use Rattle.js_table.specs.Texts as texts_of;
 ghost use Rattle.js_table.specs.declared.row.Row.TheVariants as row;
 ghost use Rattle.js_turns.specs.Wishes as wishes;
 
-use crate::left::{Seen, seen_of};
+use crate::answer::info_met;
+use crate::left::{Seen, put, seen_of};
 use crate::rows::{Handed, Stepped, Stop, ask_for, quietly, untaken};
 use crate::success::{inbox_met, succeed};
 use bytes::Bytes;
-use js_base::{Boxed, Message, OutOfMemory, TryClone};
-use js_json::consumer::Info;
+use js_base::{OutOfMemory, TryClone};
 use js_link::Link;
 use js_ordered_rows::recreation::{
     pass_answered, pass_ask, pass_await, pass_create, pass_fail, pass_start, pass_try,
 };
 use js_ordered_rows::{NextTasks, Task};
-use js_pull::{Met, Wish, ask, info_of_reply};
+use js_pull::{Met, Wish};
 use js_table::{Consumer, EventContext, Opened, OrderedSetup, Phase, Recreation, Stage, texts};
 use std::alloc::Global;
 use std::mem;
@@ -99,6 +98,22 @@ pub(crate) fn start<L: Link>(
     Ok(untaken(pass_start(context, consumer, name, again)))
 }
 
+/// A recreation stays open: a row of it was not passed.
+pub(crate) fn keep_open(consumer: &mut Consumer, recreation: Recreation)
+    ensures { consumer.new ≡ record consumer.old { phase = Phase.Recreates recreation } }
+{
+    put(&mut consumer.phase, Phase::Recreates(recreation));
+}
+
+/// The number of the request that went out, which is let go.
+fn number_of(met: Met) -> Option<u64>
+    ensures { GoesAs result (met_shown met) }
+{
+    let number = met.request();
+    drop(met);
+    number
+}
+
 // ---- a try
 
 /// The deletion of the old consumer is asked for.
@@ -115,7 +130,7 @@ fn try_met<L: Link>(
         subject: texts::delete_subject(alloc, context, recreation)?,
         payload: Bytes::from_static(b"{}"),
     };
-    ask(alloc, link, &wish)
+    ask_for(alloc, link, wish)
 }
 
 /// A try begins.
@@ -129,11 +144,14 @@ fn begin_try<L: Link>(
     ensures { PassesRow (given_of context.now) context.now.moment row.Try (record consumer.old { phase = Phase.Recreates recreation }) consumer.new (L.view link.old) (L.view link.new) Seen.Nothing result }
 {
     match try_met(alloc, context, link, &recreation) {
-        Err(_) => {
-            consumer.phase = Phase::Recreates(recreation);
+        Err(OutOfMemory) => {
+            keep_open(consumer, recreation);
             Err(Stop::OutOfMemory)
         }
-        Ok(met) => Ok(quietly(pass_try(context, consumer, recreation, met.request()))),
+        Ok(met) => {
+            let number = number_of(met);
+            Ok(quietly(pass_try(context, consumer, recreation, number)))
+        }
     }
 }
 
@@ -148,9 +166,9 @@ fn create_push<L: Link>(
     requires push { IsPush context.now.setup.now }
     ensures { PassesRow (given_of context.now) context.now.moment row.Create (record consumer.old { phase = Phase.Recreates recreation }) consumer.new (L.view link.old) (L.view link.new) Seen.Nothing result }
 {
-    match ask(alloc, link, &Wish::OpensInbox) {
-        Err(_) => {
-            consumer.phase = Phase::Recreates(recreation);
+    match ask_for(alloc, link, Wish::OpensInbox) {
+        Err(OutOfMemory) => {
+            keep_open(consumer, recreation);
             Err(Stop::OutOfMemory)
         }
         Ok(met) => {
@@ -188,11 +206,14 @@ fn ask_met<L: Link>(
     ensures met { IfOk result (λ met. Meets (Requests (texts_of.create_subject (given_of context.now) recreation.now) (texts_of.create_body (given_of context.now) recreation.now)) (met_shown met) (L.view link.old) (L.view link.new)) }
     ensures refused { OnErr result (L.view link.new ≡ L.view link.old) }
 {
-    let wish = Wish::Requests {
-        subject: texts::create_subject(alloc, context, recreation)?,
-        payload: texts::create_body(alloc, context, recreation)?,
-    };
-    ask(alloc, link, &wish)
+    let subject = texts::create_subject(alloc, context, recreation)?;
+    match texts::create_body(alloc, context, recreation) {
+        Err(OutOfMemory) => {
+            drop(subject);
+            Err(OutOfMemory)
+        }
+        Ok(payload) => ask_for(alloc, link, Wish::Requests { subject, payload }),
+    }
 }
 
 /// The create request.
@@ -206,11 +227,14 @@ fn ask_create<L: Link>(
     ensures { PassesRow (given_of context.now) context.now.moment row.Ask (record consumer.old { phase = Phase.Recreates recreation }) consumer.new (L.view link.old) (L.view link.new) Seen.Nothing result }
 {
     match ask_met(alloc, context, link, &recreation) {
-        Err(_) => {
-            consumer.phase = Phase::Recreates(recreation);
+        Err(OutOfMemory) => {
+            keep_open(consumer, recreation);
             Err(Stop::OutOfMemory)
         }
-        Ok(met) => Ok(quietly(pass_ask(context, consumer, recreation, met.request()))),
+        Ok(met) => {
+            let number = number_of(met);
+            Ok(quietly(pass_ask(context, consumer, recreation, number)))
+        }
     }
 }
 
@@ -224,12 +248,15 @@ fn fail<L: Link>(
 ) -> Result<Stepped, Stop>
     ensures { PassesRow (given_of context.now) context.now.moment row.Fail (record consumer.old { phase = Phase.Recreates recreation }) consumer.new (L.view link.old) (L.view link.new) Seen.Nothing result }
 {
-    match ask(alloc, link, &opened_dropped(&recreation.opened)) {
-        Err(_) => {
-            consumer.phase = Phase::Recreates(recreation);
+    match ask_for(alloc, link, opened_dropped(&recreation.opened)) {
+        Err(OutOfMemory) => {
+            keep_open(consumer, recreation);
             Err(Stop::OutOfMemory)
         }
-        Ok(_met) => Ok(untaken(pass_fail(context, consumer, recreation))),
+        Ok(met) => {
+            drop(met);
+            Ok(untaken(pass_fail(context, consumer, recreation)))
+        }
     }
 }
 
@@ -260,47 +287,20 @@ fn look_on<L: Link>(
     ensures kept { OnErr result (seen.new ≡ seen.old) }
 {
     let stage = recreation.stage;
-    match ask(alloc, link, &awaited(stage)) {
-        Err(_) => {
-            consumer.phase = Phase::Recreates(recreation);
+    match ask_for(alloc, link, awaited(stage)) {
+        Err(OutOfMemory) => {
+            keep_open(consumer, recreation);
             Err(Stop::OutOfMemory)
         }
         Ok(met) => {
             let next = pass_await(context, consumer, recreation, met.is_answer());
-            *seen = seen_of(request_of(stage), met);
+            put(seen, seen_of(request_of(stage), met));
             Ok(Stepped {
                 handed: Handed::Nothing,
                 looked: seen.is_something(),
                 next,
             })
         }
-    }
-}
-
-/// What a reply tells, in a box.
-fn told_by(alloc: Global, message: &Option<Message>) -> Result<Option<Boxed<Info>>, OutOfMemory>
-    ensures { IfOk result (λ info. info ≡ info_in message.now) }
-{
-    match info_of_reply(alloc, message.as_ref())? {
-        None => Ok(None),
-        Some(info) => Ok(Some(Boxed::new(alloc, info)?)),
-    }
-}
-
-/// What the answer to a create tells.
-fn info_met(alloc: Global, request: u64, seen: &Seen) -> Result<Option<Boxed<Info>>, OutOfMemory>
-    ensures { IfOk result (λ info. option_map info_in (reply_to request (answer_in seen.now)) ≡ Some info) }
-{
-    match seen {
-        Seen::Reply(reply) => {
-            if reply.request == request {
-                return told_by(alloc, &reply.message);
-            }
-            Err(OutOfMemory)
-        }
-        // An answer is read only where it was met.
-        Seen::Nothing => Err(OutOfMemory),
-        Seen::Message { .. } => Err(OutOfMemory),
     }
 }
 
@@ -316,8 +316,8 @@ fn answered(
     ensures { (v : LinkView) → PassesRows (given_of context.now) context.now.moment (rows_of (read_in seen.now) (Task.Answered request)) (record consumer.old { phase = Phase.Recreates recreation }) consumer.new v v Seen.Nothing result }
 {
     match info_met(alloc, request, seen) {
-        Err(_) => {
-            consumer.phase = Phase::Recreates(recreation);
+        Err(OutOfMemory) => {
+            keep_open(consumer, recreation);
             Err(Stop::OutOfMemory)
         }
         Ok(info) => Ok(quietly(pass_answered(context, consumer, recreation, info))),
@@ -350,7 +350,7 @@ fn pass_recreating<L: Link>(
         Task::Succeed(info) => succeed(alloc, context, link, consumer, recreation, info.get()),
         Task::Fail => fail(alloc, context, link, consumer, recreation),
         _ => {
-            consumer.phase = Phase::Recreates(recreation);
+            keep_open(consumer, recreation);
             Err(Stop::OutOfMemory)
         }
     }
@@ -373,7 +373,7 @@ pub(crate) fn pass_open<L: Link>(
             pass_recreating(alloc, context, link, consumer, recreation, task, seen)
         }
         phase => {
-            consumer.phase = phase;
+            put(&mut consumer.phase, phase);
             Err(Stop::OutOfMemory)
         }
     }

@@ -9,17 +9,19 @@ ghost use Rattle.js_pull.specs.Asking.{met_shown};
 ghost use Rattle.js_table.specs.Kept.{IsPull, IsPush};
 ghost use Rattle.js_table.specs.Passes.{given_of};
 ghost use Rattle.js_table.specs.Texts as texts_of;
+ghost use Rattle.js_table.specs.declared.consumer.Phase.TheVariants as Phase;
 ghost use Rattle.js_table.specs.declared.row.Row.TheVariants as row;
 
 use crate::left::Seen;
-use crate::rows::{Stepped, Stop, quietly};
+use crate::recreation::keep_open;
+use crate::rows::{Stepped, Stop, ask_for, quietly};
 use js_base::{OutOfMemory, Subject};
 use js_json::consumer::Info;
 use js_link::Link;
 use js_ordered_rows::recreation::{pass_succeed_pull, pass_succeed_push};
 use js_ordered_rows::{Inbox, NextTasks, Task};
-use js_pull::{Met, Source, Wish, ask};
-use js_table::{Consumer, EventContext, Opened, OrderedSetup, Phase, Recreation, texts};
+use js_pull::{Met, Source, Wish};
+use js_table::{Consumer, EventContext, Opened, OrderedSetup, Recreation, texts};
 use std::alloc::Global;
 
 /// Whom the next reader asks, but for its inbox.
@@ -32,7 +34,7 @@ fn source_for(
     ensures { IfOk result (λ source. source ≡ texts_of.source_of (given_of context.now) recreation_count 0 [] info.now) }
 {
     let unknown = Subject::from(String::new(alloc));
-    Ok(texts::source_of(context, recreation_count, 0, unknown, info)?)
+    texts::source_of(context, recreation_count, 0, unknown, info)
 }
 
 /// The inbox that was opened, or could not be.
@@ -44,19 +46,10 @@ pub(crate) fn inbox_met(met: Met) -> Option<Inbox>
             number: inbox,
             subject,
         }),
-        Met::Unasked
-        | Met::GoneOut
-        | Met::Refused
-        | Met::Dropped
-        | Met::Requested { .. }
-        | Met::Empty
-        | Met::Shut
-        | Met::Took(_)
-        | Met::Waiting
-        | Met::Gone
-        | Met::Got(_)
-        | Met::Stands(_)
-        | Met::WatchOver => None,
+        met => {
+            drop(met);
+            None
+        }
     }
 }
 
@@ -80,8 +73,13 @@ fn reading_for<L: Link>(
     ensures refused { OnErr result (L.view link.new ≡ L.view link.old) }
 {
     let source = source_for(alloc, context, recreation_count, info)?;
-    let met = ask(alloc, link, &Wish::OpensInbox)?;
-    Ok(Reading { source, met })
+    match ask_for(alloc, link, Wish::OpensInbox) {
+        Err(OutOfMemory) => {
+            drop(source);
+            Err(OutOfMemory)
+        }
+        Ok(met) => Ok(Reading { source, met }),
+    }
 }
 
 /// A create was answered well: pull opens its next inbox and reads it, and push listens to the one that it has opened for the create.
@@ -114,8 +112,8 @@ fn succeed_pull<L: Link>(
     ensures { PassesRow (given_of context.now) context.now.moment (row.Succeed info.now) (record consumer.old { phase = Phase.Recreates recreation }) consumer.new (L.view link.old) (L.view link.new) Seen.Nothing result }
 {
     match reading_for(alloc, context, link, consumer.core.recreation_count, info) {
-        Err(_) => {
-            consumer.phase = Phase::Recreates(recreation);
+        Err(OutOfMemory) => {
+            keep_open(consumer, recreation);
             Err(Stop::OutOfMemory)
         }
         Ok(reading) => {
@@ -147,9 +145,10 @@ fn succeed_push(
 {
     // Only a consumer that has opened an inbox comes here, and a poll holds nothing.
     if !is_bare(&recreation.opened) {
-        consumer.phase = Phase::Recreates(recreation);
+        keep_open(consumer, recreation);
         return Err(Stop::OutOfMemory);
     }
-    let _held = pass_succeed_push(context, consumer, recreation);
+    let held = pass_succeed_push(context, consumer, recreation);
+    drop(held);
     Ok(quietly(NextTasks::One(Task::Arm)))
 }

@@ -11,8 +11,8 @@ returns-in-Reply c =
 
 pub returns-in-Nothing : goal.returns-in-Nothing
 returns-in-Nothing c =
-    informed_as c.args.due None (brought (answer_in c.args.seen.now)) c.informed_of-in-Nothing.result (sym (ap (λ (s : Seen). brought (answer_in s)) c.in-Nothing.is)) c.informed_of-in-Nothing.ensures
+    informed_as c.args.due None (brought (answer_in c.args.seen.now)) c.untold.result (sym (ap (λ (s : Seen). brought (answer_in s)) c.in-Nothing.is)) c.untold.ensures
 
 pub returns-in-Message : goal.returns-in-Message
 returns-in-Message c =
-    informed_as c.args.due None (brought (answer_in c.args.seen.now)) c.informed_of-in-Message.result (sym (ap (λ (s : Seen). brought (answer_in s)) c.in-Message.is)) c.informed_of-in-Message.ensures
+    informed_as c.args.due None (brought (answer_in c.args.seen.now)) c.untold-in-Message.result (sym (ap (λ (s : Seen). brought (answer_in s)) c.in-Message.is)) c.untold-in-Message.ensures

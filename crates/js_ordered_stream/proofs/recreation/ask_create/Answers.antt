@@ -11,5 +11,5 @@ returns-in-Ok g c =
     let view = g.L.Link.view in
     let now = c.args.context.now.moment in
     let met = met_shown c.in-Ok.met in
-    ask_passes (given_of c.args.context.now) now c.args.recreation c.args.consumer.now c.pass_ask.new.consumer met c.request.result c.pass_ask.result c.quietly.result (view c.args.link.now) (view c.ask_met.new.link)
-    c.in-Ok.ensures.met c.request.ensures (c.pass_ask.ensures (read_by None None) (passing_of now met)) c.quietly.ensures
+    ask_passes (given_of c.args.context.now) now c.args.recreation c.args.consumer.now c.pass_ask.new.consumer met c.number_of-number.result c.pass_ask.result c.quietly.result (view c.args.link.now) (view c.ask_met.new.link)
+    c.in-Ok.ensures.met c.number_of-number.ensures (c.pass_ask.ensures (read_by None None) (passing_of now met)) c.quietly.ensures

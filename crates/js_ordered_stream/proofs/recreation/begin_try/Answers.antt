@@ -11,5 +11,5 @@ returns-in-Ok g c =
     let view = g.L.Link.view in
     let now = c.args.context.now.moment in
     let met = met_shown c.in-Ok.met in
-    try_passes (given_of c.args.context.now) now c.args.recreation c.args.consumer.now c.pass_try.new.consumer met c.request.result c.pass_try.result c.quietly.result (view c.args.link.now) (view c.try_met.new.link)
-    c.in-Ok.ensures.met c.request.ensures (c.pass_try.ensures (read_by None None) (passing_of now met)) c.quietly.ensures
+    try_passes (given_of c.args.context.now) now c.args.recreation c.args.consumer.now c.pass_try.new.consumer met c.number_of-number.result c.pass_try.result c.quietly.result (view c.args.link.now) (view c.try_met.new.link)
+    c.in-Ok.ensures.met c.number_of-number.ensures (c.pass_try.ensures (read_by None None) (passing_of now met)) c.quietly.ensures

@@ -11,5 +11,5 @@ returns-in-Ok g c =
     let view = g.L.Link.view in
     let now = c.args.context.now.moment in
     let met = met_shown c.in-Ok.met in
-    create_push_passes (given_of c.args.context.now) now c.args.recreation c.args.consumer.now c.pass_create.new.consumer met c.inbox_met-inbox.result c.pass_create.result c.quietly.result (view c.args.link.now) (view c.ask.new.link)
+    create_push_passes (given_of c.args.context.now) now c.args.recreation c.args.consumer.now c.pass_create.new.consumer met c.inbox_met-inbox.result c.pass_create.result c.quietly.result (view c.args.link.now) (view c.ask_for.new.link)
     c.requires.push c.in-Ok.ensures.met c.inbox_met-inbox.ensures (c.pass_create.ensures (read_by None None) (passing_of now met)) c.quietly.ensures

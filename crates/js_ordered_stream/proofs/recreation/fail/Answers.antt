@@ -6,10 +6,10 @@ use Rattle.js_table.specs.Passes.{given_of}
 use Rattle.js_ordered_stream.proofs.Passing.{fail_passes, meets_as}
 use Rattle.js_ordered_stream.proofs.recreation.fail.Goals as goal
 
-pub returns : goal.returns
-returns g c =
+pub returns-in-Ok : goal.returns-in-Ok
+returns-in-Ok g c =
     let view = g.L.Link.view in
     let now = c.args.context.now.moment in
-    let met = met_shown c.in-Ok._met in
-    fail_passes (given_of c.args.context.now) now c.args.recreation c.args.consumer.now c.pass_fail.new.consumer met c.pass_fail.result.told c.pass_fail.result.next c.untaken.result (view c.args.link.now) (view c.ask.new.link)
-    (meets_as _ _ met (view c.args.link.now) (view c.ask.new.link) c.opened_dropped.ensures c.in-Ok.ensures.met) (c.pass_fail.ensures (read_by None None) (passing_of now met)) (c.untaken.ensures.handed None) c.untaken.ensures.rest
+    let met = met_shown c.in-Ok.met in
+    fail_passes (given_of c.args.context.now) now c.args.recreation c.args.consumer.now c.pass_fail.new.consumer met c.pass_fail.result.told c.pass_fail.result.next c.untaken.result (view c.args.link.now) (view c.ask_for.new.link)
+    (meets_as _ _ met (view c.args.link.now) (view c.ask_for.new.link) c.opened_dropped.ensures c.in-Ok.ensures.met) (c.pass_fail.ensures (read_by None None) (passing_of now met)) (c.untaken.ensures.handed None) c.untaken.ensures.rest
