@@ -1,10 +1,11 @@
 //! Buckets of keys and their values: how they are configured, and which stream one is (NATS ADR-8).
-ghost use Rattle.std.specs.Prelude.{◌≡◌, IfOk, string_bytes};
+ghost use Rattle.std.specs.Prelude.{◌≡◌, IfOk, Some, None, [], true, map, string_bytes};
+ghost use Rattle.js_buckets.specs.Origins.{mirrored, of_bucket as of_bucket_in};
 ghost use Rattle.js_buckets.specs.KeyValues.{all_keys as all_keys_in, history_of as history_in, replicas_of as replicas_in, compression_of as compression_in, subjects_of as subjects_in, origins_of as origins_in, stream_config};
 
-use crate::copies::each_copied;
+use crate::copies::{both, each_copied};
 pub use crate::origins::stream_name;
-use crate::origins::{gathered, mirrored};
+use crate::origins::{gathered, of_bucket};
 use crate::stream::{Bucket, stream_of};
 use js_base::{Items, Nanos, OutOfMemory, Text, TryClone};
 use js_stream_json::stream;
@@ -82,15 +83,9 @@ impl Config {
 
 impl TryClone for Config {
     fn try_clone(&self) -> Result<Config, OutOfMemory> {
-        let (bucket, description, placement) = each_copied(
-            &self.bucket,
-            &self.description,
-            &self.placement,
-        )?;
-        let (republish, mirror, sources) = each_copied(
-            &self.republish,
-            &self.mirror,
-            &self.sources,
+        let ((bucket, description, placement), (republish, mirror, sources)) = both(
+            each_copied(&self.bucket, &self.description, &self.placement),
+            each_copied(&self.republish, &self.mirror, &self.sources),
         )?;
         Ok(Config {
             bucket,
@@ -135,6 +130,55 @@ fn all_keys(alloc: Global, bucket: &str) -> Result<Items<Text>, OutOfMemory>
     Ok(subjects)
 }
 
+fn copies_whole(
+    alloc: Global,
+    mirror: Source,
+    sources: Option<Items<Source>>,
+) -> Result<Origins, OutOfMemory>
+    ensures { IfOk result (λ origins. origins ≡ record { subjects = []; mirror = mirrored (Some mirror); sources = sources; mirror_direct = true }) }
+{
+    match of_bucket(alloc, mirror) {
+        Ok(mirror) => Ok(Origins {
+            subjects: Items::new(alloc),
+            mirror: Some(mirror),
+            sources,
+            mirror_direct: true,
+        }),
+        Err(refused) => {
+            drop(sources);
+            Err(refused)
+        }
+    }
+}
+
+fn gathers(
+    alloc: Global,
+    sources: Items<Source>,
+    mirror_direct: bool,
+) -> Result<Origins, OutOfMemory>
+    ensures { IfOk result (λ origins. origins ≡ record { subjects = []; mirror = None; sources = Some (map of_bucket_in sources); mirror_direct = mirror_direct }) }
+{
+    let sources = gathered(alloc, sources)?;
+    Ok(Origins {
+        subjects: Items::new(alloc),
+        mirror: None,
+        sources: Some(sources),
+        mirror_direct,
+    })
+}
+
+fn takes_in_keys(alloc: Global, bucket: &str, mirror_direct: bool) -> Result<Origins, OutOfMemory>
+    ensures { IfOk result (λ origins. origins ≡ record { subjects = subjects_in bucket.now; mirror = None; sources = None; mirror_direct = mirror_direct }) }
+{
+    let subjects = all_keys(alloc, bucket)?;
+    Ok(Origins {
+        subjects,
+        mirror: None,
+        sources: None,
+        mirror_direct,
+    })
+}
+
 fn origins_of(
     alloc: Global,
     bucket: &str,
@@ -145,24 +189,9 @@ fn origins_of(
     ensures { IfOk result (λ origins. origins ≡ origins_in bucket.now mirror sources mirror_direct) }
 {
     match (mirror, sources) {
-        (Some(mirror), sources) => Ok(Origins {
-            subjects: Items::new(alloc),
-            mirror: mirrored(alloc, Some(mirror))?,
-            sources,
-            mirror_direct: true,
-        }),
-        (None, Some(sources)) => Ok(Origins {
-            subjects: Items::new(alloc),
-            mirror: None,
-            sources: gathered(alloc, Some(sources))?,
-            mirror_direct,
-        }),
-        (None, None) => Ok(Origins {
-            subjects: all_keys(alloc, bucket)?,
-            mirror: None,
-            sources: None,
-            mirror_direct,
-        }),
+        (Some(mirror), sources) => copies_whole(alloc, mirror, sources),
+        (None, Some(sources)) => gathers(alloc, sources, mirror_direct),
+        (None, None) => takes_in_keys(alloc, bucket, mirror_direct),
     }
 }
 
@@ -209,6 +238,9 @@ impl Bucket for Config {
 
     fn with(self, names: (Text, Origins)) -> stream::Config {
         let (name, origins) = names;
+        drop(self.bucket);
+        drop(self.mirror);
+        drop(self.sources);
         stream::Config {
             name,
             retention: RetentionPolicy::Limits,

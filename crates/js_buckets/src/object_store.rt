@@ -2,7 +2,7 @@
 ghost use Rattle.std.specs.Prelude.{◌≡◌, IfOk, string_bytes};
 ghost use Rattle.js_buckets.specs.Objects.{stream_name as stream_name_in, chunks, metadata, subjects_of as subjects_in, stream_config};
 
-use crate::copies::each_copied;
+use crate::copies::{both, each_copied};
 use crate::kv::compression_of;
 use crate::stream::{Bucket, stream_of};
 use js_base::{Items, Nanos, OutOfMemory, Text, TryClone};
@@ -114,11 +114,12 @@ impl Bucket for Config {
 
     fn take_names(&mut self, alloc: Global) -> Result<(Text, Items<Text>), OutOfMemory> {
         let bucket = self.bucket.as_str();
-        Ok((stream_name(alloc, bucket)?, subjects_of(alloc, bucket)?))
+        both(stream_name(alloc, bucket), subjects_of(alloc, bucket))
     }
 
     fn with(self, names: (Text, Items<Text>)) -> stream::Config {
         let (name, subjects) = names;
+        drop(self.bucket);
         stream::Config {
             name,
             retention: RetentionPolicy::Limits,

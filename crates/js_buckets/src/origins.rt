@@ -1,10 +1,11 @@
 //! The streams of other buckets that a bucket of keys copies.
-ghost use Rattle.std.specs.Prelude.{◌≡◌, IfOk, option_map, map, string_bytes};
-ghost use Rattle.js_buckets.specs.Origins.{stream_name as stream_name_in, begins_as_stream, as_stream_name as as_stream_name_in, of_bucket, mirrored, gathered};
+ghost use Rattle.std.specs.Prelude.{◌≡◌, IfOk, map, string_bytes};
+ghost use Rattle.js_buckets.specs.Origins.{stream_name as stream_name_in, begins_as_stream, as_stream_name, of_bucket as of_bucket_in};
 
 use js_base::{Items, OutOfMemory, Text};
 use js_stream_json::stream::Source;
 use std::alloc::{AllocError, Global};
+use std::mem;
 
 fn stream_text(alloc: Global, bucket: &str) -> Result<String, AllocError>
     ensures { IfOk result (λ text. string_bytes text ≡ stream_name_in bucket.now) }
@@ -25,36 +26,32 @@ fn begins_as_stream(name: &str) -> bool
     name.starts_with("KV_")
 }
 
-/// The name of a stream that may have been given as a bucket's.
-fn as_stream_name(alloc: Global, name: Text) -> Result<Text, OutOfMemory>
-    ensures { IfOk result (λ there. there ≡ as_stream_name_in name) }
+/// Makes the name of a stream of one that may have been given as a bucket's.
+fn name_as_stream(alloc: Global, name: &mut Text) -> Result<(), OutOfMemory>
+    ensures { IfOk result (λ _. name.new ≡ as_stream_name name.old) }
 {
-    if begins_as_stream(name.as_str()) {
-        Ok(name)
-    } else {
-        stream_name(alloc, name.as_str())
+    if !begins_as_stream(name.as_str()) {
+        let stream = stream_name(alloc, name.as_str())?;
+        drop(mem::replace(name, stream));
     }
+    Ok(())
 }
 
-fn of_bucket(alloc: Global, source: Source) -> Result<Source, OutOfMemory>
-    ensures { IfOk result (λ there. there ≡ of_bucket source) }
+/// The stream that a bucket copies.
+pub(crate) fn of_bucket(alloc: Global, mut source: Source) -> Result<Source, OutOfMemory>
+    ensures { IfOk result (λ there. there ≡ of_bucket_in source) }
 {
-    let name = as_stream_name(alloc, source.name)?;
-    Ok(Source { name, ..source })
-}
-
-/// The stream that a bucket copies whole, if it copies one.
-pub(crate) fn mirrored(alloc: Global, mirror: Option<Source>) -> Result<Option<Source>, OutOfMemory>
-    ensures { IfOk result (λ there. there ≡ mirrored mirror) }
-{
-    match mirror {
-        None => Ok(None),
-        Some(source) => Ok(Some(of_bucket(alloc, source)?)),
+    match name_as_stream(alloc, &mut source.name) {
+        Ok(()) => Ok(source),
+        Err(refused) => {
+            drop(source);
+            Err(refused)
+        }
     }
 }
 
 fn each_of_bucket(alloc: Global, sources: Vec<Source>) -> Result<Vec<Source>, OutOfMemory>
-    ensures { IfOk result (λ there. there.items ≡ map of_bucket sources.items) }
+    ensures { IfOk result (λ there. there.items ≡ map of_bucket_in sources.items) }
 {
     let mut there = Vec::new(alloc);
     for source in sources {
@@ -64,14 +61,8 @@ fn each_of_bucket(alloc: Global, sources: Vec<Source>) -> Result<Vec<Source>, Ou
 }
 
 /// The streams that a bucket gathers, where it copies none whole.
-pub(crate) fn gathered(
-    alloc: Global,
-    sources: Option<Items<Source>>,
-) -> Result<Option<Items<Source>>, OutOfMemory>
-    ensures { IfOk result (λ there. there ≡ gathered sources) }
+pub(crate) fn gathered(alloc: Global, sources: Items<Source>) -> Result<Items<Source>, OutOfMemory>
+    ensures { IfOk result (λ there. there ≡ map of_bucket_in sources) }
 {
-    match sources {
-        None => Ok(None),
-        Some(sources) => Ok(Some(Items::from(each_of_bucket(alloc, sources.into_vec())?))),
-    }
+    Ok(Items::from(each_of_bucket(alloc, sources.into_vec())?))
 }

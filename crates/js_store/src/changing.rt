@@ -156,7 +156,10 @@ impl Outcome<Info, UpdateStreamError> for UpdatingBucket {
         error: UpdateStreamError,
         source: Source,
     ) -> Result<Store, UpdateKeyValueError> {
-        Err(Error::with_source(changes_kind(error.kind()), source))
+        let kind = changes_kind(error.kind());
+        drop(error);
+        drop(self);
+        Err(Error::with_source(kind, source))
     }
 }
 
@@ -193,9 +196,11 @@ impl Outcome<Info, CreateStreamError> for PuttingBucket {
 
     fn refuse(
         self,
-        _error: CreateStreamError,
+        error: CreateStreamError,
         source: Source,
     ) -> Result<Store, CreateKeyValueError> {
+        drop(error);
+        drop(self);
         Err(Error::with_source(CreateKeyValueErrorKind::JetStream, source))
     }
 }

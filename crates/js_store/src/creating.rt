@@ -71,7 +71,10 @@ impl Outcome<StreamHandle<Info>, CreateStreamError> for CreatingBucket {
         error: CreateStreamError,
         source: Source,
     ) -> Result<Store, CreateKeyValueError> {
-        Err(Error::with_source(creates_kind(error.kind()), source))
+        let kind = creates_kind(error.kind());
+        drop(error);
+        drop(self);
+        Err(Error::with_source(kind, source))
     }
 }
 

@@ -45,9 +45,11 @@ impl Outcome<DeleteStatus, DeleteStreamError> for DeletingBucket {
 
     fn refuse(
         self,
-        _error: DeleteStreamError,
+        error: DeleteStreamError,
         source: Source,
     ) -> Result<DeleteStatus, KeyValueError> {
+        drop(error);
+        drop(self);
         Err(Error::with_source(KeyValueErrorKind::JetStream, source))
     }
 }

@@ -74,7 +74,9 @@ impl Outcome<StreamHandle<Info>, GetStreamError> for GettingBucket {
         unless(keeps_nothing, store_of(self.bucket, needs, given))
     }
 
-    fn refuse(self, _error: GetStreamError, source: Source) -> Result<Store, KeyValueError> {
+    fn refuse(self, error: GetStreamError, source: Source) -> Result<Store, KeyValueError> {
+        drop(error);
+        drop(self);
         Err(Error::with_source(KeyValueErrorKind::GetBucket, source))
     }
 }

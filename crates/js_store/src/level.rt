@@ -44,10 +44,13 @@ impl Outcome<Account, AccountError> for AskingLevel {
     }
 
     fn accept(self, given: Account, _needs: ()) -> Result<u64, Refused> {
-        Ok(given.requests.level)
+        let level = given.requests.level;
+        drop(given);
+        Ok(level)
     }
 
-    fn refuse(self, _error: AccountError, source: Source) -> Result<u64, Refused> {
+    fn refuse(self, error: AccountError, source: Source) -> Result<u64, Refused> {
+        drop(error);
         Err(Refused {
             refusal: Refusal::JetStream,
             source: Some(source),

@@ -71,9 +71,11 @@ impl Outcome<StreamHandle<Info>, GetStreamError> for GettingObjects {
 
     fn refuse(
         self,
-        _error: GetStreamError,
+        error: GetStreamError,
         source: Source,
     ) -> Result<ObjectStore, ObjectStoreError> {
+        drop(error);
+        drop(self);
         Err(Error::with_source(ObjectStoreErrorKind::GetStore, source))
     }
 }
@@ -153,9 +155,11 @@ impl Outcome<StreamHandle<Info>, CreateStreamError> for CreatingObjects {
 
     fn refuse(
         self,
-        _error: CreateStreamError,
+        error: CreateStreamError,
         source: Source,
     ) -> Result<ObjectStore, CreateObjectStoreError> {
+        drop(error);
+        drop(self);
         Err(Error::with_source(CreateObjectStoreErrorKind::BucketCreate, source))
     }
 }
@@ -202,7 +206,8 @@ impl Outcome<DeleteStatus, DeleteStreamError> for DeletingObjects {
         Ok(())
     }
 
-    fn refuse(self, _error: DeleteStreamError, source: Source) -> Result<(), DeleteObjectStore> {
+    fn refuse(self, error: DeleteStreamError, source: Source) -> Result<(), DeleteObjectStore> {
+        drop(error);
         Err(Error::with_source(ObjectStoreErrorKind::GetStore, source))
     }
 }

@@ -141,6 +141,7 @@ impl<S: State<Answer = Result<X, E>>, X: Drop, E: ToSource, M: Outcome<X, E>> St
 
     fn poll<L: Link>(self, alloc: Global, link: &mut L, now: Moment) -> Turn<Self, Self::Answer> {
         if let Some(answer) = self.api_call.refusal() {
+            drop(self);
             return Turn::Ready(answer);
         }
         let BucketCall { api_call, stage } = self;
