@@ -1,4 +1,4 @@
-//! Tests of the calls over a link: requests, the calls on streams and consumers, lists, and contexts that ask and publish.
+//! Tests of the calls over a link: requests, the calls on streams and consumers, lists, and contexts that ask and publish, and buckets.
 #![tactic(auto)]
 
 #[cfg(test)]
@@ -23,6 +23,8 @@ mod publishing;
 mod requests;
 #[cfg(test)]
 mod server;
+#[cfg(test)]
+mod stores;
 #[cfg(test)]
 mod stream_calls;
 #[cfg(test)]

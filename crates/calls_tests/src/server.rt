@@ -48,11 +48,11 @@ pub(crate) fn message(alloc: Global, reply: Reply) -> Result<Message, OutOfMemor
 }
 
 /// A server that answers nothing.
-fn silent(alloc: Global) -> Result<ScriptedServer, OutOfMemory> {
+pub(crate) fn silent(alloc: Global) -> Result<ScriptedServer, OutOfMemory> {
     Ok(ScriptedServer::new(alloc, MemoryLink::new(alloc, "_INBOX.t")?))
 }
 
-fn scripted(
+pub(crate) fn scripted(
     alloc: Global,
     server: &mut ScriptedServer,
     asked: Asked,

@@ -1,8 +1,10 @@
 //! Calls on buckets of keys, and on the account.
 
-use crate::script::{Asked, Reply};
-use crate::server::{Case, Row, Words, context, polled, polled_twice, says_each, serving};
+use crate::server::polled;
+use crate::stores::script::{Asked, Reply};
+use crate::stores::server::{ContextCase, Row, context, polled_twice, says_each, serving};
 use crate::tables::says;
+use crate::words::Words;
 use js_base::{OutOfMemory, Text};
 use js_context::Context;
 use js_link::ScriptedServer;
@@ -66,7 +68,7 @@ fn queried(alloc: Global, context: &Context, server: &mut ScriptedServer) -> Wor
     polled(alloc, server, context.query_account(alloc))
 }
 
-impl Case for Call {
+impl ContextCase for Call {
     fn told(self, alloc: Global, context: &Context, server: &mut ScriptedServer) -> Words {
         match self {
             Call::Account => queried(alloc, context, server),
@@ -271,5 +273,5 @@ fn late(alloc: Global, context: &Context) -> Words {
 fn a_stream_that_is_not_made_in_time_is_told(rt: HostRuntime) {
     let context = context(&rt, rt.alloc(), "$JS.API").expect(&rt, "context");
     let wanted = "timed out: jetstream request timed out: timed out";
-    says(&rt, late(rt.alloc(), &context), wanted);
+    says(&rt, wanted, late(rt.alloc(), &context), wanted);
 }

@@ -95,14 +95,19 @@ pub(crate) enum Reply {
 }
 
 impl Reply {
-    pub(crate) fn status(self) -> Option<StatusCode> {
+    /// Its status and its body.
+    pub(crate) fn parts(self) -> (Option<StatusCode>, &'static str) {
+        (self.status(), self.text())
+    }
+
+    fn status(self) -> Option<StatusCode> {
         match self {
             Reply::Nobody => Some(StatusCode(503)),
             _ => None,
         }
     }
 
-    pub(crate) fn text(self) -> &'static str {
+    fn text(self) -> &'static str {
         match self {
             Reply::Nobody => "",
             Reply::Absent => r#"{"error":{"code":404,"err_code":10059}}"#,

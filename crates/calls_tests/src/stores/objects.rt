@@ -1,7 +1,9 @@
 //! Calls on buckets of objects.
 
-use crate::script::{Asked, Reply};
-use crate::server::{Case, Row, Words, context, polled, says_each};
+use crate::server::polled;
+use crate::stores::script::{Asked, Reply};
+use crate::stores::server::{ContextCase, Row, context, says_each};
+use crate::words::Words;
 use js_base::{OutOfMemory, Text};
 use js_context::Context;
 use js_link::ScriptedServer;
@@ -37,7 +39,7 @@ fn removed(alloc: Global, context: &Context, server: &mut ScriptedServer, bucket
     polled(alloc, server, context.delete_object_store(alloc, bucket))
 }
 
-impl Case for Call {
+impl ContextCase for Call {
     fn told(self, alloc: Global, context: &Context, server: &mut ScriptedServer) -> Words {
         match self {
             Call::Create(bucket) => created(alloc, context, server, bucket),
