@@ -15,8 +15,8 @@ use Rattle.js_project.specs.Table.{last_sequence}
 use Rattle.js_relay.specs.Copied.{IsCopy}
 use Rattle.js_relay.specs.Handed.{handed}
 use Rattle.js_relay.proofs.Shown.{shows_each_log}
-use Rattle.js_relay_text.specs.ReadsBack.{IsText}
-use Rattle.js_relay_text.proofs.TranscriptsRead.{IsTextMessage, texts_are}
+use Rattle.js_words.specs.ReadsBack.{IsText}
+use Rattle.js_words.proofs.TranscriptsRead.{IsTextMessage, texts_are}
 use Rattle.js_table.specs.declared.run.ReplayError.{ReplayError}
 use Rattle.js_table.specs.Gapless as gapless
 use Rattle.js_table.specs.Gapless.{yields, all_outputs}

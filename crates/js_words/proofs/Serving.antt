@@ -7,8 +7,8 @@ use Rattle.js_mirror.specs.declared.error.MirrorError.{MirrorError}
 use Rattle.js_mirror.specs.declared.error.MirrorError.TheVariants.{NotRising, StartDiffers, Conflict, OutOfMemory}
 use Rattle.js_mirror.specs.Causes.{HasPushCause}
 use Rattle.js_mirror.specs.Mirrored.{Mirrored, last_sequence}
-use Rattle.js_relay_text.specs.ReadsBack.{ReadsAs, ReplaysTo, StaysHonestIn, relay_transcript}
-use Rattle.js_relay_text.specs.RelayText.{relay_text}
+use Rattle.js_words.specs.ReadsBack.{ReadsAs, ReplaysTo, StaysHonestIn, relay_transcript}
+use Rattle.js_words.specs.RelayText.{relay_text}
 use Rattle.js_table.specs.declared.setup.OrderedSetup.{OrderedSetup}
 use Rattle.js_table.specs.declared.run.ReplayError.{ReplayError}
 use Rattle.js_table.specs.Texts.{config_of}

@@ -3,7 +3,7 @@ use Rattle.std.specs.Prelude.{ℕ, ◌+◌, ◌-◌, nat_lt, List, [], ◌∷◌
 use Rattle.serde_json.specs.Data.{string}
 use Rattle.js_base.specs.declared.message.Entry.{Entry}
 use Rattle.js_project.specs.Table.{up_to, last_sequence, table, matched}
-use Rattle.js_relay_text.specs.RelayText.{relay_text}
+use Rattle.js_words.specs.RelayText.{relay_text}
 use Rattle.js_table.specs.declared.setup.OrderedSetup.{OrderedSetup}
 use Rattle.js_table.specs.Texts.{config_of}
 use Rattle.js_tool.specs.Texts.{line_text, count}

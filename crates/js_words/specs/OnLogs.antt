@@ -5,7 +5,7 @@ use Rattle.js_log_table.specs.Honest.{matching_between, AreOvertaken}
 use Rattle.js_mirror.specs.Mirrored.{Mirrored, IsMirror}
 use Rattle.js_project.specs.Table.{last_sequence, table, matched}
 use Rattle.js_relay.specs.Copied.{ShowsLog, server_of}
-use Rattle.js_relay_text.specs.ReadsBack.{ReadsAs}
+use Rattle.js_words.specs.ReadsBack.{ReadsAs}
 use Rattle.js_table.specs.declared.run.Run.{Run}
 use Rattle.js_table.specs.declared.setup.OrderedSetup.{OrderedSetup}
 use Rattle.js_table.specs.Gapless.{Logged, Server, IsHonest}

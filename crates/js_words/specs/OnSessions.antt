@@ -4,11 +4,11 @@ use Rattle.std.specs.Io.KnownBytes.{Appends}
 use Rattle.js_bookmark.specs.declared.session.Session.{Session}
 use Rattle.js_bookmark.specs.Joined.{AreServed, LeaveNoGap}
 use Rattle.js_bookmark.specs.Sessions.{refuse_sessions}
-use Rattle.js_sessions.specs.declared.report.SessionsReport.{SessionsReport}
-use Rattle.js_sessions.specs.declared.report.SessionsReport.TheVariants as made
-use Rattle.js_sessions.specs.Reports as reports
-use Rattle.js_sessions.specs.SessionLines as lines
-use Rattle.js_sessions.specs.SessionTexts.{sessions_text}
+use Rattle.js_words.specs.declared.sessions.report.SessionsReport.{SessionsReport}
+use Rattle.js_words.specs.declared.sessions.report.SessionsReport.TheVariants as made
+use Rattle.js_words.specs.SessionReports as reports
+use Rattle.js_words.specs.SessionLines as lines
+use Rattle.js_words.specs.SessionTexts.{sessions_text}
 use Rattle.js_table.specs.Gapless.{Logged, Server}
 use Rattle.js_tool.specs.declared.status.Status.{Status}
 use Rattle.js_words.specs.declared.report.Report.{Report}

@@ -11,6 +11,7 @@ mod relay;
 mod report;
 mod sessions;
 mod telling;
+mod transcript;
 
 pub use command::{LogCommand, bookmark_of, log_command_of};
 pub use gathering::Ending;

@@ -5,7 +5,7 @@ ghost use Rattle.std.specs.Io.KnownBytes.{Keeps};
 ghost use Rattle.js_io.specs.Causes.{Rose};
 ghost use Rattle.js_tool.specs.Commands.{Replay, Generate, Info, Window, command_of as command_in};
 ghost use Rattle.js_tool.specs.Program.{AnswersReplay, AnswersGenerate, AnswersInfo, AnswersWindow, FirstUnread, SaysNothing, without_threads};
-ghost use Rattle.js_sessions.specs.SessionLines.{sessions as sessions_in};
+ghost use Rattle.js_words.specs.SessionLines.{sessions as sessions_in};
 ghost use Rattle.js_words.specs.Commands.{Wanted, Project, Mirror, Relay, bookmark_of as bookmark_in, wanted_of};
 ghost use Rattle.js_words.specs.OnLogs.{WritesLogsTable, WritesLogsMirror, WritesLogsRelay};
 ghost use Rattle.js_words.specs.OnSessions.{AnswersSessions, WritesLogsSessions};

@@ -9,10 +9,10 @@ ghost use Rattle.js_words.specs.Reports.{Fills, unless_falling};
 ghost use Rattle.js_words.specs.Served.{Serves};
 
 use crate::report::{Report, done, not_rising};
+use crate::transcript::relay_text;
 use js_base::{Entry, Items, OutOfMemory};
 use js_mirror::{Mirror, MirrorError};
 use js_ordered::OrderedSetup;
-use js_relay_text::relay_text;
 use std::alloc::Global;
 
 /// The transcript of a consumer with this name, of the stream with this name, that is sent the messages from a start on. It

@@ -1,14 +1,20 @@
-//! What the word `sessions` makes of the lines of sessions.
+//! What the word `sessions` makes of the lines of sessions. They are read one after another, replayed, and written as text.
 
 ghost use Rattle.std.specs.Prelude.{◌≡◌};
-ghost use Rattle.js_sessions.specs.SessionLines.{sessions as sessions_in};
+ghost use Rattle.js_words.specs.SessionLines.{sessions as sessions_in};
 ghost use Rattle.js_words.specs.OnSessions.{as_report as as_report_in, report_of, Joins};
 ghost use Rattle.js_words.specs.Reports.{Reports};
 
+mod line;
+mod reader;
+mod refusal;
+mod report;
+mod session;
+
 use crate::report::Report;
 use js_io::Pieces;
-use js_sessions::{SessionsReport, sessions_report};
 use js_tool::Unread;
+use report::{SessionsReport, sessions_report};
 use std::alloc::Global;
 
 fn as_report(made: SessionsReport) -> Report

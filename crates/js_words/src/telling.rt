@@ -3,7 +3,7 @@
 ghost use Rattle.std.specs.Prelude.{◌≡◌, ◌<◌, ℕ, length, IfSome, Err};
 ghost use Rattle.std.specs.Io.KnownBytes.{Keeps};
 ghost use Rattle.js_io.specs.Causes.{Rose};
-ghost use Rattle.js_sessions.specs.SessionLines.{sessions};
+ghost use Rattle.js_words.specs.SessionLines.{sessions};
 ghost use Rattle.js_tool.specs.Program.{FirstUnread, SaysNothing};
 ghost use Rattle.js_words.specs.Commands.{HasNames, wanted};
 ghost use Rattle.js_words.specs.OnSessions.{AnswersSessions};

@@ -1,4 +1,4 @@
-use Rattle.js_sessions.specs.SessionLines.{sessions}
+use Rattle.js_words.specs.SessionLines.{sessions}
 use Rattle.js_words.proofs.Joining.{sessions_reported}
 use Rattle.js_words.proofs.sessions.report_on_sessions.Goals as goal
 

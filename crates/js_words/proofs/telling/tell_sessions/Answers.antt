@@ -1,5 +1,5 @@
 use Rattle.std.proofs.Common.{Err, ap}
-use Rattle.js_sessions.specs.SessionLines.{sessions}
+use Rattle.js_words.specs.SessionLines.{sessions}
 use Rattle.js_tool.proofs.Called.{told}
 use Rattle.js_words.specs.OnSessions.{report_of, Joins}
 use Rattle.js_words.specs.Told.{IsFirstUnread}
