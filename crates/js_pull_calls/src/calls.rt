@@ -7,14 +7,12 @@ ghost use Rattle.js_pull_calls.specs.Requests.{RequestsBatch, request_fault};
 ghost use Rattle.js_pull_calls.specs.Sequences.{OpensSequence};
 ghost use Rattle.js_pull_calls.specs.Streams.{OpensMessages};
 
-use crate::batch_builder::BatchBuilder;
+use crate::builder::{BatchBuilder, Builder, FetchBuilder, StreamBuilder};
 use crate::error::{BatchError, BatchRequestError, BatchRequestErrorKind, StreamError};
-use crate::fetch_builder::FetchBuilder;
 use crate::request::PullRequest;
 use crate::sequence::Sequence;
 use crate::settings::{BuilderKind, Settings, defaults_of};
 use crate::stream::Stream;
-use crate::stream_builder::StreamBuilder;
 use js_base::{Error, OutOfMemory};
 use js_consumer_calls::PullConsumer;
 use js_json::pull::BatchConfig;
@@ -96,15 +94,15 @@ impl PullCalls for PullConsumer {
     }
 
     fn stream(&self) -> StreamBuilder<'_> {
-        StreamBuilder::new(self)
+        Builder::new(self)
     }
 
     fn fetch(&self) -> FetchBuilder<'_> {
-        FetchBuilder::new(self)
+        Builder::new(self)
     }
 
     fn batch(&self) -> BatchBuilder<'_> {
-        BatchBuilder::new(self)
+        Builder::new(self)
     }
 
     fn sequence(&self, alloc: Global, batch: u64) -> Result<Sequence, BatchError> {

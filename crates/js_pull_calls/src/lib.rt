@@ -4,28 +4,25 @@
 #![tactic(auto)]
 
 mod batch;
-mod batch_builder;
 mod batch_item;
+mod builder;
 mod calls;
 mod error;
-mod fetch_builder;
 mod known;
 mod opening;
 mod request;
 mod sequence;
 mod settings;
 mod stream;
-mod stream_builder;
 
 pub use batch::{Batch, batches_keep_their_number, ended_batches_stay_ended};
-pub use batch_builder::BatchBuilder;
 pub use batch_item::BatchItemError;
+pub use builder::{BatchBuilder, Builder, FetchBuilder, StreamBuilder};
 pub use calls::PullCalls;
 pub use error::{
     BatchError, BatchErrorKind, BatchRequestError, BatchRequestErrorKind, StreamError,
     StreamErrorKind,
 };
-pub use fetch_builder::FetchBuilder;
 pub use js_message::Message;
 pub use js_pull::MessagesErrorKind;
 pub use js_pull_stream::MessagesError;
@@ -33,4 +30,3 @@ pub use known::message_timeout;
 pub use sequence::Sequence;
 pub use settings::defaults_keep_limits;
 pub use stream::{Stream, stream_refusal};
-pub use stream_builder::StreamBuilder;

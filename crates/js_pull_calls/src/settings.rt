@@ -28,7 +28,7 @@ pub(crate) struct Settings {
 
 /// The rows of the table of builders.
 #[derive(Clone, Copy)]
-pub(crate) enum BuilderKind {
+pub enum BuilderKind {
     Streams,
     Fetches,
     Batches,
