@@ -1,17 +1,14 @@
 -- The report on sessions that have all ended, or that are refused.
-use Rattle.std.proofs.Common.{◌≡◌, ℕ, ◌+◌, List, [], ◌∷◌, ◌++◌, length, Some, None, refl, sym, ap, ◌∙◌, subst, append_assoc}
+use Rattle.std.proofs.Common.{◌≡◌, ℕ, List, [], ◌∷◌, ◌++◌, length, Some, None, refl, sym, ap, ◌∙◌, subst, append_assoc}
 use Rattle.std.specs.Prelude.{Result, Ok, Err}
 use Rattle.js_bookmark.specs.declared.error.SessionsError.{SessionsError}
 use Rattle.js_bookmark.specs.declared.error.SessionsError.TheVariants as error
 use Rattle.js_bookmark.specs.declared.session.Line.{Line}
 use Rattle.js_bookmark.specs.declared.session.Session.{Session}
-use Rattle.js_bookmark.specs.Joined.{AreServed, LeaveNoGap}
-use Rattle.js_bookmark.specs.Lines.{bookmark}
 use Rattle.js_bookmark.specs.Sessions.{all_committed, refuse_sessions, IsRefusal}
 use Rattle.js_bookmark.proofs.Joining.{sessions_leave_no_gap}
 use Rattle.js_bookmark.proofs.Refusing.{refusal_stays}
 use Rattle.js_lines.specs.Lines.{lines_of}
-use Rattle.js_table.specs.Gapless.{Logged, Server}
 use Rattle.js_tool.specs.declared.transcript.Unread.{Unread}
 use Rattle.js_tool.specs.declared.transcript.Unread.TheVariants as unread
 use Rattle.js_tool.specs.declared.transcript.setup.Setup.{Setup}

@@ -1,8 +1,7 @@
 -- One session more, and all of them.
-use Rattle.std.proofs.Common.{◌≡◌, ℕ, ◌<◌, List, [], ◌∷◌, ◌++◌, length, Option, Some, None, IfOk, refl, sym, ap, ◌∙◌, subst}
+use Rattle.std.proofs.Common.{◌≡◌, ℕ, List, [], ◌∷◌, ◌++◌, Option, Some, None, IfOk, refl, sym, ◌∙◌, subst}
 use Rattle.std.specs.Prelude.{Result, Ok, Err}
 use Rattle.js_bookmark.specs.declared.error.SessionsError.{SessionsError}
-use Rattle.js_bookmark.specs.declared.error.SessionsError.TheVariants as error
 use Rattle.js_bookmark.specs.declared.session.Session.{Session}
 use Rattle.js_tool.specs.declared.transcript.Unread.{Unread}
 use Rattle.js_tool.specs.declared.transcript.Unread.TheVariants as unread

@@ -1,5 +1,5 @@
 -- The text of sessions as it grows.
-use Rattle.std.proofs.Common.{◌≡◌, ℕ, ◌+◌, Bool, List, [], ◌∷◌, ◌++◌, length, flat_map, refl, sym, ap, ◌∙◌, subst, append_assoc, append-nil}
+use Rattle.std.proofs.Common.{◌≡◌, ℕ, Bool, List, [], ◌∷◌, ◌++◌, length, flat_map, sym, ap, ◌∙◌, subst, append_assoc, append-nil}
 use Rattle.std.proofs.lemmas.Grind.{flat_map-append}
 use Rattle.js_ordered.specs.IncrementalReplay.{last}
 use Rattle.js_table.specs.declared.consumer.ReplayInput.{ReplayInput}
@@ -21,9 +21,8 @@ use Rattle.js_tool.specs.declared.transcript.setup.Setup.{Setup}
 use Rattle.js_tool.specs.Progress.{text_so_far}
 use Rattle.js_tool.specs.Texts.{output_text, last_line, run_text}
 use Rattle.js_tool.proofs.Passing.{text_first, text_on, text_ends}
-use Rattle.js_words.specs.declared.sessions.session.EndedText.{EndedText}
 use Rattle.js_words.specs.declared.sessions.session.SessionText.{SessionText}
-use Rattle.js_words.specs.Passing.{HasText, HaveText}
+use Rattle.js_words.specs.Passing.{HasText}
 use Rattle.js_words.specs.SessionLines.{session_of}
 use Rattle.js_words.specs.SessionTexts.{bookmark_text, session_text, texts}
 

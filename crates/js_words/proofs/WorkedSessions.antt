@@ -1,5 +1,5 @@
 -- Worked examples, which the definitions compute.
-use Rattle.std.specs.Prelude.{◌≡◌, List, [], ◌∷◌, codes, true, false, refl}
+use Rattle.std.specs.Prelude.{◌≡◌, [], ◌∷◌, codes, true, false, refl}
 use Rattle.serde_json.specs.Data.{boolean, string, object, member, no_members}
 use Rattle.js_bookmark.specs.declared.error.SessionsError.TheVariants as error
 use Rattle.js_bookmark.specs.declared.session.Line.TheVariants as line
