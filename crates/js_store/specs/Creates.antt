@@ -3,8 +3,8 @@ use Rattle.std.specs.Prelude.{◌≡◌, None, Result, Ok, Err}
 use Rattle.std.specs.Option.{is_some}
 use Rattle.js_base.specs.Errors.{caused, kind_of}
 use Rattle.js_base.specs.declared.error.Error.{Error}
-use Rattle.js_buckets.specs.KeyValues.{stream_config}
-use Rattle.js_buckets.specs.declared.kv.Config.{Config}
+use Rattle.js_store.specs.KeyValues.{stream_config}
+use Rattle.js_store.specs.declared.kv.Config.{Config}
 use Rattle.js_stream_json.specs.declared.stream.info.Info.{Info}
 use Rattle.js_call.specs.declared.call.Call.{Call}
 use Rattle.js_call.specs.declared.scope.ApiScope.{ApiScope}

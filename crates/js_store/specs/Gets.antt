@@ -2,8 +2,8 @@
 use Rattle.std.specs.Prelude.{ℕ, pos, int_lt, if◌then◌else◌, Option, Some, None, option_map, List, Result, Ok, Err}
 use Rattle.js_base.specs.Errors.{plain, caused}
 use Rattle.js_base.specs.declared.error.Error.{Error}
-use Rattle.js_buckets.specs.Names.{is_bucket_name}
-use Rattle.js_buckets.specs.Origins.{stream_name}
+use Rattle.js_store.specs.Names.{is_bucket_name}
+use Rattle.js_store.specs.Origins.{stream_name}
 use Rattle.js_stream_json.specs.declared.stream.delete_status.DeleteStatus.{DeleteStatus}
 use Rattle.js_stream_json.specs.declared.stream.info.Info.{Info}
 use Rattle.js_call.specs.declared.call.Call.{Call}

@@ -1,3 +1,7 @@
+pub mod Names
+pub mod Origins
+pub mod KeyValues
+pub mod ObjectStores
 pub mod Errors
 pub mod Tells
 pub mod Places

@@ -3,9 +3,9 @@ use Rattle.std.specs.Prelude.{◌≡◌, pos, int_lt, not, if◌then◌else◌, 
 use Rattle.js_base.specs.Errors.{plain, caused}
 use Rattle.js_base.specs.declared.error.Error.{Error}
 use Rattle.js_base.specs.declared.error.Source.{Source}
-use Rattle.js_buckets.specs.KeyValues.{named}
-use Rattle.js_buckets.specs.Names.{is_bucket_name}
-use Rattle.js_buckets.specs.declared.kv.Config.{Config}
+use Rattle.js_store.specs.KeyValues.{named}
+use Rattle.js_store.specs.Names.{is_bucket_name}
+use Rattle.js_store.specs.declared.kv.Config.{Config}
 use Rattle.js_store.specs.declared.error.CreateKeyValueErrorKind.{CreateKeyValueErrorKind}
 use Rattle.js_store.specs.declared.error.CreateKeyValueErrorKind.TheVariants as creates
 use Rattle.js_store.specs.declared.error.UpdateKeyValueErrorKind.{UpdateKeyValueErrorKind}

@@ -17,8 +17,8 @@ use crate::objects::{
     CreateObjectStore, DeleteObjects, GetObjectStore, create_object_store, delete_object_store,
     get_object_store,
 };
+use crate::{kv, object_store};
 use js_base::OutOfMemory;
-use js_buckets::{kv, object_store};
 use js_context::Context;
 use std::alloc::Global;
 

@@ -1,6 +1,6 @@
 //! The calls that change a bucket of keys.
 ghost use Rattle.std.specs.Prelude.{◌≡◌, IfOk};
-ghost use Rattle.js_buckets.specs.Origins.{stream_name};
+ghost use Rattle.js_store.specs.Origins.{stream_name};
 ghost use Rattle.js_stream_calls.specs.Updates.{Updates};
 ghost use Rattle.js_stream_json.specs.declared.stream.config.Config.{Config};
 ghost use Rattle.js_store.specs.Changes.{changed_names, changed_store, changes_kind, put_row, PutsBucket, PutsStream, update_row, UpdatesBucket, UpdatesStream};
@@ -9,12 +9,12 @@ use crate::config::BucketConfig;
 use crate::error::{
     CreateKeyValueError, CreateKeyValueErrorKind, UpdateKeyValueError, UpdateKeyValueErrorKind,
 };
+use crate::kv;
 use crate::level::{AskLevel, IfAllowed, after_level};
 use crate::outcome::{BucketCall, Outcome};
 use crate::refusal::config_refusal;
 use crate::store::{Store, StoreNames, answered_names, store_of};
 use js_base::{Error, OutOfMemory, Source, Text, TryClone};
-use js_buckets::kv;
 use js_call::{ApiScope, Then};
 use js_stream_calls::{
     CreateOrUpdateStream, CreateStreamError, CreateStreamErrorKind, StreamHandle, UpdateStream,

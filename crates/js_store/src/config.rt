@@ -1,12 +1,12 @@
 //! The configurations of buckets, of which calls are made.
 ghost use Rattle.std.specs.Prelude.{◌≡◌, IfOk, List, ℕ};
-ghost use Rattle.js_buckets.specs.KeyValues.{stream_config as stream_of_keys};
-ghost use Rattle.js_buckets.specs.Objects.{stream_config as stream_of_objects};
+ghost use Rattle.js_store.specs.KeyValues.{stream_config as stream_of_keys};
+ghost use Rattle.js_store.specs.ObjectStores.{stream_config as stream_of_objects};
 ghost use Rattle.js_stream_calls.specs.Creates.{Creates};
 ghost use Rattle.js_stream_json.specs.declared.stream.config.Config.{Config};
 
+use crate::{kv, object_store};
 use js_base::{OutOfMemory, Text, TryClone};
-use js_buckets::{kv, object_store};
 use js_call::ApiScope;
 use js_stream_calls::{CreateStream, create_stream};
 use js_stream_json::stream;

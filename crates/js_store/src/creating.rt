@@ -4,12 +4,12 @@ ghost use Rattle.js_store.specs.Creates.{create_row, creates_kind, CreatesBucket
 
 use crate::config::create_its_stream;
 use crate::error::{CreateKeyValueError, CreateKeyValueErrorKind};
+use crate::kv;
 use crate::level::{AskLevel, IfAllowed, after_level};
 use crate::outcome::{BucketCall, Outcome};
 use crate::refusal::config_refusal;
 use crate::store::{Store, StoreNames, answered_names, store_of};
 use js_base::{Error, OutOfMemory, Source, Text};
-use js_buckets::kv;
 use js_call::{ApiScope, Then};
 use js_stream_calls::{CreateStream, CreateStreamError, CreateStreamErrorKind, StreamHandle};
 use js_stream_json::stream::Info;

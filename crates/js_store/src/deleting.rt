@@ -4,9 +4,9 @@ ghost use Rattle.js_store.specs.Gets.{delete_row, deleting};
 
 use crate::error::{KeyValueError, KeyValueErrorKind};
 use crate::getting::name_refusal;
+use crate::kv;
 use crate::outcome::{BucketCall, Outcome};
 use js_base::{Error, OutOfMemory, Source, Text};
-use js_buckets::kv;
 use js_call::ApiScope;
 use js_stream_calls::{DeleteStream, DeleteStreamError, delete_stream};
 use js_stream_json::DeleteStatus;

@@ -1,22 +1,30 @@
-//! Buckets of keys and of objects, which a context gets, makes, changes and deletes.
+//! Buckets of keys and of objects: how they are configured, which stream each of them is, and the calls by which a context gets, makes, changes
+//! and deletes them.
 //!
-//! A call on a bucket stands on a call on the stream that the bucket is (NATS ADR-8 and ADR-20). Its state is polled as those of a context.
-//! What is done with the values of a bucket is not here: a [`Store`] says where they are.
+//! A bucket is a stream whose name, subjects and limits follow from the bucket's configuration (NATS ADR-8 for keys, ADR-20 for objects). A call on a
+//! bucket stands on a call on that stream, and its state is polled as those of a context. What is done with the values of a bucket is not here:
+//! a [`Store`] says where they are.
 #![tactic(auto)]
 
 mod calls;
 mod changing;
 mod config;
+mod copies;
 mod creating;
 mod deleting;
 mod error;
 mod getting;
+pub mod kv;
 mod level;
+mod name;
+pub mod object_store;
 mod objects;
+mod origins;
 mod outcome;
 mod places;
 mod refusal;
 mod store;
+mod stream;
 mod to_source;
 
 pub use calls::StoreCalls;
@@ -33,8 +41,8 @@ pub use error::{
     UpdateKeyValueErrorKind,
 };
 pub use getting::{GetKeyValue, GettingBucket, get_key_value};
-pub use js_buckets::{is_valid_bucket_name, kv, object_store};
 pub use level::{AskLevel, AskingLevel, IfAllowed};
+pub use name::is_valid_bucket_name;
 pub use objects::{
     CreateObjectStore, CreatingObjects, DeleteObjects, DeletingObjects, GetObjectStore,
     GettingObjects, create_object_store, delete_object_store, get_object_store,

@@ -9,8 +9,8 @@ use crate::error::{
 };
 use crate::outcome::{BucketCall, Outcome};
 use crate::store::ObjectStore;
+use crate::{is_valid_bucket_name, object_store};
 use js_base::{Error, OutOfMemory, Source, Text};
-use js_buckets::{is_valid_bucket_name, object_store};
 use js_call::ApiScope;
 use js_stream_calls::{
     CreateStream, CreateStreamError, DeleteStream, DeleteStreamError, GetStream, GetStreamError,

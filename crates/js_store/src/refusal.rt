@@ -4,8 +4,8 @@ ghost use Rattle.js_store.specs.declared.refusal.Refusal.{Refusal};
 ghost use Rattle.js_store.specs.Refusals.{config_refusal as refusal_in, create_refusal, error_of, error_with, update_refusal};
 
 use crate::error::{CreateKeyValueErrorKind, UpdateKeyValueErrorKind};
+use crate::{is_valid_bucket_name, kv};
 use js_base::{Error, Source};
-use js_buckets::{is_valid_bucket_name, kv};
 
 /// Why the stream of a bucket is not asked for.
 #[derive(Clone, Copy)]

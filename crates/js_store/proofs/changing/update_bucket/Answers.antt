@@ -1,5 +1,5 @@
 use Rattle.std.proofs.Common.{◌≡◌}
-use Rattle.js_buckets.specs.KeyValues.{stream_config}
+use Rattle.js_store.specs.KeyValues.{stream_config}
 use Rattle.js_store.specs.Changes.{changed_bucket}
 use Rattle.js_store.proofs.changing.update_bucket.Goals as goal
 

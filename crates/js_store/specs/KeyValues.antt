@@ -8,9 +8,9 @@ use Rattle.js_stream_json.specs.declared.stream.policies.Compression.TheVariants
 use Rattle.js_stream_json.specs.declared.stream.policies.DiscardPolicy.TheVariants.{New}
 use Rattle.js_stream_json.specs.declared.stream.policies.StorageType.TheVariants.{File}
 use Rattle.js_stream_json.specs.declared.stream.source.Source.{Source}
-use Rattle.js_buckets.specs.declared.kv.Config.{Config}
-use Rattle.js_buckets.specs.declared.kv.Origins.{Origins}
-use Rattle.js_buckets.specs.Origins.{stream_name, mirrored, gathered}
+use Rattle.js_store.specs.declared.kv.Config.{Config}
+use Rattle.js_store.specs.declared.kv.Origins.{Origins}
+use Rattle.js_store.specs.Origins.{stream_name, mirrored, gathered}
 
 -- every field is 0, false, empty, none or its enum's default
 abbrev pub new_config : Config

@@ -1,6 +1,6 @@
 //! The streams of other buckets that a bucket of keys copies.
 ghost use Rattle.std.specs.Prelude.{◌≡◌, IfOk, map, string_bytes};
-ghost use Rattle.js_buckets.specs.Origins.{stream_name as stream_name_in, begins_as_stream, as_stream_name, of_bucket as of_bucket_in};
+ghost use Rattle.js_store.specs.Origins.{stream_name as stream_name_in, begins_as_stream, as_stream_name, of_bucket as of_bucket_in};
 
 use js_base::{Items, OutOfMemory, Text};
 use js_stream_json::stream::Source;

@@ -4,8 +4,8 @@ use Rattle.js_stream_json.specs.StreamConfig.{new_config as new_stream}
 use Rattle.js_stream_json.specs.declared.stream.config.Config.{Config as StreamConfig}
 use Rattle.js_stream_json.specs.declared.stream.policies.DiscardPolicy.TheVariants.{New}
 use Rattle.js_stream_json.specs.declared.stream.policies.StorageType.TheVariants.{File}
-use Rattle.js_buckets.specs.declared.object_store.Config.{Config}
-use Rattle.js_buckets.specs.KeyValues.{compression_of}
+use Rattle.js_store.specs.declared.object_store.Config.{Config}
+use Rattle.js_store.specs.KeyValues.{compression_of}
 
 -- every field is 0, false, empty, none or its enum's default
 abbrev pub new_config : Config

@@ -1,6 +1,6 @@
 //! Buckets of objects: how they are configured, and which stream one is (NATS ADR-20).
 ghost use Rattle.std.specs.Prelude.{◌≡◌, IfOk, string_bytes};
-ghost use Rattle.js_buckets.specs.Objects.{stream_name as stream_name_in, chunks, metadata, subjects_of as subjects_in, stream_config};
+ghost use Rattle.js_store.specs.ObjectStores.{stream_name as stream_name_in, chunks, metadata, subjects_of as subjects_in, stream_config};
 
 use crate::copies::{both, each_copied};
 use crate::kv::compression_of;
@@ -32,7 +32,7 @@ pub struct Config {
 }
 
 impl Config {
-    ghost use Rattle.js_buckets.specs.Objects.{new_config};
+    ghost use Rattle.js_store.specs.ObjectStores.{new_config};
 
     /// The default, which takes no memory: without a name, kept in files, and without bounds.
     pub fn new(alloc: Global) -> Config

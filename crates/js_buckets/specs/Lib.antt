@@ -1,4 +1,0 @@
-pub mod Names
-pub mod Origins
-pub mod KeyValues
-pub mod Objects
