@@ -7,7 +7,7 @@ use crate::tables::{add_line, says};
 use js_base::{Next, OutOfMemory};
 use js_call::ApiScope;
 use js_link::{Link, ScriptedServer};
-use js_listing::{Listed, Listing, StreamsError, stream_by_subject, stream_names, streams};
+use js_stream_calls::{Listed, Listing, StreamsError, stream_by_subject, stream_names, streams};
 use std::alloc::Global;
 
 /// A page of the names of all streams, from the first, the second or the third on.

@@ -7,13 +7,13 @@ pub use js_context::{
     BuildError, ClientProvider, Context, ContextBuilder, No, Publisher, RequestSender, Requester,
     TimeoutProvider, ToAssign, Yes,
 };
-pub use js_listing::{
-    FindingStream as SearchingStream, GetStreamByNameError, GetStreamByNameErrorKind,
-    StreamBySubject, StreamNames, Streams, StreamsError, StreamsErrorKind,
-};
 pub use js_store::{
     CreateKeyValueError, CreateKeyValueErrorKind, CreateObjectStoreError,
     CreateObjectStoreErrorKind, DeleteObjectStore, DeleteObjectStoreKind, KeyValueError,
     KeyValueErrorKind, ObjectStoreError, ObjectStoreErrorKind, StoreCalls, UpdateKeyValueError,
     UpdateKeyValueErrorKind,
+};
+pub use js_stream_calls::{
+    GetStreamByNameError, GetStreamByNameErrorKind, SearchingStream, StreamBySubject, StreamNames,
+    Streams, StreamsError, StreamsErrorKind,
 };

@@ -1,10 +1,10 @@
 //! The call on the account that a context makes.
 ghost use Rattle.std.specs.Prelude.{◌≡◌, IfOk};
-ghost use Rattle.js_account_calls.specs.Accounts.{querying};
+ghost use Rattle.js_stream_calls.specs.Accounts.{querying};
 
 use crate::context::Context;
-use js_account_calls::{QueryAccount, query_account};
 use js_base::OutOfMemory;
+use js_stream_calls::{QueryAccount, query_account};
 use std::alloc::Global;
 
 impl Context {

@@ -1,11 +1,13 @@
 //! The lists of streams that a context makes.
 ghost use Rattle.std.specs.Prelude.{◌≡◌, IfOk};
-ghost use Rattle.js_listing.specs.Finds.{Finds};
-ghost use Rattle.js_listing.specs.Polls.{fresh};
+ghost use Rattle.js_stream_calls.specs.Finds.{Finds};
+ghost use Rattle.js_stream_calls.specs.Polls.{fresh};
 
 use crate::context::Context;
 use js_base::OutOfMemory;
-use js_listing::{StreamBySubject, StreamNames, Streams, stream_by_subject, stream_names, streams};
+use js_stream_calls::{
+    StreamBySubject, StreamNames, Streams, stream_by_subject, stream_names, streams,
+};
 use std::alloc::Global;
 
 impl Context {

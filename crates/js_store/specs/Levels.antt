@@ -5,9 +5,9 @@ use Rattle.js_base.specs.declared.error.Error.{Error}
 use Rattle.js_json.specs.declared.account.Account.{Account}
 use Rattle.js_call.specs.declared.call.Call.{Call}
 use Rattle.js_call.specs.declared.scope.ApiScope.{ApiScope}
-use Rattle.js_account_calls.specs.Accounts.{querying}
-use Rattle.js_account_calls.specs.declared.error.AccountErrorKind.{AccountErrorKind}
-use Rattle.js_account_calls.specs.declared.query.QueryingAccount.{QueryingAccount}
+use Rattle.js_stream_calls.specs.Accounts.{querying}
+use Rattle.js_stream_calls.specs.declared.account_error.AccountErrorKind.{AccountErrorKind}
+use Rattle.js_stream_calls.specs.declared.account.QueryingAccount.{QueryingAccount}
 use Rattle.js_store.specs.declared.error.CreateKeyValueErrorKind.TheVariants as creates
 use Rattle.js_store.specs.declared.level.AskingLevel.{AskingLevel}
 use Rattle.js_store.specs.declared.outcome.BucketCall.{BucketCall}

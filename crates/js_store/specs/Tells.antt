@@ -12,8 +12,8 @@ use Rattle.js_stream_calls.specs.declared.error.GetStreamErrorKind.{GetStreamErr
 use Rattle.js_stream_calls.specs.declared.error.GetStreamErrorKind.TheVariants as gets
 use Rattle.js_stream_calls.specs.declared.error.CreateStreamErrorKind.{CreateStreamErrorKind}
 use Rattle.js_stream_calls.specs.declared.error.CreateStreamErrorKind.TheVariants as creates
-use Rattle.js_account_calls.specs.Errors.{account_text, account_held}
-use Rattle.js_account_calls.specs.declared.error.AccountErrorKind.{AccountErrorKind}
+use Rattle.js_stream_calls.specs.AccountErrors.{account_text, account_held}
+use Rattle.js_stream_calls.specs.declared.account_error.AccountErrorKind.{AccountErrorKind}
 
 -- a source that the server sent
 abbrev pub described_in : Source → Option Source

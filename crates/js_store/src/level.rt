@@ -6,10 +6,10 @@ ghost use Rattle.js_store.specs.Levels.{asking_level, level_row, refused_with, u
 use crate::outcome::{BucketCall, Outcome};
 use crate::refusal::{OfRefusal, Refusal, Refused};
 use crate::store::Store;
-use js_account_calls::{AccountError, QueryAccount, query_account};
 use js_base::{Error, OutOfMemory, Source};
 use js_call::{ApiScope, Decision, Then};
 use js_json::account::Account;
+use js_stream_calls::{AccountError, QueryAccount, query_account};
 use std::alloc::Global;
 
 /// The row of the call that asks how far the server's API goes.

@@ -3,10 +3,9 @@ ghost use Rattle.std.specs.Prelude.{◌≡◌, IfOk, string_bytes, option_copied
 ghost use Rattle.js_base.specs.declared.error.Source.{Source};
 ghost use Rattle.js_store.specs.Tells.{sent_by, described_in, account_error_text, create_error_text, get_error_text};
 
-use js_account_calls::AccountError;
 use js_base::{Error, OutOfMemory, Source, Text, TryClone};
 use js_codes::errors;
-use js_stream_calls::{CreateStreamError, GetStreamError};
+use js_stream_calls::{AccountError, CreateStreamError, GetStreamError};
 use std::alloc::{AllocError, Global};
 
 /// An error of a call, as the source of the error of one that stands on it.

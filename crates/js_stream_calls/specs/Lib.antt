@@ -7,3 +7,11 @@ pub mod Keeping
 pub mod Gets
 pub mod Creates
 pub mod Updates
+pub mod AccountErrors
+pub mod Accounts
+pub mod Pages
+pub mod Finds
+pub mod Polls
+pub mod Wakes
+pub mod Chain
+pub mod Whole

@@ -1,4 +1,0 @@
-pub mod Firsts
-pub mod Asked
-pub mod Sleeping
-pub mod Wholes

@@ -1,6 +1,0 @@
-pub mod Pages
-pub mod Finds
-pub mod Polls
-pub mod Wakes
-pub mod Chain
-pub mod Whole
