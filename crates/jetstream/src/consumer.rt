@@ -3,14 +3,12 @@ pub mod pull;
 pub mod push;
 
 pub use js_consumer_calls::{
-    Consumer, ConsumerCreateStrictError, ConsumerCreateStrictErrorKind, ConsumerError,
-    ConsumerErrorKind, ConsumerInfoError, ConsumerInfoErrorKind, ConsumerUpdateError,
-    ConsumerUpdateErrorKind, CreateConsumerOnStream, CreateConsumerStrictOnStream,
-    DeleteConsumerFromStream, GetConsumerFromStream, GetInfo, OrderedPullConsumer,
-    OrderedPushConsumer, PullConsumer, PushConsumer, UpdateConsumerOnStream,
-};
-pub use js_consumer_info::{
-    ConsumerCalls, ConsumerResetError, InfoCall, RefreshingConsumer, Reset, ResettingConsumer,
+    Consumer, ConsumerCalls, ConsumerCreateStrictError, ConsumerCreateStrictErrorKind,
+    ConsumerError, ConsumerErrorKind, ConsumerInfoError, ConsumerInfoErrorKind, ConsumerResetError,
+    ConsumerUpdateError, ConsumerUpdateErrorKind, CreateConsumerOnStream,
+    CreateConsumerStrictOnStream, DeleteConsumerFromStream, GetConsumerFromStream, GetInfo,
+    InfoCall, OrderedPullConsumer, OrderedPushConsumer, PullConsumer, PushConsumer,
+    RefreshingConsumer, Reset, ResettingConsumer, UpdateConsumerOnStream,
 };
 pub use js_json::consumer::{
     AckPolicy, Action, ClusterInfo, Config, ConfigError, CreateRequest, DeliverPolicy,

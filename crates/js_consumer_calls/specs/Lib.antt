@@ -8,3 +8,7 @@ pub mod Gets
 pub mod Deletes
 pub mod Creates
 pub mod Written
+pub mod Asking
+pub mod Renewals
+pub mod Refreshes
+pub mod Resets

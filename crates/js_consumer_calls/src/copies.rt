@@ -1,6 +1,6 @@
 //! What the server tells of a consumer, twice.
 ghost use Rattle.std.specs.Prelude.{◌≡◌};
-ghost use Rattle.js_consumer_info.specs.Renewals.{copies_fields};
+ghost use Rattle.js_consumer_calls.specs.Renewals.{copies_fields};
 
 use js_base::{OutOfMemory, TryClone};
 use js_fields::{FromValue, ReadError};

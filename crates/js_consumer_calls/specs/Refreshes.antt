@@ -14,10 +14,10 @@ use Rattle.js_consumer_calls.specs.declared.consumer.Consumer.{Consumer}
 use Rattle.js_consumer_calls.specs.declared.error.ConsumerInfoErrorKind.{ConsumerInfoErrorKind}
 use Rattle.js_consumer_calls.specs.Infos.{info_failure, info_refusal}
 use Rattle.js_consumer_calls.specs.Kinds.{failed}
-use Rattle.js_consumer_info.specs.declared.copies.InfoCopies.{InfoCopies}
-use Rattle.js_consumer_info.specs.declared.refresh.RefreshingConsumer.{RefreshingConsumer}
-use Rattle.js_consumer_info.specs.Asking.{asking_on}
-use Rattle.js_consumer_info.specs.Renewals.{copies_fields, renewed}
+use Rattle.js_consumer_calls.specs.declared.copies.InfoCopies.{InfoCopies}
+use Rattle.js_consumer_calls.specs.declared.refresh.RefreshingConsumer.{RefreshingConsumer}
+use Rattle.js_consumer_calls.specs.Asking.{asking_on}
+use Rattle.js_consumer_calls.specs.Renewals.{copies_fields, renewed}
 
 -- the consumer, and the info or why it was not got
 abbrev pub refreshed : {T : Type 0} → Consumer T → Response InfoCopies → Consumer T × Result Info (Error ConsumerInfoErrorKind)

@@ -1,7 +1,7 @@
 //! Requests on the consumer that an info is of.
 ghost use Rattle.std.specs.Prelude.{◌≡◌, ◌++◌, IfOk, codes, string_bytes};
 ghost use Rattle.std.specs.Fmt.{decimal};
-ghost use Rattle.js_consumer_info.specs.Asking.{asking_on, reset_body};
+ghost use Rattle.js_consumer_calls.specs.Asking.{asking_on, reset_body};
 
 use bytes::Bytes;
 use js_base::OutOfMemory;

@@ -14,10 +14,10 @@ use Rattle.js_consumer_calls.specs.declared.consumer.Consumer.{Consumer}
 use Rattle.js_consumer_calls.specs.declared.error.ConsumerErrorKind.{ConsumerErrorKind}
 use Rattle.js_consumer_calls.specs.declared.error.ConsumerErrorKind.TheVariants.{JetStream}
 use Rattle.js_consumer_calls.specs.Kinds.{consumer_failure, failed, held}
-use Rattle.js_consumer_info.specs.declared.copies.InfoCopies.{InfoCopies}
-use Rattle.js_consumer_info.specs.declared.reset.ResettingConsumer.{ResettingConsumer}
-use Rattle.js_consumer_info.specs.Asking.{asking_on, reset_body}
-use Rattle.js_consumer_info.specs.Renewals.{copies_fields, renewed}
+use Rattle.js_consumer_calls.specs.declared.copies.InfoCopies.{InfoCopies}
+use Rattle.js_consumer_calls.specs.declared.reset.ResettingConsumer.{ResettingConsumer}
+use Rattle.js_consumer_calls.specs.Asking.{asking_on, reset_body}
+use Rattle.js_consumer_calls.specs.Renewals.{copies_fields, renewed}
 
 -- the consumer, and the info once it was reset or why it was not
 abbrev pub was_reset : {T : Type 0} → Consumer T → Response InfoCopies → Consumer T × Result Info (Error ConsumerErrorKind)

@@ -1,12 +1,12 @@
 //! The call that asks what the server knows of a consumer, and keeps it.
 ghost use Rattle.std.specs.Prelude.{◌≡◌};
-ghost use Rattle.js_consumer_info.specs.Refreshes.{refresh_row, refreshed};
+ghost use Rattle.js_consumer_calls.specs.Refreshes.{refresh_row, refreshed};
 
 use crate::copies::InfoCopies;
 use crate::renewed::renewed;
+use crate::{AskingInfo, Consumer, ConsumerInfoError};
 use js_base::Source;
 use js_call::{ApiCall, Call, Failure};
-use js_consumer_calls::{AskingInfo, Consumer, ConsumerInfoError};
 use js_fields::ReadError;
 use js_json::consumer::Info;
 use js_json::{Response, response_as};

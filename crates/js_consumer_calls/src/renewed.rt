@@ -1,10 +1,10 @@
 //! A consumer beside the answer to a call on it.
 ghost use Rattle.std.specs.Prelude.{◌≡◌};
-ghost use Rattle.js_consumer_info.specs.Renewals.{renewed};
+ghost use Rattle.js_consumer_calls.specs.Renewals.{renewed};
 
+use crate::Consumer;
 use crate::copies::InfoCopies;
 use js_base::Error;
-use js_consumer_calls::Consumer;
 use js_json::consumer::Info;
 
 /// The consumer with the info that was told, and the answer. An error leaves the consumer as it was.

@@ -1,12 +1,12 @@
 //! The call that resets a consumer.
 ghost use Rattle.std.specs.Prelude.{◌≡◌};
-ghost use Rattle.js_consumer_info.specs.Resets.{reset_row, was_reset};
+ghost use Rattle.js_consumer_calls.specs.Resets.{reset_row, was_reset};
 
 use crate::copies::InfoCopies;
 use crate::renewed::renewed;
+use crate::{Consumer, ConsumerError, ConsumerErrorKind, CreateKind};
 use js_base::{Error, Source};
 use js_call::{ApiCall, Call, Failure};
-use js_consumer_calls::{Consumer, ConsumerError, ConsumerErrorKind, CreateKind};
 use js_fields::ReadError;
 use js_json::consumer::Info;
 use js_json::{Response, response_as};

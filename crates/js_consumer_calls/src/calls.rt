@@ -1,16 +1,16 @@
 //! The calls of a consumer that hand it back beside their answer.
 ghost use Rattle.std.specs.Prelude.{◌≡◌, IfErr, IfOk};
 ghost use Rattle.js_consumer_calls.specs.declared.consumer.Consumer.{Consumer};
-ghost use Rattle.js_consumer_info.specs.Refreshes.{refresh_request, refreshing};
-ghost use Rattle.js_consumer_info.specs.Resets.{reset_request, resetting};
+ghost use Rattle.js_consumer_calls.specs.Refreshes.{refresh_request, refreshing};
+ghost use Rattle.js_consumer_calls.specs.Resets.{reset_request, resetting};
 
-use crate::ask::{ask_on, reset_body};
+use crate::Consumer;
+use crate::known::{ask_on, reset_body};
 use crate::refresh::{InfoCall, RefreshingConsumer};
 use crate::reset::{Reset, ResettingConsumer};
 use bytes::Bytes;
 use js_base::OutOfMemory;
 use js_call::{Call, RawCall};
-use js_consumer_calls::Consumer;
 use std::alloc::{AllocFailed, Global};
 
 /// The calls of a consumer that ask the server anew, and keep what it tells.

@@ -1,4 +1,0 @@
-pub mod Asking
-pub mod Renewals
-pub mod Refreshes
-pub mod Resets
