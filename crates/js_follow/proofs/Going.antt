@@ -5,7 +5,7 @@ use Rattle.std.proofs.KnownBytes.{Appends-nil}
 use Rattle.std.proofs.Math.Seq.{take-append-add, take-length}
 use Rattle.std.specs.Io.KnownBytes.{Appends}
 use Rattle.js_io.specs.Causes.{Rose, AppendsPrefix}
-use Rattle.js_lines.specs.Lines.{lines_of}
+use Rattle.js_io.specs.Lines.{lines_of}
 use Rattle.js_tool.specs.declared.status.Status.{Status}
 use Rattle.js_tool.specs.declared.status.Status.TheVariants as status
 use Rattle.js_tool.specs.Setups.{setup_line}

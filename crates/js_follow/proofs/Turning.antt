@@ -3,7 +3,7 @@ use Rattle.std.proofs.Common.{◌≡◌, ℕ, List, [], ◌∷◌, ◌++◌, Boo
 use Rattle.std.specs.Prelude.{option_map}
 use Rattle.std.proofs.lemmas.Bool.{false≢true}
 use Rattle.js_io.specs.Causes.{Rose}
-use Rattle.js_lines.specs.Lines.{lines_of}
+use Rattle.js_io.specs.Lines.{lines_of}
 use Rattle.js_tool.specs.declared.status.Status.TheVariants as status
 use Rattle.js_follow.specs.declared.incoming.Incoming.{Incoming}
 use Rattle.js_follow.specs.declared.incoming.Incoming.TheVariants as incoming

@@ -7,7 +7,7 @@ ghost use Rattle.js_tool.specs.Program.{given, IsUnlessFailed};
 ghost use Rattle.js_tool.specs.Setups.{setup_line};
 ghost use Rattle.js_tool.specs.Transcripts.{GivesLines, numbered};
 ghost use Rattle.js_tool.specs.declared.transcript.setup.Setup as setups;
-ghost use Rattle.js_lines.specs.Lines.{lines_of};
+ghost use Rattle.js_io.specs.Lines.{lines_of};
 ghost use Rattle.js_follow.specs.Answered.{IsTold};
 ghost use Rattle.js_follow.specs.Followed.{AnswersLines, HasBegun, HasEnded, HasGone, IsAt, IsCut, IsOver, IsReadStop, IsValidInput, Replies, Stands, StandsOr, TakesTurn, WritesRun, all_lines};
 ghost use Rattle.js_follow.specs.Incoming.{IsNext, lines_left};

@@ -2,7 +2,7 @@
 
 ghost use Rattle.std.specs.Prelude.{◌≡◌, IfSome};
 ghost use Rattle.js_io.specs.Causes.{Rose};
-ghost use Rattle.js_lines.specs.Lines.{lines_of};
+ghost use Rattle.js_io.specs.Lines.{lines_of};
 ghost use Rattle.js_tool.specs.Program.{IsUnlessFailed};
 ghost use Rattle.js_follow.specs.Followed.{AnswersLines, IsValidInput, WritesRun};
 

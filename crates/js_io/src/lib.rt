@@ -1,9 +1,11 @@
-//! Where a program's bytes come from and go to: sources and sinks that count their faults.
+//! Where a program's bytes come from and go to: sources and sinks that count their faults, and bytes cut into lines.
 #![tactic(auto)]
 
+mod cut;
 mod memory;
 mod pieces;
 mod plain;
+mod read;
 mod standard;
 mod whole;
 
@@ -12,9 +14,11 @@ ghost use Rattle.std.specs.Io.{ReadsAtMost, WritesAtMost};
 ghost use Rattle.std.specs.Io.KnownBytes.{ReadConsumes, WriteAppends};
 ghost use Rattle.js_io.specs.Causes.{HasCause, HasWriteCause};
 
+pub use cut::{cut_line, next_piece};
 pub use memory::{MemorySink, MemorySource};
 pub use pieces::Pieces;
 pub use plain::{PlainSink, PlainSource};
+pub use read::Lines;
 pub use standard::{ReadSource, WriteSink};
 pub use whole::{MOST_BYTES, Stop, read_all, write_all};
 

@@ -18,7 +18,7 @@ use Rattle.js_tool.specs.declared.transcript.setup.Setup.{Setup}
 use Rattle.js_tool.specs.declared.transcript.Unread.{Unread}
 use Rattle.js_tool.specs.declared.transcript.Unread.TheVariants as unread
 use Rattle.js_tool.specs.Events.{event_line}
-use Rattle.js_lines.specs.Lines.{lines_of}
+use Rattle.js_io.specs.Lines.{lines_of}
 use Rattle.js_tool.specs.Setups.{setup_line}
 use Rattle.js_tool.specs.Program.{given, IsReply}
 use Rattle.js_tool.specs.Progress.{text_so_far, HasPassed, read_after, PassesTo, StopsOn, IsReplyOn, IsReplyTo}

@@ -6,7 +6,7 @@ use Rattle.js_tool.specs.declared.transcript.setup.Setup.{Setup}
 use Rattle.js_tool.specs.declared.transcript.Transcript.{Transcript}
 use Rattle.js_tool.specs.declared.transcript.Unread.{Unread}
 use Rattle.js_tool.specs.declared.transcript.Unread.TheVariants as unread
-use Rattle.js_lines.specs.Lines.{lines_of}
+use Rattle.js_io.specs.Lines.{lines_of}
 use Rattle.js_tool.specs.Setups.{setup_line}
 use Rattle.js_tool.specs.Events.{event_line}
 

@@ -3,7 +3,7 @@
 ghost use Rattle.std.specs.Prelude.{◌≡◌, ◌≤◌, ◌+◌, ◌++◌, ◌∷◌, [], ℕ, List, length, IfOk, OnOk};
 ghost use Rattle.js_table.specs.declared.consumer.ReplayInput.{ReplayInput};
 ghost use Rattle.js_table.specs.declared.event.Event as events;
-ghost use Rattle.js_lines.specs.Lines.{lines_of};
+ghost use Rattle.js_io.specs.Lines.{lines_of};
 ghost use Rattle.js_tool.specs.Program.{given, IsReply};
 ghost use Rattle.js_tool.specs.Progress.{HasPassed, PassesLines, IsReplyOn, IsReplyTo};
 ghost use Rattle.js_tool.specs.Setups.{setup_line};
@@ -13,8 +13,7 @@ use crate::program::CommandOutcome;
 use crate::text::{push_end, push_outputs, refusal_line};
 use crate::transcript::{Payloads, Setup, Unread, first_line, next_line};
 use js_base::OutOfMemory;
-use js_io::Pieces;
-use js_lines::{cut_line, next_piece};
+use js_io::{Pieces, cut_line, next_piece};
 use js_ordered::{Event, IncrementalReplay};
 use std::alloc::{AllocError, Global};
 

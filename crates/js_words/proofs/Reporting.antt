@@ -8,7 +8,7 @@ use Rattle.js_bookmark.specs.declared.session.Session.{Session}
 use Rattle.js_bookmark.specs.Sessions.{all_committed, refuse_sessions, IsRefusal}
 use Rattle.js_bookmark.proofs.Joining.{sessions_leave_no_gap}
 use Rattle.js_bookmark.proofs.Refusing.{refusal_stays}
-use Rattle.js_lines.specs.Lines.{lines_of}
+use Rattle.js_io.specs.Lines.{lines_of}
 use Rattle.js_tool.specs.declared.transcript.Unread.{Unread}
 use Rattle.js_tool.specs.declared.transcript.Unread.TheVariants as unread
 use Rattle.js_tool.specs.declared.transcript.setup.Setup.{Setup}

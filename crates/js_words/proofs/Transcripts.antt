@@ -9,7 +9,7 @@ use Rattle.js_base.specs.declared.message.Entry as base
 use Rattle.js_codes.specs.Names.{is_name}
 use Rattle.js_json.specs.declared.consumer.info.Info.{Info}
 use Rattle.js_json.specs.declared.pull.OrderedConfig.{OrderedConfig}
-use Rattle.js_lines.specs.Lines.{lines_of}
+use Rattle.js_io.specs.Lines.{lines_of}
 use Rattle.js_mirror.specs.Mirrored.{Mirrored, IsMirror}
 use Rattle.js_table.specs.declared.consumer.ReplayInput.{ReplayInput}
 use Rattle.js_table.specs.declared.event.Event.{Event}

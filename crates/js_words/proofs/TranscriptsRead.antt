@@ -21,7 +21,7 @@ use Rattle.js_json.specs.declared.push.OrderedConfig.{OrderedConfig}
 use Rattle.js_json.specs.ConsumerConfig.{config_fields}
 use Rattle.js_json.specs.ConsumerInfo.{info_fields}
 use Rattle.js_json.specs.Conversions.{where_delivered}
-use Rattle.js_lines.specs.Lines.{lines_of}
+use Rattle.js_io.specs.Lines.{lines_of}
 use Rattle.js_table.specs.declared.event.Event.{Event}
 use Rattle.js_table.specs.declared.event.EventKind.{EventKind}
 use Rattle.js_table.specs.declared.event.EventKind.TheVariants as what

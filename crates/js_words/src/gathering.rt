@@ -9,7 +9,7 @@ ghost use Rattle.js_tool.specs.Transcripts.{with_lines};
 ghost use Rattle.js_words.specs.Gathered.{HasGathered, PassesLines, Gathers, ending_of};
 
 use js_base::{Entry, Items, OutOfMemory};
-use js_lines::Lines;
+use js_io::Lines;
 use js_log_table::entry_of;
 use js_ordered::{Event, IncrementalReplay, Output, ReplayError};
 use js_tool::{Payloads, Setup, Unread, next_line};

@@ -5,8 +5,7 @@ ghost use Rattle.js_words.specs.Passing.{ReadsNext, ReadsRest};
 
 use crate::sessions::line::{Said, said_line};
 use js_base::OutOfMemory;
-use js_io::Pieces;
-use js_lines::Lines;
+use js_io::{Lines, Pieces};
 use js_table::next_number;
 use js_tool::{Payloads, Unread};
 use std::alloc::Global;

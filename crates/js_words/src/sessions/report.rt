@@ -12,8 +12,7 @@ use crate::sessions::refusal::refusal_line;
 use crate::sessions::session::{EndedText, SessionText};
 use js_base::Items;
 use js_bookmark::{Sessions, SessionsError};
-use js_io::Pieces;
-use js_lines::Lines;
+use js_io::{Lines, Pieces};
 use js_tool::{Cell, Payloads, Setup, Unread, first_line, push_line};
 use std::alloc::{AllocError, Global};
 

@@ -1,5 +1,5 @@
 use Rattle.std.proofs.Common.{◌≡◌, ◌≤◌, ◌+◌, ◌++◌, length, ◌∙◌, ap, sym, subst, arith, ℕ, List}
-use Rattle.js_lines.specs.Lines.{lines_of}
+use Rattle.js_io.specs.Lines.{lines_of}
 use Rattle.js_tool.specs.Progress.{PassesTo}
 use Rattle.js_tool.proofs.Passing.{passes_none, passes_more, stops_more}
 use Rattle.js_tool.proofs.progress.pass_all.Goals as goal

@@ -1,5 +1,5 @@
 use Rattle.std.proofs.Common.{◌≡◌, ◌++◌, ◌∷◌, ◌∙◌, ap, sym, ℕ, List}
-use Rattle.js_lines.specs.Lines.{lines_of}
+use Rattle.js_io.specs.Lines.{lines_of}
 use Rattle.js_tool.proofs.Passing.{of_lines, result_to}
 use Rattle.js_tool.proofs.progress.replay.Goals as goal
 

@@ -1,5 +1,5 @@
 use Rattle.std.proofs.Common.{◌≡◌, ◌∷◌, [], ℕ, List, refl, sym, ap, ◌∙◌}
-use Rattle.js_lines.specs.Lines.{lines_of}
+use Rattle.js_io.specs.Lines.{lines_of}
 use Rattle.js_words.specs.declared.sessions.reader.Reader.{Reader}
 use Rattle.js_words.specs.Passing.{rest_of}
 use Rattle.js_words.specs.SessionLines.{sessions}

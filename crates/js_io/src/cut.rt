@@ -1,9 +1,9 @@
 //! The first line of some bytes, and the first piece.
 
 ghost use Rattle.std.specs.Prelude.{◌≡◌, ◌<◌, ◌≤◌, ◌+◌, ◌-◌, ◌++◌, [], ◌∷◌, length, take, drop, IfSome, MatchOption};
-ghost use Rattle.js_lines.specs.Lines.{lines_of};
+ghost use Rattle.js_io.specs.Lines.{lines_of};
 
-use js_io::Pieces;
+use crate::Pieces;
 use memchr::memchr;
 use std::alloc::Global;
 

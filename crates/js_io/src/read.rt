@@ -1,10 +1,10 @@
 //! Lines, one after another.
 
 ghost use Rattle.std.specs.Prelude.{◌≡◌, ◌≤◌, length};
-ghost use Rattle.js_lines.specs.Lines.{lines_of, IsRead};
+ghost use Rattle.js_io.specs.Lines.{lines_of, IsRead};
 
+use crate::Pieces;
 use crate::cut::{line_at, next_piece};
-use js_io::Pieces;
 use std::alloc::Global;
 use std::marker::Model;
 
@@ -20,7 +20,7 @@ pub struct Lines {
 
 impl Model for Lines {
     ghost use Rattle.std.specs.Prelude.{◌++◌, ◌+◌, ◌≤◌, take, drop, vec_len};
-    ghost use Rattle.js_lines.specs.Lines.{lines_of, Reading};
+    ghost use Rattle.js_io.specs.Lines.{lines_of, Reading};
 
     ghost Value = { Reading };
 

@@ -1,6 +1,6 @@
 use Rattle.std.proofs.lemmas.List.{take_rest}
-use Rattle.js_lines.proofs.Cuts.{line_there}
-use Rattle.js_lines.proofs.cut.line_at.Goals as goal
+use Rattle.js_io.proofs.Cuts.{line_there}
+use Rattle.js_io.proofs.cut.line_at.Goals as goal
 
 pub returns-clause-line : goal.returns-clause-line
 returns-clause-line c =

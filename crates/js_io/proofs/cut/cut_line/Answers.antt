@@ -1,7 +1,7 @@
 use Rattle.std.proofs.Common.{arith}
 use Rattle.std.proofs.lemmas.List.{take_rest}
-use Rattle.js_lines.proofs.Cuts.{cut_found, cut_none}
-use Rattle.js_lines.proofs.cut.cut_line.Goals as goal
+use Rattle.js_io.proofs.Cuts.{cut_found, cut_none}
+use Rattle.js_io.proofs.cut.cut_line.Goals as goal
 
 pub returns-in-Some-clause-line : goal.returns-in-Some-clause-line
 returns-in-Some-clause-line c =

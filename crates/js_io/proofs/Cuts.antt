@@ -3,7 +3,7 @@ use Rattle.std.proofs.Common.{◌≡◌, ℕ, zero, suc, ◌+◌, ◌<◌, ◌==
 use Rattle.std.proofs.Common.{◌++◌, append_assoc, append-nil, if◌then◌else◌, Option, None, Some, MatchOption, IfSome, ap, sym, ◌∙◌, length-append, ◌≤◌, ◌-◌}
 use Rattle.std.proofs.lemmas.List.{drop-drop, length-drop}
 use Rattle.js_io.specs.Pieces.{EndsLine}
-use Rattle.js_lines.specs.Lines.{lines_of, onto_first}
+use Rattle.js_io.specs.Lines.{lines_of, onto_first}
 
 is_false : (b : Bool) → (b ≡ true → ⊥) → b ≡ false
 is_false true never = absurd (never refl)

@@ -1,5 +1,5 @@
-use Rattle.js_lines.proofs.Cuts.{piece_lines, piece_length}
-use Rattle.js_lines.proofs.cut.next_piece.Goals as goal
+use Rattle.js_io.proofs.Cuts.{piece_lines, piece_length}
+use Rattle.js_io.proofs.cut.next_piece.Goals as goal
 
 pub returns-clause-lines : goal.returns-clause-lines
 returns-clause-lines c = piece_lines (λ piece. piece.items) c.take.result _ _ c.take.ensures.bytes c.take.ensures.cut
