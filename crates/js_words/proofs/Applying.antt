@@ -8,7 +8,7 @@ use Rattle.js_project.specs.declared.error.ApplyError.{ApplyError}
 use Rattle.js_project.specs.declared.error.ApplyError.TheVariants.{NotRising, OutOfMemory}
 use Rattle.js_project.specs.Applied.{HasCause}
 use Rattle.js_words.specs.Reports.{Applies}
-use Rattle.js_log_table.specs.Yielded.{not_rising}
+use Rattle.js_logs.specs.Yielded.{not_rising}
 
 -- the last one's sequence is that of the list
 pub last_on : (low : ℕ) (entries : List Entry) (entry : Entry) → fold (λ _ (e : Entry). e.sequence) low (entries ++ entry ∷ []) ≡ entry.sequence

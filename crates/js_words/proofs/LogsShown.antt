@@ -6,15 +6,15 @@ use Rattle.std.specs.List.{AllByRecursion}
 use Rattle.js_base.specs.declared.message.Entry.{Entry}
 use Rattle.js_json.specs.declared.consumer.deliver_policy.DeliverPolicy.{DeliverPolicy}
 use Rattle.js_json.specs.declared.consumer.deliver_policy.DeliverPolicy.TheVariants as policy
-use Rattle.js_log_table.specs.Honest.{matching_between}
-use Rattle.js_log_table.specs.Kept.{HasTableOf}
-use Rattle.js_log_table.specs.Yielded.{as_entry, not_rising}
-use Rattle.js_log_table.proofs.OnHonestLog.{run_has_table}
+use Rattle.js_logs.specs.Honest.{matching_between}
+use Rattle.js_logs.specs.Kept.{HasTableOf}
+use Rattle.js_logs.specs.Yielded.{as_entry, not_rising}
+use Rattle.js_logs.proofs.OnHonestLog.{run_has_table}
 use Rattle.js_mirror.specs.Mirrored.{IsMirror, RisesFrom}
 use Rattle.js_project.specs.Table.{last_sequence}
-use Rattle.js_relay.specs.Copied.{IsCopy}
-use Rattle.js_relay.specs.Handed.{handed}
-use Rattle.js_relay.proofs.Shown.{shows_each_log}
+use Rattle.js_logs.specs.Copied.{IsCopy}
+use Rattle.js_logs.specs.Handed.{handed}
+use Rattle.js_logs.proofs.Shown.{shows_each_log}
 use Rattle.js_words.specs.ReadsBack.{IsText}
 use Rattle.js_words.proofs.TranscriptsRead.{IsTextMessage, texts_are}
 use Rattle.js_table.specs.declared.run.ReplayError.{ReplayError}

@@ -23,8 +23,8 @@ use Rattle.js_tool.specs.Transcripts.{◌>>=◌, numbered, events_from, with_lin
 use Rattle.js_words.specs.declared.gathering.Ending.{Ending}
 use Rattle.js_words.specs.declared.gathering.Gathering.{Gathering}
 use Rattle.js_words.specs.Gathered.{ending_of, HasGathered, PassesTo, StopsOn, Gathers}
-use Rattle.js_log_table.specs.Yielded.{yielded}
-use Rattle.js_log_table.proofs.Applied.{yielded_append}
+use Rattle.js_logs.specs.Yielded.{yielded}
+use Rattle.js_logs.proofs.Applied.{yielded_append}
 
 -- ---- what is put out
 

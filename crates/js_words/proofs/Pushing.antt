@@ -4,7 +4,7 @@ use Rattle.json.specs.Print.{quoted}
 use Rattle.serde_json.specs.Data.{Data}
 use Rattle.serde_json.specs.Written.{compact_text}
 use Rattle.js_base.specs.declared.message.Entry.{Entry}
-use Rattle.js_relay.specs.Relayed.{reply}
+use Rattle.js_logs.specs.Relayed.{reply}
 use Rattle.js_words.specs.Members.{filter_text, further_texts, filters_text}
 use Rattle.js_words.specs.SetupData.{config_data, setup_data}
 use Rattle.js_words.specs.RelayText.{arrival_data, value_line, value_lines, relay_text}

@@ -2,7 +2,7 @@
 use Rattle.std.proofs.Common.{◌≡◌, ◌-◌, ◌<◌, ℕ, List, [], ◌∷◌, ◌++◌, Option, Some, None, Result, Ok, Err, IfOk, sym, ap, subst, ◌∙◌}
 use Rattle.std.specs.Prelude.{⊤}
 use Rattle.js_base.specs.declared.message.Entry.{Entry}
-use Rattle.js_log_table.specs.Yielded.{not_rising}
+use Rattle.js_logs.specs.Yielded.{not_rising}
 use Rattle.js_mirror.specs.declared.error.MirrorError.{MirrorError}
 use Rattle.js_mirror.specs.declared.error.MirrorError.TheVariants.{NotRising, StartDiffers, Conflict, OutOfMemory}
 use Rattle.js_mirror.specs.Causes.{HasPushCause}

@@ -20,7 +20,7 @@ use Rattle.js_fields.specs.Reading.{◌>>=◌, required, optional, defaulted, gi
 use Rattle.js_fields.specs.Values.{value_of, has_only}
 use Rattle.js_json.specs.ConsumerConfig.{config_fields}
 use Rattle.js_json.specs.ConsumerInfo.{info_fields}
-use Rattle.js_relay.specs.Relayed.{reply, arrival}
+use Rattle.js_logs.specs.Relayed.{reply, arrival}
 use Rattle.js_tool.specs.Events.{event_line, event_keys, event_fields, what_fields, with_key, arrival_fields}
 use Rattle.js_tool.specs.Members.{only, line_as}
 use Rattle.js_tool.specs.Messages.{message_fields}

@@ -22,10 +22,10 @@ use Rattle.js_table.specs.Fold.{opening, run_events}
 use Rattle.js_table.specs.Refusal.{first_of, bad_field, first_early, refuse_input, refuse_end, refuse}
 use Rattle.js_table.specs.Texts.{config_of, configured_start, filters as filters_of}
 use Rattle.js_table.specs.Valid.{IsReplay}
-use Rattle.js_relay.specs.Relayed.{arrival, relayed, AllFit}
-use Rattle.js_relay.specs.Handed.{IsReader, default_settings}
-use Rattle.js_relay.proofs.Answered.{replays}
-use Rattle.js_relay.proofs.Kept.{stays_honest}
+use Rattle.js_logs.specs.Relayed.{arrival, relayed, AllFit}
+use Rattle.js_logs.specs.Handed.{IsReader, default_settings}
+use Rattle.js_logs.proofs.Answered.{replays}
+use Rattle.js_logs.proofs.Kept.{stays_honest}
 use Rattle.js_tool.specs.declared.transcript.setup.Setup.{Setup}
 use Rattle.js_tool.specs.declared.transcript.Transcript.{Transcript}
 use Rattle.js_tool.specs.Events.{event_line}

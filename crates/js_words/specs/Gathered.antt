@@ -18,7 +18,7 @@ use Rattle.js_tool.specs.Transcripts.{StopsAt}
 use Rattle.js_words.specs.declared.gathering.Ending.{Ending}
 use Rattle.js_words.specs.declared.gathering.Ending.TheVariants as ending
 use Rattle.js_words.specs.declared.gathering.Gathering.{Gathering}
-use Rattle.js_log_table.specs.Yielded.{yielded}
+use Rattle.js_logs.specs.Yielded.{yielded}
 
 -- ---- the end
 

@@ -1,10 +1,10 @@
 -- What the texts of a log say of the log of an honest server.
 use Rattle.std.specs.Prelude.{◌≡◌, ℕ, List, Option, Some}
 use Rattle.std.specs.Io.KnownBytes.{Appends}
-use Rattle.js_log_table.specs.Honest.{matching_between, AreOvertaken}
+use Rattle.js_logs.specs.Honest.{matching_between, AreOvertaken}
 use Rattle.js_mirror.specs.Mirrored.{Mirrored, IsMirror}
 use Rattle.js_project.specs.Table.{last_sequence, table, matched}
-use Rattle.js_relay.specs.Copied.{ShowsLog, server_of}
+use Rattle.js_logs.specs.Copied.{ShowsLog, server_of}
 use Rattle.js_words.specs.ReadsBack.{ReadsAs}
 use Rattle.js_table.specs.declared.run.Run.{Run}
 use Rattle.js_table.specs.declared.setup.OrderedSetup.{OrderedSetup}

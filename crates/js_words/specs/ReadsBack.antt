@@ -15,9 +15,9 @@ use Rattle.js_table.specs.declared.setup.OrderedSetup.TheVariants.{Pull}
 use Rattle.js_table.specs.Gapless.{Server, IsHonest}
 use Rattle.js_table.specs.Texts.{filters}
 use Rattle.js_table.specs.Valid.{IsReplay}
-use Rattle.js_relay.specs.Relayed.{relayed}
-use Rattle.js_relay.specs.Handed.{HandsOut, default_settings}
-use Rattle.js_relay.specs.Copied.{IsCopy, server_of}
+use Rattle.js_logs.specs.Relayed.{relayed}
+use Rattle.js_logs.specs.Handed.{HandsOut, default_settings}
+use Rattle.js_logs.specs.Copied.{IsCopy, server_of}
 use Rattle.js_tool.specs.declared.transcript.setup.Setup.{Setup}
 use Rattle.js_tool.specs.declared.transcript.Transcript.{Transcript}
 use Rattle.js_tool.specs.Program.{Replays}

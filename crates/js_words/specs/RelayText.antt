@@ -3,7 +3,7 @@ use Rattle.std.specs.Prelude.{ℕ, ◌+◌, List, [], ◌∷◌, ◌++◌, codes
 use Rattle.serde_json.specs.Data.{Data, string, object, no_members, member}
 use Rattle.serde_json.specs.Written.{compact_text}
 use Rattle.js_base.specs.declared.message.Entry.{Entry}
-use Rattle.js_relay.specs.Relayed.{reply}
+use Rattle.js_logs.specs.Relayed.{reply}
 use Rattle.js_tool.specs.Texts.{count}
 use Rattle.js_words.specs.SetupData.{config_data, setup_data}
 

@@ -1,7 +1,7 @@
 -- What a command over a log makes of a transcript: a text, or the line of a refusal.
 use Rattle.std.specs.Prelude.{◌≡◌, ℕ, ◌-◌, List, Option, Some, None, Result, Ok, Err, ⊤}
 use Rattle.js_base.specs.declared.message.Entry.{Entry}
-use Rattle.js_log_table.specs.Yielded.{not_rising}
+use Rattle.js_logs.specs.Yielded.{not_rising}
 use Rattle.js_project.specs.declared.error.ApplyError.{ApplyError}
 use Rattle.js_project.specs.declared.error.ApplyError.TheVariants as apply
 use Rattle.js_mirror.specs.declared.error.MirrorError.{MirrorError}

@@ -1,7 +1,7 @@
 -- What is promised of the transcript that is written of a mirror.
 use Rattle.std.specs.Prelude.{◌≡◌, ℕ, List, ⊤, Option, Some}
 use Rattle.js_base.specs.declared.message.Entry.{Entry}
-use Rattle.js_log_table.specs.Yielded.{yielded}
+use Rattle.js_logs.specs.Yielded.{yielded}
 use Rattle.js_mirror.specs.Mirrored.{Mirrored}
 use Rattle.js_words.specs.ReadsBack.{AreTexts, ReadsAs, ReplaysTo, StaysHonestIn, relay_transcript}
 use Rattle.js_table.specs.declared.run.Run.{Run}

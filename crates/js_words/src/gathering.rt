@@ -1,7 +1,7 @@
 //! What a replay yields, kept as its lines are read. Neither lines nor events are kept.
 
 ghost use Rattle.std.specs.Prelude.{◌≡◌, ◌≤◌, ◌+◌, ◌++◌, ◌∷◌, [], ℕ, List, length, IfOk, OnOk};
-ghost use Rattle.js_log_table.specs.Yielded.{yielded};
+ghost use Rattle.js_logs.specs.Yielded.{yielded};
 ghost use Rattle.js_table.specs.declared.consumer.ReplayInput.{ReplayInput};
 ghost use Rattle.js_table.specs.declared.event.Event as events;
 ghost use Rattle.js_tool.specs.Program.{given};
@@ -10,7 +10,7 @@ ghost use Rattle.js_words.specs.Gathered.{HasGathered, PassesLines, Gathers, end
 
 use js_base::{Entry, Items, OutOfMemory};
 use js_io::Lines;
-use js_log_table::entry_of;
+use js_logs::entry_of;
 use js_ordered::{Event, IncrementalReplay, Output, ReplayError};
 use js_tool::{Payloads, Setup, Unread, next_line};
 use std::alloc::Global;

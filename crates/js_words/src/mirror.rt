@@ -1,7 +1,7 @@
 //! The messages that a replay yields, and the holes between them.
 
 ghost use Rattle.std.specs.Prelude.{◌≡◌, ◌-◌, ◌++◌, IfOk, OnOk};
-ghost use Rattle.js_log_table.specs.Yielded.{not_rising as not_rising_in};
+ghost use Rattle.js_logs.specs.Yielded.{not_rising as not_rising_in};
 ghost use Rattle.js_words.specs.LogTexts.{counts_text, hole_text, last_after, message_text, mirror_text, slots_text};
 ghost use Rattle.js_words.specs.Reports.{unless_falling};
 

@@ -1,7 +1,7 @@
 //! The table of what a replay yields.
 
 ghost use Rattle.std.specs.Prelude.{◌≡◌, ◌++◌, [], flat_map, IfOk, OnOk};
-ghost use Rattle.js_log_table.specs.Yielded.{not_rising as not_rising_in};
+ghost use Rattle.js_logs.specs.Yielded.{not_rising as not_rising_in};
 ghost use Rattle.js_project.specs.Table.{last_sequence, matched, table, up_to};
 ghost use Rattle.js_words.specs.LogTexts.{entry_text, rows_text, shown, table_text};
 ghost use Rattle.js_words.specs.Reports.{Applies, unless_falling};

@@ -2,7 +2,7 @@
 
 ghost use Rattle.std.specs.Prelude.{◌≡◌, ◌<◌, ◌-◌, IfOk, IsTrue};
 ghost use Rattle.js_codes.specs.Names.{is_name};
-ghost use Rattle.js_log_table.specs.Yielded.{not_rising as not_rising_in};
+ghost use Rattle.js_logs.specs.Yielded.{not_rising as not_rising_in};
 ghost use Rattle.js_words.specs.Commands.{Relay};
 ghost use Rattle.js_words.specs.LogTexts.{served_text};
 ghost use Rattle.js_words.specs.Reports.{Fills, unless_falling};

@@ -6,7 +6,7 @@ ghost use Rattle.serde_json.specs.Data.{Data};
 ghost use Rattle.js_codes.specs.Names.{is_name};
 ghost use Rattle.serde_json.specs.Written.{compact_text};
 ghost use Rattle.js_table.specs.Texts.{config_of as config_in};
-ghost use Rattle.js_relay.specs.Relayed as relayed;
+ghost use Rattle.js_logs.specs.Relayed as relayed;
 ghost use Rattle.js_words.specs.RelayText as texts;
 ghost use Rattle.js_words.specs.SetupData as setups;
 ghost use Rattle.js_words.specs.Members.{filter_text, filters_text, further_texts};

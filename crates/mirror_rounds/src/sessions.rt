@@ -7,9 +7,9 @@ use js_bookmark::{
     Line, Session, SessionEnd, SessionReplay, SessionRun, Sessions, SessionsError, run_sessions,
 };
 use js_generate::given;
+use js_logs::relay;
 use js_mirror::Mirror;
 use js_ordered::{Event, OrderedSetup};
-use js_relay::relay;
 use js_table::ReplayInput;
 use std::alloc::Global;
 use std::test::Fail;

@@ -2,11 +2,10 @@
 
 use crate::mirrors::fill;
 use crate::round::replayed;
-use js_log_table::{RunProjection, project, worked_tables};
+use js_logs::{RunProjection, project, relay, worked_tables};
 use js_mirror::Mirror;
 use js_ordered::{Event, Run};
 use js_project::Projection;
-use js_relay::relay;
 use std::alloc::Global;
 use std::test::Fail;
 

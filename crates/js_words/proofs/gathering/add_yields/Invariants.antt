@@ -1,5 +1,5 @@
 use Rattle.std.proofs.Common.{◌≡◌, ◌++◌, drop}
-use Rattle.js_log_table.specs.Yielded.{yielded}
+use Rattle.js_logs.specs.Yielded.{yielded}
 use Rattle.js_words.proofs.gathering.add_yields.Given as goal
 
 abbrev pub invariant-loop-output : goal.invariant-loop-output

@@ -1,5 +1,5 @@
 use Rattle.std.proofs.Common.{◌≡◌, drop}
-use Rattle.js_log_table.specs.Yielded.{not_rising}
+use Rattle.js_logs.specs.Yielded.{not_rising}
 use Rattle.js_words.proofs.mirror.not_rising_from.Given as goal
 
 abbrev pub invariant-loop-entry : goal.invariant-loop-entry

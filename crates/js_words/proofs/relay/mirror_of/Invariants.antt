@@ -1,7 +1,7 @@
 use Rattle.std.proofs.Common.{◌≡◌, ◌-◌, ◌++◌, length}
 use Rattle.std.specs.Vec.Iter.{into_iter_items, into_iter_len}
 use Rattle.js_mirror.specs.Mirrored.{last_sequence}
-use Rattle.js_log_table.specs.Yielded.{not_rising}
+use Rattle.js_logs.specs.Yielded.{not_rising}
 use Rattle.js_words.proofs.relay.mirror_of.Given as goal
 
 abbrev pub invariant-loop-entry : goal.invariant-loop-entry

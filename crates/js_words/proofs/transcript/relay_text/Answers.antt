@@ -1,5 +1,5 @@
 use Rattle.std.proofs.Common.{◌≡◌, ◌<◌, ◌^◌, ℕ, List, Ok, sym, ◌∙◌, subst, arith}
-use Rattle.js_relay.specs.Relayed.{AllFit}
+use Rattle.js_logs.specs.Relayed.{AllFit}
 use Rattle.js_table.specs.Texts.{config_of}
 use Rattle.js_tool.specs.Transcripts.{transcript}
 use Rattle.js_words.specs.SetupData.{config_data, setup_data}

@@ -1,4 +1,0 @@
-pub mod Kept
-pub mod Yielded
-pub mod Honest
-pub mod Worked

@@ -1,3 +1,0 @@
-pub mod Relayed
-pub mod Handed
-pub mod Copied
