@@ -6,8 +6,10 @@ use js_base::OutOfMemory;
 use js_consumer_calls::ConsumerError;
 use js_context::PublishError;
 use js_link::LinkError;
-use js_ordered_calls::OrderedError;
-use js_pull_calls::{BatchError, BatchItemError, BatchRequestError, MessagesError, StreamError};
+use js_reader_calls::ordered::OrderedError;
+use js_reader_calls::pull::{
+    BatchError, BatchItemError, BatchRequestError, MessagesError, StreamError,
+};
 use js_stream_calls::{CreateStreamError, GetStreamError};
 use std::alloc::{AllocError, AllocFailed};
 use std::{error, fmt, io};
@@ -38,7 +40,7 @@ pub enum AnyError {
     /// A batch told of something in place of a message.
     BatchItem(BatchItemError),
     /// The messages of a push consumer told of something in place of a message.
-    PushMessages(js_push_calls::MessagesError),
+    PushMessages(js_reader_calls::push::MessagesError),
     /// An ordered consumer told of something in place of a message.
     Ordered(OrderedError),
     /// Something was not read or written.
@@ -180,10 +182,10 @@ impl From<BatchItemError> for AnyError {
     }
 }
 
-impl From<js_push_calls::MessagesError> for AnyError {
+impl From<js_reader_calls::push::MessagesError> for AnyError {
     ghost from_gives = { λ error told. told ≡ any.PushMessages error };
 
-    fn from(error: js_push_calls::MessagesError) -> AnyError {
+    fn from(error: js_reader_calls::push::MessagesError) -> AnyError {
         AnyError::PushMessages(error)
     }
 }

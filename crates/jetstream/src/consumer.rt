@@ -15,4 +15,4 @@ pub use js_json::consumer::{
     FromConsumer, Info, IntoConsumerConfig, PriorityGroupState, PriorityPolicy, ReplayPolicy,
     SequenceInfo,
 };
-pub use js_pull_calls::{StreamError, StreamErrorKind};
+pub use js_reader_calls::pull::{StreamError, StreamErrorKind};

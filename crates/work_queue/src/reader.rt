@@ -5,8 +5,10 @@ use js_base::{Moment, OutOfMemory};
 use js_consumer_calls::{PullConsumer, PushConsumer};
 use js_link::MemoryLink;
 use js_message::Message;
-use js_pull_calls::{Batch, FetchBuilder, PullCalls, Sequence, Stream, StreamBuilder, StreamError};
-use js_push_calls::{Messages, PushCalls};
+use js_reader_calls::pull::{
+    Batch, FetchBuilder, PullCalls, Sequence, Stream, StreamBuilder, StreamError,
+};
+use js_reader_calls::push::{Messages, PushCalls};
 use std::alloc::Global;
 
 /// What a worker reads by.

@@ -11,7 +11,7 @@ use js_json::consumer::PriorityPolicy;
 use js_json::pull::BatchConfig;
 use js_link::{InboxId, Link, MemoryLink, RequestId, Sent};
 use js_message::{AckKind, Message};
-use js_pull_calls::PullCalls;
+use js_reader_calls::pull::PullCalls;
 use std::alloc::Global;
 
 /// A worker of the queue.

@@ -4,6 +4,6 @@
 //! answer: `messages` reads what the server sends to the subject that the consumer delivers to. [`OrderedPushCalls`] has that of one with an
 //! [`OrderedConfig`]: its messages come in order and without a gap.
 pub use js_json::push::{Config, OrderedConfig};
-pub use js_ordered_calls::{OrderedError, OrderedErrorKind, OrderedPushCalls};
 pub use js_ordered_stream::push::Ordered;
-pub use js_push_calls::{Messages, MessagesError, MessagesErrorKind, PushCalls};
+pub use js_reader_calls::ordered::{OrderedError, OrderedErrorKind, OrderedPushCalls};
+pub use js_reader_calls::push::{Messages, MessagesError, MessagesErrorKind, PushCalls};

@@ -1,0 +1,15 @@
+pub mod PullTexts
+pub mod Builders
+pub mod Consumers
+pub mod PullOpening
+pub mod Streams
+pub mod Arrivals
+pub mod Batches
+pub mod Runs
+pub mod Sequences
+pub mod Requests
+pub mod PushTexts
+pub mod PushRows
+pub mod PushPolls
+pub mod PushOpening
+pub mod OrderedOpening

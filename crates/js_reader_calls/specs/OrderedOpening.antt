@@ -1,0 +1,50 @@
+-- What is opened for an ordered consumer.
+use Rattle.std.specs.Prelude.{◌≡◌, refl, ℕ, [], Option, Some, None, Result, Ok, Err, codes}
+use Rattle.js_base.specs.Errors.{plain}
+use Rattle.js_base.specs.declared.error.Error.{Error}
+use Rattle.js_call.specs.declared.scope.ApiScope.{ApiScope}
+use Rattle.js_consumer_calls.specs.declared.consumer.Consumer.{Consumer}
+use Rattle.js_json.specs.declared.pull.OrderedConfig as pull_config
+use Rattle.js_json.specs.declared.push.OrderedConfig as push_config
+use Rattle.js_link.specs.Calls.{RefusedSend}
+use Rattle.js_link.specs.LinkView.{LinkView}
+use Rattle.js_link.specs.declared.link.LinkError.{LinkError}
+use Rattle.js_ordered_stream.specs.Opening.{OpensOrdered, OpensPushed, RefusesOpen}
+use Rattle.js_ordered_stream.specs.declared.pull.Ordered as pulls
+use Rattle.js_ordered_stream.specs.declared.push.Ordered as pushes
+use Rattle.js_ordered_stream.specs.declared.push.OpenError.{OpenError}
+use Rattle.js_ordered_stream.specs.declared.push.OpenError.TheVariants as open_error
+use Rattle.js_reader_calls.specs.Streams.{stream_refusal}
+use Rattle.js_reader_calls.specs.declared.pull.error.StreamErrorKind.{StreamErrorKind}
+use Rattle.js_reader_calls.specs.declared.pull.error.StreamErrorKind.TheVariants.{Other, OutOfMemory}
+use Rattle.js_table.specs.declared.setup.Settings.{Settings}
+
+-- requests go where the scope's go, and wait as long; a recreation is tried again 4,294,967,295 times
+abbrev pub settings_of : ApiScope → Option ℕ → Settings
+settings_of scope request_timeout = record {
+  api_prefix = scope.prefix;
+  inbox_prefix = [];
+  context_timeout = scope.timeout;
+  request_timeout = request_timeout;
+  retries = 4294967295;
+}
+
+-- worked: a scope without a timeout leaves it to the connection. Refused: it waits without end
+waits_as_the_connection : (settings_of (record { prefix = codes "$JS.API"; timeout = None }) (Some 2000)).request_timeout ≡ Some 2000
+waits_as_the_connection = refl
+
+-- what `messages` of an ordered pull consumer does: it opens one inbox, and asks for nothing
+abbrev pub OpensPull : Result pulls.Ordered (Error StreamErrorKind) → Consumer pull_config.OrderedConfig → LinkView → LinkView → Type 0
+OpensPull (Ok o) c old new = OpensOrdered (Ok o) (settings_of c.scope old.request_timeout) c.config c.info old new
+OpensPull (Err e) c old new = (fault : LinkError) × RefusedSend fault old new × (e ≡ plain (stream_refusal fault))
+
+-- why no ordered push consumer was opened
+abbrev pub open_refusal : OpenError → StreamErrorKind
+open_refusal open_error.NoDeliverSubject = Other
+open_refusal open_error.Failed = Other
+open_refusal open_error.OutOfMemory = OutOfMemory
+
+-- what `messages` of an ordered push consumer does: it subscribes to what the consumer delivers to, and sends nothing else
+abbrev pub OpensPush : Result pushes.Ordered (Error StreamErrorKind) → Consumer push_config.OrderedConfig → LinkView → LinkView → Type 0
+OpensPush (Ok o) c old new = OpensPushed (Ok o) (settings_of c.scope old.request_timeout) c.config c.info old new
+OpensPush (Err e) c old new = (fault : OpenError) × RefusesOpen fault c.info old new × (e ≡ plain (open_refusal fault))
