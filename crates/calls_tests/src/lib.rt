@@ -1,4 +1,5 @@
-//! Tests of the calls over a link: requests, the calls on streams and consumers, lists, and contexts that ask and publish, and buckets.
+//! Tests of the calls over a link: requests, the calls on streams and consumers, lists, contexts that ask and publish, buckets, and the work
+//! of a queue.
 #![tactic(auto)]
 
 #[cfg(test)]
@@ -19,6 +20,8 @@ mod lists;
 mod publishes;
 #[cfg(test)]
 mod publishing;
+#[cfg(test)]
+mod queue;
 #[cfg(test)]
 mod requests;
 #[cfg(test)]

@@ -1,35 +1,24 @@
 //! What is told of a call.
 
+use crate::server::Answered;
+use crate::words::{Words, word};
 use js_base::{Next, OutOfMemory, Turn};
 use std::alloc::Global;
 use std::fmt::Display;
 
-/// What is told of a call, or want of memory.
-pub type Told = Result<String, OutOfMemory>;
-
-/// An answer that is told.
-pub trait Tells: Drop {
-    fn told(&self, alloc: Global) -> Told;
-}
-
-/// A word.
-pub fn word(alloc: Global, text: &str) -> Told {
-    Ok(String::from_str(alloc, text)?)
-}
-
 /// That something was done.
-pub fn done(alloc: Global, outcome: Result<(), OutOfMemory>) -> Told {
+pub(crate) fn done(alloc: Global, outcome: Result<(), OutOfMemory>) -> Words {
     outcome?;
     word(alloc, "done")
 }
 
 /// Why nothing was done.
-pub fn refused<E: Display>(alloc: Global, error: &E) -> Told {
+pub(crate) fn refused<E: Display>(alloc: Global, error: &E) -> Words {
     Ok(format!(in alloc; "refused: {error}")?)
 }
 
 /// What a call comes to that may be refused.
-pub fn outcome<E: Display + Drop>(alloc: Global, outcome: Result<(), E>) -> Told {
+pub(crate) fn outcome<E: Display + Drop>(alloc: Global, outcome: Result<(), E>) -> Words {
     match outcome {
         Ok(()) => word(alloc, "done"),
         Err(error) => refused(alloc, &error),
@@ -37,11 +26,11 @@ pub fn outcome<E: Display + Drop>(alloc: Global, outcome: Result<(), E>) -> Told
 }
 
 /// A reader that was opened takes the place of the one before.
-pub fn opened<R: From<T> + Drop, T: Drop, E: Display + Drop>(
+pub(crate) fn opened<R: From<T> + Drop, T: Drop, E: Display + Drop>(
     alloc: Global,
     reader: &mut R,
     opened: Result<T, E>,
-) -> Told {
+) -> Words {
     match opened {
         Ok(opened) => {
             *reader = R::from(opened);
@@ -52,11 +41,11 @@ pub fn opened<R: From<T> + Drop, T: Drop, E: Display + Drop>(
 }
 
 /// What a reader gives. A job is kept as the last one.
-pub fn given<J: Tells, E: Display + Drop>(
+pub(crate) fn given<J: Answered + Drop, E: Display + Drop>(
     alloc: Global,
     last: &mut Option<J>,
     next: Next<Result<J, E>>,
-) -> Told {
+) -> Words {
     match next {
         Next::Pending => word(alloc, "pending"),
         Next::End => word(alloc, "end"),
@@ -66,22 +55,22 @@ pub fn given<J: Tells, E: Display + Drop>(
     }
 }
 
-fn kept<J: Tells>(alloc: Global, last: &mut Option<J>, job: J) -> Told {
-    let told = job.told(alloc);
+fn kept<J: Answered + Drop>(alloc: Global, last: &mut Option<J>, job: J) -> Words {
+    let told = job.word(alloc);
     *last = Some(job);
     told
 }
 
-fn failed<E: Display>(alloc: Global, error: &E) -> Told {
+fn failed<E: Display>(alloc: Global, error: &E) -> Words {
     Ok(format!(in alloc; "error: {error}")?)
 }
 
 /// What a sequence gives: the next batch takes its place.
-pub fn followed<R: From<T> + Drop, T: Drop, E: Display + Drop>(
+pub(crate) fn followed<R: From<T> + Drop, T: Drop, E: Display + Drop>(
     alloc: Global,
     reader: &mut R,
     next: Next<Result<T, E>>,
-) -> Told {
+) -> Words {
     match next {
         Next::Pending | Next::End => word(alloc, "nothing"),
         Next::OutOfMemory => Err(OutOfMemory),
@@ -94,14 +83,14 @@ pub fn followed<R: From<T> + Drop, T: Drop, E: Display + Drop>(
 }
 
 /// What a poll of a call comes to. One that is pending is kept.
-pub fn turned<C: From<S> + Drop, S: Drop, A: Tells>(
+pub(crate) fn turned<C: From<S> + Drop, S: Drop, A: Answered + Drop>(
     alloc: Global,
     call: &mut C,
     turn: Turn<S, A>,
-) -> Told {
+) -> Words {
     match turn {
         Turn::OutOfMemory(_) => Err(OutOfMemory),
-        Turn::Ready(answer) => answer.told(alloc),
+        Turn::Ready(answer) => answer.word(alloc),
         Turn::Pending(state) => {
             *call = C::from(state);
             word(alloc, "pending")

@@ -1,5 +1,6 @@
 //! What the server side of the link says.
 
+use crate::server::scope;
 use bytes::Bytes;
 use js_base::{HeaderMap, Message, OutOfMemory, StatusCode, Subject, Text, TryClone};
 use js_call::ApiScope;
@@ -22,16 +23,13 @@ fn answered<T: Drop, E: Drop>(read: Result<Response<T>, E>) -> Result<T, OutOfMe
 }
 
 /// What the server tells of the consumer, read from the bytes of its answer.
-pub fn info(alloc: Global) -> Result<Info, OutOfMemory> {
+pub(crate) fn info(alloc: Global) -> Result<Info, OutOfMemory> {
     answered(response_as(alloc, INFO.as_bytes()))
 }
 
 /// Where the calls on the consumer go.
-pub fn scope(alloc: Global) -> Result<ApiScope, OutOfMemory> {
-    Ok(ApiScope {
-        prefix: Text::from_str(alloc, "$JS.API")?,
-        timeout: None,
-    })
+pub(crate) fn api(alloc: Global) -> Result<ApiScope, OutOfMemory> {
+    scope(alloc, "$JS.API", None)
 }
 
 /// What was made, where it could be.
@@ -54,8 +52,8 @@ fn known(info: Info, scope: ApiScope) -> Result<PullConsumer, OutOfMemory> {
 }
 
 /// The consumer of the work queue.
-pub fn consumer(alloc: Global) -> Result<PullConsumer, OutOfMemory> {
-    let scope = scope(alloc)?;
+pub(crate) fn consumer(alloc: Global) -> Result<PullConsumer, OutOfMemory> {
+    let scope = api(alloc)?;
     match info(alloc) {
         Ok(info) => known(info, scope),
         Err(OutOfMemory) => Err(OutOfMemory),
@@ -85,7 +83,7 @@ fn stored(body: Body, reply: Option<Subject>, length: usize) -> Message {
 }
 
 /// A message that is no more than its payload.
-pub fn reply(alloc: Global, payload: &str) -> Result<Message, OutOfMemory> {
+pub(crate) fn reply(alloc: Global, payload: &str) -> Result<Message, OutOfMemory> {
     Ok(stored(body(alloc, payload)?, None, payload.len()))
 }
 
@@ -95,7 +93,7 @@ fn job_reply(alloc: Global, sequence: u64, delivered: u64) -> Result<Subject, Ou
 }
 
 /// A job of the queue, which was delivered so often.
-pub fn job(
+pub(crate) fn job(
     alloc: Global,
     sequence: u64,
     delivered: u64,
@@ -126,13 +124,13 @@ fn said(
 }
 
 /// What the server says in place of a message.
-pub fn status(alloc: Global, code: u16, description: &str) -> Result<Message, OutOfMemory> {
+pub(crate) fn status(alloc: Global, code: u16, description: &str) -> Result<Message, OutOfMemory> {
     let description = Text::from_str(alloc, description)?;
     Ok(said(body(alloc, "")?, (code, description), None, None))
 }
 
 /// A heartbeat that asks for an answer to that subject.
-pub fn flow_control(alloc: Global, subject: &str) -> Result<Message, OutOfMemory> {
+pub(crate) fn flow_control(alloc: Global, subject: &str) -> Result<Message, OutOfMemory> {
     let description = Text::from_str(alloc, "FlowControl Request")?;
     let reply = Subject::new(alloc, subject)?;
     Ok(said(body(alloc, "")?, (100, description), Some(reply), None))
@@ -145,13 +143,13 @@ fn stalled_headers(alloc: Global, subject: &str) -> Result<HeaderMap, OutOfMemor
 }
 
 /// A heartbeat of a consumer that waits for an answer to that subject.
-pub fn stalled(alloc: Global, subject: &str) -> Result<Message, OutOfMemory> {
+pub(crate) fn stalled(alloc: Global, subject: &str) -> Result<Message, OutOfMemory> {
     let description = Text::from_str(alloc, "Idle Heartbeat")?;
     let headers = stalled_headers(alloc, subject)?;
     Ok(said(body(alloc, "")?, (100, description), None, Some(headers)))
 }
 
 /// A number, or 0.
-pub fn number(word: &str) -> u64 {
+pub(crate) fn number(word: &str) -> u64 {
     read_u64(word).unwrap_or(0)
 }

@@ -1,10 +1,12 @@
 //! A worker of the queue: what it reads by, and the last job that it was given.
 
-use crate::pushed::push_consumer;
-use crate::reader::Reader;
-use crate::renewal::Renewal;
-use crate::server::{consumer, flow_control, job, number, reply, stalled, status};
-use crate::told::{Told, done, outcome, word};
+use crate::queue::pushed::push_consumer;
+use crate::queue::reader::Reader;
+use crate::queue::renewal::Renewal;
+use crate::queue::server::{consumer, flow_control, job, number, reply, stalled, status};
+use crate::queue::told::{done, outcome};
+use crate::tables::numbered;
+use crate::words::{Words, word};
 use js_base::{Message as Received, OutOfMemory};
 use js_consumer_calls::PullConsumer;
 use js_json::consumer::PriorityPolicy;
@@ -16,7 +18,7 @@ use std::alloc::Global;
 
 /// A worker of the queue.
 #[derive(Drop)]
-pub struct Worker {
+pub(crate) struct Worker {
     link: MemoryLink,
     consumer: PullConsumer,
     reader: Reader,
@@ -26,9 +28,9 @@ pub struct Worker {
 }
 
 /// Does what lines say. What runs it is generic over it, since a worker has many parts, which then need not be looked into.
-pub trait Works: Drop {
+pub(crate) trait Works: Drop {
     /// Does what a line says, and tells what came of it.
-    fn obey(&mut self, alloc: Global, line: &str) -> Told;
+    fn obey(&mut self, alloc: Global, line: &str) -> Words;
 
     /// What was sent since `note_sent`.
     fn newly_sent(&self) -> &[Sent];
@@ -50,27 +52,27 @@ fn delivered(
     link: &mut MemoryLink,
     inbox: u64,
     message: Result<Received, OutOfMemory>,
-) -> Told {
+) -> Words {
     match message {
         Ok(message) => done(alloc, link.deliver(InboxId(inbox), message)),
         Err(OutOfMemory) => Err(OutOfMemory),
     }
 }
 
-fn deliver_job(alloc: Global, link: &mut MemoryLink, inbox: u64, rest: &str) -> Told {
+fn deliver_job(alloc: Global, link: &mut MemoryLink, inbox: u64, rest: &str) -> Words {
     let (sequence, rest) = cut(rest);
     let (times, payload) = cut(rest);
     let message = job(alloc, number(sequence), number(times), payload);
     delivered(alloc, link, inbox, message)
 }
 
-fn deliver_status(alloc: Global, link: &mut MemoryLink, inbox: u64, rest: &str) -> Told {
+fn deliver_status(alloc: Global, link: &mut MemoryLink, inbox: u64, rest: &str) -> Words {
     let (code, description) = cut(rest);
     let code = number(code).min(999) as u16;
     delivered(alloc, link, inbox, status(alloc, code, description))
 }
 
-fn answered(alloc: Global, link: &mut MemoryLink, request: u64, rest: &str) -> Told {
+fn answered(alloc: Global, link: &mut MemoryLink, request: u64, rest: &str) -> Words {
     match reply(alloc, rest) {
         Ok(answer) => done(alloc, link.respond(RequestId(request), Some(answer))),
         Err(OutOfMemory) => Err(OutOfMemory),
@@ -78,7 +80,7 @@ fn answered(alloc: Global, link: &mut MemoryLink, request: u64, rest: &str) -> T
 }
 
 /// The server sends something, or its link changes.
-fn serve(alloc: Global, link: &mut MemoryLink, verb: &str, rest: &str) -> Told {
+fn serve(alloc: Global, link: &mut MemoryLink, verb: &str, rest: &str) -> Words {
     let (first, rest) = cut(rest);
     let number = number(first);
     match verb {
@@ -94,7 +96,7 @@ fn serve(alloc: Global, link: &mut MemoryLink, verb: &str, rest: &str) -> Told {
     }
 }
 
-fn request(alloc: Global, consumer: &PullConsumer, link: &mut MemoryLink, inbox: &str) -> Told {
+fn request(alloc: Global, consumer: &PullConsumer, link: &mut MemoryLink, inbox: &str) -> Words {
     let mut config = BatchConfig::new();
     config.batch = 1;
     outcome(alloc, consumer.request_batch(alloc, link, config, inbox))
@@ -106,7 +108,7 @@ fn acknowledge(
     message: &Message,
     verb: &str,
     rest: &str,
-) -> Told {
+) -> Words {
     if verb == "ack" {
         return outcome(alloc, message.ack(alloc, link));
     }
@@ -116,7 +118,7 @@ fn acknowledge(
 
 impl Worker {
     /// A worker that reads by nothing yet, over a link on which nothing was sent.
-    pub fn new(alloc: Global) -> Result<Worker, OutOfMemory> {
+    pub(crate) fn new(alloc: Global) -> Result<Worker, OutOfMemory> {
         let link = MemoryLink::new(alloc, "_INBOX.t")?;
         match consumer(alloc) {
             Ok(consumer) => Ok(Worker::over(link, consumer)),
@@ -135,12 +137,12 @@ impl Worker {
         }
     }
 
-    fn open_stream(&mut self, alloc: Global, verb: &str) -> Told {
+    fn open_stream(&mut self, alloc: Global, verb: &str) -> Words {
         self.reader
             .open_stream(alloc, &self.consumer, &mut self.link, verb)
     }
 
-    fn open_batch(&mut self, alloc: Global, verb: &str, rest: &str) -> Told {
+    fn open_batch(&mut self, alloc: Global, verb: &str, rest: &str) -> Words {
         let (messages, now) = cut(rest);
         let messages = number(messages);
         let now = number(now);
@@ -148,12 +150,12 @@ impl Worker {
             .open_batch(alloc, &self.consumer, &mut self.link, verb, messages, now)
     }
 
-    fn open_sequence(&mut self, alloc: Global, rest: &str) -> Told {
+    fn open_sequence(&mut self, alloc: Global, rest: &str) -> Words {
         self.reader
             .open_sequence(alloc, &self.consumer, number(rest))
     }
 
-    fn open_messages(&mut self, alloc: Global, rest: &str) -> Told {
+    fn open_messages(&mut self, alloc: Global, rest: &str) -> Words {
         let (subject, heartbeat) = cut(rest);
         match push_consumer(alloc, subject, number(heartbeat)) {
             Ok(consumer) => self.reader.open_messages(alloc, consumer, &mut self.link),
@@ -161,30 +163,30 @@ impl Worker {
         }
     }
 
-    fn request(&mut self, alloc: Global, inbox: &str) -> Told {
+    fn request(&mut self, alloc: Global, inbox: &str) -> Words {
         request(alloc, &self.consumer, &mut self.link, inbox)
     }
 
-    fn poll(&mut self, alloc: Global, rest: &str) -> Told {
+    fn poll(&mut self, alloc: Global, rest: &str) -> Words {
         self.reader
             .poll(alloc, &mut self.link, &mut self.last, number(rest))
     }
 
-    fn wakes(&self, alloc: Global) -> Told {
+    fn wakes(&self, alloc: Global) -> Words {
         match self.reader.wakes_at() {
-            Some(moment) => Ok(format!(in alloc; "at {moment}")?),
+            Some(moment) => numbered(alloc, "at", moment),
             None => word(alloc, "never"),
         }
     }
 
-    fn acknowledge(&mut self, alloc: Global, verb: &str, rest: &str) -> Told {
+    fn acknowledge(&mut self, alloc: Global, verb: &str, rest: &str) -> Words {
         match &self.last {
             Some(message) => acknowledge(alloc, &mut self.link, message, verb, rest),
             None => word(alloc, "no job"),
         }
     }
 
-    fn renew(&mut self, alloc: Global, verb: &str, rest: &str) -> Told {
+    fn renew(&mut self, alloc: Global, verb: &str, rest: &str) -> Words {
         match verb {
             "info" => self.renewal.info(alloc)?,
             "reset" if rest.is_empty() => self.renewal.reset(alloc, None)?,
@@ -195,12 +197,12 @@ impl Worker {
     }
 
     /// Has the clients of the consumer pinned.
-    fn pin(&mut self, alloc: Global) -> Told {
+    fn pin(&mut self, alloc: Global) -> Words {
         self.consumer.config.priority_policy = PriorityPolicy::PinnedClient;
         word(alloc, "done")
     }
 
-    fn serve(&mut self, alloc: Global, verb: &str, rest: &str) -> Told {
+    fn serve(&mut self, alloc: Global, verb: &str, rest: &str) -> Words {
         serve(alloc, &mut self.link, verb, rest)
     }
 }
@@ -219,7 +221,7 @@ impl Works for Worker {
         self.shown = self.link.sent().len();
     }
 
-    fn obey(&mut self, alloc: Global, line: &str) -> Told {
+    fn obey(&mut self, alloc: Global, line: &str) -> Words {
         let (verb, rest) = cut(line);
         match verb {
             "messages" | "stream" | "endless" => self.open_stream(alloc, verb),

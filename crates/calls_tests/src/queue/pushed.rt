@@ -1,6 +1,6 @@
 //! The push consumer of the work queue.
 
-use crate::server::{info, scope};
+use crate::queue::server::{api, info};
 use js_base::{Nanos, OutOfMemory, Text};
 use js_consumer_calls::PushConsumer;
 use js_json::consumer::Info;
@@ -28,12 +28,12 @@ fn pushing(alloc: Global, subject: &str) -> Result<Info, OutOfMemory> {
 }
 
 /// A consumer that delivers to the group `g` of a subject, with that heartbeat. `-` stands for an info without a subject.
-pub fn push_consumer(
+pub(crate) fn push_consumer(
     alloc: Global,
     subject: &str,
     heartbeat: Nanos,
 ) -> Result<PushConsumer, OutOfMemory> {
-    let scope = scope(alloc)?;
+    let scope = api(alloc)?;
     match pushing(alloc, subject) {
         Ok(info) => Ok(PushConsumer::new(config(alloc, heartbeat), info, scope)),
         Err(OutOfMemory) => Err(OutOfMemory),

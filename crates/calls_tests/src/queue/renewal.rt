@@ -1,7 +1,9 @@
 //! Asking anew what the server knows of the consumer.
 
-use crate::server::consumer;
-use crate::told::{Tells, Told, turned, word};
+use crate::queue::server::consumer;
+use crate::queue::told::turned;
+use crate::server::Answered;
+use crate::words::{Words, word};
 use js_base::OutOfMemory;
 use js_call::State;
 use js_consumer_calls::{ConsumerCalls, InfoCall, PullConsumer, Reset};
@@ -14,7 +16,7 @@ use std::mem;
 
 /// A call on the consumer that is under way.
 #[derive(Drop)]
-pub enum Renewal {
+pub(crate) enum Renewal {
     Nothing,
     Asking(InfoCall<Config>),
     Resetting(Reset<Config>),
@@ -33,8 +35,8 @@ impl From<Reset<Config>> for Renewal {
 }
 
 /// How much is pending, as the server answers and as it stands in the cache.
-impl<E: Display + Drop> Tells for (PullConsumer, Result<Info, E>) {
-    fn told(&self, alloc: Global) -> Told {
+impl<E: Display> Answered for (PullConsumer, Result<Info, E>) {
+    fn word(&self, alloc: Global) -> Words {
         let cached = self.0.cached_info().num_pending;
         match &self.1 {
             Ok(info) => {
@@ -62,17 +64,17 @@ fn begun<R: From<S> + Drop, S: Drop, E: Drop>(
 
 impl Renewal {
     /// Begins to ask the server what it knows of the consumer.
-    pub fn info(&mut self, alloc: Global) -> Result<(), OutOfMemory> {
+    pub(crate) fn info(&mut self, alloc: Global) -> Result<(), OutOfMemory> {
         begun(self, consumer(alloc)?.info(alloc))
     }
 
     /// Begins a reset of the consumer, to the sequence where one is named.
-    pub fn reset(&mut self, alloc: Global, seq: Option<u64>) -> Result<(), OutOfMemory> {
+    pub(crate) fn reset(&mut self, alloc: Global, seq: Option<u64>) -> Result<(), OutOfMemory> {
         begun(self, consumer(alloc)?.reset(alloc, seq))
     }
 
     /// Polls the call, and tells what comes of it.
-    pub fn poll(&mut self, alloc: Global, link: &mut MemoryLink) -> Told {
+    pub(crate) fn poll(&mut self, alloc: Global, link: &mut MemoryLink) -> Words {
         match mem::replace(self, Renewal::Nothing) {
             Renewal::Nothing => word(alloc, "nothing"),
             Renewal::Asking(call) => turned(alloc, self, call.poll(alloc, link, 0)),

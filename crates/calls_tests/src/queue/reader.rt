@@ -1,6 +1,8 @@
 //! What a worker reads by.
 
-use crate::told::{Tells, Told, followed, given, opened, word};
+use crate::queue::told::{followed, given, opened};
+use crate::server::Answered;
+use crate::words::{Words, word};
 use js_base::{Moment, OutOfMemory};
 use js_consumer_calls::{PullConsumer, PushConsumer};
 use js_link::MemoryLink;
@@ -13,7 +15,7 @@ use std::alloc::Global;
 
 /// What a worker reads by.
 #[derive(Drop)]
-pub enum Reader {
+pub(crate) enum Reader {
     Nothing,
     Stream(Stream),
     Batch(Batch),
@@ -46,8 +48,8 @@ impl From<Messages> for Reader {
 }
 
 /// Its payload, and where it stands in its stream.
-impl Tells for Message {
-    fn told(&self, alloc: Global) -> Told {
+impl Answered for Message {
+    fn word(&self, alloc: Global) -> Words {
         let payload = String::from_utf8_lossy(alloc, self.message.payload.as_slice())?;
         match self.info() {
             Ok(info) => {
@@ -106,13 +108,13 @@ fn set_batch(
 
 impl Reader {
     /// Opens a stream: by the defaults, one without bounds, or one for which everything is set.
-    pub fn open_stream(
+    pub(crate) fn open_stream(
         &mut self,
         alloc: Global,
         consumer: &PullConsumer,
         link: &mut MemoryLink,
         verb: &str,
-    ) -> Told {
+    ) -> Words {
         match verb {
             "messages" => opened(alloc, self, consumer.messages(alloc, link)),
             "endless" => opened(alloc, self, endless(alloc, consumer, link)),
@@ -124,7 +126,7 @@ impl Reader {
     }
 
     /// Opens a batch: of what is there, one that waits, or one for which everything is set.
-    pub fn open_batch(
+    pub(crate) fn open_batch(
         &mut self,
         alloc: Global,
         consumer: &PullConsumer,
@@ -132,7 +134,7 @@ impl Reader {
         verb: &str,
         messages: u64,
         now: Moment,
-    ) -> Told {
+    ) -> Words {
         match verb {
             "fetch" => {
                 let batch = consumer.fetch().max_messages(messages);
@@ -150,28 +152,33 @@ impl Reader {
     }
 
     /// Opens a sequence of batches.
-    pub fn open_sequence(&mut self, alloc: Global, consumer: &PullConsumer, batch: u64) -> Told {
+    pub(crate) fn open_sequence(
+        &mut self,
+        alloc: Global,
+        consumer: &PullConsumer,
+        batch: u64,
+    ) -> Words {
         opened(alloc, self, consumer.sequence(alloc, batch))
     }
 
     /// Opens what a push consumer delivers.
-    pub fn open_messages(
+    pub(crate) fn open_messages(
         &mut self,
         alloc: Global,
         consumer: PushConsumer,
         link: &mut MemoryLink,
-    ) -> Told {
+    ) -> Words {
         opened(alloc, self, consumer.messages(alloc, link))
     }
 
     /// Polls it. A job that it gives is the last one.
-    pub fn poll(
+    pub(crate) fn poll(
         &mut self,
         alloc: Global,
         link: &mut MemoryLink,
         last: &mut Option<Message>,
         now: Moment,
-    ) -> Told {
+    ) -> Words {
         match self {
             Reader::Nothing => word(alloc, "nothing is read"),
             Reader::Stream(stream) => given(alloc, last, stream.poll_next(alloc, link, now)),
@@ -185,7 +192,7 @@ impl Reader {
     }
 
     /// When it is to be polled where nothing comes for it.
-    pub fn wakes_at(&self) -> Option<Moment> {
+    pub(crate) fn wakes_at(&self) -> Option<Moment> {
         match self {
             Reader::Nothing => None,
             Reader::Stream(stream) => stream.wakes_at(),

@@ -1,24 +1,24 @@
-//! How what was sent is shown.
+//! What is told of what was sent.
 
-use crate::told::Told;
+use crate::words::Words;
 use bytes::Bytes;
 use js_base::{Subject, Text};
 use js_link::Sent;
 use std::alloc::Global;
 
-fn subscribed(alloc: Global, subject: &Subject, group: &Option<Text>) -> Told {
+fn subscribed(alloc: Global, subject: &Subject, group: &Option<Text>) -> Words {
     match group {
         Some(group) => Ok(format!(in alloc; "subscribes to {subject} in {group}")?),
         None => Ok(format!(in alloc; "subscribes to {subject}")?),
     }
 }
 
-fn asked(alloc: Global, subject: &Subject, payload: &Bytes) -> Told {
+fn asked(alloc: Global, subject: &Subject, payload: &Bytes) -> Words {
     let payload = String::from_utf8_lossy(alloc, payload.as_slice())?;
     Ok(format!(in alloc; "asks {subject} with {payload}")?)
 }
 
-fn published(alloc: Global, subject: &Subject, reply: &Option<Subject>, payload: &Bytes) -> Told {
+fn published(alloc: Global, subject: &Subject, reply: &Option<Subject>, payload: &Bytes) -> Words {
     let payload = String::from_utf8_lossy(alloc, payload.as_slice())?;
     match reply {
         Some(reply) => Ok(format!(in alloc; "publishes \"{payload}\" to {subject} for {reply}")?),
@@ -27,7 +27,7 @@ fn published(alloc: Global, subject: &Subject, reply: &Option<Subject>, payload:
 }
 
 /// One thing that was sent.
-pub fn told(alloc: Global, sent: &Sent) -> Told {
+pub(crate) fn told(alloc: Global, sent: &Sent) -> Words {
     match sent {
         Sent::Subscribe { subject, group, .. } => subscribed(alloc, subject, group),
         Sent::Request {
