@@ -8,6 +8,8 @@ mod faults;
 #[cfg(test)]
 mod lines;
 #[cfg(test)]
+mod mirrors;
+#[cfg(test)]
 mod ordered;
 #[cfg(test)]
 mod pull;

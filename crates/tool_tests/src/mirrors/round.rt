@@ -1,7 +1,7 @@
 //! Two random mirrors, there and back.
 ghost use Rattle.std.specs.Prelude.{◌<◌};
 
-use crate::draw::mirror;
+use crate::mirrors::draw::mirror;
 use js_base::{Entry, OutOfMemory};
 use js_generate::given;
 use js_json::consumer::DeliverPolicy;
@@ -15,14 +15,14 @@ use std::test::Fail;
 
 /// What holds of two mirrors.
 #[derive(Drop)]
-pub struct Seen {
+pub(crate) struct Seen {
     pub merges_alike: bool,
     pub is_served_whole: bool,
     pub comes_back: bool,
 }
 
 /// Looks at the mirrors of a number.
-pub fn look(alloc: Global, seed: u64) -> Result<Seen, Fail> {
+pub(crate) fn look(alloc: Global, seed: u64) -> Result<Seen, Fail> {
     let mut rng = Pcg32::new(seed, 1);
     let start = seed % 9 + 1;
     let mut one = mirror(alloc, &mut rng, start)?;
@@ -104,7 +104,7 @@ fn is_handed_out(alloc: Global, mirror: &Mirror, run: &Run) -> Result<bool, Fail
 }
 
 /// The run of an ordered consumer that starts at a sequence.
-pub fn replayed(alloc: Global, start: u64, events: &[Event]) -> Result<Run, ReplayError> {
+pub(crate) fn replayed(alloc: Global, start: u64, events: &[Event]) -> Result<Run, ReplayError> {
     let given = given(alloc)?;
     let setup = reader_from(alloc, start);
     let run = replay_ordered(alloc, &given.settings, &setup, &given.first, 0, events);
@@ -114,7 +114,7 @@ pub fn replayed(alloc: Global, start: u64, events: &[Event]) -> Result<Run, Repl
 }
 
 /// The setup of a pull consumer that starts at a sequence.
-pub fn reader_from(alloc: Global, start: u64) -> OrderedSetup {
+pub(crate) fn reader_from(alloc: Global, start: u64) -> OrderedSetup {
     let mut config = OrderedConfig::new(alloc);
     config.deliver_policy = DeliverPolicy::ByStartSequence {
         start_sequence: start,

@@ -1,7 +1,8 @@
 //! Each call of sessions.
 
-use crate::mirrors::fill;
-use crate::round::reader_from;
+use crate::mirrors::calls::fill;
+use crate::mirrors::round::reader_from;
+use crate::tables::same;
 use js_base::{Entry, Items};
 use js_bookmark::{
     Line, Session, SessionEnd, SessionReplay, SessionRun, Sessions, SessionsError, run_sessions,
@@ -11,17 +12,11 @@ use js_logs::relay;
 use js_mirror::Mirror;
 use js_ordered::{Event, OrderedSetup};
 use js_table::ReplayInput;
-use std::alloc::Global;
+use std::alloc::{AllocError, Global};
+use std::process::Abort;
 use std::test::Fail;
 
-/// Prints what two sessions come to, run at once and told line by line.
-pub fn show(rt: &(impl Print + AllocGlobal)) -> Result<(), Fail> {
-    let sessions = sessions(rt.alloc())?;
-    let shown = show_all(rt, &sessions);
-    drop(sessions);
-    shown
-}
-
+/// Two sessions, of which the second starts after what the first has saved.
 fn sessions(alloc: Global) -> Result<Vec<Session>, Fail> {
     let mut sessions = Vec::new(alloc);
     add(&mut sessions, session(alloc, 3, 1))?;
@@ -34,12 +29,6 @@ fn add<T: Drop>(list: &mut Vec<T>, made: Result<T, Fail>) -> Result<(), Fail> {
         Ok(value) => Ok(list.push(value)?),
         Err(fault) => Err(fault),
     }
-}
-
-fn show_all(rt: &(impl Print + AllocGlobal), sessions: &[Session]) -> Result<(), Fail> {
-    run(rt, 3, sessions)?;
-    run(rt, 4, sessions)?;
-    told(rt, sessions)
 }
 
 /// The entries from a sequence on, among 4, 5 and 9.
@@ -117,31 +106,39 @@ fn push_event(lines: &mut Items<Line>, event: Event, saves: bool) -> Result<(), 
 }
 
 /// What the sessions come to from a bookmark on.
-fn run(rt: &(impl Print + AllocGlobal), next: u64, sessions: &[Session]) -> Result<(), Fail> {
-    match run_sessions(rt.alloc(), next, sessions) {
+fn run(alloc: Global, next: u64, sessions: &[Session]) -> Result<String, AllocError> {
+    match run_sessions(alloc, next, sessions) {
         Ok(runs) => {
-            let told = tell_runs(rt, runs.as_slice());
+            let text = runs_told(alloc, runs.as_slice());
             drop(runs);
-            told
+            text
         }
-        Err(error) => Ok(println!(rt; "{error}")?),
+        Err(error) => format!(in alloc; "{error}\n"),
     }
 }
 
-fn tell_runs(rt: &impl Print, runs: &[SessionRun]) -> Result<(), Fail> {
+fn runs_told(alloc: Global, runs: &[SessionRun]) -> Result<String, AllocError> {
+    let mut text = String::new(alloc);
     for run in runs {
-        println!(rt; "committed {}, next {}", run.committed, run.next)?;
+        writeln!(text, "committed {}, next {}", run.committed, run.next)?;
     }
-    Ok(())
+    Ok(text)
 }
 
 /// The same, told line by line.
-fn told(rt: &(impl Print + AllocGlobal), sessions: &[Session]) -> Result<(), Fail> {
+fn told(alloc: Global, sessions: &[Session]) -> Result<String, Fail> {
+    let mut text = String::new(alloc);
+    tell(alloc, &mut text, sessions)?;
+    Ok(text)
+}
+
+fn tell(alloc: Global, text: &mut String, sessions: &[Session]) -> Result<(), Fail> {
     let mut so_far = Sessions::new(3);
     for session in sessions {
-        so_far = one(rt, so_far, session)?;
+        so_far = one(alloc, text, so_far, session)?;
     }
-    println!(rt;
+    writeln!(
+        text,
         "{} sessions, {} committed, next {}",
         so_far.count(),
         so_far.committed(),
@@ -180,35 +177,38 @@ impl<'a> Replays for SessionReplay<'a> {
 }
 
 fn one(
-    rt: &(impl Print + AllocGlobal),
+    alloc: Global,
+    text: &mut String,
     so_far: Sessions,
     session: &Session,
 ) -> Result<Sessions, Fail> {
-    to_end(rt, begin(rt.alloc(), so_far, session), session)
+    to_end(alloc, text, begin(alloc, so_far, session), session)
 }
 
 fn to_end<R: Replays>(
-    rt: &(impl Print + AllocGlobal),
+    alloc: Global,
+    text: &mut String,
     replay: Result<R, SessionsError>,
     session: &Session,
 ) -> Result<Sessions, Fail> {
     let mut replay = replay?;
-    match go_through(rt, &mut replay, session) {
+    match go_through(alloc, text, &mut replay, session) {
         Ok(()) => replay.ended(),
         Err(fault) => Err(fault),
     }
 }
 
 fn go_through<R: Replays>(
-    rt: &(impl Print + AllocGlobal),
+    alloc: Global,
+    text: &mut String,
     replay: &mut R,
     session: &Session,
 ) -> Result<(), Fail> {
     for line in session.lines.as_slice() {
-        replay.pass(rt.alloc(), line)?;
+        replay.pass(alloc, line)?;
     }
     let (events, outputs) = replay.counts();
-    println!(rt; "events: {events}, outputs of the last: {outputs}")?;
+    writeln!(text, "events: {events}, outputs of the last: {outputs}")?;
     Ok(())
 }
 
@@ -224,4 +224,32 @@ fn begin<'a>(
         &session.first,
         session.start,
     )
+}
+
+/// Bookmarks, and what the sessions come to from each on.
+const RUNS: &[(u64, &str)] = &[
+    (3, "committed 2, next 6\ncommitted 1, next 10\n"),
+    (4, "session 1 does not start at 4\n"),
+];
+
+/// What is told of them line by line from 3 on.
+const LINE_BY_LINE: &str =
+    "events: 3, outputs of the last: 1\nevents: 1, outputs of the last: 1\n2 sessions, 3 committed, next 10\n";
+
+fn says_both(rt: &impl Abort, alloc: Global, sessions: &[Session]) -> Result<(), Fail> {
+    for &(next, wanted) in RUNS {
+        let found = run(alloc, next, sessions)?;
+        same(rt, wanted, found.as_str(), wanted);
+    }
+    let found = told(alloc, sessions)?;
+    same(rt, "line by line", found.as_str(), LINE_BY_LINE);
+    Ok(())
+}
+
+#[test]
+fn sessions_go_on_at_once_or_line_by_line(rt: HostRuntime) -> Result<(), Fail> {
+    let sessions = sessions(rt.alloc())?;
+    let said = says_both(&rt, rt.alloc(), &sessions);
+    drop(sessions);
+    said
 }

@@ -9,7 +9,7 @@ use rand_pcg::Pcg32;
 use std::alloc::Global;
 
 /// The log's entry with this sequence, which is the same whenever it is drawn.
-pub fn entry(alloc: Global, sequence: u64) -> Result<Entry, OutOfMemory> {
+pub(crate) fn entry(alloc: Global, sequence: u64) -> Result<Entry, OutOfMemory> {
     let subject = format!(in alloc; "key.{}", sequence % 5)?;
     let payload = format!(in alloc; "{sequence}")?;
     Ok(Entry {
@@ -20,7 +20,7 @@ pub fn entry(alloc: Global, sequence: u64) -> Result<Entry, OutOfMemory> {
 }
 
 /// A mirror from a start on that has each of the next 40 entries of the log, or has it not.
-pub fn mirror(alloc: Global, rng: &mut Pcg32, start: u64) -> Result<Mirror, MirrorError>
+pub(crate) fn mirror(alloc: Global, rng: &mut Pcg32, start: u64) -> Result<Mirror, MirrorError>
     requires { 0 < start }
 {
     let mut mirror = Mirror::new(alloc, start);

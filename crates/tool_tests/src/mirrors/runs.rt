@@ -1,0 +1,78 @@
+//! Each call of the table of a run.
+
+use crate::mirrors::calls::fill;
+use crate::mirrors::round::replayed;
+use crate::tables::same;
+use js_base::OutOfMemory;
+use js_logs::{RunProjection, project, relay, worked_tables};
+use js_mirror::Mirror;
+use js_ordered::{Event, Run};
+use js_project::Projection;
+use std::alloc::Global;
+use std::process::Abort;
+use std::test::Fail;
+
+/// The arrivals of entries 4, 5 and 9.
+fn events(alloc: Global) -> Result<Vec<Event>, Fail> {
+    let mut mirror = Mirror::new(alloc, 3);
+    fill(alloc, &mut mirror)?;
+    Ok(relay(alloc, &mirror, "events", "gen")?)
+}
+
+/// The run that hands out entries 4, 5 and 9.
+fn relayed(alloc: Global) -> Result<Run, Fail> {
+    let events = events(alloc)?;
+    let run = replayed(alloc, 3, &events);
+    drop(events);
+    Ok(run?)
+}
+
+/// The same table, as the outputs come.
+fn advanced(alloc: Global, run: &Run) -> Result<Projection, Fail> {
+    let mut table = RunProjection::new(alloc);
+    advance(&mut table, run)?;
+    Ok(table.end()?)
+}
+
+fn advance(table: &mut RunProjection, run: &Run) -> Result<(), Fail> {
+    for step in run.steps.as_slice() {
+        table.advance(step.outputs.as_slice())?;
+    }
+    Ok(())
+}
+
+/// What is told of a table.
+fn told(alloc: Global, table: Projection) -> Result<String, OutOfMemory> {
+    let text = told_of(alloc, &table);
+    drop(table);
+    text
+}
+
+fn told_of(alloc: Global, table: &Projection) -> Result<String, OutOfMemory> {
+    let rows = table.matching(">")?.len();
+    let mut text = format!(in alloc; "table up to {}: {rows} rows\n", table.last())?;
+    if let Some(entry) = table.get("key.4") {
+        writeln!(text, "key.4 has {:?}", entry.payload)?;
+    }
+    Ok(text)
+}
+
+/// What is told of the run's table. Sequences 4 and 9 have one subject.
+const TABLE: &str = "table up to 9: 2 rows\nkey.4 has b\"9\"\n";
+
+fn says_both(rt: &impl Abort, alloc: Global, run: &Run) -> Result<(), Fail> {
+    let at_once = told(alloc, project(alloc, run)?)?;
+    same(rt, "at once", at_once.as_str(), TABLE);
+    let as_they_come = told(alloc, advanced(alloc, run)?)?;
+    same(rt, "as they come", as_they_come.as_str(), TABLE);
+    Ok(())
+}
+
+#[test]
+fn a_table_is_made_at_once_or_as_outputs_come(rt: HostRuntime) -> Result<(), Fail> {
+    worked_tables();
+    let run = relayed(rt.alloc())?;
+    let said = says_both(&rt, rt.alloc(), &run);
+    drop(run);
+    said
+}
