@@ -75,7 +75,7 @@ first_held held = heard_first held.inbox (drop held.place held.messages)
 
 -- the first of the rows that a task stands for
 abbrev pub first_rows : Matter → Task → List Row
-first_rows m (task.HearHeld held) = first_held held
+first_rows m (task.HearHeld held) = first_held held.value
 first_rows m other = rows_of m other
 
 -- ---- what a reader tells

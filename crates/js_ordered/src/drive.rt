@@ -2,10 +2,10 @@
 //!
 //! What a row needs takes memory before the row changes anything. So after want of memory the rows that are left, with what was put out so far, come to
 //! what the whole event comes to.
-ghost use Rattle.std.specs.Prelude.{◌≡◌, ◌+◌, ◌≤◌, ◌++◌, ◌∷◌, [], OnErr, OnOk, drop, vec_capacity, vec_len};
+ghost use Rattle.std.specs.Prelude.{◌≡◌, ◌+◌, ◌≤◌, ◌++◌, ◌∷◌, [], OnErr, OnOk, vec_capacity, vec_len};
 ghost use Rattle.js_ordered.specs.Driven.{IsLeft, IsTry, LeadsOn, PassesTo, first_held, first_rows, left_rows};
-ghost use Rattle.js_ordered_rows.specs.Tasks.{heard_rows, next_rows, rows_of};
-ghost use Rattle.js_table.specs.Passes.{at, hearings, matter_now};
+ghost use Rattle.js_ordered_rows.specs.Tasks.{heard_rows, hearings_of, next_rows, rows_of};
+ghost use Rattle.js_table.specs.Passes.{at, matter_now};
 ghost use Rattle.js_table.specs.Recreation.{message_on};
 ghost use Rattle.js_table.specs.State.{Matter};
 ghost use Rattle.js_table.specs.declared.row.Row.TheVariants as row;
@@ -195,22 +195,14 @@ fn pass(
 // ---- what is left
 
 /// What is left of what was held.
-fn held_left(held: Held) -> NextTasks
-    ensures { (m : Matter) → hearings held.inbox (drop held.place held.messages) ≡ first_held held ++ next_rows m result }
+fn held_left(mut held: Box<Held>) -> NextTasks
+    ensures { (m : Matter) → hearings_of held.value ≡ first_held held.value ++ next_rows m result }
 {
-    let Held {
-        inbox,
-        messages,
-        place,
-    } = held;
-    if place < messages.as_slice().len() {
-        return NextTasks::One(Task::HearHeld(Held {
-            inbox,
-            messages,
-            place: place + 1,
-        }));
+    if held.place < held.messages.as_slice().len() {
+        held.place += 1;
+        return NextTasks::One(Task::HearHeld(held));
     }
-    drop(messages);
+    drop(held);
     NextTasks::Nothing
 }
 

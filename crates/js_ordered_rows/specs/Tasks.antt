@@ -31,6 +31,7 @@ use Rattle.js_table.specs.declared.setup.OrderedSetup.{OrderedSetup}
 use Rattle.js_table.specs.declared.setup.OrderedSetup.TheVariants.{Pull, Push}
 use Rattle.js_ordered_rows.specs.declared.task.Heard.{Heard}
 use Rattle.js_ordered_rows.specs.declared.task.Heard.TheVariants as hears
+use Rattle.js_ordered_rows.specs.declared.task.Held.{Held}
 use Rattle.js_ordered_rows.specs.declared.task.Inbox.{Inbox}
 use Rattle.js_ordered_rows.specs.declared.task.NextTasks.{NextTasks}
 use Rattle.js_ordered_rows.specs.declared.task.NextTasks.TheVariants as next
@@ -51,6 +52,10 @@ abbrev pub heard_rows : ℕ → Option Message → List Row
 heard_rows inbox None = []
 heard_rows inbox (Some message) = row.Hear (record { inbox = inbox; message = message }) ∷ []
 
+-- what was held is heard, from its place on
+abbrev pub hearings_of : Held → List Row
+hearings_of held = hearings held.inbox (drop held.place held.messages)
+
 -- in an event that brings this
 abbrev pub rows_of : Matter → Task → List Row
 rows_of m task.Event = row.Event ∷ []
@@ -65,7 +70,7 @@ rows_of m (task.Succeed info) = row.Succeed info ∷ []
 rows_of m task.Fail = row.Fail ∷ []
 rows_of m task.CheckArrival = row.CheckArrival ∷ []
 rows_of m (task.Hear inbox) = heard_rows inbox (message_on inbox m.arrival)
-rows_of m (task.HearHeld held) = hearings held.inbox (drop held.place held.messages)
+rows_of m (task.HearHeld held) = hearings_of held.value
 rows_of m task.CheckSilence = row.CheckSilence ∷ []
 rows_of m task.Arm = row.Arm ∷ []
 rows_of m (task.Read one) = row.Read (row_of (brought m.answer) one) ∷ []
@@ -93,6 +98,17 @@ pub record StepsTo (m : Matter) (passed : Passed) (put : List Output) (new : Con
   pub consumer : new ≡ passed.consumer
   pub outputs : passed.outputs ≡ put
   pub next : next_rows m rest ≡ passed.next
+
+-- what was held for push is heard first, and then its heartbeat is armed
+abbrev pub held_rows : Option Held → List Row
+held_rows None = []
+held_rows (Some held) = hearings_of held ++ row.Arm ∷ []
+
+-- push reads another inbox from now on, for which this was held
+pub record Listens (passed : Passed) (new : Consumer) (held : Option Held) : Type 0 where
+  pub consumer : new ≡ passed.consumer
+  pub outputs : passed.outputs ≡ []
+  pub next : held_rows held ≡ passed.next
 
 -- a row that sends nothing is passed at this moment
 abbrev pub at_moment : ℕ → Passing → Passing

@@ -1,7 +1,7 @@
 //! The rows of a recreation: the old consumer is deleted, and a new one is made that goes on after the last yield.
 ghost use Rattle.std.specs.Prelude.{ℕ, ◌≡◌, ◌<◌, ◌+◌, [], ◌∷◌, codes, is_some, min};
 ghost use Rattle.js_link.specs.Passing.{Passing};
-ghost use Rattle.js_ordered_rows.specs.Tasks.{IsAnswered, StepsTo, at_moment, create_outputs, next_rows, opening_to, requested, requesting, rows_of, subscribed, told_outputs};
+ghost use Rattle.js_ordered_rows.specs.Tasks.{IsAnswered, Listens, StepsTo, at_moment, create_outputs, next_rows, opening_to, requested, requesting, rows_of, subscribed, told_outputs};
 ghost use Rattle.js_pull.specs.Reader.{reply_to, u64_max};
 ghost use Rattle.js_table.specs.Passes.{given_of, timeout_at, waiting};
 ghost use Rattle.js_table.specs.Recreation as rows;
@@ -355,14 +355,14 @@ pub fn pass_succeed_push(
     context: &EventContext<'_>,
     consumer: &mut Consumer,
     mut recreation: Recreation,
-) -> NextTasks
-    ensures { (m : Matter) → (p : Passing)
-        → StepsTo m (rows.succeed_push (at_moment context.now.moment p) recreation.opened (at_phase (Phase.Recreates recreation) consumer.old)) [] consumer.new result }
+) -> Option<Held>
+    ensures { (p : Passing)
+        → Listens (rows.succeed_push (at_moment context.now.moment p) recreation.opened (at_phase (Phase.Recreates recreation) consumer.old)) consumer.new result }
 {
     match recreation.opened.take() {
         None => {
             enter(consumer, Phase::Recreates(recreation));
-            NextTasks::Nothing
+            None
         }
         Some(
             Opened {
@@ -380,12 +380,11 @@ pub fn pass_succeed_push(
             };
             enter(consumer, phase);
             drop(recreation);
-            let held = Held {
+            Some(Held {
                 inbox,
                 messages,
                 place: 0,
-            };
-            NextTasks::Two(Task::HearHeld(held), Task::Arm)
+            })
         }
     }
 }

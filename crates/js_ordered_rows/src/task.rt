@@ -1,4 +1,4 @@
-//! The rows that are left, as the code keeps them. They are small: what a row reads lies beside them, in an event of a replay or in what a poll has met.
+//! The rows that are left, as the code keeps them. They are small, since a poll moves them at each row: what a row reads lies beside them, in an event of a replay or in what a poll has met, and what was held for push in a box.
 use js_base::{Boxed, Items, Message, Subject};
 use js_json::consumer::Info;
 use js_pull::Due;
@@ -30,7 +30,7 @@ pub enum Task {
     /// What the event brings on this inbox is heard.
     Hear { inbox: u64 },
     /// What was held is heard, one message after the other.
-    HearHeld(Held),
+    HearHeld(Box<Held>),
     CheckSilence,
     Arm,
     /// A row of a pull reader.

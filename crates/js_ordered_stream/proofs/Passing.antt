@@ -10,12 +10,13 @@ use Rattle.js_link.specs.Meets.{Meets}
 use Rattle.js_link.specs.Met.{Wish, Met, Nothing, Opens_inbox, Watches, Requests, Unasked, message_of, passing_of, reply_of}
 use Rattle.js_link.specs.Passing.{Passing as Sends}
 use Rattle.js_ordered_rows.specs.declared.task.Inbox.{Inbox}
+use Rattle.js_ordered_rows.specs.declared.task.Held.{Held}
 use Rattle.js_ordered_rows.specs.declared.task.NextTasks.{NextTasks}
 use Rattle.js_ordered_rows.specs.declared.task.NextTasks.TheVariants as next
 use Rattle.js_ordered_rows.specs.declared.task.RowOutput.{RowOutput}
 use Rattle.js_ordered_rows.specs.declared.task.Task.{Task}
 use Rattle.js_ordered_rows.specs.declared.task.Task.TheVariants as task
-use Rattle.js_ordered_rows.specs.Tasks.{IsAnswered, StepsTo, answered_rows, at_moment, create_outputs, next_rows, opening_to, requested, requesting, rows_of, subscribed, told_outputs}
+use Rattle.js_ordered_rows.specs.Tasks.{IsAnswered, Listens, StepsTo, answered_rows, at_moment, create_outputs, next_rows, opening_to, requested, requesting, rows_of, subscribed, told_outputs}
 use Rattle.js_ordered_stream.specs.declared.left.Reply.{Reply}
 use Rattle.js_ordered_stream.specs.declared.left.Seen.{Seen}
 use Rattle.js_ordered_stream.specs.declared.left.Seen.TheVariants as sight
@@ -292,12 +293,12 @@ none_held (x ∷ held) e = absurd (never e)
     never : (suc (length held) == 0) ≡ true → ⊥
     never e = grind (arith, nat_tests)
 
-pub succeed_push_passes : (g : ReplayInput) (now : ℕ) (info : Info) (r : Recreation) (c d : Consumer) (rest : NextTasks) (done : Stepped) (v : LinkView) → IsPush g.setup → is_bare r.opened ≡ true
-    → ((m : Matter) (p : Sends) → StepsTo m (succeed_push (at_moment now p) r.opened (at_phase (Recreates r) c)) [] d rest)
+pub succeed_push_passes : (g : ReplayInput) (now : ℕ) (info : Info) (r : Recreation) (c d : Consumer) (held : Option Held) (done : Stepped) (v : LinkView) → IsPush g.setup → is_bare r.opened ≡ true
+    → ((p : Sends) → Listens (succeed_push (at_moment now p) r.opened (at_phase (Recreates r) c)) d held)
     → done ≡ done_by hands.Nothing (next.One task.Arm) → PassesRow g now (row.Succeed info) (at_phase (Recreates r) c) d v v sight.Nothing (Ok done)
-succeed_push_passes g now info r c d rest done v pushes bare steps to =
+succeed_push_passes g now info r c d held done v pushes bare steps to =
     let p : Sends = passing_of now Unasked in
-    let s = steps (read_by None None) p in
+    let s = steps p in
     row_passes g now (row.Succeed info) (at_phase (Recreates r) c) d Unasked (succeed_push p r.opened (at_phase (Recreates r) c)) [] hands.Nothing (next.One task.Arm) done v v
     (wished g.setup pushes)
     (record { message = refl; is_open = refl }) refl

@@ -1,6 +1,6 @@
 -- Row after row: what a poll has walked, and what it answers then.
 use Rattle.std.proofs.Common.{◌≡◌, ℕ, Bool, true, false, List, [], ◌∷◌, ◌++◌, ◌⊎◌, inl, inr, Option, Some, None, refl, sym, ap, ◌∙◌, subst}
-use Rattle.std.specs.Prelude.{◌≢◌, ◌↔◌, not, ◌&&◌, ◌||◌, is_some, option_map}
+use Rattle.std.specs.Prelude.{◌≢◌, ◌↔◌, not, ◌&&◌, ◌||◌, is_some, option_map, Result}
 use Rattle.js_base.specs.declared.message.Message.{Message}
 use Rattle.js_link.specs.LinkView.{LinkView}
 use Rattle.js_link.specs.Meets.{Meets}
@@ -21,7 +21,9 @@ use Rattle.js_ordered_stream.specs.declared.error.OrderedErrorKind.{OrderedError
 use Rattle.js_ordered_stream.specs.declared.error.OrderedErrorKind.TheVariants as error
 use Rattle.js_ordered_stream.specs.declared.ordered.Turned.{Turned}
 use Rattle.js_ordered_stream.specs.declared.ordered.Turned.TheVariants as turns
-use Rattle.js_ordered_stream.specs.Stream.{PassesNext, TurnsTo, error_kind, told_of, is_spent, step_met, stride_met, stirring}
+use Rattle.js_base.specs.declared.error.Error.{Error}
+use Rattle.js_base.specs.declared.turn.Next.{Next}
+use Rattle.js_ordered_stream.specs.Stream.{PassesNext, TurnsTo, error_kind, handing, poll_answer, told_of, is_spent, step_met, stride_met, stirring}
 use Rattle.js_turns.specs.Polling.{Answer, Yields, Tells, HandsEnd, Waits, Ends, Lacks, IsPoll, IsMet, IsQuietRow, AreQuiet, IsQuietTurn, IsTaken, StopsAtFirst, last_arrival, looked_at, poll_wish, closed_at, handed_by}
 use Rattle.js_turns.specs.Turns.{Position, Stride, IsStride, step, walk, handed, first_row}
 use Rattle.js_turns.specs.Wishes.{arrival_of, matter_of}
@@ -500,43 +502,46 @@ poll_exhausts g now quiet met old at new v u w walked passes hands spent =
 
 -- ---- what the next row came to, by what its code says
 
-known : (t : Turned) (g h : ReplayInput) (now : ℕ) (old new : Position) (v u : LinkView) → h ≡ g → TurnsTo t h now old new v u → TurnsTo t g now old new v u
-known t g h now old new v u same turned = subst (λ (x : ReplayInput). TurnsTo t x now old new v u) same turned
+known : (t : Turned) (kept : Option Message) (g h : ReplayInput) (now : ℕ) (old new : Position) (v u : LinkView) → h ≡ g → TurnsTo t kept h now old new v u → TurnsTo t kept g now old new v u
+known t kept g h now old new v u same turned = subst (λ (x : ReplayInput). TurnsTo t kept x now old new v u) same turned
 
 pub on_silent : (g h : ReplayInput) (now : ℕ) (quiet begins stirs : Bool) (old at new : Position) (v u w : LinkView) → h ≡ g → Walked g now quiet old at v u → (begins ≡ true → at.todo ≡ [])
-    → TurnsTo (turns.Silent stirs) h now at new u w → Walked g now ((begins || quiet) && not stirs) old new v w
+    → TurnsTo (turns.Silent stirs) None h now at new u w → Walked g now ((begins || quiet) && not stirs) old new v w
 on_silent g h now quiet begins stirs old at new v u w same walked rests turned =
-    let t : TurnsTo (turns.Silent stirs) g now at new u w = known (turns.Silent stirs) g h now at new u w same turned in
+    let t : TurnsTo (turns.Silent stirs) None g now at new u w = known (turns.Silent stirs) None g h now at new u w same turned in
     walked_more g now quiet begins stirs t.0 old at new v u w walked rests t.1 t.2 t.3 t.4
 
-pub on_hands : (g h : ReplayInput) (now : ℕ) (quiet : Bool) (message : Message) (old at new : Position) (v u w : LinkView) → h ≡ g → Walked g now quiet old at v u
-    → TurnsTo (turns.Hands message) h now at new u w → Polls g now old new v w (Yields message)
-on_hands g h now quiet message old at new v u w same walked turned =
-    let t : TurnsTo (turns.Hands message) g now at new u w = known (turns.Hands message) g h now at new u w same turned in
-    poll_yields g now quiet t.0 old at new v u w message walked t.1 t.2 t.3
+-- the message that was kept is handed out, which changes nothing else
+pub on_hands : (g h : ReplayInput) (now : ℕ) (quiet : Bool) (kept : Option Message) (result : Next (Result Message (Error OrderedErrorKind))) (old at new end : Position) (v u w : LinkView) → h ≡ g → Walked g now quiet old at v u
+    → TurnsTo turns.Hands kept h now at new u w → end ≡ new → result ≡ handing kept → Polls g now old end v w (poll_answer result)
+on_hands g h now quiet kept result old at new end v u w same walked turned stays is =
+    let t : TurnsTo turns.Hands kept g now at new u w = known turns.Hands kept g h now at new u w same turned in
+    subst (λ (answer : Answer). Polls g now old end v w answer) (sym (ap poll_answer (is ∙ ap handing t.1)))
+    (subst (λ (x : Position). Polls g now old x v w (Yields t.0)) (sym stays)
+    (poll_yields g now quiet t.2 old at new v u w t.0 walked t.3 t.4 t.5))
 
 pub on_tells : (g h : ReplayInput) (now : ℕ) (quiet : Bool) (kind : ItemKind) (told : OrderedErrorKind) (old at new : Position) (v u w : LinkView) → h ≡ g → Walked g now quiet old at v u
-    → told ≡ error_kind kind → TurnsTo (turns.Tells kind) h now at new u w → Polls g now old new v w (told_of told)
+    → told ≡ error_kind kind → TurnsTo (turns.Tells kind) None h now at new u w → Polls g now old new v w (told_of told)
 on_tells g h now quiet kind told old at new v u w same walked is turned =
-    let t : TurnsTo (turns.Tells kind) g now at new u w = known (turns.Tells kind) g h now at new u w same turned in
+    let t : TurnsTo (turns.Tells kind) None g now at new u w = known (turns.Tells kind) None g h now at new u w same turned in
     poll_errs g now quiet t.0 old at new v u w kind told is walked t.1 t.2
 
 pub on_exhausted : (g h : ReplayInput) (now : ℕ) (quiet : Bool) (told : OrderedErrorKind) (old at new : Position) (v u w : LinkView) → h ≡ g → Walked g now quiet old at v u
-    → told ≡ error.SequenceEnd → TurnsTo turns.Exhausted h now at new u w → Polls g now old new v w (told_of told)
+    → told ≡ error.SequenceEnd → TurnsTo turns.Exhausted None h now at new u w → Polls g now old new v w (told_of told)
 on_exhausted g h now quiet told old at new v u w same walked is turned =
-    let t : TurnsTo turns.Exhausted g now at new u w = known turns.Exhausted g h now at new u w same turned in
+    let t : TurnsTo turns.Exhausted None g now at new u w = known turns.Exhausted None g h now at new u w same turned in
     subst (λ (k : OrderedErrorKind). Polls g now old new v w (told_of k)) (sym is) (poll_exhausts g now quiet t.0 old at new v u w walked t.1 t.2 t.3)
 
 pub on_closed : (g h : ReplayInput) (now : ℕ) (quiet : Bool) (old at new : Position) (v u w : LinkView) → h ≡ g → Walked g now quiet old at v u
-    → TurnsTo turns.Closed h now at new u w → Polls g now old new v w Ends
+    → TurnsTo turns.Closed None h now at new u w → Polls g now old new v w Ends
 on_closed g h now quiet old at new v u w same walked turned =
-    let t : TurnsTo turns.Closed g now at new u w = known turns.Closed g h now at new u w same turned in
+    let t : TurnsTo turns.Closed None g now at new u w = known turns.Closed None g h now at new u w same turned in
     poll_closes g now quiet old at new v u w walked t.0 t.1
 
 pub on_lacks : (g h : ReplayInput) (now : ℕ) (quiet : Bool) (old at new : Position) (v u w : LinkView) → h ≡ g → Walked g now quiet old at v u
-    → TurnsTo turns.OutOfMemory h now at new u w → Polls g now old new v w Lacks
+    → TurnsTo turns.OutOfMemory None h now at new u w → Polls g now old new v w Lacks
 on_lacks g h now quiet old at new v u w same walked turned =
-    let t : TurnsTo turns.OutOfMemory g now at new u w = known turns.OutOfMemory g h now at new u w same turned in
+    let t : TurnsTo turns.OutOfMemory None g now at new u w = known turns.OutOfMemory None g h now at new u w same turned in
     poll_lacks g now quiet old at new v u w walked t.0 t.1
 
 -- it waits where nothing is left of a turn that was quiet

@@ -128,26 +128,26 @@ begins_first g now left c d v u seen result is passes = by_result result (passes
 
 -- ---- what the next row comes to
 
-turned_silent : (g : ReplayInput) (now : ℕ) (met : Met) (old new : Position) (v u : LinkView) (stirs spent : Bool) → PassesNext g now met old new v u → handed (step_met g now met old).outputs ≡ []
-    → stirs ≡ stirring (first_row old.todo) met old.consumer.phase new.consumer.phase → spent ≡ is_spent new.consumer.phase → TurnsTo (silent_by stirs spent) g now old new v u
-turned_silent g now met old new v u stirs true passes shows stirred is = (met, passes, shows, sym is)
-turned_silent g now met old new v u stirs false passes shows stirred is = (met, passes, shows, stirred, sym is)
+turned_silent : (g : ReplayInput) (now : ℕ) (met : Met) (old new : Position) (v u : LinkView) (kept : Option Message) (stirs spent : Bool) → PassesNext g now met old new v u → handed (step_met g now met old).outputs ≡ []
+    → stirs ≡ stirring (first_row old.todo) met old.consumer.phase new.consumer.phase → spent ≡ is_spent new.consumer.phase → TurnsTo (silent_by stirs spent) kept g now old new v u
+turned_silent g now met old new v u kept stirs true passes shows stirred is = (met, passes, shows, sym is)
+turned_silent g now met old new v u kept stirs false passes shows stirred is = (met, passes, shows, stirred, sym is)
 
 turned_to : (g : ReplayInput) (now : ℕ) (met : Met) (old new : Position) (v u : LinkView) (hand : Handed) (message : Option Message) (stirs spent : Bool) → PassesNext g now met old new v u
     → IfSome message (λ x. seen_by (first_row old.todo) met ≡ Some x) → handed (step_met g now met old).outputs ≡ handed_list hand message
-    → stirs ≡ stirring (first_row old.todo) met old.consumer.phase new.consumer.phase → spent ≡ is_spent new.consumer.phase → TurnsTo (turned_by hand message stirs spent) g now old new v u
-turned_to g now met old new v u hands.Nothing message stirs spent passes took shows stirred is = turned_silent g now met old new v u stirs spent passes shows stirred is
-turned_to g now met old new v u hands.Message None stirs spent passes took shows stirred is = turned_silent g now met old new v u stirs spent passes shows stirred is
-turned_to g now met old new v u hands.Message (Some message) stirs spent passes took shows stirred is = (met, passes, shows, took)
+    → stirs ≡ stirring (first_row old.todo) met old.consumer.phase new.consumer.phase → spent ≡ is_spent new.consumer.phase → TurnsTo (turned_by hand message stirs spent) message g now old new v u
+turned_to g now met old new v u hands.Nothing message stirs spent passes took shows stirred is = turned_silent g now met old new v u message stirs spent passes shows stirred is
+turned_to g now met old new v u hands.Message None stirs spent passes took shows stirred is = turned_silent g now met old new v u None stirs spent passes shows stirred is
+turned_to g now met old new v u hands.Message (Some message) stirs spent passes took shows stirred is = (message, refl, met, passes, shows, took)
 turned_to g now met old new v u (hands.Error kind) message stirs spent passes took shows stirred is = (met, passes, shows)
 
 -- the next row was passed
 pub next_passed : (g : ReplayInput) (now : ℕ) (left after : Left) (c d e : Consumer) (kept : Seen) (done : Stepped) (was_reading : Bool) (turned : Turned) (v u : LinkView) → PassesFirst g now left c d v u kept (Ok done) → e ≡ d
-    → was_reading ≡ is_reading c.phase
+    → was_reading ≡ is_reading c.phase → after.seen ≡ kept
     → left_rows after ≡ next_rows (read_in kept) done.next ++ later_of (read_in kept) left.todo
     → turned ≡ turned_by done.handed (message_in kept) (has_message kept || (not was_reading && is_reading d.phase)) (is_spent d.phase)
-    → TurnsTo turned g now (place c (left_rows left)) (place e (left_rows after)) v u
-next_passed g now left after c d e kept done was_reading turned v u (fits, (one, first_is, later_is, (met, meets, is_open, steps))) stays was rows to =
+    → TurnsTo turned (message_in after.seen) g now (place c (left_rows left)) (place e (left_rows after)) v u
+next_passed g now left after c d e kept done was_reading turned v u (fits, (one, first_is, later_is, (met, meets, is_open, steps))) stays was lies rows to =
     let old : Position = place c (left_rows left) in
     let new : Position = place d (left_rows after) in
     let known : Steps g now (first_row (left_rows left)) met c d kept done = subst (λ (x : Row). Steps g now x met c d kept done) (sym first_is) steps in
@@ -162,10 +162,11 @@ next_passed g now left after c d e kept done was_reading turned v u (fits, (one,
     let stirred : (has_message kept || (not was_reading && is_reading d.phase)) ≡ stirring (first_row (left_rows left)) met c.phase d.phase =
     ap (λ (b : Bool). b || (not was_reading && is_reading d.phase)) known.seen
     ∙ ap (λ (b : Bool). is_some (seen_by (first_row (left_rows left)) met) || (not b && is_reading d.phase)) was in
-    subst (λ (x : Consumer). TurnsTo turned g now old (place x (left_rows after)) v u) (sym stays)
-    (subst (λ (t : Turned). TurnsTo t g now old new v u) (sym to)
+    subst (λ (x : Consumer). TurnsTo turned (message_in after.seen) g now old (place x (left_rows after)) v u) (sym stays)
+    (subst (λ (s : Seen). TurnsTo turned (message_in s) g now old new v u) (sym lies)
+    (subst (λ (t : Turned). TurnsTo t (message_in kept) g now old new v u) (sym to)
     (turned_to g now met old new v u done.handed (message_in kept) (has_message kept || (not was_reading && is_reading d.phase)) (is_spent d.phase) passes known.message
-    known.shown stirred refl))
+    known.shown stirred refl)))
 
 -- its inbox is closed
 pub next_closed : (g : ReplayInput) (now : ℕ) (left : Left) (c d : Consumer) (new : Position) (v u : LinkView) (kept : Seen) → PassesFirst g now left c d v u kept (Err stop.Closed)

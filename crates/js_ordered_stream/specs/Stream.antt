@@ -76,6 +76,11 @@ poll_answer next.Pending = Waits
 poll_answer next.End = Ends
 poll_answer next.OutOfMemory = Lacks
 
+-- the message that was kept is handed out
+abbrev pub handing : Option Message → Next (Result Message (Error OrderedErrorKind))
+handing (Some message) = next.Item (Ok message)
+handing None = next.OutOfMemory
+
 -- ---- where a stream stands
 
 -- what it is made with
@@ -117,20 +122,20 @@ pub record PassesNext (g : ReplayInput) (now : ℕ) (met : Met) (old new : Posit
 abbrev pub hands_out : ReplayInput → ℕ → Met → Position → Answer → Type 0
 hands_out g now met at answer = handed (step_met g now met at).outputs ≡ handed_by answer
 
--- the next row of a position was passed, or its inbox is closed, or there was no memory for it
-abbrev pub TurnsTo : Turned → ReplayInput → ℕ → Position → Position → LinkView → LinkView → Type 0
-TurnsTo (turns.Silent stirs) g now old new before after =
+-- the next row of a position was passed, which has kept this message to be handed out, or its inbox is closed, or there was no memory for it
+abbrev pub TurnsTo : Turned → Option Message → ReplayInput → ℕ → Position → Position → LinkView → LinkView → Type 0
+TurnsTo (turns.Silent stirs) kept g now old new before after =
     (met : Met) × PassesNext g now met old new before after × (handed (step_met g now met old).outputs ≡ [])
     × (stirs ≡ stirring (first_row old.todo) met old.consumer.phase new.consumer.phase) × (is_spent new.consumer.phase ≡ false)
-TurnsTo (turns.Hands message) g now old new before after =
-    (met : Met) × PassesNext g now met old new before after × hands_out g now met old (Yields message) × (seen_by (first_row old.todo) met ≡ Some message)
-TurnsTo (turns.Tells kind) g now old new before after =
+TurnsTo turns.Hands kept g now old new before after =
+    (message : Message) × (kept ≡ Some message) × (met : Met) × PassesNext g now met old new before after × hands_out g now met old (Yields message) × (seen_by (first_row old.todo) met ≡ Some message)
+TurnsTo (turns.Tells kind) kept g now old new before after =
     (met : Met) × PassesNext g now met old new before after × hands_out g now met old (Tells kind)
-TurnsTo turns.Exhausted g now old new before after =
+TurnsTo turns.Exhausted kept g now old new before after =
     (met : Met) × PassesNext g now met old new before after × (handed (step_met g now met old).outputs ≡ [])
     × (is_spent new.consumer.phase ≡ true)
-TurnsTo turns.Closed g now old new before after = (new ≡ closed_at true old) × IsClosing Meets (poll_wish g old) true before after
-TurnsTo turns.OutOfMemory g now old new before after = (new ≡ old) × (after ≡ before)
+TurnsTo turns.Closed kept g now old new before after = (new ≡ closed_at true old) × IsClosing Meets (poll_wish g old) true before after
+TurnsTo turns.OutOfMemory kept g now old new before after = (new ≡ old) × (after ≡ before)
 
 -- the first row that is left was passed over a link, and looked at this
 abbrev pub PassesFirst : ReplayInput → ℕ → Left → Consumer → Consumer → LinkView → LinkView → Seen → Result Stepped Stop → Type 0
@@ -147,7 +152,7 @@ silent_by stirs false = turns.Silent stirs
 abbrev pub turned_by : Handed → Option Message → Bool → Bool → Turned
 turned_by hands.Nothing message stirs spent = silent_by stirs spent
 turned_by hands.Message None stirs spent = silent_by stirs spent
-turned_by hands.Message (Some message) stirs spent = turns.Hands message
+turned_by hands.Message (Some message) stirs spent = turns.Hands
 turned_by (hands.Error kind) message stirs spent = turns.Tells kind
 
 -- ---- the beginning of a stream

@@ -3,7 +3,7 @@ ghost use Rattle.std.specs.Prelude.{◌≡◌, ◌<◌, ◌^◌, ◌||◌, ◌&&
 ghost use Rattle.js_link.specs.Meets.{Meets};
 ghost use Rattle.js_ordered_rows.specs.Tasks.{next_rows};
 ghost use Rattle.js_ordered_stream.specs.Rows.{Fits, has_message, kept_if, later_of, left_rows, message_in, read_in, seen_after};
-ghost use Rattle.js_ordered_stream.specs.Stream.{PassesFirst, TurnsTo, first_at, given_to, is_spent as has_no_sequence, poll_answer, position_of, silent_by, turned_by, with_retries};
+ghost use Rattle.js_ordered_stream.specs.Stream.{PassesFirst, TurnsTo, first_at, given_to, handing, is_spent as has_no_sequence, poll_answer, position_of, silent_by, turned_by, with_retries};
 ghost use Rattle.js_base.specs.Clock.{has_come};
 ghost use Rattle.js_table.specs.Fold.{is_over as has_ended};
 ghost use Rattle.js_table.specs.Passes.{given_of};
@@ -37,7 +37,8 @@ pub(crate) struct Ordered {
 pub(crate) enum Turned {
     /// Nothing is handed out.
     Silent { stirs: bool },
-    Hands(Message),
+    /// The message that was taken, which lies in its place: it is large.
+    Hands,
     Tells(ItemKind),
     /// There is no sequence to go on from.
     Exhausted,
@@ -83,11 +84,11 @@ fn silently(stirs: bool, spent: bool) -> Turned
 }
 
 /// A message is handed out, where there is one.
-fn hands(message: Option<Message>, stirs: bool, spent: bool) -> Turned
-    ensures { result ≡ turned_by Handed.Message message stirs spent }
+fn hands(seen: &Seen, stirs: bool, spent: bool) -> Turned
+    ensures { result ≡ turned_by Handed.Message (message_in seen.now) stirs spent }
 {
-    match message {
-        Some(message) => Turned::Hands(message),
+    match seen.message() {
+        Some(_) => Turned::Hands,
         None => silently(stirs, spent),
     }
 }
@@ -223,7 +224,7 @@ impl Ordered {
             }
             match self.pass_next(alloc, link, now) {
                 Turned::Silent { stirs } => quiet = is_quiet(quiet, begins, stirs),
-                Turned::Hands(message) => return Next::Item(Ok(message)),
+                Turned::Hands => return self.hand_out(),
                 Turned::Tells(kind) => return Next::Item(Err(error_of(kind))),
                 Turned::Exhausted => return Next::Item(Err(sequence_end())),
                 Turned::Closed => return Next::End,
@@ -231,6 +232,19 @@ impl Ordered {
             }
         }
         Next::OutOfMemory
+    }
+
+    /// The message that was taken is handed out.
+    fn hand_out(&mut self) -> Next<Result<Message, OrderedError>>
+        ensures given { given_to self.new ≡ given_to self.old }
+        ensures place { position_of self.new ≡ position_of self.old }
+        ensures answer { result ≡ handing (message_in self.old.left.seen) }
+    {
+        match self.left.take_message() {
+            Some(message) => Next::Item(Ok(message)),
+            // None is handed out that was not taken.
+            None => Next::OutOfMemory,
+        }
     }
 
     /// Passes the next row over its link.
@@ -276,7 +290,7 @@ impl Ordered {
     /// Passes the next row, and keeps what is left then.
     fn pass_next<L: Link>(&mut self, alloc: Global, link: &mut L, now: Moment) -> Turned
         ensures given { given_to self.new ≡ given_to self.old }
-        ensures turns { TurnsTo result (given_to self.old) now (position_of self.old) (position_of self.new) (L.view link.old) (L.view link.new) }
+        ensures turns { TurnsTo result (message_in self.new.left.seen) (given_to self.old) now (position_of self.old) (position_of self.new) (L.view link.old) (L.view link.new) }
     {
         let was_reading = is_reading(&self.consumer.phase);
         match self.pass_over(alloc, link, now) {
@@ -289,11 +303,12 @@ impl Ordered {
         }
     }
 
-    /// Keeps what is left after a row. A message that is handed out is taken out of its place.
+    /// Keeps what is left after a row. A message that is to be handed out stays in its place.
     fn settle(&mut self, done: Stepped, was_reading: bool) -> Turned
         requires { Fits self.old.left.todo }
         ensures given { given_to self.new ≡ given_to self.old }
         ensures consumer { self.new.consumer ≡ self.old.consumer }
+        ensures seen { self.new.left.seen ≡ kept_if done.looked self.old.left.seen }
         ensures left { left_rows self.new.left ≡ next_rows (read_in (kept_if done.looked self.old.left.seen)) done.next ++ later_of (read_in (kept_if done.looked self.old.left.seen)) self.old.left.todo }
         ensures turned { result ≡ turned_by done.handed (message_in (kept_if done.looked self.old.left.seen)) (has_message (kept_if done.looked self.old.left.seen) || (not was_reading && reads_inbox self.old.consumer.phase)) (has_no_sequence self.old.consumer.phase) }
     {
@@ -311,7 +326,7 @@ impl Ordered {
         let spent = is_spent(&self.consumer.phase);
         match handed {
             Handed::Nothing => silently(stirs, spent),
-            Handed::Message => hands(self.left.take_message(), stirs, spent),
+            Handed::Message => hands(&self.left.seen, stirs, spent),
             Handed::Error(kind) => Turned::Tells(kind),
         }
     }

@@ -2,7 +2,8 @@
 ghost use Rattle.std.specs.Prelude.{◌≡◌, ◌+◌, ◌≤◌, ◌∷◌, [], Some, IfOk, OnOk, OnErr, codes, is_some, option_map, vec_capacity, vec_len};
 ghost use Rattle.js_ordered.specs.Driven.{PassesTo};
 ghost use Rattle.js_ordered.specs.Giving.{IsOpening, IsSending};
-ghost use Rattle.js_ordered_rows.specs.Tasks.{IsAnswered, answered_rows};
+ghost use Rattle.js_ordered_rows.specs.Tasks.{IsAnswered, answered_rows, held_rows, next_rows};
+ghost use Rattle.js_table.specs.State.{Matter};
 ghost use Rattle.js_pull.specs.Reader.{info_of_reply as info_in, reply_to};
 ghost use Rattle.js_table.specs.Fold.{matter_of};
 ghost use Rattle.js_table.specs.Kept.{IsPull, IsPush};
@@ -14,13 +15,13 @@ ghost use Rattle.js_table.specs.declared.row.Row.TheVariants as row;
 use crate::drive::give::{Opening, Sending, inbox_for, request_for, send, subscribe, tell};
 use crate::drive::recreation::{create_inbox, keep_open};
 use bytes::Bytes;
-use js_base::{Boxed, Message, OutOfMemory, Subject, TryClone};
+use js_base::{Boxed, Items, Message, OutOfMemory, Subject, TryClone};
 use js_json::consumer::Info;
 use js_ordered_rows::recreation::{
     pass_answered, pass_ask, pass_await, pass_create, pass_fail, pass_start, pass_succeed_pull,
     pass_succeed_push, pass_try,
 };
-use js_ordered_rows::{NextTasks, Step};
+use js_ordered_rows::{Held, NextTasks, Step, Task};
 use js_pull::{Source, info_of_reply};
 use js_table::{
     EventContext, EventKind, Opened, OrderedSetup, Output, Phase, Recreation, ReplayState,
@@ -92,8 +93,35 @@ fn succeed_pull(
     }
 }
 
+/// A place for what push has held, in which nothing stands.
+fn held_place(alloc: Global) -> Result<Box<Held>, OutOfMemory> {
+    let nothing = Held {
+        inbox: 0,
+        messages: Items::new(alloc),
+        place: 0,
+    };
+    Ok(Box::new(alloc, nothing)?)
+}
+
+/// What was held is put into its place, and heard before the heartbeat is armed.
+fn held_next(mut place: Box<Held>, held: Option<Held>) -> NextTasks
+    ensures { (m : Matter) → next_rows m result ≡ held_rows held }
+{
+    match held {
+        None => {
+            drop(place);
+            NextTasks::Nothing
+        }
+        Some(held) => {
+            *place = held;
+            NextTasks::Two(Task::HearHeld(place), Task::Arm)
+        }
+    }
+}
+
 /// Push hears its inbox from now on.
 fn succeed_push(
+    alloc: Global,
     context: &EventContext<'_>,
     state: &mut ReplayState,
     recreation: Recreation,
@@ -103,7 +131,16 @@ fn succeed_push(
     requires push { IsPush context.now.setup.now }
     ensures { PassesTo context.now (row.Succeed info.now ∷ []) (at (Phase.Recreates recreation) state.old) state.new outputs.old.items outputs.new.items result }
 {
-    Ok(pass_succeed_push(context, &mut state.consumer, recreation))
+    match held_place(alloc) {
+        Err(refused) => {
+            keep_open(state, recreation);
+            Err(refused)
+        }
+        Ok(place) => {
+            let held = pass_succeed_push(context, &mut state.consumer, recreation);
+            Ok(held_next(place, held))
+        }
+    }
 }
 
 /// A create was answered well.
@@ -120,6 +157,6 @@ pub(crate) fn succeed(
 {
     match context.setup {
         OrderedSetup::Pull(_) => succeed_pull(alloc, context, state, recreation, info, outputs),
-        OrderedSetup::Push(_) => succeed_push(context, state, recreation, info, outputs),
+        OrderedSetup::Push(_) => succeed_push(alloc, context, state, recreation, info, outputs),
     }
 }

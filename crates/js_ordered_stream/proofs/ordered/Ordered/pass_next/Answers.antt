@@ -17,7 +17,7 @@ returns-in-Ok-clause-turns g c =
     let kept = kept_if done.looked c.pass_over.new.self.left.seen in
     let m = read_in kept in
     next_passed (given_to old) c.args.now old.left c.settle.new.self.left old.consumer c.pass_over.new.self.consumer c.settle.new.self.consumer kept done c.is_reading-was_reading.result c.settle.result (view c.args.link.now) (view c.pass_over.new.link)
-    c.in-Ok.ensures.passes c.settle.ensures.consumer c.is_reading-was_reading.ensures
+    c.in-Ok.ensures.passes c.settle.ensures.consumer c.is_reading-was_reading.ensures c.settle.ensures.seen
     (c.settle.ensures.left ∙ ap (λ (t : Todo). next_rows m done.next ++ later_of m t) c.in-Ok.ensures.todo) c.settle.ensures.turned
 
 pub returns-in-Err-Closed-clause-turns : goal.returns-in-Err-Closed-clause-turns

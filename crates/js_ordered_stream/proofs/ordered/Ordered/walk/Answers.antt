@@ -1,4 +1,5 @@
 use Rattle.std.proofs.Common.{Bool, refl, sym, subst, ◌∙◌}
+use Rattle.js_ordered_stream.specs.Rows.{message_in}
 use Rattle.js_ordered_stream.specs.Stream.{given_to, position_of}
 use Rattle.js_ordered_stream.proofs.Strides.{Walked, walked_none, on_waits, on_silent, on_hands, on_tells, on_exhausted, on_closed, on_lacks, poll_lacks}
 use Rattle.js_ordered_stream.proofs.Turning.{rested}
@@ -27,8 +28,8 @@ rows-preserved g c =
 pub returns-in-Hands-clause-polls : goal.returns-in-Hands-clause-polls
 returns-in-Hands-clause-polls g c =
     let view = g.L.Link.view in
-    on_hands (given_to c.args.self.now) (given_to c.rows.self) c.args.now c.rows.quiet c.in-Hands.message (position_of c.args.self.now) (position_of c.rows.self) (position_of c.pass_next.new.self) (view c.args.link.now) (view c.rows.link) (view c.pass_next.new.link)
-    c.rows.invariant.given c.rows.invariant.walked c.in-Hands.ensures.turns
+    on_hands (given_to c.args.self.now) (given_to c.rows.self) c.args.now c.rows.quiet (message_in c.pass_next.new.self.left.seen) c.hand_out.result (position_of c.args.self.now) (position_of c.rows.self) (position_of c.pass_next.new.self) (position_of c.hand_out.new.self) (view c.args.link.now) (view c.rows.link) (view c.pass_next.new.link)
+    c.rows.invariant.given c.rows.invariant.walked c.in-Hands.ensures.turns c.hand_out.ensures.place c.hand_out.ensures.answer
 
 pub returns-in-Tells-clause-polls : goal.returns-in-Tells-clause-polls
 returns-in-Tells-clause-polls g c =
