@@ -5,7 +5,7 @@ pub mod Counted
 pub mod Applied
 pub mod OnHonestLog
 pub mod Served
-mod Worked
+mod WorkedRelay
 pub mod Gives
 pub mod Arriving
 pub mod Replies
