@@ -9,6 +9,7 @@ use Rattle.js_link.specs.Passing.{Passing as Sends}
 use Rattle.js_message.specs.Ack.{Place}
 use Rattle.js_ordered_rows.specs.declared.task.Heard.{Heard}
 use Rattle.js_ordered_rows.specs.declared.task.Heard.TheVariants as hears
+use Rattle.js_ordered_rows.specs.declared.task.NextTasks.TheVariants as next
 use Rattle.js_ordered_rows.specs.declared.task.RowOutput.{RowOutput}
 use Rattle.js_pull.specs.Steps.{ReadsTo, brought}
 use Rattle.js_ordered_rows.specs.Tasks.{IsHeardFrom, StepsTo, heard_outputs, heard_row, reader_rows, told_outputs}
@@ -17,11 +18,12 @@ use Rattle.js_ordered_rows.proofs.Stepping.{from_stream}
 use Rattle.js_ordered_stream.specs.declared.left.Seen.{Seen}
 use Rattle.js_ordered_stream.specs.declared.reading.Taken.{Taken}
 use Rattle.js_ordered_stream.specs.declared.rows.Handed.{Handed}
+use Rattle.js_ordered_stream.specs.declared.rows.Handed.TheVariants as hands
 use Rattle.js_ordered_stream.specs.declared.rows.Stepped.{Stepped}
 use Rattle.js_ordered_stream.specs.Rows.{PassesRow, TakesIn, answer_in, handed_by_heard, handed_list, has_message, is_something, message_in, read_in}
 use Rattle.js_pull.specs.Asking.{is_shut, reply_met}
 use Rattle.js_pull.specs.Reader as pull
-use Rattle.js_pull.specs.Steps.{IsInformed, met_row as reader_met, pin_brought, pin_named, row_list, row_of, told_shown}
+use Rattle.js_pull.specs.Steps.{IsInformed, met_row as reader_met, pin_brought, pin_named, quiet_step, row_list, row_of, told_shown}
 use Rattle.js_pull.specs.Steps.{StepsTo as ReaderStepsTo}
 use Rattle.js_pull.specs.declared.reader.Reader.{Reader}
 use Rattle.js_pull.specs.declared.reader.ReaderOutput.{ReaderOutput}
@@ -55,6 +57,12 @@ yields_handed number message up (hears.Beat last) hand is to = absurd is
 yields_handed number message up hears.OtherStatus hand is to = absurd is
 
 -- ---- what the consumer makes of it
+
+-- a step that tells nothing, which no row follows, leaves the consumer as it is
+pub takes_nothing : (m : Matter) (c : Consumer) (step : Read) → step ≡ quiet_step None
+    → TakesIn m (told_shown step.told None) (reader_rows m step.next) None c c (record { handed = hands.Nothing; next = next.Nothing })
+takes_nothing m c step is = subst (λ (s : Read). TakesIn m (told_shown s.told None) (reader_rows m s.next) None c c (record { handed = hands.Nothing; next = next.Nothing })) (sym is)
+    (record { outputs = []; steps = record { consumer = refl; outputs = refl; next = refl }; shown = refl })
 
 pub takes_told : (m : Matter) (tells silent : ReaderOutput) (rows : List Row) (message : Option Message) (c d : Consumer) (said : RowOutput) (taken : Taken) → tells ≡ silent
     → StepsTo m (with_sent [] rows (told silent c)) (told_outputs said) d taken.next → handed_list taken.handed message ≡ handed (told_outputs said)

@@ -1,7 +1,7 @@
 //! The rows that are left of a turn.
 ghost use Rattle.std.specs.Option.{option_copied};
 ghost use Rattle.std.specs.Prelude.{◌≡◌, ◌++◌, ◌∷◌, [], map};
-ghost use Rattle.js_ordered_rows.specs.Tasks.{next_rows};
+ghost use Rattle.js_ordered_rows.specs.Tasks.{next_rows, rows_of};
 ghost use Rattle.js_ordered_stream.specs.Rows.{FirstOf, Fits, IsPlain, ReadsNone, has_message, is_rested, is_something as has_seen, kept_if, later_list, later_of, left_rows, message_in, read_in, seen_met, todo_rows};
 ghost use Rattle.js_pull.specs.Asking.{met_shown};
 ghost use Rattle.js_pull.specs.Reader.{opening};
@@ -104,23 +104,13 @@ fn is_plain(task: &Task) -> bool
     }
 }
 
-/// These rows come first, and then one that was left.
-fn before(next: NextTasks, later: Option<Task>) -> Todo
-    ensures { (m : Matter) → todo_rows m result ≡ next_rows m next ++ later_list m later }
+/// Two rows come first, and then one that was left.
+fn before(one: Task, second: Task, later: Option<Task>) -> Todo
+    ensures { (m : Matter) → todo_rows m result ≡ next_rows m (NextTasks.Two one second) ++ later_list m later }
 {
-    match next {
-        NextTasks::Nothing => match later {
-            None => Todo::Nothing,
-            Some(later) => Todo::One(later),
-        },
-        NextTasks::One(one) => match later {
-            None => Todo::One(one),
-            Some(later) => Todo::Two(one, later),
-        },
-        NextTasks::Two(one, second) => match later {
-            None => Todo::Two(one, second),
-            Some(later) => Todo::Three(one, second, later),
-        },
+    match later {
+        None => Todo::Two(one, second),
+        Some(later) => Todo::Three(one, second, later),
     }
 }
 
@@ -194,7 +184,8 @@ impl Seen {
     fn keep_if(&mut self, looked: bool)
         ensures { self.new ≡ kept_if looked self.old }
     {
-        if !looked {
+        // To put a value in a place costs the move of what lay there.
+        if !looked && self.is_something() {
             put(self, Seen::Nothing);
         }
     }
@@ -249,7 +240,8 @@ impl Todo {
     /// What is left after the next row.
     fn take_later(&mut self) -> Option<Task>
         requires { Fits self.old }
-        ensures { (m : Matter) → later_list m result ≡ later_of m self.old }
+        ensures later { (m : Matter) → later_list m result ≡ later_of m self.old }
+        ensures rest { self.new ≡ Todo.Nothing }
     {
         match mem::replace(self, Todo::Nothing) {
             Todo::Nothing => None,
@@ -268,13 +260,41 @@ impl Todo {
         }
     }
 
+    /// The next row was passed, and none follows it at once.
+    fn advance(&mut self)
+        requires { Fits self.old }
+        ensures { (m : Matter) → todo_rows m self.new ≡ later_of m self.old }
+    {
+        if let Some(later) = self.take_later() {
+            put(self, Todo::One(later));
+        }
+    }
+
+    /// The next row was passed: this one takes its place.
+    fn replace_first(&mut self, next: Task)
+        requires { Fits self.old }
+        ensures { (m : Matter) → todo_rows m self.new ≡ rows_of m next ++ later_of m self.old }
+    {
+        match self {
+            Todo::One(passed) => put(passed, next),
+            Todo::Two(passed, _) => put(passed, next),
+            _ => put(self, Todo::One(next)),
+        }
+    }
+
     /// The next row was passed: what follows it at once takes its place.
     fn follow(&mut self, next: NextTasks)
         requires { Fits self.old }
         ensures { (m : Matter) → todo_rows m self.new ≡ next_rows m next ++ later_of m self.old }
     {
-        let later = self.take_later();
-        put(self, before(next, later));
+        match next {
+            NextTasks::Nothing => self.advance(),
+            NextTasks::One(one) => self.replace_first(one),
+            NextTasks::Two(one, second) => {
+                let later = self.take_later();
+                put(self, before(one, second, later));
+            }
+        }
     }
 }
 

@@ -1,23 +1,26 @@
 //! The rows of a pull reader over a link, and what the consumer makes of what its reader tells.
-ghost use Rattle.std.specs.Prelude.{◌≡◌, IfOk, None, OnErr, Option, Some, true};
+ghost use Rattle.std.specs.Prelude.{◌≡◌, IfOk, None, OnErr, Option, Some, false, true};
 ghost use Rattle.js_base.specs.declared.message.Message.{Message as SpecMessage};
 ghost use Rattle.js_link.specs.LinkView.{LinkView};
 ghost use Rattle.js_ordered_rows.specs.Tasks.{reader_rows};
 ghost use Rattle.js_ordered_stream.specs.Rows.{AsksNothing, IsReadMet, MeetsReader, PassesRow, TakesIn, answer_in, handed_by_heard, message_in, seen_after};
-ghost use Rattle.js_pull.specs.Steps.{IsInformed, brought, row_of, told_shown};
+ghost use Rattle.js_link.specs.Met.{Unasked};
+ghost use Rattle.js_pull.specs.Passes.{publishing};
+ghost use Rattle.js_pull.specs.Reader as reads;
+ghost use Rattle.js_pull.specs.Steps.{IsInformed, ReadsTo, Steps, brought, quiet_step, row_of, told_shown};
 ghost use Rattle.js_pull.specs.declared.reader.Row.TheVariants as read;
 ghost use Rattle.js_table.specs.Passes.{given_of};
 ghost use Rattle.js_table.specs.State.{Matter};
 ghost use Rattle.js_table.specs.declared.row.Row.TheVariants as row;
 
 use crate::left::{Seen, put, seen_of};
-use crate::rows::{Handed, Stepped, Stop, ask_for, handed_of};
-use js_base::{Message, OutOfMemory};
+use crate::rows::{Handed, Stepped, Stop, ask_for, handed_of, quietly};
+use js_base::{Message, Moment, OutOfMemory};
 use js_link::{InboxId, Link, Taken as Found};
 use js_ordered_rows::listening::heard_from;
 use js_ordered_rows::reading::{take_message, take_notice};
 use js_ordered_rows::{Heard, NextTasks, Step};
-use js_pull::{Due, Met, Notice, Reader, Reason, Spare, informed_of};
+use js_pull::{Due, Met, Notice, Reader, Reason, Spare, Step as Read, informed_of};
 use js_table::{Consumer, EventContext, ItemKind, Phase};
 use std::alloc::Global;
 
@@ -153,6 +156,35 @@ fn asks_nothing(due: Due) -> bool
     }
 }
 
+/// The reader passes a row that asks its link for nothing. Nearly each turn has the first two, which need nothing that is large.
+fn alone(reader: &mut Reader, now: Moment, due: Due) -> Read
+    requires { AsksNothing due true }
+    ensures { (reply : Option SpecMessage) → Steps now (row_of reply due) Unasked result reader.old reader.new }
+{
+    match due {
+        Due::Threshold => reader.pass_threshold(),
+        Due::CheckExpiry => reader.pass_check_expiry(now),
+        _ => {
+            let spare = Spare {
+                informed: None,
+                pin: None,
+            };
+            reader.pass(now, due, spare, &Met::Unasked)
+        }
+    }
+}
+
+/// The reader tells nothing, and no row of it follows, as after most of these.
+fn is_quiet(step: Read) -> bool
+    ensures { result ≡ true → step ≡ quiet_step None }
+{
+    match step.told {
+        Notice::Nothing => step.next.is_none(),
+        Notice::Hands => false,
+        Notice::Tells(_) => false,
+    }
+}
+
 /// A row is passed that asks its link for nothing.
 fn pass_alone(
     context: &EventContext<'_>,
@@ -165,17 +197,27 @@ fn pass_alone(
     let Phase::Pulls(reader) = &mut consumer.phase else {
         return Err(Stop::OutOfMemory);
     };
-    let spare = Spare {
-        informed: None,
-        pin: None,
-    };
-    let step = reader.pass(context.moment, due, spare, &Met::Unasked);
+    let step = alone(reader, context.moment, due);
+    if is_quiet(step) {
+        return Ok(quietly(NextTasks::Nothing));
+    }
     let Taken { handed, next } = take_told(consumer, step.told, step.next);
     Ok(Stepped {
         handed,
         looked: false,
         next,
     })
+}
+
+/// The reader hears the message that was taken, which lies in its place, or that there was none. It is not pinned.
+fn hear_taken(reader: &mut Reader, now: Moment, seen: &Seen) -> Read
+    requires { reader.old.source.pinned ≡ false }
+    ensures { ReadsTo None (message_in seen.now) (reads.check_arrival (publishing now false) (message_in seen.now) reader.old) reader.new result }
+{
+    match seen.message() {
+        Some(message) => reader.hear_arrival(now, message, None),
+        None => reader.pass_check_arrival(now, &Met::Empty, None),
+    }
 }
 
 /// The reader looks for an arrival. No such row is left where none reads.
@@ -207,12 +249,12 @@ fn pass_arrival<L: Link>(
             })
         }
         Found::Message(message) => {
-            let step = reader.hear_arrival(context.moment, &message, None);
             let taken = Seen::Message {
                 unheard: None,
                 message,
             };
             put(seen, taken);
+            let step = hear_taken(reader, context.moment, seen);
             let Taken { handed, next } = take_in(consumer, step.told, seen, step.next);
             Ok(Stepped {
                 handed,

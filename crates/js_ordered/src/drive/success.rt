@@ -93,8 +93,10 @@ fn succeed_pull(
     }
 }
 
-/// A place for what push has held, in which nothing stands.
-fn held_place(alloc: Global) -> Result<Box<Held>, OutOfMemory> {
+/// A box for what push has held, in which nothing is held yet.
+fn held_box(alloc: Global) -> Result<Box<Held>, OutOfMemory>
+    ensures { IfOk result (λ held. held.value ≡ record { inbox = 0; messages = []; place = 0 }) }
+{
     let nothing = Held {
         inbox: 0,
         messages: Items::new(alloc),
@@ -103,18 +105,18 @@ fn held_place(alloc: Global) -> Result<Box<Held>, OutOfMemory> {
     Ok(Box::new(alloc, nothing)?)
 }
 
-/// What was held is put into its place, and heard before the heartbeat is armed.
-fn held_next(mut place: Box<Held>, held: Option<Held>) -> NextTasks
+/// What was held is put into its box, and heard before the heartbeat is armed.
+fn held_next(mut held_box: Box<Held>, held: Option<Held>) -> NextTasks
     ensures { (m : Matter) → next_rows m result ≡ held_rows held }
 {
     match held {
         None => {
-            drop(place);
+            drop(held_box);
             NextTasks::Nothing
         }
         Some(held) => {
-            *place = held;
-            NextTasks::Two(Task::HearHeld(place), Task::Arm)
+            *held_box = held;
+            NextTasks::Two(Task::HearHeld(held_box), Task::Arm)
         }
     }
 }
@@ -131,14 +133,14 @@ fn succeed_push(
     requires push { IsPush context.now.setup.now }
     ensures { PassesTo context.now (row.Succeed info.now ∷ []) (at (Phase.Recreates recreation) state.old) state.new outputs.old.items outputs.new.items result }
 {
-    match held_place(alloc) {
+    match held_box(alloc) {
         Err(refused) => {
             keep_open(state, recreation);
             Err(refused)
         }
-        Ok(place) => {
+        Ok(held_box) => {
             let held = pass_succeed_push(context, &mut state.consumer, recreation);
-            Ok(held_next(place, held))
+            Ok(held_next(held_box, held))
         }
     }
 }

@@ -1,14 +1,18 @@
 use Rattle.std.proofs.Common.{None, false, refl, sym}
 use Rattle.std.specs.Prelude.{Ok}
 use Rattle.js_link.specs.Met.{Unasked}
+use Rattle.js_ordered_rows.specs.declared.task.NextTasks.TheVariants as next
 use Rattle.js_ordered_stream.specs.declared.left.Seen.TheVariants as sight
+use Rattle.js_ordered_stream.specs.declared.reading.Taken.{Taken}
+use Rattle.js_ordered_stream.specs.declared.rows.Handed.TheVariants as hands
 use Rattle.js_ordered_stream.specs.declared.rows.Stepped.{Stepped}
 use Rattle.js_ordered_stream.specs.Rows.{read_by}
 use Rattle.js_pull.specs.Steps.{row_of}
 use Rattle.js_table.specs.Passes.{given_of}
 use Rattle.js_table.specs.declared.consumer.Phase.TheVariants.{Pulls}
 use Rattle.js_table.specs.declared.row.Row.TheVariants as row
-use Rattle.js_ordered_stream.proofs.Hearing.{read_passes}
+use Rattle.js_table.specs.State.{at_phase}
+use Rattle.js_ordered_stream.proofs.Hearing.{read_passes, takes_nothing}
 use Rattle.js_ordered_stream.proofs.Keeping.{row_at_phase}
 use Rattle.js_ordered_stream.proofs.Passing.{meets_as}
 use Rattle.js_ordered_stream.proofs.reading.pass_alone.Goals as goal
@@ -21,5 +25,17 @@ returns c = λ reply v.
     let asks = c.requires reply c.in-Pulls.reader in
     let done : Stepped = record { handed = c.take_told-handed.result.handed; looked = false; next = c.take_told-handed.result.next } in
     row_at_phase given now (row.Read one) (Pulls c.in-Pulls.reader) c.args.consumer.now c.take_told-handed.new.consumer v v sight.Nothing (Ok done) c.in-Pulls.is
-    (read_passes given now one c.in-Pulls.reader c.pass-step.new.self c.args.consumer.now c.take_told-handed.new.consumer Unasked c.pass-step.result c.take_told-handed.result sight.Nothing done v v
-    (meets_as _ _ Unasked v v (sym asks.0) refl) refl (c.pass-step.ensures reply asks.1) refl refl refl (c.take_told-handed.ensures (read_by None None) None refl) refl)
+    (read_passes given now one c.in-Pulls.reader c.alone-step.new.reader c.args.consumer.now c.take_told-handed.new.consumer Unasked c.alone-step.result c.take_told-handed.result sight.Nothing done v v
+    (meets_as _ _ Unasked v v (sym asks.0) refl) refl (c.alone-step.ensures reply) refl refl refl (c.take_told-handed.ensures (read_by None None) None refl) refl)
+
+pub returns-then-is_quiet : goal.returns-then-is_quiet
+returns-then-is_quiet c = λ reply v.
+    let given = given_of c.args.context.now in
+    let now = c.args.context.now.moment in
+    let one = row_of reply c.args.due in
+    let asks = c.requires reply c.in-Pulls.reader in
+    let same = at_phase (Pulls c.alone-step.new.reader) c.args.consumer.now in
+    let taken : Taken = record { handed = hands.Nothing; next = next.Nothing } in
+    row_at_phase given now (row.Read one) (Pulls c.in-Pulls.reader) c.args.consumer.now same v v sight.Nothing (Ok c.quietly.result) c.in-Pulls.is
+    (read_passes given now one c.in-Pulls.reader c.alone-step.new.reader c.args.consumer.now same Unasked c.alone-step.result taken sight.Nothing c.quietly.result v v
+    (meets_as _ _ Unasked v v (sym asks.0) refl) refl (c.alone-step.ensures reply) refl refl refl (takes_nothing (read_by None None) same c.alone-step.result (c.is_quiet.ensures c.if-is_quiet.true)) c.quietly.ensures)

@@ -1,4 +1,4 @@
-use Rattle.std.proofs.Common.{Some, None, true, false, refl, sym, ap}
+use Rattle.std.proofs.Common.{Some, None, true, false, refl, sym, ap, subst}
 use Rattle.std.specs.Prelude.{Ok, Err}
 use Rattle.js_link.specs.Met.{Empty, Took}
 use Rattle.js_ordered_stream.specs.declared.left.Seen.{Seen}
@@ -6,12 +6,14 @@ use Rattle.js_ordered_stream.specs.declared.left.Seen.TheVariants as sight
 use Rattle.js_ordered_stream.specs.declared.rows.Stop.TheVariants as stop
 use Rattle.js_ordered_stream.specs.declared.rows.Stepped.{Stepped}
 use Rattle.js_ordered_stream.specs.Rows.{answer_in, has_message, is_something, message_in, read_by, read_in}
-use Rattle.js_pull.specs.Steps.{brought}
+use Rattle.js_pull.specs.Passes.{publishing}
+use Rattle.js_pull.specs.Reader as reads
+use Rattle.js_pull.specs.Steps.{ReadsTo, brought}
 use Rattle.js_pull.specs.declared.reader.Row.TheVariants as read
 use Rattle.js_table.specs.Passes.{given_of}
 use Rattle.js_table.specs.declared.consumer.Phase.TheVariants.{Pulls}
 use Rattle.js_table.specs.declared.row.Row.TheVariants as row
-use Rattle.js_ordered_stream.proofs.Hearing.{no_pin, read_passes}
+use Rattle.js_ordered_stream.proofs.Hearing.{read_passes}
 use Rattle.js_ordered_stream.proofs.Keeping.{row_at_phase}
 use Rattle.js_ordered_stream.proofs.reading.pass_arrival.Goals as goal
 
@@ -19,9 +21,6 @@ pub returns-in-Closed-clause-passes : goal.returns-in-Closed-clause-passes
 returns-in-Closed-clause-passes g c =
     let view = g.L.Link.view in
     row_at_phase (given_of c.args.context.now) c.args.context.now.moment (row.Read read.CheckArrival) (Pulls c.in-Pulls.reader) c.args.consumer.now _ (view c.args.link.now) (view c.take.new.self) c.args.seen.now (Err stop.Closed) c.in-Pulls.is (refl, c.in-Closed.ensures)
-
-pub hear_arrival-step-requires : goal.hear_arrival-step-requires
-hear_arrival-step-requires g c = no_pin c.in-Pulls.reader.source.pinned (Some c.in-Message.message) c.if-reader.false
 
 pub returns-in-Empty-clause-passes : goal.returns-in-Empty-clause-passes
 returns-in-Empty-clause-passes g c =
@@ -44,6 +43,7 @@ returns-in-Message-clause-passes g c =
     let seen = c.put.new.place in
     let is = c.put.ensures in
     let done : Stepped = record { handed = c.take_in-handed.result.handed; looked = true; next = c.take_in-handed.result.next } in
+    let heard = subst (λ (s : Seen). ReadsTo None (message_in s) (reads.check_arrival (publishing now false) (message_in s) c.in-Pulls.reader) c.hear_taken-step.new.reader c.hear_taken-step.result) is c.hear_taken-step.ensures in
     row_at_phase given now (row.Read read.CheckArrival) (Pulls c.in-Pulls.reader) c.args.consumer.now c.take_in-handed.new.consumer old new seen (Ok done) c.in-Pulls.is
-    (read_passes given now read.CheckArrival c.in-Pulls.reader c.hear_arrival-step.new.self c.args.consumer.now c.take_in-handed.new.consumer (Took message) c.hear_arrival-step.result c.take_in-handed.result seen done old new
-    c.in-Message.ensures refl c.hear_arrival-step.ensures (ap message_in is) (ap has_message is) (ap (λ (s : Seen). brought (answer_in s)) is) (c.take_in-handed.ensures (read_in seen)) (ap (λ b. record done { looked = b }) (sym (ap is_something is))))
+    (read_passes given now read.CheckArrival c.in-Pulls.reader c.hear_taken-step.new.reader c.args.consumer.now c.take_in-handed.new.consumer (Took message) c.hear_taken-step.result c.take_in-handed.result seen done old new
+    c.in-Message.ensures refl heard (ap message_in is) (ap has_message is) (ap (λ (s : Seen). brought (answer_in s)) is) (c.take_in-handed.ensures (read_in seen)) (ap (λ b. record done { looked = b }) (sym (ap is_something is))))

@@ -1,5 +1,4 @@
 use Rattle.std.proofs.Common.{refl, ◌∙◌}
-use Rattle.js_ordered_rows.specs.Tasks.{Listens}
 use Rattle.js_table.specs.Passes.{given_of, matter_now}
 use Rattle.js_table.specs.Fold.{passing}
 use Rattle.js_ordered.proofs.Driving.{succeeds_push}
