@@ -19,5 +19,7 @@ mod steps;
 mod tables;
 #[cfg(test)]
 mod threads;
+#[cfg(test)]
+mod twins;
 
 pub use faults::failing;
