@@ -8,8 +8,8 @@ use Rattle.js_table.specs.declared.run.Step.{Step}
 use Rattle.js_table.specs.declared.run.ReplayError.{ReplayError}
 use Rattle.js_table.specs.declared.run.ReplayError.TheVariants as error
 use Rattle.js_ordered.specs.declared.incremental_replay.IncrementalReplay.{IncrementalReplay}
-use Rattle.js_ordered_rows.specs.declared.task.Task.{Task}
-use Rattle.js_ordered_rows.specs.declared.task.Task.TheVariants as task
+use Rattle.js_table.specs.declared.passing.task.Task.{Task}
+use Rattle.js_table.specs.declared.passing.task.Task.TheVariants as task
 use Rattle.js_ordered.specs.Driven.{IsLeft, Leads, left_rows}
 use Rattle.js_ordered.proofs.Replaying.{event_begun, led_to}
 use Rattle.js_table.specs.declared.row.Row.TheVariants.{Event}

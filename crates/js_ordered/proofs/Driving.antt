@@ -5,17 +5,17 @@ use Rattle.std.specs.Prelude.{◌≤◌, option_map, Result, Ok, IfOk, OnOk}
 use Rattle.js_base.specs.declared.message.Message.{Message}
 use Rattle.js_json.specs.declared.consumer.info.Info.{Info}
 use Rattle.js_link.specs.Passing.{Passing}
-use Rattle.js_ordered_rows.specs.declared.task.Heard.{Heard}
-use Rattle.js_ordered_rows.specs.declared.task.Heard.TheVariants as hears
-use Rattle.js_ordered_rows.specs.declared.task.Inbox.{Inbox}
-use Rattle.js_ordered_rows.specs.declared.task.NextTasks.{NextTasks}
-use Rattle.js_ordered_rows.specs.declared.task.NextTasks.TheVariants as next
-use Rattle.js_ordered_rows.specs.declared.task.Task.{Task}
-use Rattle.js_ordered_rows.specs.declared.task.RowOutput.{RowOutput}
-use Rattle.js_ordered_rows.specs.declared.task.RowOutput.TheVariants as tells
+use Rattle.js_table.specs.declared.passing.task.Heard.{Heard}
+use Rattle.js_table.specs.declared.passing.task.Heard.TheVariants as hears
+use Rattle.js_table.specs.declared.passing.task.Inbox.{Inbox}
+use Rattle.js_table.specs.declared.passing.task.NextTasks.{NextTasks}
+use Rattle.js_table.specs.declared.passing.task.NextTasks.TheVariants as next
+use Rattle.js_table.specs.declared.passing.task.Task.{Task}
+use Rattle.js_table.specs.declared.passing.task.RowOutput.{RowOutput}
+use Rattle.js_table.specs.declared.passing.task.RowOutput.TheVariants as tells
 use Rattle.js_ordered.specs.Driven.{Leads, PassesTo, counted, heard_first, left_rows}
 use Rattle.js_ordered.specs.Giving.{IsInbox, IsNumber, Sends, Subscribes}
-use Rattle.js_ordered_rows.specs.Tasks.{IsHeard, StepsTo, answered_rows, create_outputs, heard_outputs, heard_row, heard_rows, next_rows, opening_to, requested, requesting, rows_of, subscribed, told_outputs}
+use Rattle.js_table.specs.Tasks.{IsHeard, StepsTo, answered_rows, create_outputs, heard_outputs, heard_row, heard_rows, next_rows, opening_to, requested, requesting, rows_of, subscribed, told_outputs}
 use Rattle.js_pull.specs.Reader.{info_of_reply}
 use Rattle.js_table.specs.declared.consumer.Consumer.{Consumer}
 use Rattle.js_table.specs.declared.consumer.ReplayInput.{ReplayInput}
@@ -38,7 +38,7 @@ use Rattle.js_table.specs.State.{Matter, Passed, quietly, at_phase}
 use Rattle.js_table.specs.Texts.{inbox_subject}
 use Rattle.js_table.specs.Turn.{event_row, pass, row_at}
 use Rattle.js_ordered.proofs.Rans.{no_more, ran_from, from_rest}
-use Rattle.js_ordered_rows.proofs.Stepping.{hears_as, hears_here, hears_nowhere}
+use Rattle.js_table.proofs.Stepping.{hears_as, hears_here, hears_nowhere}
 
 -- ---- one row
 

@@ -3,13 +3,13 @@ use Rattle.std.proofs.Common.{◌≡◌, ℕ, ◌+◌, Bool, true, false, List, 
 use Rattle.std.specs.Prelude.{◌≢◌, codes}
 use Rattle.js_base.specs.declared.message.Message.{Message}
 use Rattle.js_link.specs.Passing.{Passing}
-use Rattle.js_ordered_rows.specs.declared.task.Heard.{Heard}
-use Rattle.js_ordered_rows.specs.declared.task.NextTasks.{NextTasks}
-use Rattle.js_ordered_rows.specs.declared.task.NextTasks.TheVariants as next
-use Rattle.js_ordered_rows.specs.declared.task.Task.TheVariants as task
+use Rattle.js_table.specs.declared.passing.task.Heard.{Heard}
+use Rattle.js_table.specs.declared.passing.task.NextTasks.{NextTasks}
+use Rattle.js_table.specs.declared.passing.task.NextTasks.TheVariants as next
+use Rattle.js_table.specs.declared.passing.task.Task.TheVariants as task
 use Rattle.js_ordered.specs.Driven.{Finishes, Leads, counted}
 use Rattle.js_ordered.specs.Giving.{Sends}
-use Rattle.js_ordered_rows.specs.Tasks.{IsHeardFrom, StepsTo, heard_outputs, heard_row, next_rows, reader_rows, requested, requesting, told_outputs}
+use Rattle.js_table.specs.Tasks.{IsHeardFrom, StepsTo, heard_outputs, heard_row, next_rows, reader_rows, requested, requesting, told_outputs}
 use Rattle.js_link.specs.declared.sent.Sent.{Sent}
 use Rattle.js_pull.specs.declared.rows.Due.TheVariants as due
 use Rattle.js_pull.specs.declared.rows.Notice.{Notice}
@@ -40,8 +40,8 @@ use Rattle.js_table.specs.Passes.{at, heard}
 use Rattle.js_table.specs.Reading.{read_row, told, with_sent}
 use Rattle.js_table.specs.Recreation.{message_on}
 use Rattle.js_table.specs.State.{Matter, Passed, output_of, at_phase}
-use Rattle.js_ordered_rows.proofs.ReaderSteps.{hear_sends, reads_row}
-use Rattle.js_ordered_rows.proofs.Stepping.{from_stream}
+use Rattle.js_table.proofs.ReaderSteps.{hear_sends, reads_row}
+use Rattle.js_table.proofs.Stepping.{from_stream}
 use Rattle.js_ordered.proofs.Driving.{with_request, unnumbered, no_made, told_unnumbered, heard_unnumbered, leads_at, leads_quietly, request_is}
 
 -- ---- rows of a pull reader

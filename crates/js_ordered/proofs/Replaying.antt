@@ -23,8 +23,8 @@ use Rattle.js_table.specs.Passes.{ran, at, first_reader_of}
 use Rattle.js_table.specs.Refusal.{is_exhausted, first_exhausted, refuse_input, refuse_end, refuse}
 use Rattle.js_table.specs.Valid.{IsFolded}
 use Rattle.js_pull.specs.Reader.{opening as opening_reads}
-use Rattle.js_ordered_rows.specs.declared.task.Task.{Task}
-use Rattle.js_ordered_rows.specs.declared.task.Task.TheVariants as task
+use Rattle.js_table.specs.declared.passing.task.Task.{Task}
+use Rattle.js_table.specs.declared.passing.task.Task.TheVariants as task
 use Rattle.js_ordered.specs.Driven.{Leads, left_rows}
 use Rattle.js_ordered.proofs.Rans.{no_more}
 

@@ -2,10 +2,10 @@
 use Rattle.std.proofs.Common.{◌≡◌, ℕ, suc, true, false, List, [], ◌∷◌, ◌++◌, length, Option, Some, refl, sym, ap, ◌∙◌, subst, arith}
 use Rattle.std.proofs.lemmas.Bool.Decides.{nat_tests}
 use Rattle.std.specs.Prelude.{◌==◌, option_to_list, Result, Ok, Err}
-use Rattle.js_ordered_rows.specs.declared.task.NextTasks.{NextTasks}
-use Rattle.js_ordered_rows.specs.declared.task.Task.{Task}
+use Rattle.js_table.specs.declared.passing.task.NextTasks.{NextTasks}
+use Rattle.js_table.specs.declared.passing.task.Task.{Task}
 use Rattle.js_ordered.specs.Driven.{IsLeft, Leads, LeadsOn, PassesTo, left_rows}
-use Rattle.js_ordered_rows.specs.Tasks.{next_rows}
+use Rattle.js_table.specs.Tasks.{next_rows}
 use Rattle.js_table.specs.declared.consumer.ReplayInput.{ReplayInput}
 use Rattle.js_table.specs.declared.row.Row.{Row}
 use Rattle.js_table.specs.declared.run.Output.{Output}

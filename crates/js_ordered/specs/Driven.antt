@@ -1,13 +1,13 @@
 -- What the code of a replay says that passes the rows of an event.
 use Rattle.std.specs.Prelude.{◌≡◌, ℕ, ◌+◌, List, [], ◌∷◌, ◌++◌, None, Some, Result, Ok, Err, count_by, drop, ⊤}
-use Rattle.js_ordered_rows.specs.declared.task.NextTasks.{NextTasks}
+use Rattle.js_table.specs.declared.passing.task.NextTasks.{NextTasks}
 use Rattle.js_base.specs.declared.message.Message.{Message}
-use Rattle.js_ordered_rows.specs.declared.task.Held.{Held}
+use Rattle.js_table.specs.declared.passing.task.Held.{Held}
 use Rattle.js_pull.specs.declared.rows.Step.{Step as Read}
-use Rattle.js_ordered_rows.specs.declared.task.Task.{Task}
-use Rattle.js_ordered_rows.specs.declared.task.RowOutput.{RowOutput}
-use Rattle.js_ordered_rows.specs.declared.task.Task.TheVariants as task
-use Rattle.js_ordered_rows.specs.Tasks.{StepsTo, next_rows, reader_rows, rows_of, told_outputs}
+use Rattle.js_table.specs.declared.passing.task.Task.{Task}
+use Rattle.js_table.specs.declared.passing.task.RowOutput.{RowOutput}
+use Rattle.js_table.specs.declared.passing.task.Task.TheVariants as task
+use Rattle.js_table.specs.Tasks.{StepsTo, next_rows, reader_rows, rows_of, told_outputs}
 use Rattle.js_table.specs.declared.consumer.ReplayInput.{ReplayInput}
 use Rattle.js_pull.specs.Steps.{told_shown}
 use Rattle.js_table.specs.declared.consumer.Consumer.{Consumer}

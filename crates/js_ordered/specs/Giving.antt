@@ -2,8 +2,8 @@
 use Rattle.std.specs.Prelude.{◌≡◌, ℕ, ◌+◌, Bool, true, false, List, ◌++◌, Option, Some, None, count_by}
 use Rattle.js_ordered.specs.declared.drive.give.Opening.{Opening}
 use Rattle.js_ordered.specs.declared.drive.give.Sending.{Sending}
-use Rattle.js_ordered_rows.specs.declared.task.Inbox.{Inbox}
-use Rattle.js_ordered_rows.specs.Tasks.{requested, subscribed}
+use Rattle.js_table.specs.declared.passing.task.Inbox.{Inbox}
+use Rattle.js_table.specs.Tasks.{requested, subscribed}
 use Rattle.js_pull.specs.declared.reader.Reader.{Reader}
 use Rattle.js_pull.specs.Limits.{pull_body}
 use Rattle.js_pull.specs.Reader.{pull_subject}

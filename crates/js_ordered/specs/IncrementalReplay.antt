@@ -4,7 +4,7 @@ use Rattle.js_table.specs.declared.consumer.ReplayInput.{ReplayInput}
 use Rattle.js_ordered.specs.declared.incremental_replay.IncrementalReplay.{IncrementalReplay}
 use Rattle.js_table.specs.declared.event.Event as events
 use Rattle.js_table.specs.declared.run.ReplayError.{ReplayError}
-use Rattle.js_ordered_rows.specs.declared.task.Task.{Task}
+use Rattle.js_table.specs.declared.passing.task.Task.{Task}
 use Rattle.js_ordered.specs.Driven.{left_rows}
 use Rattle.js_table.specs.declared.run.Output.{Output}
 use Rattle.js_table.specs.declared.replay_state.ReplayState.{ReplayState}

@@ -4,7 +4,7 @@
 //! what the whole event comes to.
 ghost use Rattle.std.specs.Prelude.{◌≡◌, ◌+◌, ◌≤◌, ◌++◌, ◌∷◌, [], OnErr, OnOk, vec_capacity, vec_len};
 ghost use Rattle.js_ordered.specs.Driven.{IsLeft, IsTry, LeadsOn, PassesTo, first_held, first_rows, left_rows};
-ghost use Rattle.js_ordered_rows.specs.Tasks.{heard_rows, hearings_of, next_rows, rows_of};
+ghost use Rattle.js_table.specs.Tasks.{heard_rows, hearings_of, next_rows, rows_of};
 ghost use Rattle.js_table.specs.Passes.{at, matter_now};
 ghost use Rattle.js_table.specs.Recreation.{message_on};
 ghost use Rattle.js_table.specs.State.{Matter};
@@ -20,8 +20,8 @@ pub(crate) mod success;
 use crate::drive::give::tell;
 use crate::todo::Todo;
 use js_base::OutOfMemory;
-use js_ordered_rows::event::{is_over, pass_event};
-use js_ordered_rows::{Held, NextTasks, Step, Task};
+use js_table::passing::event::{is_over, pass_event};
+use js_table::passing::{Held, NextTasks, Step, Task};
 use js_table::{EventContext, Output, Phase, Recreation, ReplayState, change_of};
 use std::alloc::Global;
 use std::mem;

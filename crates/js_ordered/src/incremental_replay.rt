@@ -12,8 +12,8 @@ use crate::replay::{is_exhausted, link_after, open};
 use crate::todo::Todo;
 use js_base::{Items, Moment, OutOfMemory};
 use js_json::consumer::Info;
-use js_ordered_rows::Task;
-use js_ordered_rows::event::is_over;
+use js_table::passing::Task;
+use js_table::passing::event::is_over;
 use js_table::{
     Event, EventContext, EventKind, OrderedSetup, Output, ReplayError, ReplayState, Settings,
     next_number, refuse_input,

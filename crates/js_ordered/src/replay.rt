@@ -11,10 +11,10 @@ use crate::drive::pass_left;
 use crate::todo::Todo;
 use js_base::{Items, Moment, OutOfMemory, State, TryClone};
 use js_json::consumer::Info;
-use js_ordered_rows::event::is_over;
-use js_ordered_rows::listening::listen;
-use js_ordered_rows::{NextTasks, Task};
 use js_pull::{Due, Reader};
+use js_table::passing::event::is_over;
+use js_table::passing::listening::listen;
+use js_table::passing::{NextTasks, Task};
 use js_table::{
     Consumer, Event, EventContext, EventKind, OrderedCore, OrderedSetup, Output, Phase,
     ReplayError, ReplayState, Run, Settings, Step, refuse_input, texts,

@@ -1,11 +1,11 @@
 //! The rows that are left of an event.
 ghost use Rattle.std.specs.Prelude.{◌≡◌, ◌==◌, ◌+◌, ◌≤◌, ◌++◌, ◌∷◌, [], OnOk, length, option_to_list, vec_capacity, vec_len};
 ghost use Rattle.js_ordered.specs.Driven.{left_rows};
-ghost use Rattle.js_ordered_rows.specs.Tasks.{next_rows};
+ghost use Rattle.js_table.specs.Tasks.{next_rows};
 ghost use Rattle.js_table.specs.State.{Matter};
 
 use js_base::OutOfMemory;
-use js_ordered_rows::{NextTasks, Task};
+use js_table::passing::{NextTasks, Task};
 use std::alloc::Global;
 
 /// The rows that are left of an event, the first of which lies last.

@@ -7,14 +7,14 @@ use Rattle.js_link.specs.Meets.{Meets}
 use Rattle.js_link.specs.Met.{Met, passing_of, message_of}
 use Rattle.js_link.specs.Passing.{Passing as Sends}
 use Rattle.js_message.specs.Ack.{Place}
-use Rattle.js_ordered_rows.specs.declared.task.Heard.{Heard}
-use Rattle.js_ordered_rows.specs.declared.task.Heard.TheVariants as hears
-use Rattle.js_ordered_rows.specs.declared.task.NextTasks.TheVariants as next
-use Rattle.js_ordered_rows.specs.declared.task.RowOutput.{RowOutput}
+use Rattle.js_table.specs.declared.passing.task.Heard.{Heard}
+use Rattle.js_table.specs.declared.passing.task.Heard.TheVariants as hears
+use Rattle.js_table.specs.declared.passing.task.NextTasks.TheVariants as next
+use Rattle.js_table.specs.declared.passing.task.RowOutput.{RowOutput}
 use Rattle.js_pull.specs.Steps.{ReadsTo, brought}
-use Rattle.js_ordered_rows.specs.Tasks.{IsHeardFrom, StepsTo, heard_outputs, heard_row, reader_rows, told_outputs}
-use Rattle.js_ordered_rows.proofs.ReaderSteps.{reads_row}
-use Rattle.js_ordered_rows.proofs.Stepping.{from_stream}
+use Rattle.js_table.specs.Tasks.{IsHeardFrom, StepsTo, heard_outputs, heard_row, reader_rows, told_outputs}
+use Rattle.js_table.proofs.ReaderSteps.{reads_row}
+use Rattle.js_table.proofs.Stepping.{from_stream}
 use Rattle.js_ordered_stream.specs.declared.left.Seen.{Seen}
 use Rattle.js_ordered_stream.specs.declared.reading.Taken.{Taken}
 use Rattle.js_ordered_stream.specs.declared.rows.Handed.{Handed}

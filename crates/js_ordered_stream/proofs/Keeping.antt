@@ -2,8 +2,8 @@
 use Rattle.std.proofs.Common.{◌≡◌, ℕ, Bool, List, [], ◌∷◌, refl, sym, ap, ◌∙◌, subst}
 use Rattle.std.specs.Prelude.{Result, Ok, Err}
 use Rattle.js_link.specs.LinkView.{LinkView}
-use Rattle.js_ordered_rows.specs.declared.task.Task.{Task}
-use Rattle.js_ordered_rows.specs.Tasks.{rows_of}
+use Rattle.js_table.specs.declared.passing.task.Task.{Task}
+use Rattle.js_table.specs.Tasks.{rows_of}
 use Rattle.js_ordered_stream.specs.declared.left.Seen.{Seen}
 use Rattle.js_ordered_stream.specs.declared.left.Seen.TheVariants as sight
 use Rattle.js_ordered_stream.specs.declared.rows.Stepped.{Stepped}

@@ -7,8 +7,8 @@ use Rattle.js_link.specs.Meets.{Meets}
 use Rattle.js_link.specs.Met.{Wish, Met, Nothing, Opens_inbox, Watches, Publishes, Requests, Drops, Reads, Awaits, Refused, Requested, Opened, Shut, Took, Got, Gone, passing_of, message_of, reply_of, IsClosing}
 use Rattle.js_link.specs.declared.sent.Sent.{Sent}
 use Rattle.js_link.specs.declared.sent.Sent.TheVariants as goes
-use Rattle.js_ordered_rows.specs.declared.task.Inbox.{Inbox}
-use Rattle.js_ordered_rows.specs.Tasks.{at_moment, opening_to, requested, requesting, subscribed}
+use Rattle.js_table.specs.declared.passing.task.Inbox.{Inbox}
+use Rattle.js_table.specs.Tasks.{at_moment, opening_to, requested, requesting, subscribed}
 use Rattle.js_link.specs.declared.link.Watch.{Watch}
 use Rattle.js_link.specs.declared.link.Watch.TheVariants as watch
 use Rattle.js_ordered_stream.specs.Rows.{answer_in, has_message, inbox_in, message_in, seen_met}

@@ -9,14 +9,14 @@ use Rattle.js_link.specs.LinkView.{LinkView}
 use Rattle.js_link.specs.Meets.{Meets}
 use Rattle.js_link.specs.Met.{Wish, Met, Nothing, Opens_inbox, Watches, Requests, Unasked, message_of, passing_of, reply_of}
 use Rattle.js_link.specs.Passing.{Passing as Sends}
-use Rattle.js_ordered_rows.specs.declared.task.Inbox.{Inbox}
-use Rattle.js_ordered_rows.specs.declared.task.Held.{Held}
-use Rattle.js_ordered_rows.specs.declared.task.NextTasks.{NextTasks}
-use Rattle.js_ordered_rows.specs.declared.task.NextTasks.TheVariants as next
-use Rattle.js_ordered_rows.specs.declared.task.RowOutput.{RowOutput}
-use Rattle.js_ordered_rows.specs.declared.task.Task.{Task}
-use Rattle.js_ordered_rows.specs.declared.task.Task.TheVariants as task
-use Rattle.js_ordered_rows.specs.Tasks.{IsAnswered, Listens, StepsTo, answered_rows, at_moment, create_outputs, next_rows, opening_to, requested, requesting, rows_of, subscribed, told_outputs}
+use Rattle.js_table.specs.declared.passing.task.Inbox.{Inbox}
+use Rattle.js_table.specs.declared.passing.task.Held.{Held}
+use Rattle.js_table.specs.declared.passing.task.NextTasks.{NextTasks}
+use Rattle.js_table.specs.declared.passing.task.NextTasks.TheVariants as next
+use Rattle.js_table.specs.declared.passing.task.RowOutput.{RowOutput}
+use Rattle.js_table.specs.declared.passing.task.Task.{Task}
+use Rattle.js_table.specs.declared.passing.task.Task.TheVariants as task
+use Rattle.js_table.specs.Tasks.{IsAnswered, Listens, StepsTo, answered_rows, at_moment, create_outputs, next_rows, opening_to, requested, requesting, rows_of, subscribed, told_outputs}
 use Rattle.js_ordered_stream.specs.declared.left.Reply.{Reply}
 use Rattle.js_ordered_stream.specs.declared.left.Seen.{Seen}
 use Rattle.js_ordered_stream.specs.declared.left.Seen.TheVariants as sight

@@ -7,13 +7,13 @@ use Rattle.js_link.specs.LinkView.{LinkView}
 use Rattle.js_link.specs.Meets.{Meets}
 use Rattle.js_link.specs.Met.{Wish, Met, Nothing, Publishes, Unasked, passing_of, message_of}
 use Rattle.js_link.specs.Passing.{Passing as Sends}
-use Rattle.js_ordered_rows.specs.declared.task.Heard.{Heard}
-use Rattle.js_ordered_rows.specs.declared.task.Heard.TheVariants as hears
-use Rattle.js_ordered_rows.specs.declared.task.NextTasks.{NextTasks}
-use Rattle.js_ordered_rows.specs.declared.task.NextTasks.TheVariants as next
-use Rattle.js_ordered_rows.specs.declared.task.RowOutput.{RowOutput}
-use Rattle.js_ordered_rows.specs.Tasks.{IsHeard, IsHeardAs, StepsTo, at_moment, heard_outputs, heard_row, heard_rows, next_rows, told_outputs}
-use Rattle.js_ordered_rows.proofs.Stepping.{hears_as, hears_here}
+use Rattle.js_table.specs.declared.passing.task.Heard.{Heard}
+use Rattle.js_table.specs.declared.passing.task.Heard.TheVariants as hears
+use Rattle.js_table.specs.declared.passing.task.NextTasks.{NextTasks}
+use Rattle.js_table.specs.declared.passing.task.NextTasks.TheVariants as next
+use Rattle.js_table.specs.declared.passing.task.RowOutput.{RowOutput}
+use Rattle.js_table.specs.Tasks.{IsHeard, IsHeardAs, StepsTo, at_moment, heard_outputs, heard_row, heard_rows, next_rows, told_outputs}
+use Rattle.js_table.proofs.Stepping.{hears_as, hears_here}
 use Rattle.js_ordered_stream.specs.declared.left.Seen.{Seen}
 use Rattle.js_ordered_stream.specs.declared.left.Seen.TheVariants as sight
 use Rattle.js_ordered_stream.specs.declared.rows.Handed.{Handed}

@@ -5,13 +5,13 @@ use Rattle.js_base.specs.declared.message.Message.{Message}
 use Rattle.js_link.specs.LinkView.{LinkView}
 use Rattle.js_link.specs.Meets.{Meets}
 use Rattle.js_link.specs.Met.{Met, IsClosing}
-use Rattle.js_ordered_rows.specs.declared.task.Task.{Task}
-use Rattle.js_ordered_rows.specs.declared.task.Task.TheVariants as task
+use Rattle.js_table.specs.declared.passing.task.Task.{Task}
+use Rattle.js_table.specs.declared.passing.task.Task.TheVariants as task
 use Rattle.js_pull.specs.Steps.{brought}
 use Rattle.js_pull.specs.declared.reader.Row.{Row as PullRow}
 use Rattle.js_pull.specs.declared.rows.Due.{Due}
 use Rattle.js_table.specs.declared.row.Row.TheVariants as row
-use Rattle.js_ordered_rows.specs.Tasks.{next_rows, rows_of}
+use Rattle.js_table.specs.Tasks.{next_rows, rows_of}
 use Rattle.js_ordered_stream.specs.declared.left.Left.{Left}
 use Rattle.js_ordered_stream.specs.declared.left.Seen.{Seen}
 use Rattle.js_ordered_stream.specs.declared.left.Seen.TheVariants as sight

@@ -5,11 +5,11 @@ use Rattle.js_link.specs.LinkView.{LinkView}
 use Rattle.js_link.specs.Meets.{Meets}
 use Rattle.js_link.specs.Met.{Met, Nothing, Opened, Reads, Shut, Took, Got, Gone, passing_of, message_of, IsClosing}
 use Rattle.js_message.specs.Ack.{readable_as}
-use Rattle.js_ordered_rows.specs.declared.task.Heard.{Heard}
-use Rattle.js_ordered_rows.specs.declared.task.Heard.TheVariants as hears
-use Rattle.js_ordered_rows.specs.declared.task.Inbox.{Inbox}
-use Rattle.js_ordered_rows.specs.declared.task.Task.{Task}
-use Rattle.js_ordered_rows.specs.Tasks.{StepsTo, next_rows, rows_of}
+use Rattle.js_table.specs.declared.passing.task.Heard.{Heard}
+use Rattle.js_table.specs.declared.passing.task.Heard.TheVariants as hears
+use Rattle.js_table.specs.declared.passing.task.Inbox.{Inbox}
+use Rattle.js_table.specs.declared.passing.task.Task.{Task}
+use Rattle.js_table.specs.Tasks.{StepsTo, next_rows, rows_of}
 use Rattle.js_ordered_stream.specs.declared.left.First.{First}
 use Rattle.js_ordered_stream.specs.declared.left.First.TheVariants as first
 use Rattle.js_ordered_stream.specs.declared.left.Left.{Left}

@@ -1,7 +1,7 @@
 //! The rows that are left of a turn.
 ghost use Rattle.std.specs.Option.{option_copied};
 ghost use Rattle.std.specs.Prelude.{◌≡◌, ◌++◌, ◌∷◌, [], map};
-ghost use Rattle.js_ordered_rows.specs.Tasks.{next_rows, rows_of};
+ghost use Rattle.js_table.specs.Tasks.{next_rows, rows_of};
 ghost use Rattle.js_ordered_stream.specs.Rows.{FirstOf, Fits, IsPlain, ReadsNone, has_message, is_rested, is_something as has_seen, kept_if, later_list, later_of, left_rows, message_in, read_in, seen_met, todo_rows};
 ghost use Rattle.js_pull.specs.Asking.{met_shown};
 ghost use Rattle.js_pull.specs.Reader.{opening};
@@ -9,8 +9,8 @@ ghost use Rattle.js_table.specs.State.{Matter};
 ghost use Rattle.js_table.specs.declared.row.Row.TheVariants as row;
 
 use js_base::Message;
-use js_ordered_rows::{NextTasks, Task};
 use js_pull::{Due, Met};
+use js_table::passing::{NextTasks, Task};
 use std::mem;
 
 /// An answer that a row has met, which the row after it reads.

@@ -1,7 +1,7 @@
 //! The rows by which push reads its inbox, over a link.
 ghost use Rattle.std.specs.Prelude.{◌≡◌, ℕ, [], IfOk, None, OnErr};
 ghost use Rattle.js_link.specs.LinkView.{LinkView};
-ghost use Rattle.js_ordered_rows.specs.Tasks.{IsHeard, heard_rows};
+ghost use Rattle.js_table.specs.Tasks.{IsHeard, heard_rows};
 ghost use Rattle.js_ordered_stream.specs.Rows.{AnswersBeat, LooksInto, PassesRow, PassesRows, arrival_in, seen_after};
 ghost use Rattle.js_pull.specs.Asking.{wish_shown};
 ghost use Rattle.js_table.specs.Passes.{given_of, listens_to};
@@ -16,9 +16,9 @@ use crate::rows::{Handed, Stepped, Stop, ask_for, quietly, untaken};
 use bytes::Bytes;
 use js_base::{Message, OutOfMemory, TryClone};
 use js_link::{InboxId, Link, Taken};
-use js_ordered_rows::listening::{arrival_next, heard_as, listen, pass_hear, pass_silence};
-use js_ordered_rows::{Heard, NextTasks};
 use js_pull::Wish;
+use js_table::passing::listening::{arrival_next, heard_as, listen, pass_hear, pass_silence};
+use js_table::passing::{Heard, NextTasks};
 use js_table::{Consumer, EventContext, Phase};
 use std::alloc::Global;
 

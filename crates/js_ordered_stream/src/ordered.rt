@@ -1,7 +1,7 @@
 //! An ordered consumer over its link, by pull or by push: it passes row after row, and may stop between any two.
 ghost use Rattle.std.specs.Prelude.{◌≡◌, ◌<◌, ◌^◌, ◌||◌, ◌&&◌, ◌++◌, IfOk, OnErr, false, not, true, ℕ};
 ghost use Rattle.js_link.specs.Meets.{Meets};
-ghost use Rattle.js_ordered_rows.specs.Tasks.{next_rows};
+ghost use Rattle.js_table.specs.Tasks.{next_rows};
 ghost use Rattle.js_ordered_stream.specs.Rows.{Fits, has_message, kept_if, later_of, left_rows, message_in, read_in, seen_after};
 ghost use Rattle.js_ordered_stream.specs.Stream.{PassesFirst, TurnsTo, first_at, given_to, handing, is_spent as has_no_sequence, poll_answer, position_of, silent_by, turned_by, with_retries};
 ghost use Rattle.js_base.specs.Clock.{has_come};
@@ -17,7 +17,7 @@ use crate::wakes::phase_end;
 use js_base::{Boxed, Message, Moment, Next, OutOfMemory, State, Text};
 use js_json::consumer::Info;
 use js_link::Link;
-use js_ordered_rows::event::is_over;
+use js_table::passing::event::is_over;
 use js_table::{
     Consumer, EventContext, EventKind, ItemKind, OrderedCore, OrderedSetup, Phase, ReplayInput,
     Settings,

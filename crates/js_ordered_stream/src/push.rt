@@ -14,7 +14,7 @@ use js_base::{Message, Moment, Next, OutOfMemory, TryClone};
 use js_json::consumer::Info;
 use js_json::push::OrderedConfig;
 use js_link::{Link, LinkError};
-use js_ordered_rows::listening::listen;
+use js_table::passing::listening::listen;
 use js_table::{Consumer, EventContext, EventKind, OrderedSetup, Phase, ReplayInput, Settings};
 use std::alloc::Global;
 use std::{error, fmt};

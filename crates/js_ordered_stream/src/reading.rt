@@ -2,7 +2,7 @@
 ghost use Rattle.std.specs.Prelude.{◌≡◌, IfOk, None, OnErr, Option, Some, false, true};
 ghost use Rattle.js_base.specs.declared.message.Message.{Message as SpecMessage};
 ghost use Rattle.js_link.specs.LinkView.{LinkView};
-ghost use Rattle.js_ordered_rows.specs.Tasks.{reader_rows};
+ghost use Rattle.js_table.specs.Tasks.{reader_rows};
 ghost use Rattle.js_ordered_stream.specs.Rows.{AsksNothing, IsReadMet, MeetsReader, PassesRow, TakesIn, answer_in, handed_by_heard, message_in, seen_after};
 ghost use Rattle.js_link.specs.Met.{Unasked};
 ghost use Rattle.js_pull.specs.Passes.{publishing};
@@ -17,10 +17,10 @@ use crate::left::{Seen, put, seen_of};
 use crate::rows::{Handed, Stepped, Stop, ask_for, handed_of, quietly};
 use js_base::{Message, Moment, OutOfMemory};
 use js_link::{InboxId, Link, Taken as Found};
-use js_ordered_rows::listening::heard_from;
-use js_ordered_rows::reading::{take_message, take_notice};
-use js_ordered_rows::{Heard, NextTasks, Step};
 use js_pull::{Due, Met, Notice, Reader, Reason, Spare, Step as Read, informed_of};
+use js_table::passing::listening::heard_from;
+use js_table::passing::reading::{take_message, take_notice};
+use js_table::passing::{Heard, NextTasks, Step};
 use js_table::{Consumer, EventContext, ItemKind, Phase};
 use std::alloc::Global;
 

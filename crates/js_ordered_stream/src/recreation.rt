@@ -3,7 +3,7 @@ ghost use Rattle.std.specs.Prelude.{◌≡◌, IfOk, OnErr, codes};
 ghost use Rattle.js_link.specs.Meets.{Meets};
 ghost use Rattle.js_link.specs.LinkView.{LinkView};
 ghost use Rattle.js_link.specs.Met.{Requests};
-ghost use Rattle.js_ordered_rows.specs.Tasks.{rows_of};
+ghost use Rattle.js_table.specs.Tasks.{rows_of};
 ghost use Rattle.js_ordered_stream.specs.Rows.{PassesRow, PassesRows, read_in, replied, seen_after};
 ghost use Rattle.js_pull.specs.Asking.{GoesAs, met_shown, wish_shown};
 ghost use Rattle.js_table.specs.Kept.{IsPush};
@@ -19,11 +19,11 @@ use crate::success::{inbox_met, succeed};
 use bytes::Bytes;
 use js_base::{OutOfMemory, TryClone};
 use js_link::Link;
-use js_ordered_rows::recreation::{
+use js_pull::{Met, Wish};
+use js_table::passing::recreation::{
     pass_answered, pass_ask, pass_await, pass_create, pass_fail, pass_start, pass_try,
 };
-use js_ordered_rows::{NextTasks, Task};
-use js_pull::{Met, Wish};
+use js_table::passing::{NextTasks, Task};
 use js_table::{Consumer, EventContext, Opened, OrderedSetup, Phase, Recreation, Stage, texts};
 use std::alloc::Global;
 use std::mem;

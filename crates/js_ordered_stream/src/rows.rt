@@ -3,7 +3,7 @@
 //! Until the link was asked nothing has changed. After that a row takes no memory.
 ghost use Rattle.std.specs.Prelude.{◌≡◌, IfOk, OnErr, Option, false};
 ghost use Rattle.js_base.specs.declared.message.Message.{Message as SpecMessage};
-ghost use Rattle.js_ordered_rows.specs.Tasks.{rows_of, told_outputs};
+ghost use Rattle.js_table.specs.Tasks.{rows_of, told_outputs};
 ghost use Rattle.js_ordered_stream.specs.Rows.{PassesRow, PassesRows, handed_list, read_in, seen_after};
 ghost use Rattle.js_table.specs.Passes.{change_shown, given_of};
 ghost use Rattle.js_table.specs.declared.row.Row.TheVariants as row;
@@ -18,9 +18,9 @@ use crate::reading::pass_read;
 use crate::recreation::{pass_open, start};
 use js_base::OutOfMemory;
 use js_link::{Link, Watch};
-use js_ordered_rows::event::{is_over, pass_event};
-use js_ordered_rows::{NextTasks, RowOutput, Step, Task};
 use js_pull::{Met, Wish, ask};
+use js_table::passing::event::{is_over, pass_event};
+use js_table::passing::{NextTasks, RowOutput, Step, Task};
 use js_table::{Change, Consumer, EventContext, ItemKind};
 use std::alloc::Global;
 

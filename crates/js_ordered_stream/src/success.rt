@@ -18,9 +18,9 @@ use crate::rows::{Stepped, Stop, ask_for, quietly};
 use js_base::{OutOfMemory, Subject};
 use js_json::consumer::Info;
 use js_link::Link;
-use js_ordered_rows::recreation::{pass_succeed_pull, pass_succeed_push};
-use js_ordered_rows::{Inbox, NextTasks, Task};
 use js_pull::{Met, Source, Wish};
+use js_table::passing::recreation::{pass_succeed_pull, pass_succeed_push};
+use js_table::passing::{Inbox, NextTasks, Task};
 use js_table::{Consumer, EventContext, Opened, OrderedSetup, Recreation, texts};
 use std::alloc::Global;
 

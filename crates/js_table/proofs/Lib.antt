@@ -14,3 +14,5 @@ pub mod Honest
 pub mod Numbers
 pub mod Promises
 pub mod PullStates
+pub mod Stepping
+pub mod ReaderSteps

@@ -11,3 +11,4 @@ pub mod Kept
 pub mod Valid
 pub mod Passes
 pub mod Worked
+pub mod Tasks

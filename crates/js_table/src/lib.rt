@@ -7,6 +7,7 @@ mod event;
 mod event_context;
 mod kind;
 mod ordered_core;
+pub mod passing;
 mod place;
 mod refusal;
 mod replay_state;

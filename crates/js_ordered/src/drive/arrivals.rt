@@ -2,7 +2,7 @@
 ghost use Rattle.std.specs.Prelude.{◌≡◌, ◌≢◌, ◌+◌, ◌≤◌, ◌∷◌, ◌↔◌, [], IfOk, OnOk, OnErr, IsTrue, option_to_list, vec_capacity, vec_len};
 ghost use Rattle.js_ordered.specs.Driven.{Arrives, PassesTo};
 ghost use Rattle.js_pull.specs.Kind.{pull_kind as kind_of};
-ghost use Rattle.js_ordered_rows.specs.Tasks.{IsHeardFrom, heard_outputs};
+ghost use Rattle.js_table.specs.Tasks.{IsHeardFrom, heard_outputs};
 ghost use Rattle.js_pull.specs.declared.reader.Row.TheVariants as read;
 ghost use Rattle.js_table.specs.Passes.{heard, matter_now};
 ghost use Rattle.js_table.specs.declared.row.Row.TheVariants as row;
@@ -11,9 +11,9 @@ use crate::drive::give::put;
 use crate::drive::listening::output_of;
 use crate::drive::reading::finish;
 use js_base::{Message, OutOfMemory};
-use js_ordered_rows::listening::heard_from;
-use js_ordered_rows::{Heard, NextTasks, Task, reading};
 use js_pull::{Due, Kind, Reader, pull_kind};
+use js_table::passing::listening::heard_from;
+use js_table::passing::{Heard, NextTasks, Task, reading};
 use js_table::{EventContext, Output, Phase, ReplayState};
 use std::alloc::Global;
 

@@ -1,7 +1,7 @@
 //! The rows by which push reads its inbox, in a replay: what arrives is lent by the event, and what is put out of it is made first.
 ghost use Rattle.std.specs.Prelude.{◌≡◌, ◌+◌, ◌≤◌, ◌++◌, ◌∷◌, [], IfOk, List, is_some, option_to_list, vec_capacity, vec_len};
 ghost use Rattle.js_ordered.specs.Driven.{LeadsOn, PassesTo};
-ghost use Rattle.js_ordered_rows.specs.Tasks.{heard_outputs, next_rows};
+ghost use Rattle.js_table.specs.Tasks.{heard_outputs, next_rows};
 ghost use Rattle.js_table.specs.Passes.{listens_to, matter_now};
 ghost use Rattle.js_table.specs.Fold.{matter_of};
 ghost use Rattle.js_table.specs.Reading.{beat_answer};
@@ -12,8 +12,8 @@ ghost use Rattle.js_table.specs.declared.run.Output.{Output as SpecOutput};
 use crate::drive::give::{put, tell};
 use bytes::Bytes;
 use js_base::{Message, OutOfMemory, TryClone};
-use js_ordered_rows::listening::{arrival_next, heard_as, listen, pass_hear, pass_silence};
-use js_ordered_rows::{Heard, NextTasks, Step};
+use js_table::passing::listening::{arrival_next, heard_as, listen, pass_hear, pass_silence};
+use js_table::passing::{Heard, NextTasks, Step};
 use js_table::{EventContext, EventKind, ItemKind, Output, Phase, ReplayState, yield_of};
 
 /// The event brings something on this inbox.

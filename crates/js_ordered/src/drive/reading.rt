@@ -3,7 +3,7 @@ ghost use Rattle.std.specs.Prelude.{◌≡◌, ◌+◌, ◌≤◌, ◌∷◌, []
 ghost use Rattle.std.specs.Option.{option_copied};
 ghost use Rattle.js_ordered.specs.Driven.{Finishes, LeadsOn, PassesTo};
 ghost use Rattle.js_ordered.specs.Giving.{IsPublishing, IsSending};
-ghost use Rattle.js_ordered_rows.specs.Tasks.{next_rows};
+ghost use Rattle.js_table.specs.Tasks.{next_rows};
 ghost use Rattle.js_pull.specs.Steps.{IsInquired, brought, informed_by, row_of};
 ghost use Rattle.js_pull.specs.Reader.{info_of_reply, info_subject};
 ghost use Rattle.js_pull.specs.declared.reader.Row.TheVariants as read;
@@ -18,8 +18,8 @@ use crate::drive::give::{Sending, request_for, send, tell};
 use crate::drive::recreation::has_reply;
 use bytes::Bytes;
 use js_base::{Message, OutOfMemory, TryClone};
-use js_ordered_rows::{NextTasks, Step, reading};
 use js_pull::{Due, InfoRequest, Reader, Reason, Step as Read, check_inquiry, reason_of};
+use js_table::passing::{NextTasks, Step, reading};
 use js_table::{EventContext, EventKind, Output, Phase, ReplayState};
 use std::alloc::Global;
 

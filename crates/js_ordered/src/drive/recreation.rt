@@ -2,7 +2,7 @@
 ghost use Rattle.std.specs.Prelude.{◌≡◌, ◌+◌, ◌≤◌, ◌∷◌, [], Some, IfOk, OnOk, OnErr, codes, is_some, option_map, vec_capacity, vec_len};
 ghost use Rattle.js_ordered.specs.Driven.{PassesTo};
 ghost use Rattle.js_ordered.specs.Giving.{IsOpening, IsSending};
-ghost use Rattle.js_ordered_rows.specs.Tasks.{IsAnswered, answered_rows};
+ghost use Rattle.js_table.specs.Tasks.{IsAnswered, answered_rows};
 ghost use Rattle.js_pull.specs.Reader.{info_of_reply as info_in, reply_to};
 ghost use Rattle.js_table.specs.Fold.{matter_of};
 ghost use Rattle.js_table.specs.Kept.{IsPull, IsPush};
@@ -15,12 +15,12 @@ use crate::drive::give::{Opening, Sending, inbox_for, request_for, send, subscri
 use bytes::Bytes;
 use js_base::{Boxed, Message, OutOfMemory, Subject, TryClone};
 use js_json::consumer::Info;
-use js_ordered_rows::recreation::{
+use js_pull::{Source, info_of_reply};
+use js_table::passing::recreation::{
     pass_answered, pass_ask, pass_await, pass_create, pass_fail, pass_start, pass_succeed_pull,
     pass_succeed_push, pass_try,
 };
-use js_ordered_rows::{NextTasks, Step};
-use js_pull::{Source, info_of_reply};
+use js_table::passing::{NextTasks, Step};
 use js_table::{
     EventContext, EventKind, Opened, OrderedSetup, Output, Phase, Recreation, ReplayState,
     RequestOutcome, Stage, texts,

@@ -1,5 +1,5 @@
 use Rattle.std.proofs.Common.{refl}
-use Rattle.js_ordered_rows.specs.declared.task.Heard.TheVariants as hears
+use Rattle.js_table.specs.declared.passing.task.Heard.TheVariants as hears
 use Rattle.js_pull.specs.Asking.{met_shown}
 use Rattle.js_ordered_stream.proofs.Passing.{meets_as}
 use Rattle.js_ordered_stream.proofs.Pushing.{unanswered}

@@ -1,5 +1,5 @@
 use Rattle.std.proofs.Common.{refl}
-use Rattle.js_ordered_rows.specs.declared.task.Heard.TheVariants as hears
+use Rattle.js_table.specs.declared.passing.task.Heard.TheVariants as hears
 use Rattle.js_ordered_stream.proofs.Pushing.{asks_answer, asks_no_reply, asks_nothing}
 use Rattle.js_ordered_stream.proofs.listening.answer_wish.Goals as goal
 

@@ -1,4 +1,4 @@
-use Rattle.js_ordered_rows.specs.Tasks.{rows_of}
+use Rattle.js_table.specs.Tasks.{rows_of}
 use Rattle.js_ordered_stream.specs.Rows.{later_of, read_in, seen_after}
 use Rattle.js_table.specs.Passes.{given_of}
 use Rattle.js_ordered_stream.proofs.Turning.{begins_first, left_with, passes_first}

@@ -1,7 +1,7 @@
 use Rattle.std.proofs.Common.{None, false, refl, sym}
 use Rattle.std.specs.Prelude.{Ok}
 use Rattle.js_link.specs.Met.{Unasked}
-use Rattle.js_ordered_rows.specs.declared.task.NextTasks.TheVariants as next
+use Rattle.js_table.specs.declared.passing.task.NextTasks.TheVariants as next
 use Rattle.js_ordered_stream.specs.declared.left.Seen.TheVariants as sight
 use Rattle.js_ordered_stream.specs.declared.reading.Taken.{Taken}
 use Rattle.js_ordered_stream.specs.declared.rows.Handed.TheVariants as hands

@@ -1,6 +1,6 @@
 use Rattle.js_link.specs.Met.{Unasked, passing_of}
-use Rattle.js_ordered_rows.specs.Tasks.{reader_rows}
-use Rattle.js_ordered_rows.proofs.Stepping.{of_stream}
+use Rattle.js_table.specs.Tasks.{reader_rows}
+use Rattle.js_table.proofs.Stepping.{of_stream}
 use Rattle.js_ordered_stream.proofs.Hearing.{takes_handed, yields_handed}
 use Rattle.js_ordered_stream.proofs.reading.take_handed.Goals as goal
 

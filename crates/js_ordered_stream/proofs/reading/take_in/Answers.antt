@@ -1,5 +1,5 @@
 use Rattle.std.proofs.Common.{Some, None, refl, sym}
-use Rattle.js_ordered_rows.specs.Tasks.{reader_rows}
+use Rattle.js_table.specs.Tasks.{reader_rows}
 use Rattle.js_pull.specs.declared.rows.Notice.TheVariants as notice
 use Rattle.js_ordered_stream.specs.Rows.{message_in}
 use Rattle.js_ordered_stream.proofs.Hearing.{takes_known}

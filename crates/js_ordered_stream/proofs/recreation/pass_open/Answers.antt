@@ -1,7 +1,7 @@
 use Rattle.std.proofs.Common.{sym, ◌∙◌}
 use Rattle.js_ordered_stream.specs.Rows.{read_in, seen_after}
 use Rattle.js_table.specs.Passes.{given_of}
-use Rattle.js_ordered_rows.specs.Tasks.{rows_of}
+use Rattle.js_table.specs.Tasks.{rows_of}
 use Rattle.js_table.specs.declared.consumer.Phase.TheVariants.{Recreates}
 use Rattle.js_ordered_stream.proofs.Keeping.{row_open}
 use Rattle.js_ordered_stream.proofs.recreation.pass_open.Goals as goal

@@ -1,6 +1,6 @@
 use Rattle.std.proofs.Common.{ap, sym, ◌∙◌}
-use Rattle.js_ordered_rows.specs.Tasks.{rows_of}
-use Rattle.js_ordered_rows.specs.declared.task.Task.TheVariants as task
+use Rattle.js_table.specs.Tasks.{rows_of}
+use Rattle.js_table.specs.declared.passing.task.Task.TheVariants as task
 use Rattle.js_ordered_stream.specs.Rows.{read_in, seen_after}
 use Rattle.js_table.specs.Passes.{given_of}
 use Rattle.js_table.specs.State.{at_phase}

@@ -1,5 +1,5 @@
 use Rattle.std.specs.Prelude.{Ok}
-use Rattle.js_ordered_rows.specs.declared.task.Task.TheVariants as task
+use Rattle.js_table.specs.declared.passing.task.Task.TheVariants as task
 use Rattle.js_ordered_stream.specs.Rows.{answer_in, read_in, seen_after}
 use Rattle.js_table.specs.Passes.{given_of}
 use Rattle.js_pull.specs.Steps.{brought}

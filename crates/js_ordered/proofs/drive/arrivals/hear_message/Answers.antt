@@ -1,5 +1,5 @@
 use Rattle.std.proofs.Common.{refl, ap, ◌∙◌, subst, List, ◌++◌}
-use Rattle.js_ordered_rows.specs.Tasks.{next_rows}
+use Rattle.js_table.specs.Tasks.{next_rows}
 use Rattle.js_pull.specs.declared.reader.Row.TheVariants as read
 use Rattle.js_pull.specs.Reader as pull
 use Rattle.js_table.specs.Fold.{passing}
@@ -9,7 +9,7 @@ use Rattle.js_pull.specs.declared.reader.Reader.{Reader}
 use Rattle.js_table.specs.declared.consumer.Phase.{Phase}
 use Rattle.js_table.specs.declared.run.Output.{Output}
 use Rattle.js_ordered.proofs.ReadDriving.{leads_heard}
-use Rattle.js_ordered_rows.proofs.Stepping.{of_stream}
+use Rattle.js_table.proofs.Stepping.{of_stream}
 use Rattle.js_ordered.proofs.Nowhere.{reads_here, reads_nowhere}
 use Rattle.js_ordered.proofs.drive.arrivals.hear_message.Goals as goal
 

@@ -1,5 +1,5 @@
 use Rattle.std.proofs.Common.{subst}
-use Rattle.js_ordered_rows.specs.Tasks.{next_rows}
+use Rattle.js_table.specs.Tasks.{next_rows}
 use Rattle.js_pull.specs.Steps.{brought}
 use Rattle.js_pull.specs.declared.reader.Row.TheVariants as read
 use Rattle.js_table.specs.Passes.{given_of, matter_now}

@@ -3,7 +3,7 @@ use Rattle.js_table.specs.declared.consumer.Phase.TheVariants.{Pulls, Pushes, Re
 use Rattle.js_table.specs.declared.row.Row.TheVariants as row
 use Rattle.js_table.specs.Passes.{given_of, matter_now}
 use Rattle.js_ordered.proofs.Driving.{look_nowhere, looks_on}
-use Rattle.js_ordered_rows.specs.declared.task.RowOutput.TheVariants as tells
+use Rattle.js_table.specs.declared.passing.task.RowOutput.TheVariants as tells
 use Rattle.std.proofs.Common.{append-nil}
 use Rattle.js_ordered.proofs.drive.listening.look.Goals as goal
 

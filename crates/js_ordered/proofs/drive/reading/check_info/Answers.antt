@@ -1,5 +1,5 @@
 use Rattle.std.proofs.Common.{refl, subst, None}
-use Rattle.js_ordered_rows.specs.Tasks.{next_rows}
+use Rattle.js_table.specs.Tasks.{next_rows}
 use Rattle.js_pull.specs.declared.reader.Row.TheVariants as read
 use Rattle.js_pull.specs.Reader as pull
 use Rattle.js_table.specs.Fold.{passing}
@@ -7,7 +7,7 @@ use Rattle.js_table.specs.Passes.{at, given_of, matter_now}
 use Rattle.js_table.specs.declared.consumer.Phase.{Phase}
 use Rattle.js_ordered.specs.Driven.{Finishes}
 use Rattle.js_ordered.proofs.ReadDriving.{leads_finish}
-use Rattle.js_ordered_rows.proofs.ReaderSteps.{inquiry_sends}
+use Rattle.js_table.proofs.ReaderSteps.{inquiry_sends}
 use Rattle.js_pull.proofs.Inquiries.{inquiry_read}
 use Rattle.js_ordered.proofs.Nowhere.{reads_here, reads_nowhere}
 use Rattle.js_ordered.proofs.drive.reading.check_info.Goals as goal

@@ -1,12 +1,12 @@
 use Rattle.std.proofs.Common.{refl, None}
-use Rattle.js_ordered_rows.specs.Tasks.{next_rows}
+use Rattle.js_table.specs.Tasks.{next_rows}
 use Rattle.js_pull.specs.Steps.{brought}
 use Rattle.js_pull.specs.declared.reader.Row.TheVariants as read
 use Rattle.js_pull.specs.Reader as pull
 use Rattle.js_table.specs.Fold.{passing}
 use Rattle.js_table.specs.Passes.{given_of, matter_now}
 use Rattle.js_ordered.proofs.ReadDriving.{leads_finish}
-use Rattle.js_ordered_rows.proofs.ReaderSteps.{silence_sends}
+use Rattle.js_table.proofs.ReaderSteps.{silence_sends}
 use Rattle.js_ordered.proofs.Nowhere.{reads_here, reads_nowhere}
 use Rattle.js_ordered.proofs.drive.reading.check_silence.Goals as goal
 

@@ -1,6 +1,6 @@
 use Rattle.std.proofs.Common.{refl, None}
 use Rattle.std.specs.Prelude.{codes}
-use Rattle.js_ordered_rows.specs.Tasks.{next_rows}
+use Rattle.js_table.specs.Tasks.{next_rows}
 use Rattle.js_pull.specs.Steps.{brought}
 use Rattle.js_pull.specs.declared.reader.Row.TheVariants as read
 use Rattle.js_pull.specs.Reader as pull

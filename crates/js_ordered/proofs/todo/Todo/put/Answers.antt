@@ -1,7 +1,7 @@
 use Rattle.std.proofs.Common.{◌∙◌, ap, sym, List, ◌++◌, append_assoc}
 use Rattle.js_table.specs.declared.row.Row.{Row}
 use Rattle.js_ordered.specs.Driven.{left_rows}
-use Rattle.js_ordered_rows.specs.Tasks.{next_rows, rows_of}
+use Rattle.js_table.specs.Tasks.{next_rows, rows_of}
 use Rattle.js_ordered.proofs.Driving.{left_first}
 use Rattle.js_ordered.proofs.Taking.{tasks_same}
 use Rattle.js_ordered.proofs.todo.Todo.put.Goals as goal

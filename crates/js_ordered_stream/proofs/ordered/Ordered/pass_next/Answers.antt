@@ -1,5 +1,5 @@
 use Rattle.std.proofs.Common.{sym, subst, ap, ◌∙◌, ◌++◌}
-use Rattle.js_ordered_rows.specs.Tasks.{next_rows}
+use Rattle.js_table.specs.Tasks.{next_rows}
 use Rattle.js_ordered_stream.specs.declared.left.Todo.{Todo}
 use Rattle.js_ordered_stream.specs.Rows.{Fits, kept_if, later_of, read_in}
 use Rattle.js_ordered_stream.specs.Stream.{given_to, position_of}
