@@ -1,4 +1,5 @@
-//! Transcripts of what ordered consumers meet.
+//! Transcripts of what ordered consumers meet. None sets its retries, which a polled consumer does not count, or a timeout that is over at once, at which a
+//! poll goes on where the replay waits for the next event.
 
 /// What a row shows, its setup, and what happens, an event a line.
 pub(crate) struct Row {
