@@ -136,6 +136,23 @@ impl<R: Polls> Twin<R> {
     }
 }
 
+/// How many steps of the run a reader that was opened does too, and whether it has ended.
+fn agreed_by<R: Polls>(
+    alloc: Global,
+    reader: R,
+    link: MemoryLink,
+    start: Moment,
+    events: Vec<Event>,
+    run: &Run,
+) -> Result<(u64, bool), OutOfMemory> {
+    let mut twin = Twin {
+        reader,
+        link,
+        ended: false,
+    };
+    twin.agreed(alloc, start, events, run)
+}
+
 /// How many steps of the run a polled consumer does too, and whether it has ended.
 pub(crate) fn agreed(alloc: Global, course: Course, run: &Run) -> Result<(u64, bool), Fail> {
     let Course { setup, events } = course;
@@ -149,21 +166,11 @@ pub(crate) fn agreed(alloc: Global, course: Course, run: &Run) -> Result<(u64, b
     match setup {
         OrderedSetup::Pull(config) => {
             let reader = pull::Ordered::open(alloc, &mut link, settings, config, first)?;
-            let mut twin = Twin {
-                reader,
-                link,
-                ended: false,
-            };
-            Ok(twin.agreed(alloc, start, events, run)?)
+            Ok(agreed_by(alloc, reader, link, start, events, run)?)
         }
         OrderedSetup::Push(config) => {
             let reader = push::Ordered::open(alloc, &mut link, settings, config, first)?;
-            let mut twin = Twin {
-                reader,
-                link,
-                ended: false,
-            };
-            Ok(twin.agreed(alloc, start, events, run)?)
+            Ok(agreed_by(alloc, reader, link, start, events, run)?)
         }
     }
 }
