@@ -1,4 +1,5 @@
 //! What a consumer is made with, and what happens to it.
+ghost use Rattle.std.specs.Prelude.{◌≤◌};
 
 use js_base::OutOfMemory;
 use js_generate::{generated, given};
