@@ -3,15 +3,15 @@
 
 mod course;
 mod happening;
-mod outputs;
 mod rows;
+mod shown;
 mod twin;
 
 use crate::tables::same;
-use crate::twins::course::{Course, drawn, read};
+use crate::twins::course::{Replayed, drawn, read};
 use crate::twins::rows::{ROWS, Row};
-use crate::twins::twin::agreed;
 use std::alloc::Global;
+use std::fmt::Debug;
 use std::process::Abort;
 use std::test::Fail;
 
@@ -20,35 +20,35 @@ const SEEDS: u64 = 20;
 
 const EVENTS: u64 = 60;
 
-/// Asserts that a poll does what the replay puts out, at the opening and at each event, and ends as it does.
-fn says(
+/// Asserts that a polled consumer does what the replay puts out, at the opening and at each event, and ends as it does.
+fn says<C: Replayed, E: Debug + Drop>(
     rt: &impl Abort,
     alloc: Global,
     row: &str,
-    polled: Course,
-    replayed: &Course,
+    polled: Result<C, E>,
+    replayed: Result<C, E>,
 ) -> Result<(), Fail> {
-    let run = replayed.run(alloc)?;
-    let found = agreed(alloc, polled, &run)?;
+    let run = replayed?.run(alloc)?;
+    let steps = run.steps.as_slice().len() as u64;
     same(
         rt,
         row,
-        found,
-        (run.steps.as_slice().len() as u64 + 1, run.ended),
+        polled?.polled(alloc, &run)?,
+        (steps.saturating_add(1), run.ended),
     );
     Ok(())
 }
 
 fn says_row(rt: &impl Abort, alloc: Global, row: &Row) -> Result<(), Fail> {
-    let polled = read(alloc, row.setup, row.events)?;
-    let replayed = read(alloc, row.setup, row.events)?;
-    says(rt, alloc, row.name, polled, &replayed)
+    let polled = read(alloc, row.setup, row.events);
+    let replayed = read(alloc, row.setup, row.events);
+    says(rt, alloc, row.name, polled, replayed)
 }
 
 fn says_seed(rt: &impl Abort, alloc: Global, seed: u64) -> Result<(), Fail> {
-    let polled = drawn(alloc, seed, EVENTS)?;
-    let replayed = drawn(alloc, seed, EVENTS)?;
-    says(rt, alloc, "generated", polled, &replayed)
+    let polled = drawn(alloc, seed, EVENTS);
+    let replayed = drawn(alloc, seed, EVENTS);
+    says(rt, alloc, "generated", polled, replayed)
 }
 
 #[test]

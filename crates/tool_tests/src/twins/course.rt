@@ -1,22 +1,32 @@
 //! What a consumer is made with, and what happens to it.
 ghost use Rattle.std.specs.Prelude.{◌≤◌};
 
+use crate::twins::twin::Twin;
 use js_base::OutOfMemory;
 use js_generate::{generated, given};
 use js_ordered::{Event, ReplayError, ReplayInput, Run, replay_ordered};
 use js_tool::{Payloads, Setup, Unread, first_line, next_line};
 use std::alloc::Global;
+use std::test::Fail;
+
+/// What has a replay, and a polled consumer beside it. What is generic over it does not open how so large a value is let go.
+pub(crate) trait Replayed: Drop {
+    /// The run of its replay.
+    fn run(&self, alloc: Global) -> Result<Run, ReplayError>;
+
+    /// How many steps of the run a polled consumer does too, and whether it has ended.
+    fn polled(self, alloc: Global, run: &Run) -> Result<(u64, bool), Fail>;
+}
 
 /// A consumer's setup, and its events.
 #[derive(Drop)]
 pub(crate) struct Course {
-    pub setup: Setup,
-    pub events: Vec<Event>,
+    setup: Setup,
+    events: Vec<Event>,
 }
 
-impl Course {
-    /// The run of its replay.
-    pub(crate) fn run(&self, alloc: Global) -> Result<Run, ReplayError> {
+impl Replayed for Course {
+    fn run(&self, alloc: Global) -> Result<Run, ReplayError> {
         let Setup {
             settings,
             setup,
@@ -24,6 +34,13 @@ impl Course {
             start,
         } = &self.setup;
         replay_ordered(alloc, settings, setup, first, *start, &self.events)
+    }
+
+    fn polled(self, alloc: Global, run: &Run) -> Result<(u64, bool), Fail> {
+        let Course { setup, events } = self;
+        let start = setup.start;
+        let mut twin = Twin::open(alloc, setup)?;
+        Ok((twin.count(alloc, start, events, run), twin.ended))
     }
 }
 
