@@ -29,29 +29,14 @@ def proved(path):
     return PROVED
 
 
-def built(path, crate, what, words):
-    """The path of the program of a crate, which is built here where no other was given."""
+def benchmarks(path):
+    """The path of the program that reads benchmarks, a line each, which is built here where no other was given."""
     if path:
         return os.path.abspath(path)
-    say(f"building {what}")
-    folder = os.path.join(TOP, "crates", crate)
-    subprocess.run(["rt", "run", "--", *words], check=True, cwd=folder, stdout=subprocess.DEVNULL)
-    return os.path.join(folder, "out", crate)
-
-
-def info(path):
-    """The path of the program that reads acknowledgement subjects."""
-    return built(path, "info_bench", "the proved reader of subjects", ["0", "none"])
-
-
-def publish_many(path):
-    """The path of the program that publishes many messages."""
-    return built(path, "publish_many", "the program that publishes many messages", ["1", "1"])
-
-
-def ordered_simulation(path):
-    """The path of the program that polls ordered consumers."""
-    return built(path, "ordered_simulation", "the program that polls ordered consumers", ["0", "0", "0", "0"])
+    say("building the program of the benchmarks")
+    folder = os.path.join(TOP, "crates", "benchmarks")
+    subprocess.run(["rt", "run"], check=True, cwd=folder, stdin=subprocess.DEVNULL, stdout=subprocess.DEVNULL)
+    return os.path.join(folder, "out", "benchmarks")
 
 
 def plain():

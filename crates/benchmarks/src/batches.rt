@@ -5,12 +5,24 @@ use crate::texts::entry;
 use js_base::{Next, OutOfMemory};
 use js_link::{InboxId, Link, LinkError, MemoryLink};
 use std::alloc::Global;
+use std::test::Fail;
 
 /// How many messages are delivered at once.
 const BATCH: u64 = 500;
 
-/// Has a reader read so many messages, and answers how many it yields.
-pub fn read<R: Reads>(alloc: Global, kind: Kind, messages: u64) -> Result<u64, OutOfMemory> {
+/// Has a reader read so many messages, and prints how many it yields.
+pub fn read<R: Reads>(
+    rt: &(impl Print + AllocGlobal),
+    kind: Kind,
+    messages: u64,
+) -> Result<(), Fail> {
+    let yielded = yielded::<R>(rt.alloc(), kind, messages)?;
+    println!(rt; "{yielded} read by {}", kind.name())?;
+    Ok(())
+}
+
+/// How many of so many messages a reader yields.
+fn yielded<R: Reads>(alloc: Global, kind: Kind, messages: u64) -> Result<u64, OutOfMemory> {
     let mut link = MemoryLink::new(alloc, "_INBOX.t")?;
     match open::<R>(alloc, &mut link, kind, 0) {
         Ok(mut reader) => read_all(alloc, &mut link, &mut reader, messages / BATCH),
@@ -32,8 +44,15 @@ fn read_all<R: Reads>(
     Ok(yielded)
 }
 
+/// Delivers so many messages to inboxes that are closed unread, and prints how many these are.
+pub fn deliver_alone(rt: &(impl Print + AllocGlobal), messages: u64) -> Result<(), Fail> {
+    let delivered = delivered(rt.alloc(), messages)?;
+    println!(rt; "{delivered} delivered alone")?;
+    Ok(())
+}
+
 /// Delivers so many messages to inboxes that are closed unread, and answers how many these are.
-pub fn deliver_alone(alloc: Global, messages: u64) -> Result<u64, OutOfMemory> {
+fn delivered(alloc: Global, messages: u64) -> Result<u64, OutOfMemory> {
     let mut link = MemoryLink::new(alloc, "_INBOX.t")?;
     deliver_all_unread(alloc, &mut link, messages / BATCH)
 }

@@ -16,6 +16,16 @@ pub enum Kind {
     Push,
 }
 
+impl Kind {
+    /// Its word.
+    pub fn name(self) -> &'static str {
+        match self {
+            Kind::Pull => "pull",
+            Kind::Push => "push",
+        }
+    }
+}
+
 /// A reader of a log.
 pub trait Reads: Drop {
     /// Opens the reader of a log's first consumer.

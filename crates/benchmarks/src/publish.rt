@@ -1,11 +1,10 @@
-//! `publish_many MESSAGES AT_ONCE` publishes so many messages over an `OutboxLink`, of which so many are pushed at once, and prints how many were stored and
-//! how many were in flight at most: `bench/publish` measures it.
-#![tactic(auto)]
+//! Messages that are published by a queue over an `OutboxLink`.
 
 use jetstream::link::{OutboxLink, Outgoing, received};
 use jetstream::{AnyError, Context, Moment, Nanos, Next, PublishQueue};
 use std::sync::Wait;
-use std::{cmp, env, io};
+use std::test::Fail;
+use std::{cmp, io};
 
 /// How long the server takes to answer, in nanoseconds.
 const ANSWERS_AFTER: Nanos = 1_000_000;
@@ -94,22 +93,14 @@ fn publish(
     Ok(())
 }
 
-/// The two numbers of the command line. A word that is none counts as 0.
-fn numbers(rt: &HostRuntime) -> Result<(u64, u64), AnyError> {
-    let mut numbers = (0, 0);
-    for (index, word) in env::args(rt)?.skip(1).enumerate() {
-        match index {
-            0 => numbers.0 = word.parse().unwrap_or(0),
-            _ => numbers.1 = word.parse().unwrap_or(0),
-        }
-    }
-    Ok(numbers)
-}
-
-fn main(rt: HostRuntime) -> Result<(), AnyError> {
-    let (messages, at_once) = numbers(&rt)?;
-    let mut link = OutboxLink::new(rt.alloc(), "_INBOX", "c1")?;
-    let mut queue = PublishQueue::new(rt.alloc(), Context::new(&rt, rt.alloc())?, 5_000_000_000);
+/// Publishes so many messages by a queue, and pushes so many of them at once.
+fn publish_in_batches(
+    rt: &(impl AllocGlobal + Wait),
+    queue: &mut PublishQueue,
+    link: &mut OutboxLink,
+    messages: u64,
+    at_once: u64,
+) -> Result<Tally, AnyError> {
     let mut tally = Tally {
         stored: 0,
         most_in_flight: 0,
@@ -121,8 +112,35 @@ fn main(rt: HostRuntime) -> Result<(), AnyError> {
             break;
         }
         left -= batch;
-        publish(&rt, &mut queue, &mut link, batch, &mut tally)?;
+        publish(rt, queue, link, batch, &mut tally)?;
     }
+    Ok(tally)
+}
+
+/// Opens a queue in which a message waits up to five seconds to be sent.
+fn open_queue(rt: &(impl AllocGlobal + Wait)) -> Result<PublishQueue, AnyError> {
+    let context = Context::new(rt, rt.alloc())?;
+    Ok(PublishQueue::new(rt.alloc(), context, 5_000_000_000))
+}
+
+/// Publishes so many messages over a link, and pushes so many of them at once.
+fn publish_all(
+    rt: &(impl AllocGlobal + Wait),
+    messages: u64,
+    at_once: u64,
+) -> Result<Tally, AnyError> {
+    let mut link = OutboxLink::new(rt.alloc(), "_INBOX", "c1")?;
+    let mut queue = open_queue(rt)?;
+    publish_in_batches(rt, &mut queue, &mut link, messages, at_once)
+}
+
+/// Publishes so many messages, pushes so many of them at once, and prints how many were stored and how many were in flight at most.
+pub fn run(
+    rt: &(impl Print + AllocGlobal + Wait),
+    messages: u64,
+    at_once: u64,
+) -> Result<(), Fail> {
+    let tally = publish_all(rt, messages, at_once)?;
     println!(rt;
         "{} stored, {} in flight at most",
         tally.stored, tally.most_in_flight

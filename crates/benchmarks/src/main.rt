@@ -1,0 +1,70 @@
+//! What `bench/` measures. Each line of standard input names a benchmark with its numbers, and is run once, in order:
+//!
+//! | Line | What is done | What is printed |
+//! |---|---|---|
+//! | `parse CALLS SUBJECT` | an acknowledgement subject is read CALLS times | whether it reads |
+//! | `publish MESSAGES AT_ONCE` | MESSAGES are published over an `OutboxLink`, AT_ONCE of them pushed at once | how many were stored, and how many were in flight at most |
+//! | `pull MESSAGES`, `push MESSAGES` | an ordered consumer of that kind reads MESSAGES, of which none is lost | how many it yields |
+//! | `deliver MESSAGES` | MESSAGES are delivered to inboxes that nobody reads | how many these are |
+//! | `lose SEEDS` | for each number below SEEDS, a pull and a push consumer read a log each from a server that loses things | how many of each kind yield theirs whole |
+//!
+//! `pull`, `push` and `deliver` count in whole batches of 500. A word that is no number counts as 0. Any other line ends the program with an error that names it.
+#![tactic(auto)]
+
+mod batches;
+mod lossy;
+mod parse;
+mod publish;
+mod reader;
+mod requests;
+mod round;
+mod server;
+mod texts;
+
+use js_ordered_stream::{pull, push};
+use reader::Kind;
+use std::alloc::{AllocError, Global};
+use std::io::{BufRead, BufReader};
+use std::sync::Wait;
+use std::test::Fail;
+
+fn main(rt: HostRuntime) -> Result<(), Fail> {
+    let input = BufReader::new(rt.alloc(), rt.reader())?;
+    for line in input.lines(rt.alloc()) {
+        let line = line?;
+        run_line(&rt, line.as_str())?;
+    }
+    Ok(())
+}
+
+fn run_line(rt: &(impl Print + AllocGlobal + Wait), line: &str) -> Result<(), Fail> {
+    let words = words(rt.alloc(), line)?;
+    run(rt, line, &words)
+}
+
+/// The words of a line, after single spaces.
+fn words(alloc: Global, line: &str) -> Result<Vec<&str>, AllocError> {
+    let mut words = Vec::new(alloc);
+    for word in line.split(' ') {
+        words.push(word)?;
+    }
+    Ok(words)
+}
+
+/// Runs the benchmark that the words of a line name.
+fn run(rt: &(impl Print + AllocGlobal + Wait), line: &str, words: &[&str]) -> Result<(), Fail> {
+    match *words {
+        ["parse", calls, subject] => parse::run(rt, number(calls), subject),
+        ["publish", messages, at_once] => publish::run(rt, number(messages), number(at_once)),
+        ["pull", messages] => batches::read::<pull::Ordered>(rt, Kind::Pull, number(messages)),
+        ["push", messages] => batches::read::<push::Ordered>(rt, Kind::Push, number(messages)),
+        ["deliver", messages] => batches::deliver_alone(rt, number(messages)),
+        ["lose", seeds] => lossy::lose(rt, number(seeds)),
+        _ => Err(Fail::new(format_args!("no benchmark: {line}"))),
+    }
+}
+
+/// The number that a word is, or 0.
+fn number(word: &str) -> u64 {
+    word.parse().unwrap_or(0)
+}
