@@ -1,6 +1,5 @@
 -- Changing a bucket of keys: rows of the table of calls on buckets.
 use Rattle.std.specs.Prelude.{◌≡◌, None, Result, Ok, Err}
-use Rattle.std.specs.Option.{is_some}
 use Rattle.js_base.specs.Errors.{caused, kind_of}
 use Rattle.js_base.specs.declared.error.Error.{Error}
 use Rattle.js_store.specs.KeyValues.{stream_config}
@@ -10,7 +9,6 @@ use Rattle.js_stream_json.specs.declared.stream.info.Info.{Info}
 use Rattle.js_call.specs.declared.call.Call.{Call}
 use Rattle.js_call.specs.declared.scope.ApiScope.{ApiScope}
 use Rattle.js_call.specs.declared.then.Then.{Then}
-use Rattle.js_call.specs.declared.then.Then.TheVariants.{First}
 use Rattle.js_stream_calls.specs.Updates.{Updates, UpdatesOrCreates}
 use Rattle.js_stream_calls.specs.declared.create_or_update.CreatingInfo.{CreatingInfo}
 use Rattle.js_stream_calls.specs.declared.create_or_update.IfNotFound.{IfNotFound}
@@ -28,9 +26,8 @@ use Rattle.js_store.specs.declared.level.IfAllowed.{IfAllowed}
 use Rattle.js_store.specs.declared.outcome.BucketCall.{BucketCall}
 use Rattle.js_store.specs.declared.store.Store.{Store}
 use Rattle.js_store.specs.declared.store.StoreNames.{StoreNames}
-use Rattle.js_store.specs.Levels.{LevelCall, asking_level}
+use Rattle.js_store.specs.Levels.{LevelCall, LevelFirst}
 use Rattle.js_store.specs.Outcomes.{Row, asking}
-use Rattle.js_store.specs.Refusals.{config_refusal}
 use Rattle.js_store.specs.Stores.{answered_names, store_of}
 
 -- the bucket that is changed, as its configuration names it
@@ -72,9 +69,7 @@ UpdatesStream scope config call =
 
 -- the calls, of which none is sent: the account is asked for, and then the stream is changed
 abbrev pub UpdatesBucket : ApiScope → Config → Then LevelCall UpdateCall IfAllowed → Type 0
-UpdatesBucket scope config calls =
-    (second : UpdateCall) × UpdatesStream scope config second
-    × (calls ≡ First (asking_level scope (config_refusal config)) second (record { limit_markers = is_some config.limit_markers }))
+UpdatesBucket = LevelFirst UpdatesStream
 
 -- ---- create_or_update_key_value
 
@@ -101,6 +96,4 @@ PutsStream scope config call =
 
 -- the calls, of which none is sent: the account is asked for, and then the stream is changed, or made
 abbrev pub PutsBucket : ApiScope → Config → Then LevelCall PutCall IfAllowed → Type 0
-PutsBucket scope config calls =
-    (second : PutCall) × PutsStream scope config second
-    × (calls ≡ First (asking_level scope (config_refusal config)) second (record { limit_markers = is_some config.limit_markers }))
+PutsBucket = LevelFirst PutsStream

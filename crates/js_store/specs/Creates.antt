@@ -1,6 +1,5 @@
 -- Making and changing a bucket of keys: rows of the table of calls on buckets.
 use Rattle.std.specs.Prelude.{◌≡◌, None, Result, Ok, Err}
-use Rattle.std.specs.Option.{is_some}
 use Rattle.js_base.specs.Errors.{caused, kind_of}
 use Rattle.js_base.specs.declared.error.Error.{Error}
 use Rattle.js_store.specs.KeyValues.{stream_config}
@@ -9,7 +8,6 @@ use Rattle.js_stream_json.specs.declared.stream.info.Info.{Info}
 use Rattle.js_call.specs.declared.call.Call.{Call}
 use Rattle.js_call.specs.declared.scope.ApiScope.{ApiScope}
 use Rattle.js_call.specs.declared.then.Then.{Then}
-use Rattle.js_call.specs.declared.then.Then.TheVariants.{First}
 use Rattle.js_stream_calls.specs.Creates.{Creates}
 use Rattle.js_stream_calls.specs.declared.create.CreatingStream.{CreatingStream}
 use Rattle.js_stream_calls.specs.declared.error.CreateStreamErrorKind.{CreateStreamErrorKind}
@@ -22,9 +20,8 @@ use Rattle.js_store.specs.declared.level.IfAllowed.{IfAllowed}
 use Rattle.js_store.specs.declared.outcome.BucketCall.{BucketCall}
 use Rattle.js_store.specs.declared.store.Store.{Store}
 use Rattle.js_store.specs.declared.store.StoreNames.{StoreNames}
-use Rattle.js_store.specs.Levels.{LevelCall, asking_level}
+use Rattle.js_store.specs.Levels.{LevelCall, LevelFirst}
 use Rattle.js_store.specs.Outcomes.{Row, asking}
-use Rattle.js_store.specs.Refusals.{config_refusal}
 use Rattle.js_store.specs.Stores.{answered_names, store_of}
 
 -- what a stream that was not made means: a timeout is told
@@ -52,6 +49,4 @@ CreatesStream scope config call =
 
 -- the calls, of which none is sent: the account is asked for, and then the stream is made
 abbrev pub CreatesBucket : ApiScope → Config → Then LevelCall CreateCall IfAllowed → Type 0
-CreatesBucket scope config calls =
-    (second : CreateCall) × CreatesStream scope config second
-    × (calls ≡ First (asking_level scope (config_refusal config)) second (record { limit_markers = is_some config.limit_markers }))
+CreatesBucket = LevelFirst CreatesStream

@@ -1,22 +1,27 @@
 -- How far the server's API goes, which is asked before the stream of a bucket is made or changed.
 use Rattle.std.specs.Prelude.{ℕ, ◌≡◌, ◌&&◌, nat_lt, Bool, true, false, if◌then◌else◌, Option, Some, None, Result, Ok, Err, refl}
+use Rattle.std.specs.Option.{is_some}
 use Rattle.js_base.specs.Errors.{plain}
 use Rattle.js_base.specs.declared.error.Error.{Error}
 use Rattle.js_json.specs.declared.account.Account.{Account}
 use Rattle.js_call.specs.declared.call.Call.{Call}
 use Rattle.js_call.specs.declared.scope.ApiScope.{ApiScope}
+use Rattle.js_call.specs.declared.then.Then.{Then}
+use Rattle.js_call.specs.declared.then.Then.TheVariants.{First}
 use Rattle.js_stream_calls.specs.Accounts.{querying}
 use Rattle.js_stream_calls.specs.declared.account_error.AccountErrorKind.{AccountErrorKind}
 use Rattle.js_stream_calls.specs.declared.account.QueryingAccount.{QueryingAccount}
 use Rattle.js_store.specs.declared.error.CreateKeyValueErrorKind.TheVariants as creates
+use Rattle.js_store.specs.declared.kv.Config.{Config}
 use Rattle.js_store.specs.declared.level.AskingLevel.{AskingLevel}
+use Rattle.js_store.specs.declared.level.IfAllowed.{IfAllowed}
 use Rattle.js_store.specs.declared.outcome.BucketCall.{BucketCall}
 use Rattle.js_store.specs.declared.refusal.Refusal.{Refusal}
 use Rattle.js_store.specs.declared.refusal.Refusal.TheVariants.{JetStream, LimitMarkersNotSupported}
 use Rattle.js_store.specs.declared.refusal.Refused.{Refused}
 use Rattle.js_store.specs.declared.store.Store.{Store}
 use Rattle.js_store.specs.Outcomes.{Row, asking}
-use Rattle.js_store.specs.Refusals.{create_refusal, error_of}
+use Rattle.js_store.specs.Refusals.{config_refusal, create_refusal, error_of}
 
 -- a refusal that has no source
 abbrev pub refused_with : Option Refusal → Option (Result ℕ Refused)
@@ -39,6 +44,12 @@ LevelCall = BucketCall (Call QueryingAccount) Account (Error AccountErrorKind) A
 -- the call, which is not sent
 abbrev pub asking_level : ApiScope → Option Refusal → LevelCall
 asking_level scope refusal = asking (record { refusal = refusal }) (querying scope)
+
+-- the calls that make or change a bucket, of which none is sent: that one, and then what asks for the bucket's stream
+abbrev pub LevelFirst : {S : Type 0} → (ApiScope → Config → S → Type 0) → ApiScope → Config → Then LevelCall S IfAllowed → Type 0
+LevelFirst {S = S} Asks scope config calls =
+    (second : S) × Asks scope config second
+    × (calls ≡ First (asking_level scope (config_refusal config)) second (record { limit_markers = is_some config.limit_markers }))
 
 -- the last answer, unless the account was told and its level allows what is asked for: markers want level 1
 abbrev pub unless_allowed : {K : Type 0} → (Refusal → K) → Bool → Result ℕ Refused → Option (Result Store (Error K))

@@ -5,14 +5,13 @@ ghost use Rattle.js_stream_calls.specs.Updates.{Updates};
 ghost use Rattle.js_stream_json.specs.declared.stream.config.Config.{Config};
 ghost use Rattle.js_store.specs.Changes.{changed_names, changed_store, changes_kind, put_row, PutsBucket, PutsStream, update_row, UpdatesBucket, UpdatesStream};
 
-use crate::config::BucketConfig;
+use crate::config::{BucketConfig, stream_of};
 use crate::error::{
     CreateKeyValueError, CreateKeyValueErrorKind, UpdateKeyValueError, UpdateKeyValueErrorKind,
 };
 use crate::kv;
-use crate::level::{AskLevel, IfAllowed, after_level};
+use crate::level::{AfterLevel, AskLevel, IfAllowed, after_level};
 use crate::outcome::{BucketCall, Outcome};
-use crate::refusal::config_refusal;
 use crate::store::{Store, StoreNames, answered_names, store_of};
 use js_base::{Error, OutOfMemory, Source, Text, TryClone};
 use js_call::{ApiScope, Then};
@@ -79,7 +78,7 @@ fn changed<C: BucketConfig>(
     ensures { IfOk result (λ changed. (changed.0 ≡ record { bucket = C.bucket config; scope = scope.now; stream_name = stream_name (C.bucket config) }) × (changed.1 ≡ C.stream config)) }
 {
     let changed = ChangedBucket::named(alloc, scope, config.bucket())?;
-    Ok((changed, config.into_stream(alloc)?))
+    Ok((changed, stream_of(alloc, config)?))
 }
 
 /// What a stream is changed to.
@@ -205,16 +204,20 @@ impl Outcome<Info, CreateStreamError> for PuttingBucket {
     }
 }
 
-fn update_bucket(
-    alloc: Global,
-    scope: &ApiScope,
-    config: kv::Config,
-) -> Result<UpdateBucket, OutOfMemory>
-    ensures { IfOk result (λ call. UpdatesStream scope.now config call) }
-{
-    let (changed, stream) = changed(alloc, scope, config)?;
-    let asked = update_to(alloc, scope, stream)?;
-    Ok(BucketCall::new(UpdatingBucket { changed }, asked))
+impl AfterLevel for UpdatingBucket {
+    type Call = UpdateBucket;
+
+    ghost asks = { UpdatesStream };
+
+    fn ask(
+        alloc: Global,
+        scope: &ApiScope,
+        config: kv::Config,
+    ) -> Result<UpdateBucket, OutOfMemory> {
+        let (changed, stream) = changed(alloc, scope, config)?;
+        let asked = update_to(alloc, scope, stream)?;
+        Ok(BucketCall::new(UpdatingBucket { changed }, asked))
+    }
 }
 
 /// Changes a bucket of keys: it asks how far the server's API goes, and then, in the same poll, for the change of the bucket's stream as
@@ -232,18 +235,19 @@ pub fn update_key_value(
 ) -> Result<UpdateKeyValue, OutOfMemory>
     ensures { IfOk result (λ calls. UpdatesBucket scope.now config calls) }
 {
-    let refusal = config_refusal(&config);
-    let limit_markers = config.limit_markers.is_some();
-    let second = update_bucket(alloc, scope, config)?;
-    after_level(alloc, scope, refusal, limit_markers, second)
+    after_level::<UpdatingBucket>(alloc, scope, config)
 }
 
-fn put_bucket(alloc: Global, scope: &ApiScope, config: kv::Config) -> Result<PutBucket, OutOfMemory>
-    ensures { IfOk result (λ call. PutsStream scope.now config call) }
-{
-    let (changed, stream) = changed(alloc, scope, config)?;
-    let asked = create_or_update_stream(alloc, scope, stream)?;
-    Ok(BucketCall::new(PuttingBucket { changed }, asked))
+impl AfterLevel for PuttingBucket {
+    type Call = PutBucket;
+
+    ghost asks = { PutsStream };
+
+    fn ask(alloc: Global, scope: &ApiScope, config: kv::Config) -> Result<PutBucket, OutOfMemory> {
+        let (changed, stream) = changed(alloc, scope, config)?;
+        let asked = create_or_update_stream(alloc, scope, stream)?;
+        Ok(BucketCall::new(PuttingBucket { changed }, asked))
+    }
 }
 
 /// Changes a bucket of keys, and makes it where it is not there: it asks how far the server's API goes, and then, in the same poll, for the
@@ -260,8 +264,5 @@ pub fn create_or_update_key_value(
 ) -> Result<CreateOrUpdateKeyValue, OutOfMemory>
     ensures { IfOk result (λ calls. PutsBucket scope.now config calls) }
 {
-    let refusal = config_refusal(&config);
-    let limit_markers = config.limit_markers.is_some();
-    let second = put_bucket(alloc, scope, config)?;
-    after_level(alloc, scope, refusal, limit_markers, second)
+    after_level::<PuttingBucket>(alloc, scope, config)
 }

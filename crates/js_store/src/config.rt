@@ -1,59 +1,49 @@
-//! The configurations of buckets, of which calls are made.
+//! The configurations of buckets, of which calls are made, and the streams that they are.
 ghost use Rattle.std.specs.Prelude.{◌≡◌, IfOk, List, ℕ};
-ghost use Rattle.js_store.specs.KeyValues.{stream_config as stream_of_keys};
-ghost use Rattle.js_store.specs.ObjectStores.{stream_config as stream_of_objects};
 ghost use Rattle.js_stream_calls.specs.Creates.{Creates};
 ghost use Rattle.js_stream_json.specs.declared.stream.config.Config.{Config};
 
-use crate::{kv, object_store};
 use js_base::{OutOfMemory, Text, TryClone};
 use js_call::ApiScope;
 use js_stream_calls::{CreateStream, create_stream};
 use js_stream_json::stream;
 use std::alloc::Global;
 
-/// The configuration of a bucket.
+/// The configuration of a bucket. Its stream's is made of what takes memory, and then of all else.
 pub(crate) trait BucketConfig: Drop {
+    /// What takes memory.
+    type Names: Drop;
+
     /// The bucket's name.
     ghost bucket: { Self → List ℕ };
 
     /// The stream that it is.
     ghost stream: { Self → Config };
 
+    /// The stream of what is left of it, with what took memory.
+    ghost with: { Self → Self.Names → Config };
+
     fn bucket(&self) -> &Text
         ensures { result.now ≡ bucket self.now };
 
-    /// The stream that it is. The one refusal is want of memory.
-    fn into_stream(self, alloc: Global) -> Result<stream::Config, OutOfMemory>
-        ensures { IfOk result (λ made. made ≡ stream self) };
+    /// What takes memory, for which the streams that it copies are moved out of it. The one refusal is want of memory.
+    fn take_names(&mut self, alloc: Global) -> Result<Self::Names, OutOfMemory>
+        ensures { IfOk result (λ names. with self.new names ≡ stream self.old) };
+
+    /// Its stream, by what took memory.
+    fn with(self, names: Self::Names) -> stream::Config
+        ensures { result ≡ with self names };
 }
 
-impl BucketConfig for kv::Config {
-    ghost bucket = { λ config. config.bucket };
-
-    ghost stream = { stream_of_keys };
-
-    fn bucket(&self) -> &Text {
-        &self.bucket
-    }
-
-    fn into_stream(self, alloc: Global) -> Result<stream::Config, OutOfMemory> {
-        self.into_stream_config(alloc)
-    }
-}
-
-impl BucketConfig for object_store::Config {
-    ghost bucket = { λ config. config.bucket };
-
-    ghost stream = { stream_of_objects };
-
-    fn bucket(&self) -> &Text {
-        &self.bucket
-    }
-
-    fn into_stream(self, alloc: Global) -> Result<stream::Config, OutOfMemory> {
-        self.into_stream_config(alloc)
-    }
+/// The configuration of the stream that a bucket is. The one refusal is want of memory.
+pub(crate) fn stream_of<C: BucketConfig>(
+    alloc: Global,
+    mut config: C,
+) -> Result<stream::Config, OutOfMemory>
+    ensures { IfOk result (λ stream. stream ≡ C.stream config) }
+{
+    let names = config.take_names(alloc)?;
+    Ok(config.with(names))
 }
 
 /// The bucket's name, and the call that makes the stream which it is. The one refusal is want of memory.
@@ -65,6 +55,6 @@ pub(crate) fn create_its_stream<C: BucketConfig>(
     ensures { IfOk result (λ made. (made.0 ≡ C.bucket config) × Creates scope.now (C.stream config) made.1) }
 {
     let bucket = config.bucket().try_clone()?;
-    let stream = config.into_stream(alloc)?;
+    let stream = stream_of(alloc, config)?;
     Ok((bucket, create_stream(alloc, scope, stream)?))
 }

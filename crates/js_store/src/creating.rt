@@ -5,9 +5,8 @@ ghost use Rattle.js_store.specs.Creates.{create_row, creates_kind, CreatesBucket
 use crate::config::create_its_stream;
 use crate::error::{CreateKeyValueError, CreateKeyValueErrorKind};
 use crate::kv;
-use crate::level::{AskLevel, IfAllowed, after_level};
+use crate::level::{AfterLevel, AskLevel, IfAllowed, after_level};
 use crate::outcome::{BucketCall, Outcome};
-use crate::refusal::config_refusal;
 use crate::store::{Store, StoreNames, answered_names, store_of};
 use js_base::{Error, OutOfMemory, Source, Text};
 use js_call::{ApiScope, Then};
@@ -78,15 +77,19 @@ impl Outcome<StreamHandle<Info>, CreateStreamError> for CreatingBucket {
     }
 }
 
-fn create_bucket(
-    alloc: Global,
-    scope: &ApiScope,
-    config: kv::Config,
-) -> Result<CreateBucket, OutOfMemory>
-    ensures { IfOk result (λ call. CreatesStream scope.now config call) }
-{
-    let (bucket, asked) = create_its_stream(alloc, scope, config)?;
-    Ok(BucketCall::new(CreatingBucket { bucket }, asked))
+impl AfterLevel for CreatingBucket {
+    type Call = CreateBucket;
+
+    ghost asks = { CreatesStream };
+
+    fn ask(
+        alloc: Global,
+        scope: &ApiScope,
+        config: kv::Config,
+    ) -> Result<CreateBucket, OutOfMemory> {
+        let (bucket, asked) = create_its_stream(alloc, scope, config)?;
+        Ok(BucketCall::new(CreatingBucket { bucket }, asked))
+    }
 }
 
 /// Makes a bucket of keys: it asks how far the server's API goes, and then, in the same poll, for the bucket's stream as `create_stream`
@@ -104,8 +107,5 @@ pub fn create_key_value(
 ) -> Result<CreateKeyValue, OutOfMemory>
     ensures { IfOk result (λ calls. CreatesBucket scope.now config calls) }
 {
-    let refusal = config_refusal(&config);
-    let limit_markers = config.limit_markers.is_some();
-    let second = create_bucket(alloc, scope, config)?;
-    after_level(alloc, scope, refusal, limit_markers, second)
+    after_level::<CreatingBucket>(alloc, scope, config)
 }

@@ -3,10 +3,10 @@ ghost use Rattle.std.specs.Prelude.{◌≡◌, IfOk, Some, None, [], true, map, 
 ghost use Rattle.js_store.specs.Origins.{mirrored, of_bucket as of_bucket_in};
 ghost use Rattle.js_store.specs.KeyValues.{all_keys as all_keys_in, history_of as history_in, replicas_of as replicas_in, compression_of as compression_in, subjects_of as subjects_in, origins_of as origins_in, stream_config};
 
+use crate::config::{BucketConfig, stream_of};
 use crate::copies::{both, each_copied};
 pub use crate::origins::stream_name;
 use crate::origins::{gathered, of_bucket};
-use crate::stream::{Bucket, stream_of};
 use js_base::{Items, Nanos, OutOfMemory, Text, TryClone};
 use js_stream_json::stream;
 use js_stream_json::stream::{
@@ -218,12 +218,18 @@ pub(crate) fn compression_of(is_compressed: bool) -> Option<Compression>
     }
 }
 
-impl Bucket for Config {
+impl BucketConfig for Config {
     type Names = (Text, Origins);
+
+    ghost bucket = { λ config. config.bucket };
 
     ghost stream = { stream_config };
 
     ghost with = { λ c names. record (stream_config c) { name = names.0; subjects = names.1.subjects; mirror_direct = names.1.mirror_direct; mirror = names.1.mirror; sources = names.1.sources } };
+
+    fn bucket(&self) -> &Text {
+        &self.bucket
+    }
 
     fn take_names(&mut self, alloc: Global) -> Result<(Text, Origins), OutOfMemory> {
         let name = stream_name(alloc, self.bucket.as_str())?;

@@ -1,10 +1,12 @@
 //! How far the server's API goes, which is asked before the stream of a bucket is made or changed.
 ghost use Rattle.std.specs.Prelude.{◌≡◌, IfOk};
-ghost use Rattle.js_call.specs.declared.then.Then.TheVariants.{First};
-ghost use Rattle.js_store.specs.Levels.{asking_level, level_row, refused_with, unless_allowed};
+ghost use Rattle.js_call.specs.declared.scope.ApiScope.{ApiScope};
+ghost use Rattle.js_store.specs.Levels.{asking_level, level_row, refused_with, unless_allowed, LevelFirst};
+ghost use Rattle.js_store.specs.declared.kv.Config.{Config};
 
+use crate::kv;
 use crate::outcome::{BucketCall, Outcome};
-use crate::refusal::{OfRefusal, Refusal, Refused};
+use crate::refusal::{OfRefusal, Refusal, Refused, config_refusal};
 use crate::store::Store;
 use js_base::{Error, OutOfMemory, Source};
 use js_call::{ApiScope, Decision, Then};
@@ -76,16 +78,30 @@ pub struct IfAllowed {
     pub(crate) limit_markers: bool,
 }
 
-/// That call, and after it another where the level allows the markers that are asked for. Neither is sent.
-pub(crate) fn after_level<S: Drop>(
+/// The row of the second call of those that make or change a bucket of keys, which asks for its stream.
+pub(crate) trait AfterLevel: Drop {
+    /// The call.
+    type Call: Drop;
+
+    ghost asks: { ApiScope → Config → Self.Call → Type 0 };
+
+    /// The call, which is not sent. The one refusal is want of memory.
+    fn ask(alloc: Global, scope: &ApiScope, config: kv::Config) -> Result<Self::Call, OutOfMemory>
+        ensures { IfOk result (λ call. asks scope.now config call) };
+}
+
+/// Asks how far the server's API goes, and then for the bucket's stream where the level allows the markers that are asked for. Neither
+/// is sent. The one refusal is want of memory.
+pub(crate) fn after_level<M: AfterLevel>(
     alloc: Global,
     scope: &ApiScope,
-    refusal: Option<Refusal>,
-    limit_markers: bool,
-    second: S,
-) -> Result<Then<AskLevel, S, IfAllowed>, OutOfMemory>
-    ensures { IfOk result (λ calls. calls ≡ First (asking_level scope.now refusal) second (record { limit_markers = limit_markers })) }
+    config: kv::Config,
+) -> Result<Then<AskLevel, M::Call, IfAllowed>, OutOfMemory>
+    ensures { IfOk result (λ calls. LevelFirst M.asks scope.now config calls) }
 {
+    let refusal = config_refusal(&config);
+    let limit_markers = config.limit_markers.is_some();
+    let second = M::ask(alloc, scope, config)?;
     let first = ask_level(alloc, scope, refusal)?;
     Ok(Then::First {
         first,

@@ -24,7 +24,6 @@ mod outcome;
 mod places;
 mod refusal;
 mod store;
-mod stream;
 mod to_source;
 
 pub use calls::StoreCalls;

@@ -2,9 +2,9 @@
 ghost use Rattle.std.specs.Prelude.{◌≡◌, IfOk, string_bytes};
 ghost use Rattle.js_store.specs.ObjectStores.{stream_name as stream_name_in, chunks, metadata, subjects_of as subjects_in, stream_config};
 
+use crate::config::{BucketConfig, stream_of};
 use crate::copies::{both, each_copied};
 use crate::kv::compression_of;
-use crate::stream::{Bucket, stream_of};
 use js_base::{Items, Nanos, OutOfMemory, Text, TryClone};
 use js_stream_json::stream;
 use js_stream_json::stream::{DiscardPolicy, Placement, RetentionPolicy, StorageType};
@@ -105,12 +105,18 @@ fn subjects_of(alloc: Global, bucket: &str) -> Result<Items<Text>, OutOfMemory>
     Ok(subjects)
 }
 
-impl Bucket for Config {
+impl BucketConfig for Config {
     type Names = (Text, Items<Text>);
+
+    ghost bucket = { λ config. config.bucket };
 
     ghost stream = { stream_config };
 
     ghost with = { λ c names. record (stream_config c) { name = names.0; subjects = names.1 } };
+
+    fn bucket(&self) -> &Text {
+        &self.bucket
+    }
 
     fn take_names(&mut self, alloc: Global) -> Result<(Text, Items<Text>), OutOfMemory> {
         let bucket = self.bucket.as_str();

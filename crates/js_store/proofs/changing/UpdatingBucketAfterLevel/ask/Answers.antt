@@ -1,7 +1,7 @@
 use Rattle.std.proofs.Common.{◌≡◌}
 use Rattle.js_store.specs.KeyValues.{stream_config}
 use Rattle.js_store.specs.Changes.{changed_bucket}
-use Rattle.js_store.proofs.changing.put_bucket.Goals as goal
+use Rattle.js_store.proofs.changing.UpdatingBucketAfterLevel.ask.Goals as goal
 
 -- the stream that is asked for is the one that the bucket is
 pub returns : goal.returns
