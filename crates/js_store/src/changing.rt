@@ -12,6 +12,7 @@ use crate::error::{
 use crate::kv;
 use crate::level::{AfterLevel, AskLevel, IfAllowed, after_level};
 use crate::outcome::{BucketCall, Outcome};
+use crate::several::both;
 use crate::store::{Store, StoreNames, answered_names, store_of};
 use js_base::{Error, OutOfMemory, Source, Text, TryClone};
 use js_call::{ApiScope, Then};
@@ -77,8 +78,8 @@ fn changed<C: BucketConfig>(
 ) -> Result<(ChangedBucket, stream::Config), OutOfMemory>
     ensures { IfOk result (λ changed. (changed.0 ≡ record { bucket = C.bucket config; scope = scope.now; stream_name = stream_name (C.bucket config) }) × (changed.1 ≡ C.stream config)) }
 {
-    let changed = ChangedBucket::named(alloc, scope, config.bucket())?;
-    Ok((changed, stream_of(alloc, config)?))
+    let changed = ChangedBucket::named(alloc, scope, config.bucket());
+    both(changed, stream_of(alloc, config))
 }
 
 /// What a stream is changed to.

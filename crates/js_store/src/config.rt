@@ -3,6 +3,7 @@ ghost use Rattle.std.specs.Prelude.{◌≡◌, IfOk, List, ℕ};
 ghost use Rattle.js_stream_calls.specs.Creates.{Creates};
 ghost use Rattle.js_stream_json.specs.declared.stream.config.Config.{Config};
 
+use crate::several::both;
 use js_base::{OutOfMemory, Text, TryClone};
 use js_call::ApiScope;
 use js_stream_calls::{CreateStream, create_stream};
@@ -46,6 +47,17 @@ pub(crate) fn stream_of<C: BucketConfig>(
     Ok(config.with(names))
 }
 
+/// The call that makes the stream which a bucket is.
+fn create_stream_of<C: BucketConfig>(
+    alloc: Global,
+    scope: &ApiScope,
+    config: C,
+) -> Result<CreateStream, OutOfMemory>
+    ensures { IfOk result (λ create. Creates scope.now (C.stream config) create) }
+{
+    create_stream(alloc, scope, stream_of(alloc, config)?)
+}
+
 /// The bucket's name, and the call that makes the stream which it is. The one refusal is want of memory.
 pub(crate) fn create_its_stream<C: BucketConfig>(
     alloc: Global,
@@ -54,7 +66,6 @@ pub(crate) fn create_its_stream<C: BucketConfig>(
 ) -> Result<(Text, CreateStream), OutOfMemory>
     ensures { IfOk result (λ made. (made.0 ≡ C.bucket config) × Creates scope.now (C.stream config) made.1) }
 {
-    let bucket = config.bucket().try_clone()?;
-    let stream = stream_of(alloc, config)?;
-    Ok((bucket, create_stream(alloc, scope, stream)?))
+    let bucket = config.bucket().try_clone();
+    both(bucket, create_stream_of(alloc, scope, config))
 }

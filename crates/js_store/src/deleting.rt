@@ -1,11 +1,13 @@
 //! The call that deletes a bucket of keys.
 ghost use Rattle.std.specs.Prelude.{◌≡◌, IfOk};
 ghost use Rattle.js_store.specs.Gets.{delete_row, deleting};
+ghost use Rattle.js_stream_calls.specs.Gets.{deleting as deleting_stream};
 
 use crate::error::{KeyValueError, KeyValueErrorKind};
 use crate::getting::name_refusal;
 use crate::kv;
 use crate::outcome::{BucketCall, Outcome};
+use crate::several::both;
 use js_base::{Error, OutOfMemory, Source, Text};
 use js_call::ApiScope;
 use js_stream_calls::{DeleteStream, DeleteStreamError, delete_stream};
@@ -54,6 +56,17 @@ impl Outcome<DeleteStatus, DeleteStreamError> for DeletingBucket {
     }
 }
 
+/// The call that deletes the stream of that name.
+pub(crate) fn delete_named(
+    alloc: Global,
+    scope: &ApiScope,
+    name: Text,
+) -> Result<DeleteStream, OutOfMemory>
+    ensures { IfOk result (λ call. call ≡ deleting_stream scope.now name) }
+{
+    delete_stream(alloc, scope, name.as_str())
+}
+
 /// Deletes a bucket of keys with all its values.
 ///
 /// The one refusal here is want of memory; others come from the polls. `InvalidStoreName` comes from the first, and nothing is sent.
@@ -65,10 +78,10 @@ pub fn delete_key_value(
 ) -> Result<DeleteKeyValue, OutOfMemory>
     ensures { IfOk result (λ call. call ≡ deleting scope.now bucket.now) }
 {
-    let meaning = DeletingBucket {
-        bucket: Text::from_str(alloc, bucket)?,
-    };
     let stream_name = kv::stream_name(alloc, bucket)?;
-    let asked = delete_stream(alloc, scope, stream_name.as_str())?;
-    Ok(BucketCall::new(meaning, asked))
+    let (bucket, asked) = both(
+        Text::from_str(alloc, bucket),
+        delete_named(alloc, scope, stream_name),
+    )?;
+    Ok(BucketCall::new(DeletingBucket { bucket }, asked))
 }

@@ -3,10 +3,12 @@ ghost use Rattle.std.specs.Prelude.{◌≡◌, IfOk, Ok, Err, if◌then◌else�
 ghost use Rattle.js_base.specs.Errors.{plain};
 ghost use Rattle.js_store.specs.declared.error.KeyValueErrorKind.TheVariants.{InvalidStoreName};
 ghost use Rattle.js_store.specs.Gets.{get_row, getting, got_names, name_refusal};
+ghost use Rattle.js_stream_calls.specs.Gets.{getting as getting_stream};
 
 use crate::error::{KeyValueError, KeyValueErrorKind};
 use crate::outcome::{BucketCall, Outcome};
 use crate::places::places_of;
+use crate::several::both;
 use crate::store::{Store, StoreNames, store_of};
 use crate::{is_valid_bucket_name, kv};
 use js_base::{Error, OutOfMemory, Source, Text};
@@ -63,9 +65,13 @@ impl Outcome<StreamHandle<Info>, GetStreamError> for GettingBucket {
     fn needs(&self, alloc: Global, given: &StreamHandle<Info>) -> Result<StoreNames, OutOfMemory> {
         let api = given.scope.prefix.as_str();
         let bucket = self.bucket.as_str();
+        let (stream_name, places) = both(
+            kv::stream_name(alloc, bucket),
+            places_of(alloc, api, bucket, &given.info.config.mirror),
+        )?;
         Ok(StoreNames {
-            stream_name: kv::stream_name(alloc, bucket)?,
-            places: places_of(alloc, api, bucket, &given.info.config.mirror)?,
+            stream_name,
+            places,
         })
     }
 
@@ -81,6 +87,17 @@ impl Outcome<StreamHandle<Info>, GetStreamError> for GettingBucket {
     }
 }
 
+/// The call that gets the stream of that name.
+pub(crate) fn get_named(
+    alloc: Global,
+    scope: &ApiScope,
+    name: Text,
+) -> Result<GetStream, OutOfMemory>
+    ensures { IfOk result (λ call. call ≡ getting_stream scope.now name) }
+{
+    get_stream(alloc, scope, name.as_str())
+}
+
 /// Gets a bucket of keys, and where its values are.
 ///
 /// The one refusal here is want of memory; others come from the polls. `InvalidStoreName` comes from the first where the name is none, and
@@ -93,10 +110,10 @@ pub fn get_key_value(
 ) -> Result<GetKeyValue, OutOfMemory>
     ensures { IfOk result (λ call. call ≡ getting scope.now bucket.now) }
 {
-    let meaning = GettingBucket {
-        bucket: Text::from_str(alloc, bucket)?,
-    };
     let stream_name = kv::stream_name(alloc, bucket)?;
-    let asked = get_stream(alloc, scope, stream_name.as_str())?;
-    Ok(BucketCall::new(meaning, asked))
+    let (bucket, asked) = both(
+        Text::from_str(alloc, bucket),
+        get_named(alloc, scope, stream_name),
+    )?;
+    Ok(BucketCall::new(GettingBucket { bucket }, asked))
 }

@@ -4,9 +4,9 @@ ghost use Rattle.js_store.specs.Origins.{mirrored, of_bucket as of_bucket_in};
 ghost use Rattle.js_store.specs.KeyValues.{all_keys as all_keys_in, history_of as history_in, replicas_of as replicas_in, compression_of as compression_in, subjects_of as subjects_in, origins_of as origins_in, stream_config};
 
 use crate::config::{BucketConfig, stream_of};
-use crate::copies::{both, each_copied};
 pub use crate::origins::stream_name;
 use crate::origins::{gathered, of_bucket};
+use crate::several::{both, each_copied};
 use js_base::{Items, Nanos, OutOfMemory, Text, TryClone};
 use js_stream_json::stream;
 use js_stream_json::stream::{
@@ -232,14 +232,13 @@ impl BucketConfig for Config {
     }
 
     fn take_names(&mut self, alloc: Global) -> Result<(Text, Origins), OutOfMemory> {
-        let name = stream_name(alloc, self.bucket.as_str())?;
         let mirror = self.mirror.take();
         let sources = self.sources.take();
         let bucket = self.bucket.as_str();
-        Ok((
-            name,
-            origins_of(alloc, bucket, mirror, sources, self.mirror_direct)?,
-        ))
+        both(
+            stream_name(alloc, bucket),
+            origins_of(alloc, bucket, mirror, sources, self.mirror_direct),
+        )
     }
 
     fn with(self, names: (Text, Origins)) -> stream::Config {

@@ -9,7 +9,6 @@
 mod calls;
 mod changing;
 mod config;
-mod copies;
 mod creating;
 mod deleting;
 mod error;
@@ -23,6 +22,7 @@ mod origins;
 mod outcome;
 mod places;
 mod refusal;
+mod several;
 mod store;
 mod to_source;
 

@@ -3,8 +3,8 @@ ghost use Rattle.std.specs.Prelude.{◌≡◌, IfOk, string_bytes};
 ghost use Rattle.js_store.specs.ObjectStores.{stream_name as stream_name_in, chunks, metadata, subjects_of as subjects_in, stream_config};
 
 use crate::config::{BucketConfig, stream_of};
-use crate::copies::{both, each_copied};
 use crate::kv::compression_of;
+use crate::several::{both, each_copied};
 use js_base::{Items, Nanos, OutOfMemory, Text, TryClone};
 use js_stream_json::stream;
 use js_stream_json::stream::{DiscardPolicy, Placement, RetentionPolicy, StorageType};

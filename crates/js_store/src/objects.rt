@@ -3,18 +3,21 @@ ghost use Rattle.std.specs.Prelude.{◌≡◌, IfOk};
 ghost use Rattle.js_store.specs.Objects.{creates_refusal, create_row, CreatesObjects, delete_row, deleting, get_refusal, get_row, getting};
 
 use crate::config::create_its_stream;
+use crate::deleting::delete_named;
 use crate::error::{
     CreateObjectStoreError, CreateObjectStoreErrorKind, DeleteObjectStore, ObjectStoreError,
     ObjectStoreErrorKind,
 };
+use crate::getting::get_named;
 use crate::outcome::{BucketCall, Outcome};
+use crate::several::both;
 use crate::store::ObjectStore;
 use crate::{is_valid_bucket_name, object_store};
 use js_base::{Error, OutOfMemory, Source, Text};
 use js_call::ApiScope;
 use js_stream_calls::{
     CreateStream, CreateStreamError, DeleteStream, DeleteStreamError, GetStream, GetStreamError,
-    StreamHandle, delete_stream, get_stream,
+    StreamHandle,
 };
 use js_stream_json::DeleteStatus;
 use js_stream_json::stream::Info;
@@ -91,12 +94,12 @@ pub fn get_object_store(
 ) -> Result<GetObjectStore, OutOfMemory>
     ensures { IfOk result (λ call. call ≡ getting scope.now bucket.now) }
 {
-    let meaning = GettingObjects {
-        bucket: Text::from_str(alloc, bucket)?,
-    };
     let stream_name = object_store::stream_name(alloc, bucket)?;
-    let asked = get_stream(alloc, scope, stream_name.as_str())?;
-    Ok(BucketCall::new(meaning, asked))
+    let (bucket, asked) = both(
+        Text::from_str(alloc, bucket),
+        get_named(alloc, scope, stream_name),
+    )?;
+    Ok(BucketCall::new(GettingObjects { bucket }, asked))
 }
 
 /// The row of `create_object_store`.
@@ -225,6 +228,6 @@ pub fn delete_object_store(
     ensures { IfOk result (λ call. call ≡ deleting scope.now bucket.now) }
 {
     let stream_name = object_store::stream_name(alloc, bucket)?;
-    let asked = delete_stream(alloc, scope, stream_name.as_str())?;
+    let asked = delete_named(alloc, scope, stream_name)?;
     Ok(BucketCall::new(DeletingObjects, asked))
 }

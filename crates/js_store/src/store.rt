@@ -3,6 +3,7 @@ ghost use Rattle.std.specs.Prelude.{◌≡◌, IfOk};
 ghost use Rattle.js_store.specs.Stores.{answered_names as answered_in, store_of};
 
 use crate::places::{Places, places_of};
+use crate::several::both;
 use js_base::{OutOfMemory, Text, TryClone};
 use js_stream_calls::StreamHandle;
 use js_stream_json::stream::{Config, Info};
@@ -53,9 +54,13 @@ pub(crate) fn answered_names(
 ) -> Result<StoreNames, OutOfMemory>
     ensures { IfOk result (λ names. names ≡ answered_in api.now bucket.now config.now) }
 {
+    let (stream_name, places) = both(
+        config.name.try_clone(),
+        places_of(alloc, api, bucket, &config.mirror),
+    )?;
     Ok(StoreNames {
-        stream_name: config.name.try_clone()?,
-        places: places_of(alloc, api, bucket, &config.mirror)?,
+        stream_name,
+        places,
     })
 }
 

@@ -1,4 +1,4 @@
-//! Copies of what a configuration holds.
+//! Several values, each of which takes memory.
 ghost use Rattle.std.specs.Prelude.{◌≡◌, IfOk, Ok};
 
 use js_base::{OutOfMemory, TryClone};
