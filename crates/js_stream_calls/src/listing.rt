@@ -16,6 +16,7 @@ use js_call::{ApiScope, Call, OpenRequest, State};
 use js_link::{Link, RequestId};
 use js_stream_json::stream::{Info, Page};
 use std::alloc::Global;
+use std::mem;
 
 /// A list of the API, which is asked for page by page. Each page is handed out from its end.
 #[derive(Drop)]
@@ -55,6 +56,13 @@ impl<T: Listed> Listing<T> {
         }
     }
 
+    /// Puts the request of a page, or none, in the place of the one before.
+    fn put_page(&mut self, page: Option<Call<AskingPage<T>>>)
+        ensures { self.new ≡ record self.old { page = page } }
+    {
+        drop(mem::replace(&mut self.page, page));
+    }
+
     /// What is made of what the page's request came to.
     fn turn(
         &mut self,
@@ -65,19 +73,19 @@ impl<T: Listed> Listing<T> {
     {
         match turn {
             Turn::Pending(call) => {
-                self.page = Some(call);
+                self.put_page(Some(call));
                 Next::Pending
             }
             Turn::OutOfMemory(call) => {
-                self.page = Some(call);
+                self.put_page(Some(call));
                 Next::OutOfMemory
             }
             Turn::Ready(Err(error)) => {
-                self.page = None;
+                self.put_page(None);
                 Next::Item(Err(error))
             }
             Turn::Ready(Ok(page)) => {
-                self.page = None;
+                self.put_page(None);
                 self.ledger.load(alloc, page);
                 self.ledger.hand_out()
             }

@@ -91,7 +91,9 @@ fn counted(alloc: Global, seed: u64, events: u64) -> Result<Summary, OutOfMemory
     ensures { IfOk result (IsGenerated seed events) }
 {
     let given = given(alloc)?;
-    seed_counts(alloc, &given, seed, events)
+    let summary = seed_counts(alloc, &given, seed, events);
+    drop(given);
+    summary
 }
 
 /// The line of how much the replay of a generated transcript puts out.

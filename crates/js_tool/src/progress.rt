@@ -178,5 +178,7 @@ pub(crate) fn replay(alloc: Global, mut bytes: Pieces) -> Result<CommandOutcome,
     };
     let (line, rest) = cut_line(&piece);
     let first = first_line(alloc, line);
-    replay_rest(alloc, &first, rest, bytes)
+    let outcome = replay_rest(alloc, &first, rest, bytes);
+    drop(first);
+    outcome
 }

@@ -10,4 +10,4 @@ returns c =
     let rest = lines_of c.cut_line.result.1.now in
     let cut : lines_of c.args.bytes ≡ line ∷ (rest ++ left) =
     c.in-Some.ensures.lines ∙ ap (λ (piece : List ℕ). lines_of piece ++ left) (sym c.deref.ensures.value) ∙ ap (λ (lines : List (List ℕ)). lines ++ left) c.cut_line.ensures.line in
-    result_to c.args.bytes c.replay_rest.result _ c.requires (of_lines c.args.bytes line (rest ++ left) cut) (c.replay_rest.ensures line c.first_line-first.ensures)
+    result_to c.args.bytes c.replay_rest-outcome.result _ c.requires (of_lines c.args.bytes line (rest ++ left) cut) (c.replay_rest-outcome.ensures line c.first_line-first.ensures)
