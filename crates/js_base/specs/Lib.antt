@@ -5,3 +5,4 @@ pub mod Errors
 pub mod Statuses
 pub mod Numbers
 pub mod Texts
+pub mod Results

@@ -4,7 +4,6 @@
 
 pub mod account;
 pub mod consumer;
-mod gather;
 mod publish_ack;
 pub mod pull;
 pub mod push;

@@ -11,10 +11,9 @@ use crate::consumer::{
     self, AckPolicy, ConfigError, DeliverPolicy, FromConsumer, IntoConsumerConfig,
     ORDERED_INACTIVE_THRESHOLD, PriorityPolicy, ReplayPolicy,
 };
-use crate::gather::{all_4, all_5};
 pub use batch::BatchConfig;
 use jiff::Timestamp;
-use js_base::{Items, Nanos, OutOfMemory, Text, TextMap, TryClone};
+use js_base::{Items, Nanos, OutOfMemory, Text, TextMap, TryClone, all_4, all_5};
 use std::alloc::Global;
 
 /// The configuration of a pull consumer: readers ask for messages. It has no deliver subject and what goes with one.

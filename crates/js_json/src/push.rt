@@ -8,9 +8,8 @@ use crate::consumer::{
     self, AckPolicy, ConfigError, DeliverPolicy, FromConsumer, IntoConsumerConfig,
     ORDERED_INACTIVE_THRESHOLD, PriorityPolicy, ReplayPolicy,
 };
-use crate::gather::{all_4, all_5};
 use jiff::Timestamp;
-use js_base::{Items, Nanos, OutOfMemory, Text, TextMap, TryClone};
+use js_base::{Items, Nanos, OutOfMemory, Text, TextMap, TryClone, all_4, all_5};
 use std::alloc::Global;
 
 /// The heartbeat of an ordered push consumer: 5 seconds.

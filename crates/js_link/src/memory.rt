@@ -7,8 +7,7 @@ ghost use Rattle.js_link.specs.Memory.{memory_view, new_view, inbox_subject, fre
 
 use crate::link::{Answer, Link, LinkError, Taken, Watch};
 use crate::sent::{InboxId, RequestId, Sent};
-use bytes::Bytes;
-use js_base::{HeaderMap, Message, Nanos, OutOfMemory, State, Subject, Text, TryClone};
+use js_base::{HeaderMap, Message, Nanos, OutOfMemory, State, Subject, Text};
 use std::alloc::Global;
 use std::collections::VecDeque;
 
@@ -47,33 +46,6 @@ fn answered(reply: Option<Message>) -> Request
     match reply {
         Some(reply) => Request::Answered(reply),
         None => Request::Ended,
-    }
-}
-
-fn copy_headers(headers: Option<&HeaderMap>) -> Result<Option<HeaderMap>, OutOfMemory>
-    ensures { IfOk result (λ copy. copy ≡ option_copied headers.entry) }
-{
-    match headers {
-        Some(headers) => Ok(Some(headers.try_clone()?)),
-        None => Ok(None),
-    }
-}
-
-fn copy_subject(alloc: Global, text: Option<&str>) -> Result<Option<Subject>, OutOfMemory>
-    ensures { IfOk result (λ copy. copy ≡ option_copied text.entry) }
-{
-    match text {
-        Some(text) => Ok(Some(Subject::new(alloc, text)?)),
-        None => Ok(None),
-    }
-}
-
-fn copy_text(alloc: Global, text: Option<&str>) -> Result<Option<Text>, OutOfMemory>
-    ensures { IfOk result (λ copy. copy ≡ option_copied text.entry) }
-{
-    match text {
-        Some(text) => Ok(Some(Text::from_str(alloc, text)?)),
-        None => Ok(None),
     }
 }
 
@@ -219,13 +191,9 @@ impl Link for MemoryLink {
             return Err(self.fail());
         }
         let inbox = self.inboxes.len() as u64;
-        let sent = Sent::Subscribe {
-            inbox,
-            subject: Subject::new(alloc, subject)?,
-            group: copy_text(alloc, group)?,
-        };
         self.inboxes.reserve(1)?;
-        self.sent.push(sent)?;
+        self.sent
+            .push(Sent::subscribe(alloc, inbox, subject, group)?)?;
         self.inboxes.push_reserved(Some(VecDeque::new(alloc)));
         Ok(InboxId(inbox))
     }
@@ -267,12 +235,7 @@ impl Link for MemoryLink {
         if !self.up {
             return Err(self.fail());
         }
-        let sent = Sent::Publish {
-            subject: Subject::new(alloc, subject)?,
-            reply: copy_subject(alloc, reply)?,
-            headers: copy_headers(headers)?,
-            payload: Bytes::copy_from_slice(alloc, payload)?,
-        };
+        let sent = Sent::publish(alloc, subject, reply, headers, payload)?;
         Ok(self.sent.push(sent)?)
     }
 
@@ -290,14 +253,9 @@ impl Link for MemoryLink {
             return Err(self.fail());
         }
         let number = self.requests.len() as u64 + 1;
-        let sent = Sent::Request {
-            number,
-            subject: Subject::new(alloc, subject)?,
-            headers: copy_headers(headers)?,
-            payload: Bytes::copy_from_slice(alloc, payload)?,
-        };
         self.requests.reserve(1)?;
-        self.sent.push(sent)?;
+        self.sent
+            .push(Sent::request(alloc, number, subject, headers, payload)?)?;
         self.requests.push_reserved(Request::Waits);
         Ok(RequestId(number))
     }

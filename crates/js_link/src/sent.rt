@@ -1,6 +1,11 @@
 //! What a link has sent, and how its inboxes and requests are named.
+ghost use Rattle.std.specs.Prelude.{◌≡◌, IfOk};
+ghost use Rattle.std.specs.Option.{option_copied};
+ghost use Rattle.js_link.specs.declared.sent.Sent.TheVariants as sents;
+
 use bytes::Bytes;
-use js_base::{HeaderMap, Subject, Text};
+use js_base::{HeaderMap, OutOfMemory, Subject, Text, TryClone, all_3, all_4, both};
+use std::alloc::Global;
 
 /// Names an inbox of a link.
 #[derive(Clone, Copy, Debug, PartialEq, Eq)]
@@ -33,4 +38,103 @@ pub enum Sent {
         subject: Subject,
         group: Option<Text>,
     },
+}
+
+fn copy_headers(headers: Option<&HeaderMap>) -> Result<Option<HeaderMap>, OutOfMemory>
+    ensures { IfOk result (λ copy. copy ≡ option_copied headers.entry) }
+{
+    match headers {
+        Some(headers) => Ok(Some(headers.try_clone()?)),
+        None => Ok(None),
+    }
+}
+
+fn copy_subject(alloc: Global, text: Option<&str>) -> Result<Option<Subject>, OutOfMemory>
+    ensures { IfOk result (λ copy. copy ≡ option_copied text.entry) }
+{
+    match text {
+        Some(text) => Ok(Some(Subject::new(alloc, text)?)),
+        None => Ok(None),
+    }
+}
+
+fn copy_text(alloc: Global, text: Option<&str>) -> Result<Option<Text>, OutOfMemory>
+    ensures { IfOk result (λ copy. copy ≡ option_copied text.entry) }
+{
+    match text {
+        Some(text) => Ok(Some(Text::from_str(alloc, text)?)),
+        None => Ok(None),
+    }
+}
+
+fn copy_payload(alloc: Global, payload: &[u8]) -> Result<Bytes, OutOfMemory>
+    ensures { IfOk result (λ copy. copy ≡ payload.now) }
+{
+    Ok(Bytes::copy_from_slice(alloc, payload)?)
+}
+
+impl Sent {
+    /// What stands for a new inbox, with copies of its texts.
+    pub(crate) fn subscribe(
+        alloc: Global,
+        inbox: u64,
+        subject: &str,
+        group: Option<&str>,
+    ) -> Result<Sent, OutOfMemory>
+        ensures { IfOk result (λ sent. sent ≡ sents.Subscribe inbox subject.now (option_copied group.entry)) }
+    {
+        let (subject, group) = both(Subject::new(alloc, subject), copy_text(alloc, group))?;
+        Ok(Sent::Subscribe {
+            inbox,
+            subject,
+            group,
+        })
+    }
+
+    /// What stands for a message, with copies of what it is made of.
+    pub(crate) fn publish(
+        alloc: Global,
+        subject: &str,
+        reply: Option<&str>,
+        headers: Option<&HeaderMap>,
+        payload: &[u8],
+    ) -> Result<Sent, OutOfMemory>
+        ensures { IfOk result (λ sent. sent ≡ sents.Publish subject.now (option_copied reply.entry) (option_copied headers.entry) payload.now) }
+    {
+        let (subject, reply, headers, payload) = all_4(
+            Subject::new(alloc, subject),
+            copy_subject(alloc, reply),
+            copy_headers(headers),
+            copy_payload(alloc, payload),
+        )?;
+        Ok(Sent::Publish {
+            subject,
+            reply,
+            headers,
+            payload,
+        })
+    }
+
+    /// What stands for a request, with copies of what it is made of.
+    pub(crate) fn request(
+        alloc: Global,
+        number: u64,
+        subject: &str,
+        headers: Option<&HeaderMap>,
+        payload: &[u8],
+    ) -> Result<Sent, OutOfMemory>
+        ensures { IfOk result (λ sent. sent ≡ sents.Request number subject.now (option_copied headers.entry) payload.now) }
+    {
+        let (subject, headers, payload) = all_3(
+            Subject::new(alloc, subject),
+            copy_headers(headers),
+            copy_payload(alloc, payload),
+        )?;
+        Ok(Sent::Request {
+            number,
+            subject,
+            headers,
+            payload,
+        })
+    }
 }

@@ -12,9 +12,8 @@ use crate::error::{
 use crate::kv;
 use crate::level::{AfterLevel, AskLevel, IfAllowed, after_level};
 use crate::outcome::{BucketCall, Outcome};
-use crate::several::both;
 use crate::store::{Store, StoreNames, answered_names, store_of};
-use js_base::{Error, OutOfMemory, Source, Text, TryClone};
+use js_base::{Error, OutOfMemory, Source, Text, TryClone, both};
 use js_call::{ApiScope, Then};
 use js_stream_calls::{
     CreateOrUpdateStream, CreateStreamError, CreateStreamErrorKind, StreamHandle, UpdateStream,

@@ -3,8 +3,7 @@ ghost use Rattle.std.specs.Prelude.{◌≡◌, IfOk, List, ℕ};
 ghost use Rattle.js_stream_calls.specs.Creates.{Creates};
 ghost use Rattle.js_stream_json.specs.declared.stream.config.Config.{Config};
 
-use crate::several::both;
-use js_base::{OutOfMemory, Text, TryClone};
+use js_base::{OutOfMemory, Text, TryClone, both};
 use js_call::ApiScope;
 use js_stream_calls::{CreateStream, create_stream};
 use js_stream_json::stream;

@@ -6,8 +6,7 @@ ghost use Rattle.js_store.specs.KeyValues.{all_keys as all_keys_in, history_of a
 use crate::config::{BucketConfig, stream_of};
 pub use crate::origins::stream_name;
 use crate::origins::{gathered, of_bucket};
-use crate::several::{both, each_copied};
-use js_base::{Items, Nanos, OutOfMemory, Text, TryClone};
+use js_base::{Items, Nanos, OutOfMemory, Text, TryClone, both, each_copied};
 use js_stream_json::stream;
 use js_stream_json::stream::{
     Compression, DiscardPolicy, Placement, Republish, RetentionPolicy, Source, StorageType,

@@ -22,7 +22,6 @@ mod origins;
 mod outcome;
 mod places;
 mod refusal;
-mod several;
 mod store;
 mod to_source;
 

@@ -4,8 +4,7 @@ ghost use Rattle.js_store.specs.ObjectStores.{stream_name as stream_name_in, chu
 
 use crate::config::{BucketConfig, stream_of};
 use crate::kv::compression_of;
-use crate::several::{both, each_copied};
-use js_base::{Items, Nanos, OutOfMemory, Text, TryClone};
+use js_base::{Items, Nanos, OutOfMemory, Text, TryClone, both, each_copied};
 use js_stream_json::stream;
 use js_stream_json::stream::{DiscardPolicy, Placement, RetentionPolicy, StorageType};
 use std::alloc::{AllocError, Global};

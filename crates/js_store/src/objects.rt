@@ -10,10 +10,9 @@ use crate::error::{
 };
 use crate::getting::get_named;
 use crate::outcome::{BucketCall, Outcome};
-use crate::several::both;
 use crate::store::ObjectStore;
 use crate::{is_valid_bucket_name, object_store};
-use js_base::{Error, OutOfMemory, Source, Text};
+use js_base::{Error, OutOfMemory, Source, Text, both};
 use js_call::ApiScope;
 use js_stream_calls::{
     CreateStream, CreateStreamError, DeleteStream, DeleteStreamError, GetStream, GetStreamError,

@@ -3,8 +3,7 @@ ghost use Rattle.std.specs.Prelude.{◌≡◌, IfOk};
 ghost use Rattle.js_store.specs.Stores.{answered_names as answered_in, store_of};
 
 use crate::places::{Places, places_of};
-use crate::several::both;
-use js_base::{OutOfMemory, Text, TryClone};
+use js_base::{OutOfMemory, Text, TryClone, both};
 use js_stream_calls::StreamHandle;
 use js_stream_json::stream::{Config, Info};
 use std::alloc::Global;

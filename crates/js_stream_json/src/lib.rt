@@ -2,7 +2,6 @@
 //! knows of them, and lists of streams.
 #![tactic(auto)]
 
-mod gather;
 pub mod stream;
 
 pub use stream::DeleteStatus;

@@ -10,7 +10,7 @@ use crate::event_context::EventContext;
 use crate::run::Start;
 use crate::setup::{OrderedSetup, Settings};
 use bytes::Bytes;
-use js_base::{Nanos, OutOfMemory, Subject, Text, TryClone};
+use js_base::{Nanos, OutOfMemory, Subject, Text, TryClone, each_copied};
 use js_fields::ToValue;
 use js_json::consumer::{Action, Config, CreateRequest, DeliverPolicy, Info, IntoConsumerConfig};
 use js_pull::{Source, ordered_batch_config};
@@ -314,17 +314,6 @@ pub fn create_body(
 }
 
 // ---- readers
-
-/// A copy of each of three values. The one refusal is want of memory.
-fn each_copied<A: TryClone, B: TryClone, C: TryClone>(
-    a: &A,
-    b: &B,
-    c: &C,
-) -> Result<(A, B, C), OutOfMemory>
-    ensures { IfOk result (λ copies. copies ≡ (a.now, b.now, c.now)) }
-{
-    Ok((a.try_clone()?, b.try_clone()?, c.try_clone()?))
-}
 
 /// Whom the reader of a consumer with this info asks.
 pub fn source_of(

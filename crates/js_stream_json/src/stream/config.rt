@@ -8,12 +8,11 @@ ghost use Rattle.js_stream_json.specs.WrittenBack.{without_domains, HasNumbers};
 mod reading;
 mod writing;
 
-use crate::gather::all_4;
 use crate::stream::placement::Placement;
 use crate::stream::policies::{Compression, DiscardPolicy, RetentionPolicy, StorageType};
 use crate::stream::republish::Republish;
 use crate::stream::source::Source;
-use js_base::{Items, Nanos, OutOfMemory, Text, TryClone};
+use js_base::{Items, Nanos, OutOfMemory, Text, TryClone, all_4};
 use js_fields::{FromValue, ReadError, ToValue};
 use std::alloc::Global;
 

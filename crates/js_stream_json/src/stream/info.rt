@@ -6,7 +6,7 @@ ghost use Rattle.js_stream_json.specs.StreamInfo.{info_fields};
 
 use crate::stream::config::Config;
 use jiff::Timestamp;
-use js_base::{OutOfMemory, TryClone};
+use js_base::{OutOfMemory, TryClone, all_3};
 use js_fields::{FromValue, Key, Member, ReadError, nested, required};
 use serde_json::Value;
 use std::alloc::Global;
@@ -37,10 +37,15 @@ impl FromValue for Info {
 
     #[tactic(auto, unfolding(crate::specs::StreamInfo::info_fields))]
     fn from_fields(alloc: Global, object: &Value) -> Result<Info, ReadError> {
+        let (config, created, state) = all_3(
+            required(alloc, object, Key::Config),
+            required(alloc, object, Key::Created),
+            required(alloc, object, Key::State),
+        )?;
         Ok(Info {
-            config: required(alloc, object, Key::Config)?,
-            created: required(alloc, object, Key::Created)?,
-            state: required(alloc, object, Key::State)?,
+            config,
+            created,
+            state,
         })
     }
 }

@@ -5,8 +5,7 @@ ghost use Rattle.js_fields.specs.Reading.{nested as nested_in};
 ghost use Rattle.js_stream_json.specs.External.{external_fields, external_value, external_data};
 ghost use Rattle.js_stream_json.specs.Source.{source_fields, source_value, source_data};
 
-use crate::gather::all_4;
-use js_base::{OutOfMemory, Text, TryClone};
+use js_base::{OutOfMemory, Text, TryClone, all_4};
 use js_fields::{
     FromValue, Key, Member, Object, ReadError, ToValue, Written, defaulted, nested, optional,
     required,
@@ -52,11 +51,17 @@ impl FromValue for Source {
 
     #[tactic(auto, unfolding(crate::specs::Source::source_fields))]
     fn from_fields(alloc: Global, object: &Value) -> Result<Source, ReadError> {
+        let (name, start_sequence, filter_subject, external) = all_4(
+            required(alloc, object, Key::Name),
+            optional(alloc, object, Key::OptStartSeq),
+            optional(alloc, object, Key::FilterSubject),
+            optional(alloc, object, Key::External),
+        )?;
         Ok(Source {
-            name: required(alloc, object, Key::Name)?,
-            start_sequence: optional(alloc, object, Key::OptStartSeq)?,
-            filter_subject: optional(alloc, object, Key::FilterSubject)?,
-            external: optional(alloc, object, Key::External)?,
+            name,
+            start_sequence,
+            filter_subject,
+            external,
             domain: None,
         })
     }

@@ -8,7 +8,7 @@ use crate::stream::placement::Placement;
 use crate::stream::policies::{Compression, DiscardPolicy, RetentionPolicy, StorageType};
 use crate::stream::republish::Republish;
 use crate::stream::source::Source;
-use js_base::{Items, Nanos, Text};
+use js_base::{Items, Nanos, Text, all_4, all_6};
 use js_fields::{FromValue, Key, Member, ReadError, defaulted, nested, optional, required};
 use serde_json::Value;
 use std::alloc::Global;
@@ -31,13 +31,21 @@ impl Basics {
     fn read(alloc: Global, object: &Value) -> Result<Basics, ReadError>
         ensures { Gives result (basics (view object.now)) }
     {
+        let (name, retention, storage, discard, description, subjects) = all_6(
+            required(alloc, object, Key::Name),
+            defaulted(alloc, object, Key::Retention),
+            defaulted(alloc, object, Key::Storage),
+            defaulted(alloc, object, Key::Discard),
+            optional(alloc, object, Key::Description),
+            defaulted(alloc, object, Key::Subjects),
+        )?;
         Ok(Basics {
-            name: required(alloc, object, Key::Name)?,
-            retention: defaulted(alloc, object, Key::Retention)?,
-            storage: defaulted(alloc, object, Key::Storage)?,
-            discard: defaulted(alloc, object, Key::Discard)?,
-            description: optional(alloc, object, Key::Description)?,
-            subjects: defaulted(alloc, object, Key::Subjects)?,
+            name,
+            retention,
+            storage,
+            discard,
+            description,
+            subjects,
         })
     }
 }
@@ -60,13 +68,28 @@ impl Limits {
     fn read(alloc: Global, object: &Value) -> Result<Limits, ReadError>
         ensures { Gives result (limits (view object.now)) }
     {
+        let (
+            max_messages,
+            max_messages_per_subject,
+            max_bytes,
+            max_message_size,
+            max_age,
+            num_replicas,
+        ) = all_6(
+            defaulted(alloc, object, Key::MaxMsgs),
+            defaulted(alloc, object, Key::MaxMsgsPerSubject),
+            defaulted(alloc, object, Key::MaxBytes),
+            defaulted(alloc, object, Key::MaxMsgSize),
+            defaulted(alloc, object, Key::MaxAge),
+            defaulted(alloc, object, Key::NumReplicas),
+        )?;
         Ok(Limits {
-            max_messages: defaulted(alloc, object, Key::MaxMsgs)?,
-            max_messages_per_subject: defaulted(alloc, object, Key::MaxMsgsPerSubject)?,
-            max_bytes: defaulted(alloc, object, Key::MaxBytes)?,
-            max_message_size: defaulted(alloc, object, Key::MaxMsgSize)?,
-            max_age: defaulted(alloc, object, Key::MaxAge)?,
-            num_replicas: defaulted(alloc, object, Key::NumReplicas)?,
+            max_messages,
+            max_messages_per_subject,
+            max_bytes,
+            max_message_size,
+            max_age,
+            num_replicas,
         })
     }
 }
@@ -89,13 +112,21 @@ impl Rights {
     fn read(alloc: Global, object: &Value) -> Result<Rights, ReadError>
         ensures { Gives result (rights (view object.now)) }
     {
+        let (republish, allow_rollup, deny_delete, deny_purge, allow_direct, mirror_direct) = all_6(
+            optional(alloc, object, Key::Republish),
+            defaulted(alloc, object, Key::AllowRollupHdrs),
+            defaulted(alloc, object, Key::DenyDelete),
+            defaulted(alloc, object, Key::DenyPurge),
+            defaulted(alloc, object, Key::AllowDirect),
+            defaulted(alloc, object, Key::MirrorDirect),
+        )?;
         Ok(Rights {
-            republish: optional(alloc, object, Key::Republish)?,
-            allow_rollup: defaulted(alloc, object, Key::AllowRollupHdrs)?,
-            deny_delete: defaulted(alloc, object, Key::DenyDelete)?,
-            deny_purge: defaulted(alloc, object, Key::DenyPurge)?,
-            allow_direct: defaulted(alloc, object, Key::AllowDirect)?,
-            mirror_direct: defaulted(alloc, object, Key::MirrorDirect)?,
+            republish,
+            allow_rollup,
+            deny_delete,
+            deny_purge,
+            allow_direct,
+            mirror_direct,
         })
     }
 }
@@ -118,13 +149,28 @@ impl Origins {
     fn read(alloc: Global, object: &Value) -> Result<Origins, ReadError>
         ensures { Gives result (origins (view object.now)) }
     {
+        let (
+            mirror,
+            sources,
+            compression,
+            placement,
+            allow_message_ttl,
+            subject_delete_marker_ttl,
+        ) = all_6(
+            optional(alloc, object, Key::Mirror),
+            optional(alloc, object, Key::Sources),
+            optional(alloc, object, Key::Compression),
+            optional(alloc, object, Key::Placement),
+            defaulted(alloc, object, Key::AllowMsgTtl),
+            optional(alloc, object, Key::SubjectDeleteMarkerTtl),
+        )?;
         Ok(Origins {
-            mirror: optional(alloc, object, Key::Mirror)?,
-            sources: optional(alloc, object, Key::Sources)?,
-            compression: optional(alloc, object, Key::Compression)?,
-            placement: optional(alloc, object, Key::Placement)?,
-            allow_message_ttl: defaulted(alloc, object, Key::AllowMsgTtl)?,
-            subject_delete_marker_ttl: optional(alloc, object, Key::SubjectDeleteMarkerTtl)?,
+            mirror,
+            sources,
+            compression,
+            placement,
+            allow_message_ttl,
+            subject_delete_marker_ttl,
         })
     }
 }
@@ -136,10 +182,12 @@ impl FromValue for Config {
 
     #[tactic(auto, unfolding(crate::specs::StreamConfig::config_fields))]
     fn from_fields(alloc: Global, object: &Value) -> Result<Config, ReadError> {
-        let basics = Basics::read(alloc, object)?;
-        let limits = Limits::read(alloc, object)?;
-        let rights = Rights::read(alloc, object)?;
-        let origins = Origins::read(alloc, object)?;
+        let (basics, limits, rights, origins) = all_4(
+            Basics::read(alloc, object),
+            Limits::read(alloc, object),
+            Rights::read(alloc, object),
+            Origins::read(alloc, object),
+        )?;
         Ok(Config {
             name: basics.name,
             retention: basics.retention,
