@@ -51,3 +51,15 @@ all_6 ra rb rc rd rf rg = do
   f ← rf
   g ← rg
   Ok (a, b, c, d, f, g)
+
+-- all seven values, or the first error
+abbrev pub all_7 : {A B C D F G H E : Type 0} → Result A E → Result B E → Result C E → Result D E → Result F E → Result G E → Result H E → Result (A × B × C × D × F × G × H) E
+all_7 ra rb rc rd rf rg rh = do
+  a ← ra
+  b ← rb
+  c ← rc
+  d ← rd
+  f ← rf
+  g ← rg
+  h ← rh
+  Ok (a, b, c, d, f, g, h)

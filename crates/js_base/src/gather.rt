@@ -1,7 +1,7 @@
 //! Several results at once: all values, or the first error. Where they are handed on with one `?`, nothing is held there.
 
 ghost use Rattle.std.specs.Prelude.{◌≡◌, IfOk, Ok};
-ghost use Rattle.js_base.specs.Results.{both as both_of, all_3 as all_3_of, all_4 as all_4_of, all_5 as all_5_of, all_6 as all_6_of};
+ghost use Rattle.js_base.specs.Results.{both as both_of, all_3 as all_3_of, all_4 as all_4_of, all_5 as all_5_of, all_6 as all_6_of, all_7 as all_7_of};
 
 use crate::memory::{OutOfMemory, TryClone};
 
@@ -68,6 +68,22 @@ pub fn all_6<A: Drop, B: Drop, C: Drop, D: Drop, F: Drop, G: Drop, E: Drop>(
     ensures first { result ≡ all_6_of a b c d f g }
 {
     Ok((a?, b?, c?, d?, f?, g?))
+}
+
+/// All seven values, or the first error.
+pub fn all_7<A: Drop, B: Drop, C: Drop, D: Drop, F: Drop, G: Drop, H: Drop, E: Drop>(
+    a: Result<A, E>,
+    b: Result<B, E>,
+    c: Result<C, E>,
+    d: Result<D, E>,
+    f: Result<F, E>,
+    g: Result<G, E>,
+    h: Result<H, E>,
+) -> Result<(A, B, C, D, F, G, H), E>
+    ensures values { IfOk result (λ all. (a ≡ Ok all.0) × (b ≡ Ok all.1) × (c ≡ Ok all.2) × (d ≡ Ok all.3) × (f ≡ Ok all.4) × (g ≡ Ok all.5) × (h ≡ Ok all.6)) }
+    ensures first { result ≡ all_7_of a b c d f g h }
+{
+    Ok((a?, b?, c?, d?, f?, g?, h?))
 }
 
 /// A copy of each of three values. The one refusal is want of memory.

@@ -18,7 +18,7 @@ mod turn;
 pub use boxed::Boxed;
 pub use clock::{Moment, Nanos, Timer, any_ends_at, due, earlier, end_of, is_any_due};
 pub use error::{ApiError, Error, Source};
-pub use gather::{all_3, all_4, all_5, all_6, both, each_copied};
+pub use gather::{all_3, all_4, all_5, all_6, all_7, both, each_copied};
 pub use headers::{Header, HeaderIter, HeaderMap};
 pub use items::Items;
 pub use memory::{OutOfMemory, TryClone};

@@ -1,7 +1,7 @@
 -- Reading several members one after another: what is read, or the first fault.
 use Rattle.std.proofs.Common.{◌≡◌, ap, sym, refl, subst}
 use Rattle.std.specs.Prelude.{Result, Ok, Err}
-use Rattle.js_base.specs.Results.{both, all_3, all_4, all_5, all_6}
+use Rattle.js_base.specs.Results.{both, all_3, all_4, all_5, all_6, all_7}
 use Rattle.js_fields.specs.Reading.{Gives, Fails, ◌>>=◌}
 use Rattle.js_fields.specs.declared.error.ReadError.{ReadError}
 use Rattle.js_fields.specs.declared.error.ReadError.TheVariants.{Missing, WrongKind, OutOfRange, Float, NotJson, OutOfMemory}
@@ -108,3 +108,22 @@ pub gathered_6 : {A B C D F G T : Type 0} (r : Result (A × B × C × D × F × 
     → (k : A → B → C → D → F → G → Result T ReadError)
     → Gives (r >>= λ g. k g.0 g.1 g.2 g.3 g.4 g.5) (ra >>= λ x. rb >>= λ y. rc >>= λ z. rd >>= λ u. rf >>= λ v. rg >>= λ w. k x y z u v w)
 gathered_6 r a b c d f g ra rb rc rd rf rg is pa pb pc pd pf pg k = subst (λ r. Gives (r >>= λ g. k g.0 g.1 g.2 g.3 g.4 g.5) (ra >>= λ x. rb >>= λ y. rc >>= λ z. rd >>= λ u. rf >>= λ v. rg >>= λ w. k x y z u v w)) (sym is) (given_6 a b c d f g ra rb rc rd rf rg pa pb pc pd pf pg k)
+
+-- seven values
+given_7 : {A B C D F G H T : Type 0} (a : Result A ReadError) (b : Result B ReadError) (c : Result C ReadError) (d : Result D ReadError) (f : Result F ReadError) (g : Result G ReadError) (h : Result H ReadError) (ra : Result A ReadError) (rb : Result B ReadError) (rc : Result C ReadError) (rd : Result D ReadError) (rf : Result F ReadError) (rg : Result G ReadError) (rh : Result H ReadError) → Gives a ra → Gives b rb → Gives c rc → Gives d rd → Gives f rf → Gives g rg → Gives h rh
+    → (k : A → B → C → D → F → G → H → Result T ReadError)
+    → Gives (all_7 a b c d f g h >>= λ g. k g.0 g.1 g.2 g.3 g.4 g.5 g.6) (ra >>= λ x. rb >>= λ y. rc >>= λ z. rd >>= λ u. rf >>= λ v. rg >>= λ w. rh >>= λ q. k x y z u v w q)
+given_7 (Err e) b c d f g h ra rb rc rd rf rg rh pa pb pc pd pf pg ph k = first_fault e ra (λ x. rb >>= λ y. rc >>= λ z. rd >>= λ u. rf >>= λ v. rg >>= λ w. rh >>= λ q. k x y z u v w q) pa
+given_7 (Ok x) (Err e) c d f g h ra rb rc rd rf rg rh pa pb pc pd pf pg ph k = after (λ x. rb >>= λ y. rc >>= λ z. rd >>= λ u. rf >>= λ v. rg >>= λ w. rh >>= λ q. k x y z u v w q) (Err e) pa (first_fault e rb (λ y. rc >>= λ z. rd >>= λ u. rf >>= λ v. rg >>= λ w. rh >>= λ q. k x y z u v w q) pb)
+given_7 (Ok x) (Ok y) (Err e) d f g h ra rb rc rd rf rg rh pa pb pc pd pf pg ph k = after (λ x. rb >>= λ y. rc >>= λ z. rd >>= λ u. rf >>= λ v. rg >>= λ w. rh >>= λ q. k x y z u v w q) (Err e) pa (after (λ y. rc >>= λ z. rd >>= λ u. rf >>= λ v. rg >>= λ w. rh >>= λ q. k x y z u v w q) (Err e) pb (first_fault e rc (λ z. rd >>= λ u. rf >>= λ v. rg >>= λ w. rh >>= λ q. k x y z u v w q) pc))
+given_7 (Ok x) (Ok y) (Ok z) (Err e) f g h ra rb rc rd rf rg rh pa pb pc pd pf pg ph k = after (λ x. rb >>= λ y. rc >>= λ z. rd >>= λ u. rf >>= λ v. rg >>= λ w. rh >>= λ q. k x y z u v w q) (Err e) pa (after (λ y. rc >>= λ z. rd >>= λ u. rf >>= λ v. rg >>= λ w. rh >>= λ q. k x y z u v w q) (Err e) pb (after (λ z. rd >>= λ u. rf >>= λ v. rg >>= λ w. rh >>= λ q. k x y z u v w q) (Err e) pc (first_fault e rd (λ u. rf >>= λ v. rg >>= λ w. rh >>= λ q. k x y z u v w q) pd)))
+given_7 (Ok x) (Ok y) (Ok z) (Ok u) (Err e) g h ra rb rc rd rf rg rh pa pb pc pd pf pg ph k = after (λ x. rb >>= λ y. rc >>= λ z. rd >>= λ u. rf >>= λ v. rg >>= λ w. rh >>= λ q. k x y z u v w q) (Err e) pa (after (λ y. rc >>= λ z. rd >>= λ u. rf >>= λ v. rg >>= λ w. rh >>= λ q. k x y z u v w q) (Err e) pb (after (λ z. rd >>= λ u. rf >>= λ v. rg >>= λ w. rh >>= λ q. k x y z u v w q) (Err e) pc (after (λ u. rf >>= λ v. rg >>= λ w. rh >>= λ q. k x y z u v w q) (Err e) pd (first_fault e rf (λ v. rg >>= λ w. rh >>= λ q. k x y z u v w q) pf))))
+given_7 (Ok x) (Ok y) (Ok z) (Ok u) (Ok v) (Err e) h ra rb rc rd rf rg rh pa pb pc pd pf pg ph k = after (λ x. rb >>= λ y. rc >>= λ z. rd >>= λ u. rf >>= λ v. rg >>= λ w. rh >>= λ q. k x y z u v w q) (Err e) pa (after (λ y. rc >>= λ z. rd >>= λ u. rf >>= λ v. rg >>= λ w. rh >>= λ q. k x y z u v w q) (Err e) pb (after (λ z. rd >>= λ u. rf >>= λ v. rg >>= λ w. rh >>= λ q. k x y z u v w q) (Err e) pc (after (λ u. rf >>= λ v. rg >>= λ w. rh >>= λ q. k x y z u v w q) (Err e) pd (after (λ v. rg >>= λ w. rh >>= λ q. k x y z u v w q) (Err e) pf (first_fault e rg (λ w. rh >>= λ q. k x y z u v w q) pg)))))
+given_7 (Ok x) (Ok y) (Ok z) (Ok u) (Ok v) (Ok w) (Err e) ra rb rc rd rf rg rh pa pb pc pd pf pg ph k = after (λ x. rb >>= λ y. rc >>= λ z. rd >>= λ u. rf >>= λ v. rg >>= λ w. rh >>= λ q. k x y z u v w q) (Err e) pa (after (λ y. rc >>= λ z. rd >>= λ u. rf >>= λ v. rg >>= λ w. rh >>= λ q. k x y z u v w q) (Err e) pb (after (λ z. rd >>= λ u. rf >>= λ v. rg >>= λ w. rh >>= λ q. k x y z u v w q) (Err e) pc (after (λ u. rf >>= λ v. rg >>= λ w. rh >>= λ q. k x y z u v w q) (Err e) pd (after (λ v. rg >>= λ w. rh >>= λ q. k x y z u v w q) (Err e) pf (after (λ w. rh >>= λ q. k x y z u v w q) (Err e) pg (first_fault e rh (λ q. k x y z u v w q) ph))))))
+given_7 (Ok x) (Ok y) (Ok z) (Ok u) (Ok v) (Ok w) (Ok q) ra rb rc rd rf rg rh pa pb pc pd pf pg ph k = after (λ x. rb >>= λ y. rc >>= λ z. rd >>= λ u. rf >>= λ v. rg >>= λ w. rh >>= λ q. k x y z u v w q) (k x y z u v w q) pa (after (λ y. rc >>= λ z. rd >>= λ u. rf >>= λ v. rg >>= λ w. rh >>= λ q. k x y z u v w q) (k x y z u v w q) pb (after (λ z. rd >>= λ u. rf >>= λ v. rg >>= λ w. rh >>= λ q. k x y z u v w q) (k x y z u v w q) pc (after (λ u. rf >>= λ v. rg >>= λ w. rh >>= λ q. k x y z u v w q) (k x y z u v w q) pd (after (λ v. rg >>= λ w. rh >>= λ q. k x y z u v w q) (k x y z u v w q) pf (after (λ w. rh >>= λ q. k x y z u v w q) (k x y z u v w q) pg (after (λ q. k x y z u v w q) (k x y z u v w q) ph (itself (k x y z u v w q))))))))
+
+pub gathered_7 : {A B C D F G H T : Type 0} (r : Result (A × B × C × D × F × G × H) ReadError) (a : Result A ReadError) (b : Result B ReadError) (c : Result C ReadError) (d : Result D ReadError) (f : Result F ReadError) (g : Result G ReadError) (h : Result H ReadError) (ra : Result A ReadError) (rb : Result B ReadError) (rc : Result C ReadError) (rd : Result D ReadError) (rf : Result F ReadError) (rg : Result G ReadError) (rh : Result H ReadError)
+    → r ≡ all_7 a b c d f g h → Gives a ra → Gives b rb → Gives c rc → Gives d rd → Gives f rf → Gives g rg → Gives h rh
+    → (k : A → B → C → D → F → G → H → Result T ReadError)
+    → Gives (r >>= λ g. k g.0 g.1 g.2 g.3 g.4 g.5 g.6) (ra >>= λ x. rb >>= λ y. rc >>= λ z. rd >>= λ u. rf >>= λ v. rg >>= λ w. rh >>= λ q. k x y z u v w q)
+gathered_7 r a b c d f g h ra rb rc rd rf rg rh is pa pb pc pd pf pg ph k = subst (λ r. Gives (r >>= λ g. k g.0 g.1 g.2 g.3 g.4 g.5 g.6) (ra >>= λ x. rb >>= λ y. rc >>= λ z. rd >>= λ u. rf >>= λ v. rg >>= λ w. rh >>= λ q. k x y z u v w q)) (sym is) (given_7 a b c d f g h ra rb rc rd rf rg rh pa pb pc pd pf pg ph k)

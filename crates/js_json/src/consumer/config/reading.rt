@@ -7,7 +7,7 @@ use crate::consumer::config::Config;
 use crate::consumer::deliver_policy::DeliverPolicy;
 use crate::consumer::policies::{AckPolicy, PriorityPolicy, ReplayPolicy};
 use jiff::Timestamp;
-use js_base::{Items, Nanos, Text, TextMap};
+use js_base::{Items, Nanos, Text, TextMap, all_5, all_7};
 use js_fields::{FromValue, Key, Member, ReadError, defaulted, nested, optional};
 use serde_json::Value;
 use std::alloc::Global;
@@ -29,12 +29,19 @@ impl Names {
     fn read(alloc: Global, object: &Value) -> Result<Names, ReadError>
         ensures { Gives result (names (view object.now)) }
     {
+        let (deliver_subject, durable_name, name, description, deliver_group) = all_5(
+            optional(alloc, object, Key::DeliverSubject),
+            optional(alloc, object, Key::DurableName),
+            optional(alloc, object, Key::Name),
+            optional(alloc, object, Key::Description),
+            optional(alloc, object, Key::DeliverGroup),
+        )?;
         Ok(Names {
-            deliver_subject: optional(alloc, object, Key::DeliverSubject)?,
-            durable_name: optional(alloc, object, Key::DurableName)?,
-            name: optional(alloc, object, Key::Name)?,
-            description: optional(alloc, object, Key::Description)?,
-            deliver_group: optional(alloc, object, Key::DeliverGroup)?,
+            deliver_subject,
+            durable_name,
+            name,
+            description,
+            deliver_group,
         })
     }
 }
@@ -58,14 +65,31 @@ impl Delivery {
     fn read(alloc: Global, object: &Value) -> Result<Delivery, ReadError>
         ensures { Gives result (delivery (view object.now)) }
     {
+        let (
+            deliver_policy,
+            ack_policy,
+            ack_wait,
+            max_deliver,
+            filter_subject,
+            filter_subjects,
+            replay_policy,
+        ) = all_7(
+            DeliverPolicy::from_fields(alloc, object),
+            defaulted(alloc, object, Key::AckPolicy),
+            defaulted(alloc, object, Key::AckWait),
+            defaulted(alloc, object, Key::MaxDeliver),
+            defaulted(alloc, object, Key::FilterSubject),
+            defaulted(alloc, object, Key::FilterSubjects),
+            defaulted(alloc, object, Key::ReplayPolicy),
+        )?;
         Ok(Delivery {
-            deliver_policy: DeliverPolicy::from_fields(alloc, object)?,
-            ack_policy: defaulted(alloc, object, Key::AckPolicy)?,
-            ack_wait: defaulted(alloc, object, Key::AckWait)?,
-            max_deliver: defaulted(alloc, object, Key::MaxDeliver)?,
-            filter_subject: defaulted(alloc, object, Key::FilterSubject)?,
-            filter_subjects: defaulted(alloc, object, Key::FilterSubjects)?,
-            replay_policy: defaulted(alloc, object, Key::ReplayPolicy)?,
+            deliver_policy,
+            ack_policy,
+            ack_wait,
+            max_deliver,
+            filter_subject,
+            filter_subjects,
+            replay_policy,
         })
     }
 }
@@ -89,14 +113,31 @@ impl Flow {
     fn read(alloc: Global, object: &Value) -> Result<Flow, ReadError>
         ensures { Gives result (flow (view object.now)) }
     {
+        let (
+            rate_limit,
+            sample_frequency,
+            max_waiting,
+            max_ack_pending,
+            headers_only,
+            flow_control,
+            idle_heartbeat,
+        ) = all_7(
+            defaulted(alloc, object, Key::RateLimitBps),
+            defaulted(alloc, object, Key::SampleFreq),
+            defaulted(alloc, object, Key::MaxWaiting),
+            defaulted(alloc, object, Key::MaxAckPending),
+            defaulted(alloc, object, Key::HeadersOnly),
+            defaulted(alloc, object, Key::FlowControl),
+            defaulted(alloc, object, Key::IdleHeartbeat),
+        )?;
         Ok(Flow {
-            rate_limit: defaulted(alloc, object, Key::RateLimitBps)?,
-            sample_frequency: defaulted(alloc, object, Key::SampleFreq)?,
-            max_waiting: defaulted(alloc, object, Key::MaxWaiting)?,
-            max_ack_pending: defaulted(alloc, object, Key::MaxAckPending)?,
-            headers_only: defaulted(alloc, object, Key::HeadersOnly)?,
-            flow_control: defaulted(alloc, object, Key::FlowControl)?,
-            idle_heartbeat: defaulted(alloc, object, Key::IdleHeartbeat)?,
+            rate_limit,
+            sample_frequency,
+            max_waiting,
+            max_ack_pending,
+            headers_only,
+            flow_control,
+            idle_heartbeat,
         })
     }
 }
@@ -118,12 +159,19 @@ impl Limits {
     fn read(alloc: Global, object: &Value) -> Result<Limits, ReadError>
         ensures { Gives result (limits (view object.now)) }
     {
+        let (max_batch, max_bytes, max_expires, inactive_threshold, num_replicas) = all_5(
+            defaulted(alloc, object, Key::MaxBatch),
+            defaulted(alloc, object, Key::MaxBytes),
+            defaulted(alloc, object, Key::MaxExpires),
+            defaulted(alloc, object, Key::InactiveThreshold),
+            defaulted(alloc, object, Key::NumReplicas),
+        )?;
         Ok(Limits {
-            max_batch: defaulted(alloc, object, Key::MaxBatch)?,
-            max_bytes: defaulted(alloc, object, Key::MaxBytes)?,
-            max_expires: defaulted(alloc, object, Key::MaxExpires)?,
-            inactive_threshold: defaulted(alloc, object, Key::InactiveThreshold)?,
-            num_replicas: defaulted(alloc, object, Key::NumReplicas)?,
+            max_batch,
+            max_bytes,
+            max_expires,
+            inactive_threshold,
+            num_replicas,
         })
     }
 }
@@ -147,14 +195,31 @@ impl Priorities {
     fn read(alloc: Global, object: &Value) -> Result<Priorities, ReadError>
         ensures { Gives result (priorities (view object.now)) }
     {
+        let (
+            memory_storage,
+            metadata,
+            backoff,
+            priority_policy,
+            priority_groups,
+            priority_timeout,
+            pause_until,
+        ) = all_7(
+            defaulted(alloc, object, Key::MemStorage),
+            defaulted(alloc, object, Key::Metadata),
+            defaulted(alloc, object, Key::Backoff),
+            defaulted(alloc, object, Key::PriorityPolicy),
+            defaulted(alloc, object, Key::PriorityGroups),
+            defaulted(alloc, object, Key::PriorityTimeout),
+            optional(alloc, object, Key::PauseUntil),
+        )?;
         Ok(Priorities {
-            memory_storage: defaulted(alloc, object, Key::MemStorage)?,
-            metadata: defaulted(alloc, object, Key::Metadata)?,
-            backoff: defaulted(alloc, object, Key::Backoff)?,
-            priority_policy: defaulted(alloc, object, Key::PriorityPolicy)?,
-            priority_groups: defaulted(alloc, object, Key::PriorityGroups)?,
-            priority_timeout: defaulted(alloc, object, Key::PriorityTimeout)?,
-            pause_until: optional(alloc, object, Key::PauseUntil)?,
+            memory_storage,
+            metadata,
+            backoff,
+            priority_policy,
+            priority_groups,
+            priority_timeout,
+            pause_until,
         })
     }
 }
@@ -166,11 +231,13 @@ impl FromValue for Config {
 
     #[tactic(auto, unfolding(crate::specs::ConsumerConfig::config_fields))]
     fn from_fields(alloc: Global, object: &Value) -> Result<Config, ReadError> {
-        let names = Names::read(alloc, object)?;
-        let delivery = Delivery::read(alloc, object)?;
-        let flow = Flow::read(alloc, object)?;
-        let limits = Limits::read(alloc, object)?;
-        let priorities = Priorities::read(alloc, object)?;
+        let (names, delivery, flow, limits, priorities) = all_5(
+            Names::read(alloc, object),
+            Delivery::read(alloc, object),
+            Flow::read(alloc, object),
+            Limits::read(alloc, object),
+            Priorities::read(alloc, object),
+        )?;
         Ok(Config {
             deliver_subject: names.deliver_subject,
             durable_name: names.durable_name,

@@ -1,0 +1,11 @@
+use Rattle.std.proofs.Common.{◌≡◌, rules}
+use Rattle.std.specs.Prelude.{Err}
+use Rattle.js_fields.proofs.Gathered.{gathered_7}
+use Rattle.js_json.specs.Tier.{tier_fields}
+use Rattle.js_json.proofs.account.TierFromValue.from_fields.Goals as goal
+
+pub returns-in_err-memory : goal.returns-in_err-memory
+unfolding tier_fields
+returns-in_err-memory c =
+    let is : c.from_residual.result ≡ Err c.in_err-memory.field-0.0 = search rules in
+    rw (is) (gathered_7 _ _ _ _ _ _ _ _ _ _ _ _ _ _ _ c.in_err-memory.ensures.first c.required.ensures c.required-2.ensures c.required-3.ensures c.required-4.ensures c.required-5.ensures c.required-6.ensures c.required-7.ensures _)
