@@ -6,10 +6,7 @@ ghost use Rattle.js_base.specs.Results.{both as both_of, all_3 as all_3_of, all_
 use crate::memory::{OutOfMemory, TryClone};
 
 /// Both values, or the first error.
-pub fn both<A: Drop, B: Drop, E: Drop>(
-    a: Result<A, E>,
-    b: Result<B, E>,
-) -> Result<(A, B), E>
+pub fn both<A: Drop, B: Drop, E: Drop>(a: Result<A, E>, b: Result<B, E>) -> Result<(A, B), E>
     ensures values { IfOk result (λ both. (a ≡ Ok both.0) × (b ≡ Ok both.1)) }
     ensures first { result ≡ both_of a b }
 {
@@ -25,7 +22,8 @@ pub fn all_3<A: Drop, B: Drop, C: Drop, E: Drop>(
     ensures values { IfOk result (λ all. (a ≡ Ok all.0) × (b ≡ Ok all.1) × (c ≡ Ok all.2)) }
     ensures first { result ≡ all_3_of a b c }
 {
-    Ok((a?, b?, c?))
+    let ((a, b), c) = both(both(a, b), c)?;
+    Ok((a, b, c))
 }
 
 /// All four values, or the first error.
@@ -38,7 +36,8 @@ pub fn all_4<A: Drop, B: Drop, C: Drop, D: Drop, E: Drop>(
     ensures values { IfOk result (λ all. (a ≡ Ok all.0) × (b ≡ Ok all.1) × (c ≡ Ok all.2) × (d ≡ Ok all.3)) }
     ensures first { result ≡ all_4_of a b c d }
 {
-    Ok((a?, b?, c?, d?))
+    let ((a, b, c), d) = both(all_3(a, b, c), d)?;
+    Ok((a, b, c, d))
 }
 
 /// All five values, or the first error.
@@ -52,7 +51,8 @@ pub fn all_5<A: Drop, B: Drop, C: Drop, D: Drop, F: Drop, E: Drop>(
     ensures values { IfOk result (λ all. (a ≡ Ok all.0) × (b ≡ Ok all.1) × (c ≡ Ok all.2) × (d ≡ Ok all.3) × (f ≡ Ok all.4)) }
     ensures first { result ≡ all_5_of a b c d f }
 {
-    Ok((a?, b?, c?, d?, f?))
+    let ((a, b, c, d), f) = both(all_4(a, b, c, d), f)?;
+    Ok((a, b, c, d, f))
 }
 
 /// All six values, or the first error.
@@ -67,7 +67,8 @@ pub fn all_6<A: Drop, B: Drop, C: Drop, D: Drop, F: Drop, G: Drop, E: Drop>(
     ensures values { IfOk result (λ all. (a ≡ Ok all.0) × (b ≡ Ok all.1) × (c ≡ Ok all.2) × (d ≡ Ok all.3) × (f ≡ Ok all.4) × (g ≡ Ok all.5)) }
     ensures first { result ≡ all_6_of a b c d f g }
 {
-    Ok((a?, b?, c?, d?, f?, g?))
+    let ((a, b, c, d, f), g) = both(all_5(a, b, c, d, f), g)?;
+    Ok((a, b, c, d, f, g))
 }
 
 /// All seven values, or the first error.
@@ -83,7 +84,8 @@ pub fn all_7<A: Drop, B: Drop, C: Drop, D: Drop, F: Drop, G: Drop, H: Drop, E: D
     ensures values { IfOk result (λ all. (a ≡ Ok all.0) × (b ≡ Ok all.1) × (c ≡ Ok all.2) × (d ≡ Ok all.3) × (f ≡ Ok all.4) × (g ≡ Ok all.5) × (h ≡ Ok all.6)) }
     ensures first { result ≡ all_7_of a b c d f g h }
 {
-    Ok((a?, b?, c?, d?, f?, g?, h?))
+    let ((a, b, c, d, f, g), h) = both(all_6(a, b, c, d, f, g), h)?;
+    Ok((a, b, c, d, f, g, h))
 }
 
 /// A copy of each of three values. The one refusal is want of memory.
@@ -94,5 +96,5 @@ pub fn each_copied<A: TryClone, B: TryClone, C: TryClone>(
 ) -> Result<(A, B, C), OutOfMemory>
     ensures { IfOk result (λ copies. copies ≡ (a.now, b.now, c.now)) }
 {
-    Ok((a.try_clone()?, b.try_clone()?, c.try_clone()?))
+    all_3(a.try_clone(), b.try_clone(), c.try_clone())
 }

@@ -3,6 +3,7 @@
 ghost use Rattle.std.specs.Prelude.{Some};
 ghost use Rattle.js_base.specs.Statuses.{state_text, three_digits};
 
+use crate::gather::all_5;
 use crate::headers::HeaderMap;
 use crate::memory::{OutOfMemory, TryClone};
 use crate::subject::Subject;
@@ -97,13 +98,20 @@ pub struct Message {
 
 impl TryClone for Message {
     fn try_clone(&self) -> Result<Message, OutOfMemory> {
+        let (subject, reply, payload, headers, description) = all_5(
+            self.subject.try_clone(),
+            self.reply.try_clone(),
+            self.payload.try_clone(),
+            self.headers.try_clone(),
+            self.description.try_clone(),
+        )?;
         Ok(Message {
-            subject: self.subject.try_clone()?,
-            reply: self.reply.try_clone()?,
-            payload: self.payload.clone()?,
-            headers: self.headers.try_clone()?,
+            subject,
+            reply,
+            payload,
+            headers,
             status: self.status,
-            description: self.description.try_clone()?,
+            description,
             length: self.length,
         })
     }

@@ -13,10 +13,9 @@ use crate::inboxes::take_from;
 use crate::outbox::OutboxLink;
 use crate::outgoing::Outgoing;
 use crate::requests::take_answer;
-use crate::sends::{copy_headers, copy_subject, copy_text};
+use crate::sends::{copy_headers, copy_payload, copy_subject, copy_text};
 use crate::wire::{may_begin, may_go};
-use bytes::Bytes;
-use js_base::{HeaderMap, Nanos, Subject, TryClone};
+use js_base::{HeaderMap, Nanos, Subject, TryClone, all_3, all_4, both};
 use js_link::{Answer, InboxId, Link, LinkError, RequestId, Taken, Watch};
 use std::alloc::Global;
 
@@ -40,8 +39,7 @@ impl Link for OutboxLink {
         if !self.can_open() || !may_begin(subject, group) {
             return Err(self.fail());
         }
-        let subject = Subject::new(alloc, subject)?;
-        let group = copy_text(alloc, group)?;
+        let (subject, group) = both(Subject::new(alloc, subject), copy_text(alloc, group))?;
         Ok(self.begin(alloc, subject, group)?)
     }
 
@@ -97,11 +95,17 @@ impl Link for OutboxLink {
         if !self.is_live() || !may_go(self.max_payload, subject, reply, headers, payload) {
             return Err(self.fail());
         }
+        let (subject, reply, headers, payload) = all_4(
+            Subject::new(alloc, subject),
+            copy_subject(alloc, reply),
+            copy_headers(headers),
+            copy_payload(alloc, payload),
+        )?;
         let item = Outgoing::Publish {
-            subject: Subject::new(alloc, subject)?,
-            reply: copy_subject(alloc, reply)?,
-            headers: copy_headers(headers)?,
-            payload: Bytes::copy_from_slice(alloc, payload)?,
+            subject,
+            reply,
+            headers,
+            payload,
             request: None,
         };
         Ok(self.send(item)?)
@@ -122,9 +126,11 @@ impl Link for OutboxLink {
         if !self.can_ask() || !may_go(self.max_payload, subject, None, headers, payload) {
             return Err(self.fail());
         }
-        let subject = Subject::new(alloc, subject)?;
-        let headers = copy_headers(headers)?;
-        let payload = Bytes::copy_from_slice(alloc, payload)?;
+        let (subject, headers, payload) = all_3(
+            Subject::new(alloc, subject),
+            copy_headers(headers),
+            copy_payload(alloc, payload),
+        )?;
         Ok(self.ask(alloc, subject, headers, payload)?)
     }
 

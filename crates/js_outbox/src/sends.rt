@@ -47,6 +47,12 @@ pub(crate) fn copy_text(alloc: Global, text: Option<&str>) -> Result<Option<Text
     }
 }
 
+pub(crate) fn copy_payload(alloc: Global, payload: &[u8]) -> Result<Bytes, OutOfMemory>
+    ensures { IfOk result (λ copy. copy ≡ payload.now) }
+{
+    Ok(Bytes::copy_from_slice(alloc, payload)?)
+}
+
 impl OutboxLink {
     /// Counts a fault.
     pub(crate) fn fail(&mut self) -> LinkError
