@@ -137,12 +137,17 @@ fn tell_replay<S: Source, K: Sink>(alloc: Global, input: &mut S, output: &mut K)
         Err(Stop::OutOfMemory) => return Status::OutOfMemory,
     };
     match replay(alloc, bytes) {
-        Ok(CommandOutcome::Done(text)) => match write_all(output, &text) {
-            Ok(()) => Status::Done,
-            Err(_) => Status::WriteFault,
-        },
+        Ok(CommandOutcome::Done(text)) => {
+            let written = write_all(output, &text);
+            drop(text);
+            match written {
+                Ok(()) => Status::Done,
+                Err(_) => Status::WriteFault,
+            }
+        }
         Ok(CommandOutcome::Refused(text)) => {
             let _ = write_all(output, &text);
+            drop(text);
             Status::Refused
         }
         Ok(CommandOutcome::BadLine(line)) => Status::BadLine { line },

@@ -80,7 +80,9 @@ fn pass_line(
 {
     let number = progress.course.count() + 2;
     let event = next_line(alloc, payloads, number, line)?;
-    match progress.pass(alloc, &event) {
+    let passed = progress.pass(alloc, &event);
+    drop(event);
+    match passed {
         Ok(()) => Ok(()),
         Err(OutOfMemory) => Err(Unread::OutOfMemory),
     }

@@ -9,7 +9,7 @@ ghost use Rattle.js_tool.specs.Messages.{json_text as json_text_in, payload as p
 use super::members::text_of;
 use super::payloads::Payloads;
 use bytes::Bytes;
-use js_base::{HeaderMap, Message, StatusCode, Subject, Text};
+use js_base::{HeaderMap, Message, StatusCode, Subject, Text, all_6};
 use js_fields::{Key, ReadError, has_float, optional};
 use serde_json::Value;
 use std::alloc::Global;
@@ -150,12 +150,14 @@ pub(crate) fn message_fields(
 ) -> Result<Message, ReadError>
     ensures { Gives result (message_in (view object.now)) }
 {
-    let subject = optional(alloc, object, Key::Subject)?;
-    let reply = optional(alloc, object, Key::Reply)?;
-    let payload = payload_member(alloc, payloads, object)?;
-    let status = optional(alloc, object, Key::Status)?;
-    let description = optional(alloc, object, Key::Description)?;
-    let headers = headers_member(alloc, object)?;
+    let (subject, reply, payload, status, description, headers) = all_6(
+        optional(alloc, object, Key::Subject),
+        optional(alloc, object, Key::Reply),
+        payload_member(alloc, payloads, object),
+        optional(alloc, object, Key::Status),
+        optional(alloc, object, Key::Description),
+        headers_member(alloc, object),
+    )?;
     let length = payload.len() as u64;
     Ok(Message {
         subject: subject_of(alloc, subject),

@@ -9,7 +9,7 @@ ghost use Rattle.js_json.specs.ConsumerInfo.{info_fields};
 ghost use Rattle.js_tool.specs.Setups.{mode_named, settings_fields as settings_in, settings as settings_member, ordered_setup as ordered_in, setup_with as with_in, setup_fields as setup_in, setup_line as line_in};
 
 use super::members::text_of;
-use js_base::{Moment, OutOfMemory, Text};
+use js_base::{Moment, OutOfMemory, Text, all_5, both};
 use js_fields::{
     Key, Member, Named, ReadError, by_text, defaulted, given, has_only, nested, required, value_of,
 };
@@ -86,9 +86,13 @@ fn settings_fields(alloc: Global, object: &Value) -> Result<Settings, ReadError>
     let context_timeout: Option<u64> = defaulted(alloc, object, Key::ContextTimeout)?;
     let request_timeout: Option<Option<u64>> = given(alloc, object, Key::RequestTimeout)?;
     let retries: Option<u32> = given(alloc, object, Key::Retries)?;
+    let (api_prefix, inbox_prefix) = both(
+        text_or(alloc, api_prefix, "$JS.API"),
+        text_or(alloc, inbox_prefix, "_INBOX.t"),
+    )?;
     Ok(Settings {
-        api_prefix: text_or(alloc, api_prefix, "$JS.API")?,
-        inbox_prefix: text_or(alloc, inbox_prefix, "_INBOX.t")?,
+        api_prefix,
+        inbox_prefix,
         context_timeout,
         request_timeout: request_timeout.unwrap_or(Some(10_000_000_000)),
         retries: retries.unwrap_or(4_294_967_295),
@@ -159,24 +163,32 @@ fn setup_with(
 ) -> Result<Setup, ReadError>
     ensures { Gives result (with_in mode start settings config first) }
 {
-    let setup = ordered_setup(mode, config)?;
-    Ok(Setup {
-        settings,
-        setup,
-        first,
-        start,
-    })
+    match ordered_setup(mode, config) {
+        Ok(setup) => Ok(Setup {
+            settings,
+            setup,
+            first,
+            start,
+        }),
+        Err(error) => {
+            drop(settings);
+            drop(first);
+            Err(error)
+        }
+    }
 }
 
 #[tactic(auto, unfolding(crate::specs::Setups::setup_fields))]
 fn setup_fields(alloc: Global, object: &Value) -> Result<Setup, ReadError>
     ensures { Gives result (setup_in (view object.now)) }
 {
-    let mode = required(alloc, object, Key::Mode)?;
-    let start = required(alloc, object, Key::Start)?;
-    let settings = settings_of(alloc, object)?;
-    let config = required(alloc, object, Key::Config)?;
-    let first = first_info(alloc, object)?;
+    let (mode, start, settings, config, first) = all_5(
+        required(alloc, object, Key::Mode),
+        required(alloc, object, Key::Start),
+        settings_of(alloc, object),
+        required(alloc, object, Key::Config),
+        first_info(alloc, object),
+    )?;
     setup_with(mode, start, settings, config, first)
 }
 

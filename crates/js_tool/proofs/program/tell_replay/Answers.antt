@@ -17,8 +17,8 @@ returns-in-Err-TooLong-clause-answers g c =
       valid = told_valid left status.TooLong called;
     }
 
-pub returns-in-Ok-write_all-clause-answers : goal.returns-in-Ok-write_all-clause-answers
-returns-in-Ok-write_all-clause-answers g c =
+pub returns-in-Ok-written-clause-answers : goal.returns-in-Ok-written-clause-answers
+returns-in-Ok-written-clause-answers g c =
     let left = g.S.Source.left c.args.input.now in
     let called = called_reply c.in-Ok-Done.field-0 c.in-Ok.bytes c.in-Ok-Done.ensures ∙ ap reply_status c.in-Ok-Done.field-0-is in
     let done = told left c.in-Ok.bytes (λ bytes. called_for bytes ≡ status.Done) c.in-Ok.ensures.whole called in
