@@ -13,7 +13,7 @@ use crate::create_kind::CreateKind;
 use crate::create_subject::create_subject;
 use crate::error::{ConsumerCreateStrictErrorKind, ConsumerErrorKind, ConsumerUpdateErrorKind};
 use bytes::Bytes;
-use js_base::{Error, Moment, OutOfMemory, Text, TryClone, Turn};
+use js_base::{Error, Moment, OutOfMemory, Text, TryClone, Turn, both};
 use js_call::{ApiScope, Call, Failure, OpenRequest, RawCall, State};
 use js_fields::{ReadError, ToValue};
 use js_json::consumer::{Action, CreateRequest, FromConsumer};
@@ -87,9 +87,9 @@ fn creating<C: FromConsumer, K: CreateKind>(
 ) -> Result<Call<CreatingConsumer<C, K>>, OutOfMemory>
     ensures { IfOk result (λ call. call ≡ creating scope.now request.now text.now) }
 {
-    let row = CreatingConsumer::new(scope.try_clone()?);
-    let asked = ask_create(alloc, scope, request, text)?;
-    Ok(Call::new(row, asked))
+    let asked = ask_create(alloc, scope, request, text);
+    let (scope, asked) = both(scope.try_clone(), asked)?;
+    Ok(Call::new(CreatingConsumer::new(scope), asked))
 }
 
 /// Why a configuration has no text, as what the call is refused with.
@@ -141,7 +141,9 @@ fn make_of<C: FromConsumer, K: CreateKind>(
 ) -> Result<CreateCall<C, K>, OutOfMemory>
     ensures { IfOk result (λ call. Makes K.kinds scope.now request call) }
 {
-    make(alloc, scope, &request)
+    let call = make(alloc, scope, &request);
+    drop(request);
+    call
 }
 
 /// Any of the three calls.

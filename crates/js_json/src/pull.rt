@@ -208,6 +208,7 @@ impl FromConsumer for Config {
 
     fn try_from_consumer_config(config: consumer::Config) -> Result<Config, ConfigError> {
         if config.deliver_subject.is_some() {
+            drop(config);
             return Err(ConfigError::HasDeliverSubject);
         }
         Ok(Config {

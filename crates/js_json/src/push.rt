@@ -9,7 +9,7 @@ use crate::consumer::{
     ORDERED_INACTIVE_THRESHOLD, PriorityPolicy, ReplayPolicy,
 };
 use jiff::Timestamp;
-use js_base::{Items, Nanos, OutOfMemory, Text, TextMap, TryClone, all_4, all_5};
+use js_base::{Items, Nanos, OutOfMemory, Text, TextMap, TryClone, all_4, all_5, all_6};
 use std::alloc::Global;
 
 /// The heartbeat of an ordered push consumer: 5 seconds.
@@ -201,8 +201,11 @@ impl FromConsumer for Config {
 
     ghost there_and_back = { λ _. refl };
 
-    fn try_from_consumer_config(config: consumer::Config) -> Result<Config, ConfigError> {
-        let deliver_subject = config.deliver_subject.ok_or(ConfigError::NoDeliverSubject)?;
+    fn try_from_consumer_config(mut config: consumer::Config) -> Result<Config, ConfigError> {
+        let Some(deliver_subject) = config.deliver_subject.take() else {
+            drop(config);
+            return Err(ConfigError::NoDeliverSubject);
+        };
         Ok(Config {
             deliver_subject,
             durable_name: config.durable_name,
@@ -291,13 +294,13 @@ impl OrderedConfig {
 
 impl TryClone for OrderedConfig {
     fn try_clone(&self) -> Result<OrderedConfig, OutOfMemory> {
-        let metadata = self.metadata.try_clone()?;
-        let (deliver_subject, name, description, filter_subject, filter_subjects) = all_5(
+        let (deliver_subject, name, description, filter_subject, filter_subjects, metadata) = all_6(
             self.deliver_subject.try_clone(),
             self.name.try_clone(),
             self.description.try_clone(),
             self.filter_subject.try_clone(),
             self.filter_subjects.try_clone(),
+            self.metadata.try_clone(),
         )?;
         Ok(OrderedConfig {
             deliver_subject,
@@ -361,8 +364,13 @@ impl FromConsumer for OrderedConfig {
 
     ghost there_and_back = { λ _. refl };
 
-    fn try_from_consumer_config(config: consumer::Config) -> Result<OrderedConfig, ConfigError> {
-        let deliver_subject = config.deliver_subject.ok_or(ConfigError::NoDeliverSubject)?;
+    fn try_from_consumer_config(
+        mut config: consumer::Config,
+    ) -> Result<OrderedConfig, ConfigError> {
+        let Some(deliver_subject) = config.deliver_subject.take() else {
+            drop(config);
+            return Err(ConfigError::NoDeliverSubject);
+        };
         Ok(OrderedConfig {
             deliver_subject,
             name: config.name,

@@ -1,3 +1,4 @@
+pub mod Unwritten
 pub mod KeptAsRead
 mod WorkedOver
 pub mod Firsts

@@ -7,7 +7,7 @@ use crate::handle::StreamHandle;
 use crate::name::create_refusal;
 use crate::places::{Placing, two_places};
 use bytes::Bytes;
-use js_base::{Error, OutOfMemory, Source, Text, TryClone};
+use js_base::{Error, OutOfMemory, Source, Text, TryClone, both};
 use js_call::{ApiCall, ApiScope, Call, Failure, RawCall};
 use js_fields::{ReadError, ToValue};
 use js_json::{Response, response_as};
@@ -105,9 +105,10 @@ pub(crate) fn ask_to_create<C: Placing>(
 fn creating_stream(scope: &ApiScope, config: &Config) -> Result<CreatingStream, OutOfMemory>
     ensures { IfOk result (λ row. row ≡ creating_stream scope.now config.now) }
 {
+    let (scope, name) = both(scope.try_clone(), config.name.try_clone())?;
     Ok(CreatingStream {
-        scope: scope.try_clone()?,
-        name: config.name.try_clone()?,
+        scope,
+        name,
         two_places: two_places(config),
     })
 }
@@ -120,8 +121,8 @@ pub(crate) fn create<C: Placing>(
 ) -> Result<CreateStream, OutOfMemory>
     ensures { IfOk result (λ call. Creates scope.now (C.config config) call) }
 {
-    let row = creating_stream(scope, config.config())?;
-    let asked = ask_to_create(alloc, scope, config)?;
+    let row = creating_stream(scope, config.config());
+    let (row, asked) = both(row, ask_to_create(alloc, scope, config))?;
     Ok(Call::new(row, asked))
 }
 

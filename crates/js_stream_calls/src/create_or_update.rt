@@ -7,7 +7,7 @@ use crate::error::{CreateStreamError, CreateStreamErrorKind, create_failure};
 use crate::name::create_refusal;
 use crate::places::{Placing, two_places};
 use crate::update::{UpdateStream, told, update_stream};
-use js_base::{Error, OutOfMemory, Source, Text, TryClone};
+use js_base::{Error, OutOfMemory, Source, Text, TryClone, both};
 use js_call::{ApiCall, ApiScope, Call, Decision, Failure, Then};
 use js_fields::ReadError;
 use js_json::{Response, response_as};
@@ -93,8 +93,8 @@ fn create_info<C: Placing>(
 ) -> Result<Call<CreatingInfo>, OutOfMemory>
     ensures { IfOk result (λ call. CreatesInfo scope.now (C.config config) call) }
 {
-    let row = creating_info(config.config())?;
-    let asked = ask_to_create(alloc, scope, config)?;
+    let row = creating_info(config.config());
+    let (row, asked) = both(row, ask_to_create(alloc, scope, config))?;
     Ok(Call::new(row, asked))
 }
 

@@ -77,7 +77,9 @@ fn find_body(alloc: Global, subject: &str) -> Result<Bytes, OutOfMemory>
         offset: 0,
         subject: Some(Text::from_str(alloc, subject)?),
     };
-    match request.to_text(alloc) {
+    let text = request.to_text(alloc);
+    drop(request);
+    match text {
         Ok(text) => Ok(Bytes::copy_from_slice(alloc, text.as_bytes())?),
         Err(_) => Err(OutOfMemory),
     }
@@ -95,10 +97,10 @@ pub fn stream_by_subject(
 ) -> Result<StreamBySubject, OutOfMemory>
     ensures { IfOk result (λ call. Finds scope.now subject.now call) }
 {
-    let body = find_body(alloc, subject)?;
-    let asked = scope.ask(alloc, "STREAM.NAMES", body)?;
     let meaning = SearchingStream {
         subject: Text::from_str(alloc, subject)?,
     };
+    let body = find_body(alloc, subject)?;
+    let asked = scope.ask(alloc, "STREAM.NAMES", body)?;
     Ok(Call::new(meaning, asked))
 }

@@ -1,12 +1,13 @@
 //! Where the streams are that a stream copies.
-ghost use Rattle.std.specs.Prelude.{◌≡◌, IfOk, option_map, map, string_bytes};
+ghost use Rattle.std.specs.Prelude.{◌≡◌, IfOk, Some, option_map, map, string_bytes};
 ghost use Rattle.std.specs.List.{list_any};
 ghost use Rattle.js_stream_json.specs.declared.stream.config.Config.{Config};
 ghost use Rattle.js_stream_calls.specs.Places.{has_two_places as has_two_places_in, mirror_has_two_places, a_source_has_two_places, two_places as two_places_in, domain_prefix as domain_prefix_in, in_domain, placed, placed_in};
 
-use js_base::{Items, OutOfMemory, Text, TryClone};
+use js_base::{Items, OutOfMemory, Text, TryClone, both};
 use js_stream_json::stream::{Config, External, Source};
 use std::alloc::{AllocError, Global};
+use std::mem;
 
 fn has_two_places(source: &Source) -> bool
     ensures { result ≡ has_two_places_in source.now }
@@ -67,16 +68,28 @@ fn in_domain(alloc: Global, domain: &str) -> Result<External, OutOfMemory>
     })
 }
 
+/// Puts a value in the place of the one before.
+fn put_over<T: Drop>(place: &mut T, value: T)
+    ensures { place.new ≡ value }
+{
+    drop(mem::replace(place, value));
+}
+
+fn with_external(source: Source, external: External) -> Source
+    ensures { result ≡ record source { external = Some external } }
+{
+    let mut there = source;
+    put_over(&mut there.external, Some(external));
+    there
+}
+
 fn place(alloc: Global, source: &Source) -> Result<Source, OutOfMemory>
     ensures { IfOk result (λ there. there ≡ placed source.now) }
 {
     match (&source.external, &source.domain) {
         (None, Some(domain)) => {
-            let external = in_domain(alloc, domain.as_str())?;
-            Ok(Source {
-                external: Some(external),
-                ..source.try_clone()?
-            })
+            let (external, there) = both(in_domain(alloc, domain.as_str()), source.try_clone())?;
+            Ok(with_external(there, external))
         }
         _ => source.try_clone(),
     }
@@ -134,8 +147,10 @@ impl Placing for Config {
     }
 
     fn place_all(&mut self, alloc: Global) -> Result<(), OutOfMemory> {
-        self.mirror = place_mirror(alloc, &self.mirror)?;
-        self.sources = place_sources(alloc, &self.sources)?;
+        let mirror = place_mirror(alloc, &self.mirror)?;
+        put_over(&mut self.mirror, mirror);
+        let sources = place_sources(alloc, &self.sources)?;
+        put_over(&mut self.sources, sources);
         Ok(())
     }
 }

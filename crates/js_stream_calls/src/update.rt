@@ -5,7 +5,7 @@ ghost use Rattle.js_stream_calls.specs.Updates.{told as told_in, update_row, Upd
 use crate::create::ask_with;
 use crate::error::{CreateStreamError, UpdateStreamError, api_error, create_failure};
 use crate::name::name_refusal;
-use js_base::{Error, OutOfMemory, Source, Text, TryClone};
+use js_base::{Error, OutOfMemory, Source, Text, TryClone, both};
 use js_call::{ApiCall, ApiScope, Call, Failure};
 use js_fields::ReadError;
 use js_json::{Response, response_as};
@@ -77,8 +77,8 @@ pub fn update_stream(
 ) -> Result<UpdateStream, OutOfMemory>
     ensures { IfOk result (λ call. Updates scope.now config.now call) }
 {
-    let row = updating_row(config)?;
-    let asked = ask_with(alloc, scope, "STREAM.UPDATE", config)?;
+    let asked = ask_with(alloc, scope, "STREAM.UPDATE", config);
+    let (row, asked) = both(updating_row(config), asked)?;
     Ok(Call::new(row, asked))
 }
 

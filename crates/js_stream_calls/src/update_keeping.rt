@@ -11,7 +11,7 @@ use crate::kept::Kept;
 use crate::update::{UpdateStream, updating_row};
 use crate::written_over::{is_same, over};
 use bytes::Bytes;
-use js_base::OutOfMemory;
+use js_base::{OutOfMemory, both};
 use js_call::{ApiScope, Call, RawCall};
 use js_fields::{ToValue, has_float};
 use js_stream_json::stream::{Config, Info};
@@ -127,8 +127,8 @@ fn call_keeping(
 ) -> Result<UpdateStream, OutOfMemory>
     ensures { IfOk result (λ call. UpdatesKeeping scope.now handle.now config.now call) }
 {
-    let row = updating_row(config)?;
-    let asked = ask_keeping(alloc, scope, handle, config)?;
+    let asked = ask_keeping(alloc, scope, handle, config);
+    let (row, asked) = both(updating_row(config), asked)?;
     Ok(Call::new(row, asked))
 }
 

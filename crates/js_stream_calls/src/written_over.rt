@@ -1,9 +1,9 @@
 //! What is written over an object that was read.
 ghost use Rattle.std.specs.Prelude.{◌≡◌, IfOk};
-ghost use Rattle.serde_json.specs.Data.{no_members};
+ghost use Rattle.serde_json.specs.Data.{null};
 ghost use Rattle.serde_json.specs.Find.{get};
 ghost use Rattle.serde_json.specs.View.{view, members_view};
-ghost use Rattle.js_stream_calls.specs.Over.{over as over_in, members_over as members_over_in, with_new as with_new_in, is_same, member_or};
+ghost use Rattle.js_stream_calls.specs.Over.{over as over_in, members_over as members_over_in, with_new, if_new, kept_member, is_same, member_or};
 
 use js_fields::has_float;
 use serde_json::{Map, Value, put};
@@ -47,60 +47,90 @@ pub(crate) fn over(
     }
     match (kept, after) {
         (Value::Object(members), Value::Object(changed)) => {
-            let out = members_over(alloc, members, before, after)?;
-            Ok(Value::Object(with_new(alloc, kept, changed, out)?))
+            let mut out = Map::new(alloc);
+            members_over(alloc, members, before, after, &mut out)?;
+            put_new(alloc, kept, changed, &mut out)?;
+            Ok(Value::Object(out))
         }
         _ => after.clone(),
     }
 }
 
-/// The members that were kept, each with what is written over it.
+/// Puts the members that were kept, each with what is written over it.
 #[cycle(over)]
 fn members_over(
     alloc: Global,
     members: &Map<String, Value>,
     before: &Value,
     after: &Value,
-) -> Result<Map<String, Value>, AllocError>
-    ensures { IfOk result (λ out. members_view out.entries
-        ≡ members_over_in (members_view members.now.entries) (view before.now) (view after.now) no_members) }
+    out: &mut Map<String, Value>,
+) -> Result<(), AllocError>
+    ensures { IfOk result (λ _. members_view out.new.entries
+        ≡ members_over_in (members_view members.now.entries) (view before.now) (view after.now) (members_view out.old.entries)) }
 {
-    let mut out = Map::new(alloc);
     for (key, member) in members.iter() {
-        let name = key.as_str();
-        match after.get(name) {
-            Some(changed) => {
-                let nothing = Value::Null;
-                let was = member_or(before, name, &nothing);
-                let made = over(alloc, member, was, changed)?;
-                put(&mut out, alloc, name, made)?;
-            }
-            None => {
-                if before.get(name).is_none() {
-                    put(&mut out, alloc, name, member.clone()?)?;
-                }
-            }
-        }
+        put_member(alloc, key.as_str(), member, before, after, out)?;
     }
-    Ok(out)
+    Ok(())
 }
 
-/// With the members that are new.
-fn with_new(
+/// Puts what is written over a member that was kept.
+#[cycle(over)]
+#[tactic(auto, using(crate::proofs::Unwritten::unwritten))]
+fn put_member(
+    alloc: Global,
+    name: &str,
+    member: &Value,
+    before: &Value,
+    after: &Value,
+    out: &mut Map<String, Value>,
+) -> Result<(), AllocError>
+    ensures { IfOk result (λ _.
+        let was = member_or (get name.now (view before.now)) null in
+        let now = member_or (get name.now (view after.now)) null in
+        members_view out.new.entries ≡ kept_member (get name.now (view before.now)) (get name.now (view after.now)) name.now (view member.now)
+        (over_in (view member.now) was now) (members_view out.old.entries)) }
+{
+    match after.get(name) {
+        Some(changed) => {
+            let nothing = Value::Null;
+            let made = over(alloc, member, member_or(before, name, &nothing), changed);
+            drop(nothing);
+            put(out, alloc, name, made?)
+        }
+        None => put_if_new(alloc, before, name, member, out),
+    }
+}
+
+/// Puts the members that are new.
+fn put_new(
     alloc: Global,
     kept: &Value,
     changed: &Map<String, Value>,
-    out: Map<String, Value>,
-) -> Result<Map<String, Value>, AllocError>
-    ensures { IfOk result (λ all. members_view all.entries
-        ≡ with_new_in (view kept.now) (members_view changed.now.entries) (members_view out.entries)) }
+    out: &mut Map<String, Value>,
+) -> Result<(), AllocError>
+    ensures { IfOk result (λ _. members_view out.new.entries
+        ≡ with_new (view kept.now) (members_view changed.now.entries) (members_view out.old.entries)) }
 {
-    let mut all = out;
     for (key, value) in changed.iter() {
-        let name = key.as_str();
-        if kept.get(name).is_none() {
-            put(&mut all, alloc, name, value.clone()?)?;
-        }
+        put_if_new(alloc, kept, key.as_str(), value, out)?;
     }
-    Ok(all)
+    Ok(())
+}
+
+/// Puts a copy of a member where a value has none of that name.
+fn put_if_new(
+    alloc: Global,
+    value: &Value,
+    name: &str,
+    member: &Value,
+    out: &mut Map<String, Value>,
+) -> Result<(), AllocError>
+    ensures { IfOk result (λ _. members_view out.new.entries
+        ≡ if_new (get name.now (view value.now)) name.now (view member.now) (members_view out.old.entries)) }
+{
+    if value.get(name).is_none() {
+        put(out, alloc, name, member.clone()?)?;
+    }
+    Ok(())
 }

@@ -1,3 +1,5 @@
 mod Back
 mod Parts
 mod Written
+mod Copies
+mod Objects

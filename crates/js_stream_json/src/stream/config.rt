@@ -12,7 +12,7 @@ use crate::stream::placement::Placement;
 use crate::stream::policies::{Compression, DiscardPolicy, RetentionPolicy, StorageType};
 use crate::stream::republish::Republish;
 use crate::stream::source::Source;
-use js_base::{Items, Nanos, OutOfMemory, Text, TryClone, all_4};
+use js_base::{Items, Nanos, OutOfMemory, Text, TryClone, all_7};
 use js_fields::{FromValue, ReadError, ToValue};
 use std::alloc::Global;
 
@@ -114,10 +114,10 @@ impl Config {
 
 impl TryClone for Config {
     fn try_clone(&self) -> Result<Config, OutOfMemory> {
-        let name = self.name.try_clone()?;
-        let description = self.description.try_clone()?;
-        let subjects = self.subjects.try_clone()?;
-        let (republish, mirror, sources, placement) = all_4(
+        let (name, description, subjects, republish, mirror, sources, placement) = all_7(
+            self.name.try_clone(),
+            self.description.try_clone(),
+            self.subjects.try_clone(),
             self.republish.try_clone(),
             self.mirror.try_clone(),
             self.sources.try_clone(),

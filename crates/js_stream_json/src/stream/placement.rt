@@ -4,7 +4,7 @@ ghost use Rattle.std.specs.Prelude.{false};
 ghost use Rattle.js_fields.specs.Reading.{nested as nested_in};
 ghost use Rattle.js_stream_json.specs.Placement.{placement_fields, placement_value, placement_data};
 
-use js_base::{Items, OutOfMemory, Text, TryClone};
+use js_base::{Items, OutOfMemory, Text, TryClone, both};
 use js_fields::{
     FromValue, Key, Member, Object, ReadError, ToValue, Written, defaulted, nested, optional,
 };
@@ -37,10 +37,11 @@ impl FromValue for Placement {
         if !object.is_object() {
             return Err(ReadError::WrongKind { key: Key::Cluster });
         }
-        Ok(Placement {
-            cluster: optional(alloc, object, Key::Cluster)?,
-            tags: defaulted(alloc, object, Key::Tags)?,
-        })
+        let (cluster, tags) = both(
+            optional(alloc, object, Key::Cluster),
+            defaulted(alloc, object, Key::Tags),
+        )?;
+        Ok(Placement { cluster, tags })
     }
 }
 

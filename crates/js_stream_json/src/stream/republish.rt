@@ -4,7 +4,7 @@ ghost use Rattle.std.specs.Prelude.{false};
 ghost use Rattle.js_fields.specs.Reading.{nested as nested_in};
 ghost use Rattle.js_stream_json.specs.Republish.{republish_fields, republish_value, republish_data};
 
-use js_base::{OutOfMemory, Text, TryClone};
+use js_base::{OutOfMemory, Text, TryClone, all_3};
 use js_fields::{FromValue, Key, Member, Object, ReadError, ToValue, Written, defaulted, nested};
 use serde_json::Value;
 use std::alloc::Global;
@@ -38,10 +38,15 @@ impl FromValue for Republish {
         if !object.is_object() {
             return Err(ReadError::WrongKind { key: Key::Src });
         }
+        let (source, destination, headers_only) = all_3(
+            defaulted(alloc, object, Key::Src),
+            defaulted(alloc, object, Key::Dest),
+            defaulted(alloc, object, Key::HeadersOnly),
+        )?;
         Ok(Republish {
-            source: defaulted(alloc, object, Key::Src)?,
-            destination: defaulted(alloc, object, Key::Dest)?,
-            headers_only: defaulted(alloc, object, Key::HeadersOnly)?,
+            source,
+            destination,
+            headers_only,
         })
     }
 }

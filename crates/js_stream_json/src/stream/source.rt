@@ -5,7 +5,7 @@ ghost use Rattle.js_fields.specs.Reading.{nested as nested_in};
 ghost use Rattle.js_stream_json.specs.External.{external_fields, external_value, external_data};
 ghost use Rattle.js_stream_json.specs.Source.{source_fields, source_value, source_data};
 
-use js_base::{OutOfMemory, Text, TryClone, all_4};
+use js_base::{OutOfMemory, Text, TryClone, all_4, both};
 use js_fields::{
     FromValue, Key, Member, Object, ReadError, ToValue, Written, defaulted, nested, optional,
     required,
@@ -129,9 +129,13 @@ impl FromValue for External {
         if !object.is_object() {
             return Err(ReadError::WrongKind { key: Key::Api });
         }
+        let (api_prefix, delivery_prefix) = both(
+            defaulted(alloc, object, Key::Api),
+            optional(alloc, object, Key::Deliver),
+        )?;
         Ok(External {
-            api_prefix: defaulted(alloc, object, Key::Api)?,
-            delivery_prefix: optional(alloc, object, Key::Deliver)?,
+            api_prefix,
+            delivery_prefix,
         })
     }
 }
