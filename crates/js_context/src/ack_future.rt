@@ -19,6 +19,7 @@ use js_json::{PublishAck, Response, response_as};
 use js_link::{Link, RequestId};
 use js_window::{Permit, Window};
 use std::alloc::Global;
+use std::mem;
 use std::snapshot::Snapshot;
 use std::sync::Wait;
 
@@ -150,8 +151,9 @@ impl PublishAckFuture {
             permit,
             window,
             clock: _,
-            reply: _,
+            reply,
         } = self;
+        drop(reply);
         Detached {
             request,
             permit,
@@ -224,7 +226,10 @@ impl PublishAckFuture {
         ensures permit { PermitAfter result self context.old context.new }
     {
         match ack_of(alloc, &message) {
-            Ok(answer) => self.end(rt, context, answer),
+            Ok(answer) => {
+                drop(message);
+                self.end(rt, context, answer)
+            }
             Err(OutOfMemory) => Turn::OutOfMemory(self.keep(message)),
         }
     }
@@ -261,22 +266,10 @@ impl PublishAckFuture {
     }
 
     /// Keeps the reply for a later poll.
-    fn keep(self, message: Message) -> PublishAckFuture
+    fn keep(mut self, message: Message) -> PublishAckFuture
         ensures { result ≡ record self { reply = Some message } }
     {
-        let PublishAckFuture {
-            request,
-            permit,
-            window,
-            clock,
-            reply: _,
-        } = self;
-        PublishAckFuture {
-            request,
-            permit,
-            window,
-            clock,
-            reply: Some(message),
-        }
+        drop(mem::replace(&mut self.reply, Some(message)));
+        self
     }
 }

@@ -159,9 +159,19 @@ impl<P: ToAssign> ContextBuilder<P> {
     pub fn build<R: Wait>(self, rt: &R, alloc: Global) -> Result<Context, BuildError>
         ensures { Builds (refusal_of (capacity_of self)) result (scope_of self) (capacity_of self) (settings_of self) }
     {
-        match refusal(self.capacity) {
-            Some(error) => Err(error),
-            None => Ok(Context::open(rt, alloc, self.scope, self.capacity, self.settings)?),
+        let ContextBuilder {
+            scope,
+            capacity,
+            settings,
+            prefix_to_assign,
+        } = self;
+        drop(prefix_to_assign);
+        match refusal(capacity) {
+            Some(error) => {
+                drop(scope);
+                Err(error)
+            }
+            None => Ok(Context::open(rt, alloc, scope, capacity, settings)?),
         }
     }
 }

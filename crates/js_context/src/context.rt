@@ -1,5 +1,6 @@
 //! A client's end of JetStream: where its requests go, its pass to the window of its permits, and the acks that nobody awaits.
 ghost use Rattle.std.specs.Prelude.{◌≡◌, ◌+◌, ◌<◌, ◌≤◌, ◌^◌, ℕ, OnErr, IfOk, List, Some, IsSome, ◌↔◌, codes, length, take, drop, [], ◌∷◌, ◌++◌};
+ghost use Rattle.std.specs.Arc.{arc_value};
 ghost use Rattle.js_window.specs.Caller.{Makes, held};
 ghost use Rattle.js_window.specs.declared.history.Call.TheVariants.{AllFree, Give};
 ghost use Rattle.js_stream_calls.specs.Places.{domain_prefix};
@@ -81,6 +82,29 @@ fn unless_memory(built: Result<Context, BuildError>) -> Result<Context, OutOfMem
     }
 }
 
+/// A window of so many permits, all free, that contexts may share, with its first pass.
+fn shared_window<R: Wait>(
+    rt: &R,
+    alloc: Global,
+    capacity: u64,
+) -> Result<(Arc<Window, Global>, Pass), OutOfMemory>
+    requires least { 0 < capacity }
+    requires most { capacity < 2 ^ 32 }
+    ensures capacity { IfOk result (λ made. made.1.window.capacity ≡ capacity) }
+    ensures own { IfOk result (λ made. made.1.window ≡ arc_value made.0) }
+    ensures seen { IfOk result (λ made. made.1.seen ≡ []) }
+    ensures mine { IfOk result (λ made. (made.1.mine ≡ []) × (held made.1 ≡ 0)) }
+{
+    let (window, pass) = Window::new(rt, alloc, capacity)?;
+    match Arc::new(alloc, window) {
+        Ok(window) => Ok((window, pass)),
+        Err(_) => {
+            drop(pass);
+            Err(OutOfMemory)
+        }
+    }
+}
+
 impl Context {
     /// A context with the prefix `$JS.API`, and all else as `ContextBuilder::new` says. The one refusal is want of memory.
     pub fn new<R: Wait>(rt: &R, alloc: Global) -> Result<Context, OutOfMemory>
@@ -123,16 +147,20 @@ impl Context {
         requires most { capacity < 2 ^ 32 }
         ensures { IfOk result (λ context. IsNew scope capacity settings context) }
     {
-        let (window, pass) = Window::new(rt, alloc, capacity)?;
-        let window = Arc::new(alloc, window)?;
-        Ok(Context {
-            scope,
-            window,
-            pass,
-            awaited: 0,
-            detached: VecDeque::new(alloc),
-            settings,
-        })
+        match shared_window(rt, alloc, capacity) {
+            Ok((window, pass)) => Ok(Context {
+                scope,
+                window,
+                pass,
+                awaited: 0,
+                detached: VecDeque::new(alloc),
+                settings,
+            }),
+            Err(OutOfMemory) => {
+                drop(scope);
+                Err(OutOfMemory)
+            }
+        }
     }
 
     /// Another context with the same scope and settings, over the same permits. It has no ack of its own. The one refusal is want

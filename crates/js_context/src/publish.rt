@@ -21,8 +21,7 @@ impl Context {
         ensures message { IfOk result (λ state. state ≡ sending (outbound subject.now payload None)) }
         ensures same { self.new ≡ self.old }
     {
-        let subject = Subject::new(alloc, subject)?;
-        self.publish_message(OutboundMessage::new(subject, payload, None))
+        self.publish_all(alloc, subject, payload, None)
     }
 
     /// Publishes a payload with headers to a subject. The refusals are those of `publish`.
@@ -36,8 +35,28 @@ impl Context {
         ensures message { IfOk result (λ state. state ≡ sending (outbound subject.now payload (Some headers))) }
         ensures same { self.new ≡ self.old }
     {
-        let subject = Subject::new(alloc, subject)?;
-        self.publish_message(OutboundMessage::new(subject, payload, Some(headers)))
+        self.publish_all(alloc, subject, payload, Some(headers))
+    }
+
+    /// Publishes a payload to a subject, with the headers where there are any. The refusals are those of `publish`.
+    fn publish_all(
+        &mut self,
+        alloc: Global,
+        subject: &str,
+        payload: Bytes,
+        headers: Option<HeaderMap>,
+    ) -> Result<Sending, OutOfMemory>
+        ensures message { IfOk result (λ state. state ≡ sending (outbound subject.now payload headers)) }
+        ensures same { self.new ≡ self.old }
+    {
+        match Subject::new(alloc, subject) {
+            Ok(subject) => self.publish_message(OutboundMessage::new(subject, payload, headers)),
+            Err(OutOfMemory) => {
+                drop(payload);
+                drop(headers);
+                Err(OutOfMemory)
+            }
+        }
     }
 
     /// Publishes a message to a subject. The refusals are those of `publish`.

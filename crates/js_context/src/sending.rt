@@ -1,5 +1,7 @@
 //! A message that is to be sent.
-ghost use Rattle.std.specs.Prelude.{◌≡◌, ◌<◌, IsTrue, ◌↔◌};
+ghost use Rattle.std.specs.Prelude.{◌≡◌, ◌<◌, IsTrue, ◌↔◌, Err};
+ghost use Rattle.js_base.specs.Errors.{plain};
+ghost use Rattle.js_base.specs.declared.turn.Turn.TheVariants.{Ready};
 ghost use Rattle.js_link.specs.LinkView.{LinkView};
 ghost use Rattle.js_context.specs.Messages.{sending, size};
 ghost use Rattle.js_context.specs.Contexts.{ContextView};
@@ -133,15 +135,27 @@ impl Sending {
         ensures { result ≡ answer_to self backpressure met }
     {
         match met {
-            Attempt::Barred(kind) => Turn::Ready(Err(Error::new(kind))),
+            Attempt::Barred(kind) => self.refused(kind),
             Attempt::NoRoom => Turn::OutOfMemory(self),
             Attempt::Full if backpressure => Turn::Pending(self),
-            Attempt::Full => Turn::Ready(Err(Error::new(PublishErrorKind::MaxAckPending))),
-            Attempt::Unsent(LinkError::Failed) => {
-                Turn::Ready(Err(Error::new(PublishErrorKind::Other)))
-            }
+            Attempt::Full => self.refused(PublishErrorKind::MaxAckPending),
+            Attempt::Unsent(LinkError::Failed) => self.refused(PublishErrorKind::Other),
             Attempt::Unsent(LinkError::OutOfMemory) => Turn::OutOfMemory(self),
-            Attempt::Went(future) => Turn::Ready(Ok(future)),
+            Attempt::Went(future) => {
+                drop(self);
+                Turn::Ready(Ok(future))
+            }
         }
+    }
+
+    /// It ends with that kind of error.
+    fn refused(
+        self,
+        kind: PublishErrorKind,
+    ) -> Turn<Sending, Result<PublishAckFuture, PublishError>>
+        ensures { result ≡ Ready (Err (plain kind)) }
+    {
+        drop(self);
+        Turn::Ready(Err(Error::new(kind)))
     }
 }
