@@ -40,7 +40,9 @@ fn store_all(rt: &impl AllocGlobal, link: &mut OutboxLink, stored: u64) -> Resul
     let mut sequence = stored;
     for _ in 0..link.outgoing_len() {
         if let Some(item) = link.next_outgoing() {
-            store(rt, link, &item, &mut sequence)?;
+            let stored = store(rt, link, &item, &mut sequence);
+            drop(item);
+            stored?;
         }
     }
     Ok(())
@@ -131,7 +133,10 @@ fn publish_all(
 ) -> Result<Tally, AnyError> {
     let mut link = OutboxLink::new(rt.alloc(), "_INBOX", "c1")?;
     let mut queue = open_queue(rt)?;
-    publish_in_batches(rt, &mut queue, &mut link, messages, at_once)
+    let tally = publish_in_batches(rt, &mut queue, &mut link, messages, at_once);
+    drop(queue);
+    drop(link);
+    tally
 }
 
 /// Publishes so many messages, pushes so many of them at once, and prints how many were stored and how many were in flight at most.

@@ -1,5 +1,3 @@
 mod Back
 mod Parts
 mod Written
-mod Copies
-mod Objects

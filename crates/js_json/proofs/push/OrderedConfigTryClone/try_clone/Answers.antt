@@ -1,5 +1,5 @@
 use Rattle.std.proofs.Common.{rules}
-use Rattle.js_json.proofs.Copies.{copied}
+use Rattle.js_base.proofs.Copies.{copied}
 use Rattle.js_json.proofs.push.OrderedConfigTryClone.try_clone.Goals as goal
 
 pub returns : goal.returns

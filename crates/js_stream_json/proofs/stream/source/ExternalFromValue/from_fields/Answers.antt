@@ -5,7 +5,7 @@ use Rattle.serde_json.specs.View.{view}
 use Rattle.js_fields.specs.declared.key.Key.TheVariants as key
 use Rattle.js_fields.proofs.Gathered.{gathered_2}
 use Rattle.js_stream_json.specs.External.{external_fields, external_members}
-use Rattle.js_stream_json.proofs.Objects.{by_members}
+use Rattle.js_fields.proofs.Objects.{by_members}
 use Rattle.js_stream_json.proofs.stream.source.ExternalFromValue.from_fields.Goals as goal
 
 pub returns-in_err-api_prefix : goal.returns-in_err-api_prefix
