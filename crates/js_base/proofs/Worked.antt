@@ -1,7 +1,8 @@
 -- Worked examples, which the definitions compute.
-use Rattle.std.specs.Prelude.{◌≡◌, ℕ, pos, neg_ℤ, refl, true, false, Bool, List, [], ◌∷◌, Some, None, codes}
+use Rattle.std.specs.Prelude.{◌≡◌, ℕ, pos, neg_ℤ, refl, true, false, Bool, List, [], ◌∷◌, Some, None, Ok, Err, codes}
 use Rattle.js_base.specs.Headers.{is_sendable}
 use Rattle.js_base.specs.Numbers.{unsigned_of, signed_of}
+use Rattle.js_base.specs.Results.{both, all_3}
 
 abbrev sends : List ℕ → List ℕ → Bool
 sends name value = is_sendable (record { name = name; value = value } ∷ [])
@@ -34,3 +35,12 @@ signed_number = refl
 
 no_number : signed_of (neg_ℤ (pos 128)) (pos 127) (codes "-") ≡ None
 no_number = refl
+
+first_of_two_errors : both {A = ℕ} {B = ℕ} {E = ℕ} (Err 1) (Err 2) ≡ Err 1
+first_of_two_errors = refl
+
+error_behind_a_value : all_3 {A = ℕ} {B = ℕ} {C = ℕ} {E = ℕ} (Ok 1) (Err 2) (Ok 3) ≡ Err 2
+error_behind_a_value = refl
+
+three_values : all_3 {A = ℕ} {B = ℕ} {C = ℕ} {E = ℕ} (Ok 1) (Ok 2) (Ok 3) ≡ Ok (1, 2, 3)
+three_values = refl

@@ -83,6 +83,7 @@ pub(crate) trait AfterLevel: Drop {
     /// The call.
     type Call: Drop;
 
+    /// What the call is, by the scope and the configuration.
     ghost asks: { ApiScope → Config → Self.Call → Type 0 };
 
     /// The call, which is not sent. The one refusal is want of memory.
@@ -90,8 +91,8 @@ pub(crate) trait AfterLevel: Drop {
         ensures { IfOk result (λ call. asks scope.now config call) };
 }
 
-/// Asks how far the server's API goes, and then for the bucket's stream where the level allows the markers that are asked for. Neither
-/// is sent. The one refusal is want of memory.
+/// The calls that ask how far the server's API goes, and then for the bucket's stream where the level allows the markers that are asked
+/// for. Neither is sent here. The one refusal is want of memory.
 pub(crate) fn after_level<M: AfterLevel>(
     alloc: Global,
     scope: &ApiScope,
