@@ -8,8 +8,7 @@ use crate::call::Call;
 use crate::error::{RequestError, RequestErrorKind};
 use crate::failure::Failure;
 use crate::raw_call::RawCall;
-use crate::scope::ApiScope;
-use bytes::Bytes;
+use crate::scope::{ApiScope, body_text};
 use js_base::{Error, OutOfMemory, Source};
 use js_fields::{ReadError, value_of};
 use serde_json::Value;
@@ -66,7 +65,7 @@ impl ApiScope {
     ) -> Result<ApiRequest, OutOfMemory>
         ensures { IfOk result (λ call. AskingFor self.now subject.now (view payload.now) call) }
     {
-        let body = Bytes::copy_from_slice(alloc, payload.to_string(alloc)?.as_bytes())?;
+        let body = body_text(alloc, payload)?;
         let asked: RawCall = self.ask(alloc, subject, body)?;
         Ok(Call::new(AskingValue, asked))
     }

@@ -79,12 +79,18 @@ fn read<M: ApiCall>(alloc: Global, api_call: M, message: Message) -> Turn<Call<M
     ensures { Reads M.table api_call message result }
 {
     match M::read(alloc, message.payload.as_slice()) {
-        Ok(reply) => Turn::Ready(api_call.answer(reply)),
+        Ok(reply) => {
+            drop(message);
+            Turn::Ready(api_call.answer(reply))
+        }
         Err(ReadError::OutOfMemory) => Turn::OutOfMemory(Call {
             api_call,
             stage: Stage::Answered(message),
         }),
-        Err(fault) => fail(alloc, api_call, Failure::Read(fault)),
+        Err(fault) => {
+            drop(message);
+            fail(alloc, api_call, Failure::Read(fault))
+        }
     }
 }
 
@@ -102,6 +108,7 @@ fn turn<M: ApiCall>(
         Turn::Ready(Ok(message)) => read(alloc, api_call, message),
         Turn::Ready(Err(error)) => {
             let kind = *error.kind();
+            drop(error);
             fail(alloc, api_call, Failure::Request(kind))
         }
     }
@@ -123,6 +130,7 @@ impl<M: ApiCall> State for Call<M> {
 
     fn poll<L: Link>(self, alloc: Global, link: &mut L, now: Moment) -> Turn<Self, Self::Answer> {
         if let Some(answer) = self.api_call.refusal() {
+            drop(self);
             return Turn::Ready(answer);
         }
         let Call { api_call, stage } = self;

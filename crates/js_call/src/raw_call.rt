@@ -59,10 +59,19 @@ fn reply_of(message: Message) -> Result<Message, RequestError>
     ensures { result ≡ reply_of message }
 {
     if has_no_responders(message.status) {
+        drop(message);
         Err(Error::new(RequestErrorKind::NoResponders))
     } else {
         Ok(message)
     }
+}
+
+/// The last turn of a state, which is let go.
+fn ready<S: Drop, A: Drop>(state: S, answer: A) -> Turn<S, A>
+    ensures { result ≡ Turn.Ready answer }
+{
+    drop(state);
+    Turn::Ready(answer)
 }
 
 impl RawCall {
@@ -147,14 +156,14 @@ impl RawCall {
         ensures { result ≡ met_turn self met }
     {
         match met {
-            RequestProgress::Barred(kind) => Turn::Ready(Err(Error::new(kind))),
-            RequestProgress::Failed => Turn::Ready(Err(Error::new(RequestErrorKind::Other))),
+            RequestProgress::Barred(kind) => ready(self, Err(Error::new(kind))),
+            RequestProgress::Failed => ready(self, Err(Error::new(RequestErrorKind::Other))),
             RequestProgress::OutOfMemory => Turn::OutOfMemory(self),
             RequestProgress::Sent(sent) => Turn::Pending(self.sent_as(sent)),
             RequestProgress::Shown(sent, shown) => match shown {
-                Shown::Came(message) => Turn::Ready(reply_of(message)),
-                Shown::Gone => Turn::Ready(Err(Error::new(RequestErrorKind::Other))),
-                Shown::Due => Turn::Ready(Err(Error::new(RequestErrorKind::TimedOut))),
+                Shown::Came(message) => ready(self, reply_of(message)),
+                Shown::Gone => ready(self, Err(Error::new(RequestErrorKind::Other))),
+                Shown::Due => ready(self, Err(Error::new(RequestErrorKind::TimedOut))),
                 Shown::Still => Turn::Pending(self.sent_as(sent)),
             },
         }

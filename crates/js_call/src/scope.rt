@@ -1,12 +1,12 @@
 //! Where requests of the API go, and how long they are waited for.
 ghost use Rattle.std.specs.Prelude.{◌≡◌, false, IfOk, string_bytes};
 ghost use Rattle.serde_json.specs.View.{view};
-ghost use Rattle.js_call.specs.Scopes.{under, own_timeout, applied, recovery_timeout, asking, raw_asking, Calling};
+ghost use Rattle.js_call.specs.Scopes.{under, own_timeout, applied, recovery_timeout, asking, raw_asking, Calling, IsTextOf};
 
 use crate::raw_call::RawCall;
 use crate::raw_request::{RawRequest, body_of};
 use bytes::Bytes;
-use js_base::{Nanos, OutOfMemory, Subject, Text, TryClone};
+use js_base::{Nanos, OutOfMemory, Subject, Text, TryClone, both};
 use serde_json::Value;
 use std::alloc::{AllocError, Global};
 
@@ -32,6 +32,16 @@ fn text_under(alloc: Global, prefix: &str, subject: &str) -> Result<String, Allo
     ensures { IfOk result (λ text. string_bytes text ≡ under prefix.now subject.now) }
 {
     format!(in alloc; "{prefix}.{subject}")
+}
+
+/// The compact text of a value, as a body.
+pub(crate) fn body_text(alloc: Global, value: &Value) -> Result<Bytes, OutOfMemory>
+    ensures { IfOk result (λ body. IsTextOf (view value.now) body) }
+{
+    let text = value.to_string(alloc)?;
+    let body = Bytes::copy_from_slice(alloc, text.as_bytes());
+    drop(text);
+    Ok(body?)
 }
 
 impl ApiScope {
@@ -69,7 +79,7 @@ impl ApiScope {
     pub fn call(&self, alloc: Global, subject: &str, body: &Value) -> Result<RawCall, OutOfMemory>
         ensures { IfOk result (λ call. Calling self.now subject.now (view body.now) false call) }
     {
-        let payload = Bytes::copy_from_slice(alloc, body.to_string(alloc)?.as_bytes())?;
+        let payload = body_text(alloc, body)?;
         let tested = self.ask(alloc, subject, payload)?;
         Ok(RawCall {
             is_tested: false,
@@ -116,13 +126,20 @@ impl ApiScope {
     ) -> Result<RawCall, OutOfMemory>
         ensures { IfOk result (λ call. call ≡ raw_asking self.now subject.now request) }
     {
-        let subject = Subject::new(alloc, subject)?;
         let request = self.apply_timeout(request);
+        let (subject, request) = both(Subject::new(alloc, subject), Ok(request))?;
+        let RawRequest {
+            payload,
+            headers,
+            timeout,
+            inbox,
+        } = request;
+        drop(inbox);
         Ok(RawCall {
             subject,
-            headers: request.headers,
-            payload: body_of(request.payload),
-            timeout: request.timeout,
+            headers,
+            payload: body_of(payload),
+            timeout,
             is_tested: true,
             sent: None,
         })

@@ -6,7 +6,7 @@ ghost use Rattle.js_call.specs.Sending.{RepliesOf, SendsRequest};
 use crate::error::SendError;
 use crate::raw_request::{RawRequest, body_of};
 use crate::scope::ApiScope;
-use js_base::{OutOfMemory, Subject};
+use js_base::{OutOfMemory, Subject, both};
 use js_link::{Link, LinkError};
 use std::alloc::Global;
 
@@ -60,22 +60,24 @@ impl ApiScope {
     ) -> Result<(), SendError>
         ensures { SendsRequest result self.now subject.now request (L.view link.old) (L.view link.new) }
     {
+        let (subject, request) = both(self.subject(alloc, subject), Ok(request))?;
         let RawRequest {
             payload,
             headers,
             timeout: _,
             inbox,
         } = request;
-        let subject = self.subject(alloc, subject)?;
-        let body = body_of(payload);
-        let reply = reply_subject(alloc, link, inbox)?;
-        link.publish(
+        let held = (subject, headers, body_of(payload));
+        let (held, reply) = both(Ok(held), reply_subject(alloc, link, inbox))?;
+        let (subject, headers, body) = &held;
+        let sent = link.publish(
             alloc,
             subject.as_str(),
             Some(reply.as_str()),
             headers.as_ref(),
             body.as_slice(),
-        )?;
-        Ok(())
+        );
+        drop((held, reply));
+        Ok(sent?)
     }
 }

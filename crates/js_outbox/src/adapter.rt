@@ -122,6 +122,7 @@ impl OutboxLink {
         ensures outgoing { SendsNothing self.old self.new }
     {
         let Some(number) = request_of(self.front.as_str(), message.subject.as_str()) else {
+            drop(message);
             return Delivery::Nobody;
         };
         if give_answer(&mut self.requests, number, message) {

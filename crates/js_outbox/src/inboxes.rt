@@ -22,7 +22,10 @@ pub(crate) fn put_into(
     ensures len { btree_map_len inboxes.new.map ≡ btree_map_len inboxes.old.map }
 {
     match inboxes.map.get_mut(&inbox) {
-        None => Ok(false),
+        None => {
+            drop(message);
+            Ok(false)
+        }
         Some(messages) => match messages.push_back(message) {
             Ok(()) => Ok(true),
             Err(refused) => Err(refused),

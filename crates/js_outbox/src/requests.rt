@@ -6,6 +6,7 @@ ghost use Rattle.js_outbox.specs.Requests.{GivesAnswer, TakesAnswer};
 use crate::numbered::Numbered;
 use js_base::Message;
 use js_link::Answer;
+use std::mem;
 
 /// Gives a request its answer, and says whether it waited for one. For another one the message is let go.
 pub(crate) fn give_answer(
@@ -17,10 +18,12 @@ pub(crate) fn give_answer(
     ensures next { requests.new.next ≡ requests.old.next }
 {
     match requests.map.get_mut(&number) {
-        None => false,
-        Some(Some(_)) => false,
+        None | Some(Some(_)) => {
+            drop(message);
+            false
+        }
         Some(answer) => {
-            *answer = Some(message);
+            drop(mem::replace(answer, Some(message)));
             true
         }
     }

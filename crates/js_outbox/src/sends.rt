@@ -12,7 +12,7 @@ use crate::answers::answer_subject;
 use crate::outbox::OutboxLink;
 use crate::outgoing::Outgoing;
 use bytes::Bytes;
-use js_base::{HeaderMap, OutOfMemory, Subject, Text, TryClone};
+use js_base::{HeaderMap, OutOfMemory, Subject, Text, TryClone, both};
 use js_link::{InboxId, LinkError, RequestId, Watch};
 use std::alloc::Global;
 use std::collections::VecDeque;
@@ -103,9 +103,16 @@ impl OutboxLink {
         ensures err { OnErr result (SendsNothing self.old self.new) }
         ensures same { KeepsRest self.old self.new }
     {
-        self.make_room(1)?;
-        self.outgoing.push_back_reserved(item);
-        Ok(())
+        match self.make_room(1) {
+            Ok(()) => {
+                self.outgoing.push_back_reserved(item);
+                Ok(())
+            }
+            Err(refused) => {
+                drop(item);
+                Err(refused)
+            }
+        }
     }
 
     /// Opens an inbox for a subject that may be sent.
@@ -122,14 +129,26 @@ impl OutboxLink {
         ensures err { OnErr result (outbox_view self.new ≡ outbox_view self.old) }
         ensures sends_nothing { OnErr result (SendsNothing self.old self.new) }
     {
-        self.make_room(2)?;
-        let subscription = self.inboxes.add(VecDeque::new(alloc))?;
-        self.outgoing.push_back_reserved(Outgoing::Subscribe {
-            subscription,
+        let inbox = InboxId(self.inboxes.next);
+        let item = Outgoing::Subscribe {
+            subscription: inbox.0,
             subject,
             group,
-        });
-        Ok(InboxId(subscription))
+        };
+        if let Err(refused) = self.make_room(2) {
+            drop(item);
+            return Err(refused);
+        }
+        match self.inboxes.add(VecDeque::new(alloc)) {
+            Ok(_) => {
+                self.outgoing.push_back_reserved(item);
+                Ok(inbox)
+            }
+            Err(refused) => {
+                drop(item);
+                Err(refused)
+            }
+        }
     }
 
     /// Makes a request of a message that may be sent.
@@ -147,18 +166,30 @@ impl OutboxLink {
         ensures err { OnErr result (outbox_view self.new ≡ outbox_view self.old) }
         ensures sends_nothing { OnErr result (SendsNothing self.old self.new) }
     {
-        let number = self.requests.next;
-        let reply = answer_subject(alloc, self.front.as_str(), number)?;
-        self.make_room(1)?;
-        let number = self.requests.add(None)?;
-        let request = RequestId(number);
-        self.outgoing.push_back_reserved(Outgoing::Publish {
+        let request = RequestId(self.requests.next);
+        let reply = answer_subject(alloc, self.front.as_str(), request.0);
+        let (reply, message) = both(reply, Ok((subject, headers, payload)))?;
+        let (subject, headers, payload) = message;
+        let item = Outgoing::Publish {
             subject,
             reply: Some(reply),
             headers,
             payload,
             request: Some(request),
-        });
-        Ok(request)
+        };
+        if let Err(refused) = self.make_room(1) {
+            drop(item);
+            return Err(refused);
+        }
+        match self.requests.add(None) {
+            Ok(_) => {
+                self.outgoing.push_back_reserved(item);
+                Ok(request)
+            }
+            Err(refused) => {
+                drop(item);
+                Err(refused)
+            }
+        }
     }
 }
