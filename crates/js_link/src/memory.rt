@@ -106,10 +106,14 @@ impl MemoryLink {
     {
         let i = inbox.0 as usize;
         if i >= self.inboxes.len() {
+            drop(message);
             return Ok(());
         }
         match &mut self.inboxes[i] {
-            None => Ok(()),
+            None => {
+                drop(message);
+                Ok(())
+            }
             Some(messages) => {
                 messages.push_back(message)?;
                 Ok(())
@@ -131,8 +135,9 @@ impl MemoryLink {
     pub(crate) fn settle(&mut self, request: RequestId, reply: Option<Message>)
         ensures { Responds request.0 reply (memory_view self.old) (memory_view self.new) }
     {
-        if let Some(i) = self.waiting(request) {
-            self.requests[i] = answered(reply);
+        match self.waiting(request) {
+            Some(i) => drop(std::mem::replace(&mut self.requests[i], answered(reply))),
+            None => drop(reply),
         }
     }
 

@@ -10,7 +10,7 @@ ghost use Rattle.js_link.specs.Script.{AsksServerOf, LendsLink, UsesReply, is_fo
 use crate::link::{Answer, Link, LinkError, Taken, Watch};
 use crate::memory::MemoryLink;
 use crate::sent::{InboxId, RequestId};
-use js_base::{HeaderMap, Message, Nanos, OutOfMemory, Subject};
+use js_base::{HeaderMap, Message, Nanos, OutOfMemory, Subject, both};
 use std::alloc::Global;
 
 /// A reply of a script, and the subject of the requests that it answers.
@@ -59,7 +59,7 @@ impl ScriptedServer {
         ensures err { OnErr result (script_of self.new ≡ script_of self.old) }
         ensures link { link_of self.new ≡ link_of self.old }
     {
-        let subject = Subject::new(alloc, subject)?;
+        let (reply, subject) = both(Ok(reply), Subject::new(alloc, subject))?;
         self.script.push(Scripted { subject, reply })?;
         Ok(())
     }

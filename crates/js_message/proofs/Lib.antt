@@ -3,4 +3,5 @@ pub mod HeldInstants
 pub mod Cuts
 pub mod Digits
 pub mod Forms
+pub mod Refusing
 mod Worked

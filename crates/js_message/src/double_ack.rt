@@ -1,14 +1,14 @@
 //! Acknowledgements whose answer is waited for, as a state with a poll.
 ghost use Rattle.std.specs.Prelude.{◌≡◌, ◌<◌, ◌^◌, ℕ, IfOk};
 ghost use Rattle.std.specs.Option.{option_copied};
-ghost use Rattle.js_message.specs.Acking.{ack_body, unsent, opened, waiting, PollsOf, OpensAndSends, FailsToOpen, Sends, Looks};
+ghost use Rattle.js_message.specs.Acking.{ack_body, unsent, opened, waiting, PollsOf, OpensAndSends, FailsToOpen, Sends, FindsNone, Looks};
 ghost use Rattle.js_base.specs.Clock.{has_come};
 ghost use Rattle.js_message.specs.Wakes.{Sleeps, times_out};
 
 use crate::ack_kind::AckKind;
 use crate::acker::AckError;
 use bytes::Bytes;
-use js_base::{Moment, Nanos, OutOfMemory, Subject, TryClone, Turn, due, end_of};
+use js_base::{Moment, Nanos, OutOfMemory, Subject, TryClone, Turn, both, due, end_of};
 use js_link::{InboxId, Link, LinkError, Taken};
 use std::alloc::Global;
 
@@ -58,11 +58,8 @@ pub(crate) fn double_acknowledge(
             stage: Stage::Unsent,
         });
     };
-    let outgoing = Outgoing {
-        to: reply.try_clone()?,
-        body: kind.to_bytes(alloc)?,
-        timeout,
-    };
+    let (to, body) = both(reply.try_clone(), kind.to_bytes(alloc))?;
+    let outgoing = Outgoing { to, body, timeout };
     Ok(outgoing.at(Stage::Unsent))
 }
 
@@ -86,6 +83,7 @@ impl DoubleAck {
     {
         let DoubleAck { outgoing, stage } = self;
         let Some(outgoing) = outgoing else {
+            drop(stage);
             return Turn::Ready(Err(AckError::NoReply));
         };
         match stage {
@@ -128,7 +126,10 @@ impl Outgoing {
     {
         match link.open_inbox(alloc) {
             Ok((inbox, subject)) => self.send(alloc, link, now, inbox, subject),
-            Err(LinkError::Failed) => Turn::Ready(Err(AckError::LinkFailed)),
+            Err(LinkError::Failed) => {
+                drop(self);
+                Turn::Ready(Err(AckError::LinkFailed))
+            }
             Err(LinkError::OutOfMemory) => Turn::OutOfMemory(self.at(Stage::Unsent)),
         }
     }
@@ -146,8 +147,12 @@ impl Outgoing {
     {
         let reply = Some(subject.as_str());
         match link.publish(alloc, self.to.as_str(), reply, None, self.body.as_slice()) {
-            Ok(()) => self.look(link, now, inbox, now),
+            Ok(()) => {
+                drop(subject);
+                self.look(link, now, inbox, now)
+            }
             Err(LinkError::Failed) => {
+                drop((self, subject));
                 link.unsubscribe(inbox);
                 Turn::Ready(Err(AckError::LinkFailed))
             }
@@ -162,16 +167,35 @@ impl Outgoing {
         ensures { Looks self inbox.0 since now result (L.view link.old) (L.view link.new) }
     {
         match link.take(inbox) {
-            Taken::Message(_) => {
+            Taken::Message(message) => {
+                drop((self, message));
                 link.unsubscribe(inbox);
                 Turn::Ready(Ok(()))
             }
-            Taken::Closed => Turn::Ready(Err(AckError::SubscriptionDropped)),
-            Taken::Empty if due(now, since, self.timeout) => {
-                link.unsubscribe(inbox);
-                Turn::Ready(Err(AckError::TimedOut))
+            Taken::Closed => {
+                drop(self);
+                Turn::Ready(Err(AckError::SubscriptionDropped))
             }
-            Taken::Empty => Turn::Pending(self.at(Stage::Waiting(inbox, since))),
+            Taken::Empty => self.look_at_clock(link, now, inbox, since),
+        }
+    }
+
+    /// Ends where the timeout is over, and else goes on waiting.
+    fn look_at_clock<L: Link>(
+        self,
+        link: &mut L,
+        now: Moment,
+        inbox: InboxId,
+        since: Moment,
+    ) -> Polled
+        ensures { FindsNone inbox.0 (L.view link.old) → Looks self inbox.0 since now result (L.view link.old) (L.view link.new) }
+    {
+        if due(now, since, self.timeout) {
+            drop(self);
+            link.unsubscribe(inbox);
+            Turn::Ready(Err(AckError::TimedOut))
+        } else {
+            Turn::Pending(self.at(Stage::Waiting(inbox, since)))
         }
     }
 }

@@ -3,7 +3,7 @@ ghost use Rattle.std.specs.Prelude.{◌≡◌, ℕ, ◌+◌, ◌<◌, ◌≤◌,
 ghost use Rattle.std.specs.Option.{option_copied};
 ghost use Rattle.std.specs.Result.{result_map_both};
 ghost use Rattle.js_base.specs.Match.{tokens};
-ghost use Rattle.js_message.specs.Ack.{ack, seven_at, domain_of, of_tokens};
+ghost use Rattle.js_message.specs.Ack.{ack, seven_at, domain_of, i128_of, of_tokens, read_then};
 ghost use Rattle.js_message.specs.Dots.{IsScanned};
 ghost use Rattle.js_message.specs.Shown.{shown_result, instant_of};
 
@@ -12,6 +12,7 @@ use crate::info::Info;
 use crate::info_error::InfoError;
 use crate::numbers::{read_i64, read_i128, read_u64};
 use jiff::Timestamp;
+use js_base::all_5;
 
 fn instant(nanoseconds: i128) -> Result<Timestamp, InfoError>
     ensures { result_map_both (λ t. t.nanosecond) (λ e. e) result ≡ instant_of nanoseconds }
@@ -20,6 +21,14 @@ fn instant(nanoseconds: i128) -> Result<Timestamp, InfoError>
         Ok(instant) => Ok(instant),
         Err(_) => Err(InfoError::Instant),
     }
+}
+
+/// Reads the token of a time, which stands at the place.
+fn read_instant(token: &str, place: usize) -> Result<Timestamp, InfoError>
+    ensures { result_map_both (λ t. t.nanosecond) (λ e. e) result ≡ read_then (i128_of token.now) place instant_of }
+{
+    let nanoseconds = read_i128(token).ok_or(not_a_number(place))?;
+    instant(nanoseconds)
 }
 
 /// Reads the seven tokens, of which the first is at the place, from left to right. The other texts are cut once all numbers
@@ -36,12 +45,18 @@ fn read_seven<'a>(
     requires kept { place < 3 }
     ensures { shown_result result ≡ seven_at place (option_copied domain.entry) (option_copied acc_hash.entry) (tokens text.now) }
 {
-    let delivered = read_i64(dots.token(text, place + 2)).ok_or(not_a_number(place + 2))?;
-    let stream_sequence = read_u64(dots.token(text, place + 3)).ok_or(not_a_number(place + 3))?;
-    let consumer_sequence = read_u64(dots.token(text, place + 4)).ok_or(not_a_number(place + 4))?;
-    let nanoseconds = read_i128(dots.token(text, place + 5)).ok_or(not_a_number(place + 5))?;
-    let published = instant(nanoseconds)?;
-    let pending = read_u64(dots.token(text, place + 6)).ok_or(not_a_number(place + 6))?;
+    let delivered = read_i64(dots.token(text, place + 2)).ok_or(not_a_number(place + 2));
+    let stream_sequence = read_u64(dots.token(text, place + 3)).ok_or(not_a_number(place + 3));
+    let consumer_sequence = read_u64(dots.token(text, place + 4)).ok_or(not_a_number(place + 4));
+    let published = read_instant(dots.token(text, place + 5), place + 5);
+    let pending = read_u64(dots.token(text, place + 6)).ok_or(not_a_number(place + 6));
+    let (delivered, stream_sequence, consumer_sequence, published, pending) = all_5(
+        delivered,
+        stream_sequence,
+        consumer_sequence,
+        published,
+        pending,
+    )?;
     Ok(Info {
         domain,
         acc_hash,

@@ -1,7 +1,7 @@
 //! Messages as they lie in their stream: what their headers say of that.
-ghost use Rattle.std.specs.Prelude.{◌≡◌};
+ghost use Rattle.std.specs.Prelude.{◌≡◌, MatchResult, Ok};
 ghost use Rattle.std.specs.Option.{option_map};
-ghost use Rattle.js_message.specs.StreamMessage.{IsRefusal, is_missing, is_unreadable, time_of, told_by, told_in};
+ghost use Rattle.js_message.specs.StreamMessage.{IsRefusal, RefusesAs, is_missing, is_unreadable, time_of, told_by, told_in};
 
 use crate::numbers::read_u64;
 use bytes::Bytes;
@@ -145,6 +145,23 @@ fn refusal(alloc: Global, fault: HeaderFault) -> StreamMessageError
     }
 }
 
+/// What the headers say of a message: its subject, copied, its sequence and its time; or the error that tells why not.
+fn read_copied(
+    alloc: Global,
+    headers: &HeaderMap,
+) -> Result<(Subject, u64, Timestamp), StreamMessageError>
+    ensures { MatchResult result (λ told. told_in headers.now ≡ Ok (record { subject = told.0; sequence = told.1; time = told.2.nanosecond })) (RefusesAs (told_in headers.now)) }
+{
+    let told = match read_headers(headers) {
+        Ok(told) => told,
+        Err(fault) => return Err(refusal(alloc, fault)),
+    };
+    match Subject::new(alloc, told.subject) {
+        Ok(subject) => Ok((subject, told.sequence, told.time)),
+        Err(_) => Err(Error::new(StreamMessageErrorKind::OutOfMemory)),
+    }
+}
+
 impl StreamMessage {
     ghost use Rattle.js_message.specs.StreamMessage.{ReadsMessage};
 
@@ -161,28 +178,30 @@ impl StreamMessage {
         ensures { ReadsMessage message result }
     {
         let Message {
-            headers,
+            subject,
+            reply,
             payload,
+            headers,
+            description,
             ..
         } = message;
+        drop((subject, reply, description));
         let Some(headers) = headers else {
+            drop(payload);
             return Err(refusal(alloc, missing(StreamHeader::Sequence)));
         };
-        let told = match read_headers(&headers) {
-            Ok(told) => told,
-            Err(fault) => return Err(refusal(alloc, fault)),
-        };
-        let sequence = told.sequence;
-        let time = told.time;
-        let Ok(subject) = Subject::new(alloc, told.subject) else {
-            return Err(Error::new(StreamMessageErrorKind::OutOfMemory));
-        };
-        Ok(StreamMessage {
-            subject,
-            sequence,
-            headers,
-            payload,
-            time,
-        })
+        match read_copied(alloc, &headers) {
+            Ok((subject, sequence, time)) => Ok(StreamMessage {
+                subject,
+                sequence,
+                headers,
+                payload,
+                time,
+            }),
+            Err(error) => {
+                drop((headers, payload));
+                Err(error)
+            }
+        }
     }
 }
