@@ -5,7 +5,7 @@ ghost use Rattle.js_generate.specs.Transcript as transcript;
 
 use crate::texts;
 use bytes::Bytes;
-use js_base::{Boxed, Message, OutOfMemory, Subject};
+use js_base::{Boxed, Message, OutOfMemory, Subject, all_3, both};
 use js_table::{Event, EventKind};
 use std::alloc::Global;
 
@@ -117,12 +117,14 @@ impl Episode {
         ensures { IfOk result (λ what. what ≡ episodes.delivery self.now.number self.now.before number) }
     {
         let sequence = self.before + number;
-        let reply = Subject::from(texts::reply(alloc, sequence, number)?);
-        let mut message = plain(alloc, texts::decimal(alloc, sequence)?)?;
-        message.reply = Some(reply);
+        let (reply, payload) = both(
+            texts::reply(alloc, sequence, number),
+            texts::decimal(alloc, sequence),
+        )?;
+        let message = message(alloc, Some(Subject::from(reply)), payload)?;
         Ok(EventKind::Arrival {
             inbox: self.number,
-            message: Boxed::new(alloc, message)?,
+            message,
         })
     }
 
@@ -143,37 +145,51 @@ impl Episode {
         self.push_delivery(alloc, delivered + 2, events)?;
         let deleted = String::from_str(alloc, r#"{"success":true}"#)?;
         push_answer(alloc, 2 * self.number + 1, deleted, events)?;
-        let name = texts::name(alloc, self.number + 1)?;
-        let created = texts::info(alloc, name.as_str())?;
+        let created = texts::info_of(alloc, self.number + 1)?;
         push_answer(alloc, 2 * self.number + 2, created, events)?;
         self.push_delivery(alloc, delivered + 1, events)
     }
 }
 
-/// A message with nothing but this payload.
-fn plain(alloc: Global, payload: String) -> Result<Message, OutOfMemory>
-    ensures { IfOk result (λ message. message ≡ episodes.plain (string_bytes payload)) }
+/// The bytes of a text.
+fn bytes_of(text: String) -> Result<Bytes, OutOfMemory>
+    ensures { IfOk result (λ bytes. bytes ≡ string_bytes text) }
+{
+    Ok(Bytes::from_string(text)?)
+}
+
+/// A message with nothing but this reply subject and payload.
+fn message(
+    alloc: Global,
+    reply: Option<Subject>,
+    payload: String,
+) -> Result<Boxed<Message>, OutOfMemory>
+    ensures { IfOk result (λ message. message ≡ record (episodes.plain (string_bytes payload)) { reply = reply }) }
 {
     let length = payload.len() as u64;
-    Ok(Message {
-        subject: Subject::new(alloc, "")?,
-        reply: None,
-        payload: Bytes::from_string(payload)?,
-        headers: None,
-        status: None,
-        description: None,
-        length,
-    })
+    let (reply, subject, payload) = all_3(Ok(reply), Subject::new(alloc, ""), bytes_of(payload))?;
+    Boxed::new(
+        alloc,
+        Message {
+            subject,
+            reply,
+            payload,
+            headers: None,
+            status: None,
+            description: None,
+            length,
+        },
+    )
 }
 
 /// The answer to a request.
 fn answer(alloc: Global, request: u64, payload: String) -> Result<EventKind, OutOfMemory>
     ensures { IfOk result (λ what. what ≡ episodes.answer request (string_bytes payload)) }
 {
-    let message = plain(alloc, payload)?;
+    let message = message(alloc, None, payload)?;
     Ok(EventKind::Answer {
         request,
-        reply: Some(Boxed::new(alloc, message)?),
+        reply: Some(message),
     })
 }
 

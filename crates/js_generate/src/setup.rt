@@ -3,7 +3,7 @@ ghost use Rattle.std.specs.Prelude.{◌≡◌, IfOk};
 ghost use Rattle.js_generate.specs.Transcript as transcript;
 
 use crate::texts;
-use js_base::{OutOfMemory, Text};
+use js_base::{OutOfMemory, Text, both};
 use js_json::consumer::Info;
 use js_json::{Response, pull, response_as};
 use js_table::{OrderedSetup, ReplayInput, Settings};
@@ -13,9 +13,13 @@ use std::alloc::Global;
 fn settings(alloc: Global) -> Result<Settings, OutOfMemory>
     ensures { IfOk result (λ settings. settings ≡ transcript.settings) }
 {
+    let (api_prefix, inbox_prefix) = both(
+        Text::from_str(alloc, "$JS.API"),
+        Text::from_str(alloc, "_INBOX.t"),
+    )?;
     Ok(Settings {
-        api_prefix: Text::from_str(alloc, "$JS.API")?,
-        inbox_prefix: Text::from_str(alloc, "_INBOX.t")?,
+        api_prefix,
+        inbox_prefix,
         context_timeout: None,
         request_timeout: Some(10_000_000_000),
         retries: 4_294_967_295,
@@ -27,10 +31,15 @@ fn first_info(alloc: Global) -> Result<Info, OutOfMemory>
     ensures { IfOk result (λ info. info ≡ transcript.given.first) }
 {
     let text = texts::info(alloc, "gen")?;
-    match response_as(alloc, text.as_bytes()) {
+    let answer = response_as(alloc, text.as_bytes());
+    drop(text);
+    match answer {
         Ok(Response::Ok(info)) => Ok(info),
         // The text is an info, so only memory can be missing.
-        _ => Err(OutOfMemory),
+        other => {
+            drop(other);
+            Err(OutOfMemory)
+        }
     }
 }
 
@@ -43,9 +52,10 @@ fn first_info(alloc: Global) -> Result<Info, OutOfMemory>
 pub fn given(alloc: Global) -> Result<ReplayInput, OutOfMemory>
     ensures { IfOk result (λ given. given ≡ transcript.given) }
 {
+    let (settings, first) = both(settings(alloc), first_info(alloc))?;
     Ok(ReplayInput {
-        settings: settings(alloc)?,
+        settings,
         setup: OrderedSetup::Pull(pull::OrderedConfig::new(alloc)),
-        first: first_info(alloc)?,
+        first,
     })
 }

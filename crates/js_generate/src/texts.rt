@@ -39,3 +39,13 @@ pub(crate) fn info(alloc: Global, name: &str) -> Result<String, AllocError>
     )?;
     Ok(text)
 }
+
+/// What the server tells of the consumer that the recreation with this count of recreations makes.
+pub(crate) fn info_of(alloc: Global, recreation_count: u64) -> Result<String, AllocError>
+    ensures { IfOk result (λ text. string_bytes text ≡ episodes.info_text (episodes.name_of recreation_count)) }
+{
+    let name = name(alloc, recreation_count)?;
+    let text = info(alloc, name.as_str());
+    drop(name);
+    text
+}

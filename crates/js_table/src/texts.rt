@@ -228,6 +228,19 @@ fn opened_subject(alloc: Global, opened: &Option<Opened>) -> Result<Option<Text>
     }
 }
 
+/// The configuration has this name, start and inbox from now on.
+fn set_up(config: &mut Config, name: Text, start: Start, deliver_subject: Option<Text>)
+    ensures { config.new ≡ record config.old {
+      name = Some name;
+      deliver_policy = texts.policy_of start;
+      deliver_subject = deliver_subject;
+    } }
+{
+    drop(mem::replace(&mut config.name, Some(name)));
+    config.deliver_policy = policy_of(start);
+    drop(mem::replace(&mut config.deliver_subject, deliver_subject));
+}
+
 /// The setup's configuration with this name, start and inbox. The texts are there already, so that nothing can go wrong beside the configuration.
 fn config_with(
     alloc: Global,
@@ -244,9 +257,7 @@ fn config_with(
 {
     match context.setup.to_config(alloc) {
         Ok(mut config) => {
-            drop(mem::replace(&mut config.name, Some(name)));
-            config.deliver_policy = policy_of(start);
-            drop(mem::replace(&mut config.deliver_subject, deliver_subject));
+            set_up(&mut config, name, start, deliver_subject);
             Ok(config)
         }
         Err(OutOfMemory) => {

@@ -10,6 +10,7 @@ ghost use Rattle.js_table.specs.Recreation.{message_on};
 ghost use Rattle.js_table.specs.Turn as turns;
 
 use crate::passing::event::quietly;
+use crate::passing::recreation::enter;
 use crate::passing::task::{Heard, NextTasks, RowOutput, Step, Task};
 use crate::{Consumer, EventContext, ItemKind, Phase, PushKind, place_of, push_kind};
 use js_base::{Message, Moment, Nanos, Timer};
@@ -32,10 +33,14 @@ fn armed(now: Moment) -> Timer
 pub fn listen(context: &EventContext<'_>, consumer: &mut Consumer, inbox: u64)
     ensures { consumer.new ≡ at_phase (Phase.Pushes inbox (reading.armed context.now.moment)) consumer.old }
 {
-    consumer.phase = Phase::Pushes {
-        inbox,
-        heartbeat_timer: armed(context.moment),
-    };
+    let heartbeat_timer = armed(context.moment);
+    enter(
+        consumer,
+        Phase::Pushes {
+            inbox,
+            heartbeat_timer,
+        },
+    );
 }
 
 // ---- what is looked for

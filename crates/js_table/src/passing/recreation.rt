@@ -103,6 +103,13 @@ pub fn pass_try(
     }
 }
 
+/// The arrivals on this inbox are held by the recreation from now on.
+fn hold_on(recreation: &mut Recreation, opened: Option<Opened>)
+    ensures { recreation.new ≡ record recreation.old { opened = opened } }
+{
+    drop(mem::replace(&mut recreation.opened, opened));
+}
+
 /// The new consumer is to be asked for. Push has opened its inbox before that, or could not.
 pub fn pass_create(
     alloc: Global,
@@ -117,6 +124,7 @@ pub fn pass_create(
 {
     match context.setup {
         OrderedSetup::Pull(_) => {
+            drop(inbox);
             enter(consumer, Phase::Recreates(recreation));
             NextTasks::One(Task::Ask)
         }
@@ -126,11 +134,12 @@ pub fn pass_create(
                 NextTasks::One(Task::Fail)
             }
             Some(Inbox { number, subject }) => {
-                recreation.opened = Some(Opened {
+                let opened = Opened {
                     inbox: number,
                     subject,
                     held: Items::new(alloc),
-                });
+                };
+                hold_on(&mut recreation, Some(opened));
                 enter(consumer, Phase::Recreates(recreation));
                 NextTasks::One(Task::Ask)
             }
@@ -172,7 +181,7 @@ fn rest(recreation: &mut Recreation, now: Moment)
 {
     let failures = recreation.failures + 1;
     recreation.failures = failures;
-    recreation.opened = None;
+    hold_on(recreation, None);
     recreation.stage = Stage::Waiting {
         wait: Timer {
             set: now,
