@@ -24,10 +24,21 @@ pub fn read<R: Reads>(
 /// How many of so many messages a reader yields.
 fn yielded<R: Reads>(alloc: Global, kind: Kind, messages: u64) -> Result<u64, OutOfMemory> {
     let mut link = MemoryLink::new(alloc, "_INBOX.t")?;
-    match open::<R>(alloc, &mut link, kind, 0) {
-        Ok(mut reader) => read_all(alloc, &mut link, &mut reader, messages / BATCH),
-        Err(OutOfMemory) => Err(OutOfMemory),
-    }
+    let yielded = open_and_read::<R>(alloc, &mut link, kind, messages / BATCH);
+    drop(link);
+    yielded
+}
+
+fn open_and_read<R: Reads>(
+    alloc: Global,
+    link: &mut MemoryLink,
+    kind: Kind,
+    batches: u64,
+) -> Result<u64, OutOfMemory> {
+    let mut reader = open::<R>(alloc, link, kind, 0)?;
+    let yielded = read_all(alloc, link, &mut reader, batches);
+    drop(reader);
+    yielded
 }
 
 fn read_all<R: Reads>(
@@ -54,7 +65,9 @@ pub fn deliver_alone(rt: &(impl Print + AllocGlobal), messages: u64) -> Result<(
 /// Delivers so many messages to inboxes that are closed unread, and answers how many these are.
 fn delivered(alloc: Global, messages: u64) -> Result<u64, OutOfMemory> {
     let mut link = MemoryLink::new(alloc, "_INBOX.t")?;
-    deliver_all_unread(alloc, &mut link, messages / BATCH)
+    let delivered = deliver_all_unread(alloc, &mut link, messages / BATCH);
+    drop(link);
+    delivered
 }
 
 fn deliver_all_unread(

@@ -38,7 +38,11 @@ fn complete<R: Reads>(alloc: Global, kind: Kind, seeds: u64) -> Result<u64, OutO
 /// Whether the reader of a number yields its log.
 fn is_complete<R: Reads>(alloc: Global, kind: Kind, seed: u64) -> Result<bool, OutOfMemory> {
     match Round::<R>::new(alloc, kind, seed) {
-        Ok(mut round) => round.is_complete(alloc),
+        Ok(mut round) => {
+            let is_complete = round.is_complete(alloc);
+            drop(round);
+            is_complete
+        }
         Err(OutOfMemory) => Err(OutOfMemory),
     }
 }

@@ -24,22 +24,33 @@ mod texts;
 use js_ordered_stream::{pull, push};
 use reader::Kind;
 use std::alloc::{AllocError, Global};
-use std::io::{BufRead, BufReader};
+use std::io::{self, BufRead, BufReader};
 use std::sync::Wait;
 use std::test::Fail;
 
 fn main(rt: HostRuntime) -> Result<(), Fail> {
     let input = BufReader::new(rt.alloc(), rt.reader())?;
     for line in input.lines(rt.alloc()) {
-        let line = line?;
-        run_line(&rt, line.as_str())?;
+        run_line(&rt, line)?;
     }
     Ok(())
 }
 
-fn run_line(rt: &(impl Print + AllocGlobal + Wait), line: &str) -> Result<(), Fail> {
+fn run_line(
+    rt: &(impl Print + AllocGlobal + Wait),
+    line: Result<String, io::Error>,
+) -> Result<(), Fail> {
+    let line = line?;
+    let run = run_words_of(rt, line.as_str());
+    drop(line);
+    run
+}
+
+fn run_words_of(rt: &(impl Print + AllocGlobal + Wait), line: &str) -> Result<(), Fail> {
     let words = words(rt.alloc(), line)?;
-    run(rt, line, &words)
+    let run = run(rt, line, &words);
+    drop(words);
+    run
 }
 
 /// The words of a line, after single spaces.

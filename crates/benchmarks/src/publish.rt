@@ -81,7 +81,7 @@ fn publish(
     for _ in 0..u64::MAX {
         match queue.poll_next(rt, rt.alloc(), link, now) {
             Next::Item(published) => {
-                published.outcome?;
+                drop(published.outcome?);
                 tally.stored = tally.stored.saturating_add(1);
             }
             Next::Pending => {
@@ -131,8 +131,8 @@ fn publish_all(
     messages: u64,
     at_once: u64,
 ) -> Result<Tally, AnyError> {
-    let mut link = OutboxLink::new(rt.alloc(), "_INBOX", "c1")?;
     let mut queue = open_queue(rt)?;
+    let mut link = OutboxLink::new(rt.alloc(), "_INBOX", "c1")?;
     let tally = publish_in_batches(rt, &mut queue, &mut link, messages, at_once);
     drop(queue);
     drop(link);

@@ -36,9 +36,16 @@ fn take(last: &mut u64, message: &Message) -> Polled {
 /// What a poll comes to that gave this.
 fn come_to<E: Drop>(last: &mut u64, next: Next<Result<Message, E>>) -> Result<Polled, OutOfMemory> {
     match next {
-        Next::Item(Ok(message)) => Ok(take(last, &message)),
+        Next::Item(Ok(message)) => {
+            let polled = take(last, &message);
+            drop(message);
+            Ok(polled)
+        }
         // It tells an error and goes on.
-        Next::Item(Err(_)) => Ok(Polled::GoesOn),
+        Next::Item(Err(error)) => {
+            drop(error);
+            Ok(Polled::GoesOn)
+        }
         Next::Pending => Ok(Polled::Waits),
         Next::End => Ok(Polled::Fails),
         Next::OutOfMemory => Err(OutOfMemory),
@@ -64,7 +71,10 @@ impl<R: Reads> Round<R> {
         let mut link = MemoryLink::new(alloc, "_INBOX.t")?;
         match open(alloc, &mut link, kind, 4) {
             Ok(reader) => Ok(Round::between(link, reader, kind, seed)),
-            Err(OutOfMemory) => Err(OutOfMemory),
+            Err(OutOfMemory) => {
+                drop(link);
+                Err(OutOfMemory)
+            }
         }
     }
 

@@ -72,6 +72,7 @@ fn answer_unless_lost(
     fate: u32,
 ) -> Result<bool, OutOfMemory> {
     if fate >= 14 {
+        drop(answer);
         return Ok(false);
     }
     respond(link, number, answer)
@@ -173,7 +174,10 @@ impl Server {
         }
         match self.draw() {
             // The request is lost.
-            0 | 1 => Ok(false),
+            0 | 1 => {
+                drop(answer);
+                Ok(false)
+            }
             // It reaches nobody.
             2 | 3 => respond(link, number, unheard(answer)),
             fate => {

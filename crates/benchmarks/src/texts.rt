@@ -2,7 +2,7 @@
 
 use crate::reader::Kind;
 use bytes::Bytes;
-use js_base::{HeaderMap, Message, OutOfMemory, StatusCode, Subject, Text};
+use js_base::{HeaderMap, Message, OutOfMemory, StatusCode, Subject, Text, all_3, both};
 use js_json::consumer::Info;
 use js_json::{Response, response_as};
 use js_table::Settings;
@@ -10,9 +10,13 @@ use std::alloc::Global;
 
 /// The settings of every reader.
 pub fn settings(alloc: Global) -> Result<Settings, OutOfMemory> {
+    let (api_prefix, inbox_prefix) = both(
+        Text::from_str(alloc, "$JS.API"),
+        Text::from_str(alloc, "_INBOX.t"),
+    )?;
     Ok(Settings {
-        api_prefix: Text::from_str(alloc, "$JS.API")?,
-        inbox_prefix: Text::from_str(alloc, "_INBOX.t")?,
+        api_prefix,
+        inbox_prefix,
         context_timeout: None,
         request_timeout: Some(10_000_000_000),
         retries: 0,
@@ -46,7 +50,9 @@ fn answered<T: Drop, E: Drop>(read: Result<Response<T>, E>) -> Result<T, OutOfMe
 /// What the server tells of the first consumer.
 pub fn first_info(alloc: Global, kind: Kind) -> Result<Info, OutOfMemory> {
     let text = info_text(alloc, "c1", kind)?;
-    answered(response_as(alloc, text.as_bytes()))
+    let read = response_as(alloc, text.as_bytes());
+    drop(text);
+    answered(read)
 }
 
 fn message(alloc: Global, payload: &str, reply: Option<Subject>) -> Result<Message, OutOfMemory> {
@@ -93,9 +99,11 @@ pub fn status(
     header: &str,
     number: u64,
 ) -> Result<Message, OutOfMemory> {
-    let description = Text::from_str(alloc, description)?;
-    let headers = headers(alloc, header, number)?;
-    let mut message = plain(alloc, "")?;
+    let (description, headers, mut message) = all_3(
+        Text::from_str(alloc, description),
+        headers(alloc, header, number),
+        plain(alloc, ""),
+    )?;
     say(&mut message, code, description, headers);
     Ok(message)
 }
@@ -103,6 +111,8 @@ pub fn status(
 fn headers(alloc: Global, name: &str, number: u64) -> Result<HeaderMap, OutOfMemory> {
     let number = format!(in alloc; "{number}")?;
     let mut headers = HeaderMap::new(alloc);
-    headers.insert(alloc, name, number.as_str())?;
+    let inserted = headers.insert(alloc, name, number.as_str());
+    drop(number);
+    inserted?;
     Ok(headers)
 }

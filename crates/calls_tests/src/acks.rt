@@ -6,7 +6,7 @@ ghost use Rattle.js_context.specs.Contexts.{ContextView};
 
 use crate::publishes::{SECOND, STORED, answer_of, number, opened, published};
 use crate::server::{Answered, NOBODY, Reply, Words, found_word, message, word};
-use crate::tables::{joined, says};
+use crate::tables::{joined, says, settled_word};
 use bytes::Bytes;
 use js_base::{Message, Moment, Nanos, OutOfMemory, Turn};
 use js_context::{Context, PublishAckFuture, Sending};
@@ -27,7 +27,14 @@ fn went<R: Wait, L: Link>(
 {
     match sending.poll(rt, alloc, context, link, 0) {
         Turn::Ready(Ok(future)) => Some(future),
-        _ => None,
+        Turn::Ready(Err(error)) => {
+            drop(error);
+            None
+        }
+        Turn::Pending(sending) | Turn::OutOfMemory(sending) => {
+            drop(sending);
+            None
+        }
     }
 }
 
@@ -96,7 +103,10 @@ fn still<R: Wait, L: Link>(
             future.detach(context);
             None
         }
-        Turn::Ready(_) => None,
+        Turn::Ready(answer) => {
+            drop(answer);
+            None
+        }
     }
 }
 
@@ -115,15 +125,6 @@ fn ended<R: Wait>(
     end_of(rt, alloc, context, link, 9, future)
 }
 
-/// The word of an ack, where all permits are free.
-fn settled_word(alloc: Global, text: String, is_settled: bool) -> Words {
-    if is_settled {
-        Ok(text)
-    } else {
-        Ok(format!(in alloc; "{text}, and a permit is out")?)
-    }
-}
-
 fn answered_over<R: Wait>(
     rt: &R,
     alloc: Global,
@@ -134,7 +135,10 @@ fn answered_over<R: Wait>(
     let answer = answer_of(alloc, reply)?;
     match sent(rt, alloc, context, link) {
         Some(future) => ended(rt, alloc, context, link, answer, future),
-        None => word(alloc, "unsent"),
+        None => {
+            drop(answer);
+            word(alloc, "unsent")
+        }
     }
 }
 
@@ -145,14 +149,17 @@ fn answered_by<R: Wait>(
     reply: Option<Reply>,
 ) -> Words {
     let mut link = MemoryLink::new(alloc, "_INBOX.t")?;
-    let text = answered_over(rt, alloc, context, &mut link, reply)?;
-    settled_word(alloc, text, context.acks_settled(rt))
+    let text = answered_over(rt, alloc, context, &mut link, reply);
+    drop(link);
+    settled_word(alloc, text?, context.acks_settled(rt))
 }
 
 /// What an ack comes to that is answered so. Where its permit is not free then, that is told too.
 fn answered<R: Wait>(rt: &R, alloc: Global, reply: Option<Reply>) -> Words {
     let mut context = opened(rt, alloc, 1, true)?;
-    answered_by(rt, alloc, &mut context, reply)
+    let words = answered_by(rt, alloc, &mut context, reply);
+    drop(context);
+    words
 }
 
 /// What is answered, and what the ack then comes to.
@@ -275,8 +282,9 @@ fn unanswered_by<R: Wait>(
     moments: (Moments, Moments),
 ) -> Words {
     let mut link = MemoryLink::new(alloc, "_INBOX.t")?;
-    let text = both_wait(rt, alloc, context, &mut link, timeout, moments)?;
-    settled_word(alloc, text, context.acks_settled(rt))
+    let text = both_wait(rt, alloc, context, &mut link, timeout, moments);
+    drop(link);
+    settled_word(alloc, text?, context.acks_settled(rt))
 }
 
 fn unanswered<R: Wait>(
@@ -286,7 +294,9 @@ fn unanswered<R: Wait>(
     moments: (Moments, Moments),
 ) -> Words {
     let mut context = opened(rt, alloc, 1, true)?;
-    unanswered_by(rt, alloc, &mut context, timeout, moments)
+    let words = unanswered_by(rt, alloc, &mut context, timeout, moments);
+    drop(context);
+    words
 }
 
 const BOTH_LATE: &str =
@@ -364,17 +374,22 @@ fn turns_of<R: Wait>(rt: &R, alloc: Global, first: &mut Context, second: &mut Co
     let mut link = MemoryLink::new(alloc, "_INBOX.t")?;
     let early = after_sending(rt, alloc, first, second, &mut link);
     let late = published(rt, alloc, second, &mut link, "events.new");
+    drop(link);
     joined(alloc, early, late)
 }
 
 fn turns_with<R: Wait>(rt: &R, alloc: Global, first: &mut Context) -> Words {
     let mut second = first.split(rt, alloc)?;
-    turns_of(rt, alloc, first, &mut second)
+    let words = turns_of(rt, alloc, first, &mut second);
+    drop(second);
+    words
 }
 
 fn turns<R: Wait>(rt: &R, alloc: Global) -> Words {
     let mut first = opened(rt, alloc, 1, false)?;
-    turns_with(rt, alloc, &mut first)
+    let words = turns_with(rt, alloc, &mut first);
+    drop(first);
+    words
 }
 
 #[test]

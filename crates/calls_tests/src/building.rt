@@ -120,7 +120,9 @@ const MADE: &[(Made, &str)] = &[
 fn set<R: Wait>(rt: &R, alloc: Global) -> Words {
     let mut context = Context::with_domain(rt, alloc, "hub")?;
     context.set_timeout(7);
-    context.word(alloc)
+    let words = context.word(alloc);
+    drop(context);
+    words
 }
 
 #[test]

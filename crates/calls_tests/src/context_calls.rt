@@ -4,7 +4,7 @@ use crate::consumers::{created, created_strictly, got_pull, updated};
 use crate::lists::next;
 use crate::server::{Answered, Words, polled, word};
 use crate::stream_calls::{self, config};
-use js_base::{OutOfMemory, Text, TryClone};
+use js_base::{OutOfMemory, Text, TryClone, both};
 use js_call::{ApiScope, RawCall, RawRequest};
 use js_context::{Context, Requester};
 use js_fields::{FromValue, ReadError, value_of};
@@ -59,7 +59,11 @@ fn listed<T: Listed + Answered, L: Link>(
     list: Result<Listing<T>, OutOfMemory>,
 ) -> Words {
     match list {
-        Ok(mut list) => next(alloc, &mut list, link),
+        Ok(mut list) => {
+            let words = next(alloc, &mut list, link);
+            drop(list);
+            words
+        }
         Err(OutOfMemory) => Err(OutOfMemory),
     }
 }
@@ -85,8 +89,7 @@ fn handle_of(scope: ApiScope, name: Text, info: stream::Info) -> StreamHandle<st
 
 /// The handle of the stream `events`. Its texts are made before what is known of it, which is large.
 fn known(alloc: Global, context: &Context) -> Result<StreamHandle<stream::Info>, ReadError> {
-    let scope = context.scope().try_clone()?;
-    let name = Text::from_str(alloc, "events")?;
+    let (scope, name) = both(context.scope().try_clone(), Text::from_str(alloc, "events"))?;
     Ok(handle_of(scope, name, info(alloc)?))
 }
 
@@ -95,7 +98,10 @@ fn keeping(
     context: &Context,
     handle: &StreamHandle<stream::Info>,
 ) -> Result<UpdateStream, OutOfMemory> {
-    context.update_stream_keeping(alloc, handle, &config(alloc, "events")?)
+    let config = config(alloc, "events")?;
+    let call = context.update_stream_keeping(alloc, handle, &config);
+    drop(config);
+    call
 }
 
 fn update_by<L: Link>(
@@ -109,7 +115,11 @@ fn update_by<L: Link>(
 
 fn update_keeping<L: Link>(alloc: Global, context: &Context, link: &mut L) -> Words {
     match known(alloc, context) {
-        Ok(handle) => update_by(alloc, context, link, &handle),
+        Ok(handle) => {
+            let words = update_by(alloc, context, link, &handle);
+            drop(handle);
+            words
+        }
         Err(_) => word(alloc, "unread"),
     }
 }
@@ -138,7 +148,10 @@ fn create_or_update_stream<L: Link>(alloc: Global, context: &Context, link: &mut
 }
 
 fn updating(alloc: Global, context: &Context) -> Result<UpdateStream, OutOfMemory> {
-    context.update_stream(alloc, &config(alloc, "events")?)
+    let config = config(alloc, "events")?;
+    let call = context.update_stream(alloc, &config);
+    drop(config);
+    call
 }
 
 fn update_stream<L: Link>(alloc: Global, context: &Context, link: &mut L) -> Words {

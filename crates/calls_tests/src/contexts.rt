@@ -114,13 +114,17 @@ fn asked_over(
 
 fn asked_by(alloc: Global, context: &Context, call: Call, request: Asked) -> Words {
     let mut link = MemoryLink::new(alloc, "_INBOX.t")?;
-    asked_over(alloc, context, &mut link, call, request)
+    let words = asked_over(alloc, context, &mut link, call, request);
+    drop(link);
+    words
 }
 
 /// What the first poll of a call comes to. Where it sends anything but that request, that is told too.
 fn asked<R: Wait>(rt: &R, alloc: Global, call: Call, request: Asked) -> Words {
     let context = Context::with_domain(rt, alloc, "hub")?;
-    asked_by(alloc, &context, call, request)
+    let words = asked_by(alloc, &context, call, request);
+    drop(context);
+    words
 }
 
 #[test]
@@ -170,12 +174,16 @@ fn both_send(alloc: Global, context: &Context, link: &mut MemoryLink) -> bool {
 
 fn sends_by(alloc: Global, context: &Context) -> Result<bool, OutOfMemory> {
     let mut link = MemoryLink::new(alloc, "_INBOX.t")?;
-    Ok(both_send(alloc, context, &mut link))
+    let sends = both_send(alloc, context, &mut link);
+    drop(link);
+    Ok(sends)
 }
 
 fn sends<R: Wait>(rt: &R, alloc: Global) -> Result<bool, OutOfMemory> {
     let context = Context::with_domain(rt, alloc, "hub")?;
-    sends_by(alloc, &context)
+    let sends = sends_by(alloc, &context);
+    drop(context);
+    sends
 }
 
 fn has_prefix<C: ClientProvider>(context: &C, prefix: &str) -> bool {
@@ -207,7 +215,9 @@ fn provides_by(alloc: Global, context: &mut Context) -> Result<bool, OutOfMemory
 /// Whether a context is what its traits say.
 fn provides<R: Wait>(rt: &R, alloc: Global) -> Result<bool, OutOfMemory> {
     let mut context = Context::new(rt, alloc)?;
-    provides_by(alloc, &mut context)
+    let provides = provides_by(alloc, &mut context);
+    drop(context);
+    provides
 }
 
 /// The name and the prefix of the handle that is had without asking.
@@ -217,7 +227,9 @@ fn handle_by(alloc: Global, context: &Context) -> Words {
 
 fn handle<R: Wait>(rt: &R, alloc: Global) -> Words {
     let context = Context::with_domain(rt, alloc, "hub")?;
-    handle_by(alloc, &context)
+    let words = handle_by(alloc, &context);
+    drop(context);
+    words
 }
 
 #[test]

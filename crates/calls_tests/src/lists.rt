@@ -51,7 +51,10 @@ pub(crate) fn next<T: Listed + Answered, L: Link>(
     list: &mut Listing<T>,
     link: &mut L,
 ) -> Words {
-    next_word(alloc, &list.poll_next(alloc, link, 0))
+    let next = list.poll_next(alloc, link, 0);
+    let words = next_word(alloc, &next);
+    drop(next);
+    words
 }
 
 /// Adds what the next poll hands out to the words before it, as a line.
@@ -86,7 +89,11 @@ fn listed<T: Listed + Answered, L: Link>(
     polls: u64,
 ) -> Words {
     match list {
-        Ok(mut list) => handed_out(alloc, &mut list, link, polls),
+        Ok(mut list) => {
+            let words = handed_out(alloc, &mut list, link, polls);
+            drop(list);
+            words
+        }
         Err(OutOfMemory) => Err(OutOfMemory),
     }
 }

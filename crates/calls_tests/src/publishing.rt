@@ -132,12 +132,16 @@ fn run_over<R: Wait>(
 /// What a context comes to, step by step, each word with a line's end.
 fn run_in<R: Wait>(rt: &R, alloc: Global, context: &mut Context, steps: &[Step]) -> Words {
     let mut link = MemoryLink::new(alloc, "_INBOX.t")?;
-    run_over(rt, alloc, context, &mut link, steps)
+    let words = run_over(rt, alloc, context, &mut link, steps);
+    drop(link);
+    words
 }
 
 fn run<R: Wait>(rt: &R, alloc: Global, capacity: u64, backpressure: bool, steps: &[Step]) -> Words {
     let mut context = opened(rt, alloc, capacity, backpressure)?;
-    run_in(rt, alloc, &mut context, steps)
+    let words = run_in(rt, alloc, &mut context, steps);
+    drop(context);
+    words
 }
 
 /// How many permits a context has, whether it waits for them, what befalls it, and what it comes to.
@@ -220,7 +224,9 @@ const RUNS: &[(u64, bool, &[Step], &str)] = &[
 
 fn run_limited<R: Wait>(rt: &R, alloc: Global, limit: Option<u64>, steps: &[Step]) -> Words {
     let mut context = opened_limited(rt, alloc, limit)?;
-    run_in(rt, alloc, &mut context, steps)
+    let words = run_in(rt, alloc, &mut context, steps);
+    drop(context);
+    words
 }
 
 /// The second of two acks is answered, and then the first.

@@ -3,7 +3,7 @@
 use crate::server::{Reply, Words, ended, message, polled, scope, still, waited, word};
 use crate::tables::{paired, same, says};
 use bytes::Bytes;
-use js_base::{Message, Nanos, OutOfMemory, Subject};
+use js_base::{Message, Nanos, OutOfMemory, Subject, both};
 use js_call::{ApiRequest, ApiScope, RawCall, RawRequest, SendError};
 use js_link::{Link, MemoryLink, RequestId, Sent};
 use serde_json::Value;
@@ -69,13 +69,15 @@ fn replied_by(alloc: Global, link: &mut MemoryLink, call: ApiRequest, reply: Mes
 }
 
 fn replied_over(alloc: Global, link: &mut MemoryLink, scope: &ApiScope, reply: Reply) -> Words {
-    let reply = message(alloc, reply)?;
-    replied_by(alloc, link, request(alloc, scope)?, reply)
+    let (reply, call) = both(message(alloc, reply), request(alloc, scope))?;
+    replied_by(alloc, link, call, reply)
 }
 
 fn replied_in(alloc: Global, scope: &ApiScope, reply: Reply) -> Words {
     let mut link = MemoryLink::new(alloc, "_INBOX.t")?;
-    replied_over(alloc, &mut link, scope, reply)
+    let words = replied_over(alloc, &mut link, scope, reply);
+    drop(link);
+    words
 }
 
 fn replied(alloc: Global, reply: Reply) -> Words {
@@ -91,7 +93,9 @@ fn unanswered_over<L: Link>(alloc: Global, link: &mut L, scope: &ApiScope) -> Wo
 
 fn unanswered_in(alloc: Global, scope: &ApiScope) -> Words {
     let mut link = MemoryLink::new(alloc, "_INBOX.t")?;
-    unanswered_over(alloc, &mut link, scope)
+    let words = unanswered_over(alloc, &mut link, scope);
+    drop(link);
+    words
 }
 
 fn unanswered(alloc: Global) -> Words {
@@ -204,6 +208,7 @@ fn says_over(
 fn says_tested(rt: &impl Abort, alloc: Global, asked: Asked, wanted: &str, sent: &str) {
     let mut link = MemoryLink::new(alloc, "_INBOX.t").expect(rt, "a link");
     says_over(rt, alloc, &mut link, asked, wanted, sent);
+    drop(link);
 }
 
 #[test]
@@ -260,6 +265,7 @@ fn says_sends(rt: &impl Abort, alloc: Global, link: &mut MemoryLink) {
 fn says_sent(rt: &impl Abort, alloc: Global) {
     let mut link = MemoryLink::new(alloc, "_INBOX.t").expect(rt, "a link");
     says_sends(rt, alloc, &mut link);
+    drop(link);
 }
 
 /// The timeout with which a lost consumer is made anew.

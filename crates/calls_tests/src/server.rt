@@ -184,7 +184,10 @@ where
     A: Answered + Drop,
     K: Display + Drop,
 {
-    turn_word(alloc, &call.poll(alloc, link, now))
+    let turn = call.poll(alloc, link, now);
+    let words = turn_word(alloc, &turn);
+    drop(turn);
+    words
 }
 
 /// What the first poll of a call comes to.
@@ -317,5 +320,7 @@ fn outcome_at<C: Case>(
 /// What a call comes to over a server that answers so. Where it asks anything else, that is told too.
 pub(crate) fn outcome<C: Case>(alloc: Global, call: C, script: &[(Asked, Reply)]) -> Words {
     let mut server = silent(alloc)?;
-    outcome_at(alloc, &mut server, call, script)
+    let words = outcome_at(alloc, &mut server, call, script);
+    drop(server);
+    words
 }

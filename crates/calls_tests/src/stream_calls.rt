@@ -1,7 +1,7 @@
 //! Calls on streams, as they are made and polled once.
 
 use crate::server::{Followed, Words, call_again, found_word, polled, scope};
-use js_base::{Items, OutOfMemory, Text, TryClone};
+use js_base::{Items, OutOfMemory, Text, TryClone, all_3};
 use js_call::ApiScope;
 use js_link::Link;
 use js_stream_calls::{
@@ -11,6 +11,7 @@ use js_stream_calls::{
 };
 use js_stream_json::stream::{Config, External, Info, Source};
 use std::alloc::Global;
+use std::mem;
 
 pub(crate) const PREFIX: &str = "$JS.API";
 
@@ -36,7 +37,10 @@ pub(crate) fn creating(
 }
 
 fn updating(alloc: Global, scope: &ApiScope, name: &str) -> Result<UpdateStream, OutOfMemory> {
-    update_stream(alloc, scope, &config(alloc, name)?)
+    let config = config(alloc, name)?;
+    let call = update_stream(alloc, scope, &config);
+    drop(config);
+    call
 }
 
 /// What the first poll of the call comes to.
@@ -109,7 +113,9 @@ fn keeping(
     max_age: u64,
 ) -> Result<UpdateStream, OutOfMemory> {
     let config = with_age(&handle.info.config, max_age)?;
-    update_stream_keeping(alloc, &handle.scope, handle, &config)
+    let call = update_stream_keeping(alloc, &handle.scope, handle, &config);
+    drop(config);
+    call
 }
 
 impl Followed for StreamHandle<Info> {
@@ -151,9 +157,12 @@ fn source(name: Text, domain: Text, external: Option<External>) -> Source {
 
 /// The stream `orders` of the domain `hub`, maybe with an external too.
 fn hub(alloc: Global, has_external: bool) -> Result<Source, OutOfMemory> {
-    let name = Text::from_str(alloc, "orders")?;
-    let domain = Text::from_str(alloc, "hub")?;
-    Ok(source(name, domain, external(alloc, has_external)?))
+    let (name, domain, external) = all_3(
+        Text::from_str(alloc, "orders"),
+        Text::from_str(alloc, "hub"),
+        external(alloc, has_external),
+    )?;
+    Ok(source(name, domain, external))
 }
 
 /// That item alone.
@@ -169,18 +178,19 @@ fn hubs(alloc: Global, has_external: bool) -> Result<Items<Source>, OutOfMemory>
 
 /// The configuration of the stream that copies these.
 fn copy_of(alloc: Global, name: Text, mirror: Source, sources: Items<Source>) -> Config {
-    Config {
-        name,
-        mirror: Some(mirror),
-        sources: Some(sources),
-        ..Config::new(alloc)
-    }
+    let mut config = Config::new(alloc);
+    drop(mem::replace(&mut config.name, name));
+    drop(mem::replace(&mut config.mirror, Some(mirror)));
+    drop(mem::replace(&mut config.sources, Some(sources)));
+    config
 }
 
 fn copying(alloc: Global, mirror: bool, source: bool) -> Result<Config, OutOfMemory> {
-    let name = Text::from_str(alloc, "events")?;
-    let mirror = hub(alloc, mirror)?;
-    let sources = hubs(alloc, source)?;
+    let (name, mirror, sources) = all_3(
+        Text::from_str(alloc, "events"),
+        hub(alloc, mirror),
+        hubs(alloc, source),
+    )?;
     Ok(copy_of(alloc, name, mirror, sources))
 }
 

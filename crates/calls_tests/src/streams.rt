@@ -333,12 +333,16 @@ fn left_over(alloc: Global, link: &mut MemoryLink, scope: &ApiScope) -> Words {
 
 fn late(alloc: Global, scope: &ApiScope) -> Words {
     let mut link = MemoryLink::new(alloc, "_INBOX.t")?;
-    late_over(alloc, &mut link, scope)
+    let words = late_over(alloc, &mut link, scope);
+    drop(link);
+    words
 }
 
 fn left(alloc: Global, scope: &ApiScope) -> Words {
     let mut link = MemoryLink::new(alloc, "_INBOX.t")?;
-    left_over(alloc, &mut link, scope)
+    let words = left_over(alloc, &mut link, scope);
+    drop(link);
+    words
 }
 
 #[test]

@@ -1,7 +1,7 @@
 //! What the rows of the tests' tables say.
 
 use crate::words::Words;
-use js_base::OutOfMemory;
+use js_base::{OutOfMemory, both};
 use std::alloc::Global;
 use std::fmt::{Debug, Display};
 use std::process::Abort;
@@ -23,9 +23,20 @@ pub(crate) fn paired(alloc: Global, first: &str, second: &str) -> Words {
 
 /// Two words, with a comma between them.
 pub(crate) fn joined(alloc: Global, first: Words, second: Words) -> Words {
-    let first = first?;
-    let second = second?;
-    Ok(format!(in alloc; "{first}, {second}")?)
+    let (first, second) = both(first, second)?;
+    let words = format!(in alloc; "{first}, {second}");
+    drop(second);
+    drop(first);
+    Ok(words?)
+}
+
+/// The word of an ack, where all permits are free.
+pub(crate) fn settled_word(alloc: Global, text: String, is_settled: bool) -> Words {
+    if is_settled {
+        Ok(text)
+    } else {
+        Ok(format!(in alloc; "{text}, and a permit is out")?)
+    }
 }
 
 /// Adds a word with a line's end.

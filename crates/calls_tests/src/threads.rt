@@ -64,14 +64,20 @@ fn hold_over<R: Wait>(
 
 fn hold_by<R: Wait>(rt: &R, alloc: Global, holder: &mut Context, stage: &AtomicU64) -> u64 {
     match MemoryLink::new(alloc, "_INBOX.t") {
-        Ok(mut link) => hold_over(rt, alloc, holder, &mut link, stage),
+        Ok(mut link) => {
+            let reaped = hold_over(rt, alloc, holder, &mut link, stage);
+            drop(link);
+            reaped
+        }
         Err(OutOfMemory) => 0,
     }
 }
 
 /// Takes a permit, and gives it back once the other thread waits. How many were given back.
 fn hold<R: Wait + AllocGlobal>(rt: &R, mut holder: Context, stage: &AtomicU64) -> u64 {
-    hold_by(rt, rt.alloc(), &mut holder, stage)
+    let reaped = hold_by(rt, rt.alloc(), &mut holder, stage);
+    drop(holder);
+    reaped
 }
 
 /// Waits for the other thread's permit. Whether it was out at first, and all are free at the end.
@@ -86,7 +92,9 @@ fn wait_by<R: Wait>(rt: &R, waiter: &mut Context, stage: &AtomicU64) -> bool {
 }
 
 fn wait<R: Wait>(rt: &R, mut waiter: Context, stage: &AtomicU64) -> bool {
-    wait_by(rt, &mut waiter, stage)
+    let settled = wait_by(rt, &mut waiter, stage);
+    drop(waiter);
+    settled
 }
 
 #[test]

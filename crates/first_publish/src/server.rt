@@ -7,7 +7,9 @@ use jetstream::link::{OutboxLink, Outgoing, PlainMessage, received};
 pub fn serve(rt: &(impl Print + AllocGlobal), link: &mut OutboxLink) -> Result<(), AnyError> {
     for _ in 0..link.outgoing_len() {
         if let Some(item) = link.next_outgoing() {
-            answer(rt, link, &item)?;
+            let answered = answer(rt, link, &item);
+            drop(item);
+            answered?;
         }
     }
     Ok(())

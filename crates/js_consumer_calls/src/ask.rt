@@ -21,12 +21,10 @@ pub(crate) fn ask_consumer(
     ensures { IfOk result (λ call. call ≡ asking scope.now (of_consumer words.now stream.now consumer.now) (codes "{}")) }
 {
     let on_stream = with_word(alloc, words, stream)?;
-    scope.ask_named(
-        alloc,
-        on_stream.as_str(),
-        consumer,
-        Bytes::from_static(b"{}"),
-    )
+    let body = Bytes::from_static(b"{}");
+    let asked = scope.ask_named(alloc, on_stream.as_str(), consumer, body);
+    drop(on_stream);
+    asked
 }
 
 /// The call of that row of the table, by such a request. It is generic over the row, so that it does not open it.

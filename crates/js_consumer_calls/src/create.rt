@@ -52,11 +52,15 @@ impl<C: FromConsumer, K: CreateKind> ApiCall for CreatingConsumer<C, K> {
     {
         match reply {
             Response::Ok(told) => told.into_consumer(self.scope, K::other()),
-            Response::Err { error } => Err(K::of_api(error)),
+            Response::Err { error } => {
+                drop(self);
+                Err(K::of_api(error))
+            }
         }
     }
 
     fn failure(self, failure: Failure, source: Source) -> Result<Consumer<C>, Error<K>> {
+        drop(self);
         Err(Error::with_source(K::of_request(failure.kind()), source))
     }
 }

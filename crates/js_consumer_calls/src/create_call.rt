@@ -75,7 +75,9 @@ fn ask_create(
 {
     let body = Bytes::copy_from_slice(alloc, text.as_bytes())?;
     let subject = create_subject(alloc, request.stream_name.as_str(), &request.config)?;
-    scope.ask(alloc, subject.as_str(), body)
+    let asked = scope.ask(alloc, subject.as_str(), body);
+    drop(subject);
+    asked
 }
 
 /// The call that makes a consumer, with that body.
@@ -110,7 +112,11 @@ fn make<C: FromConsumer, K: CreateKind>(
     ensures { IfOk result (λ call. Makes K.kinds scope.now request.now call) }
 {
     match request.to_text(alloc) {
-        Ok(text) => Ok(CreateCall::Asking(creating(alloc, scope, request, text.as_str())?)),
+        Ok(text) => {
+            let asking = creating(alloc, scope, request, text.as_str());
+            drop(text);
+            Ok(CreateCall::Asking(asking?))
+        }
         Err(ReadError::OutOfMemory) => Err(OutOfMemory),
         Err(fault) => Ok(CreateCall::Refused(unwritten(alloc, fault)?)),
     }

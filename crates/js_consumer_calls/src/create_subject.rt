@@ -28,11 +28,15 @@ pub(crate) fn create_subject(
     let words = with_word(alloc, "CONSUMER.CREATE", stream)?;
     match name_of(config) {
         None => Ok(words),
-        Some(name) => Ok(named_subject(
-            alloc,
-            words.as_str(),
-            name.as_str(),
-            config.filter_subject.as_str(),
-        )?),
+        Some(name) => {
+            let subject = named_subject(
+                alloc,
+                words.as_str(),
+                name.as_str(),
+                config.filter_subject.as_str(),
+            );
+            drop(words);
+            Ok(subject?)
+        }
     }
 }

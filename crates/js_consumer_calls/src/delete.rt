@@ -6,7 +6,7 @@ use crate::ask::call_on;
 use crate::create_kind::consumer_failure;
 use crate::error::{ConsumerError, ConsumerErrorKind};
 use crate::refusal::delete_refusal;
-use js_base::{Error, OutOfMemory, Source, Text};
+use js_base::{Error, OutOfMemory, Source, Text, both};
 use js_call::{ApiCall, ApiScope, Call, Failure};
 use js_fields::ReadError;
 use js_json::{Response, response_as};
@@ -42,6 +42,7 @@ impl ApiCall for DeletingConsumer {
     }
 
     fn answer(self, reply: Response<DeleteStatus>) -> Result<DeleteStatus, ConsumerError> {
+        drop(self);
         match reply {
             Response::Ok(status) => Ok(status),
             Response::Err { error } => Err(Error::new(ConsumerErrorKind::JetStream(error))),
@@ -49,6 +50,7 @@ impl ApiCall for DeletingConsumer {
     }
 
     fn failure(self, failure: Failure, source: Source) -> Result<DeleteStatus, ConsumerError> {
+        drop(self);
         Err(Error::with_source(consumer_failure(failure.kind()), source))
     }
 }
@@ -61,10 +63,11 @@ fn deleting_row(
 ) -> Result<DeletingConsumer, OutOfMemory>
     ensures { IfOk result (λ row. row ≡ record { consumer = consumer.now; stream = stream.now }) }
 {
-    Ok(DeletingConsumer {
-        consumer: Text::from_str(alloc, consumer)?,
-        stream: Text::from_str(alloc, stream)?,
-    })
+    let (consumer, stream) = both(
+        Text::from_str(alloc, consumer),
+        Text::from_str(alloc, stream),
+    )?;
+    Ok(DeletingConsumer { consumer, stream })
 }
 
 /// Deletes a consumer of a stream. The one refusal here is want of memory; others come from the first poll.

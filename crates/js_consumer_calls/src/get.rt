@@ -8,7 +8,7 @@ use crate::consumer_answer::ConsumerAnswer;
 use crate::create_kind::consumer_failure;
 use crate::error::{ConsumerError, ConsumerErrorKind};
 use crate::refusal::get_refusal;
-use js_base::{Error, OutOfMemory, Source, Text, TryClone};
+use js_base::{Error, OutOfMemory, Source, Text, TryClone, all_3};
 use js_call::{ApiCall, ApiScope, Call, Failure};
 use js_fields::ReadError;
 use js_json::consumer::FromConsumer;
@@ -49,15 +49,25 @@ impl<T: FromConsumer> ApiCall for GettingConsumer<T> {
     fn answer(self, reply: Response<ConsumerAnswer<T>>) -> Result<Consumer<T>, ConsumerError>
         ensures { result ≡ got self reply }
     {
+        let GettingConsumer {
+            scope,
+            consumer,
+            stream,
+            of: _,
+        } = self;
+        drop(consumer);
+        drop(stream);
         match reply {
-            Response::Ok(told) => {
-                told.into_consumer(self.scope, ConsumerErrorKind::InvalidConsumerType)
+            Response::Ok(told) => told.into_consumer(scope, ConsumerErrorKind::InvalidConsumerType),
+            Response::Err { error } => {
+                drop(scope);
+                Err(Error::new(ConsumerErrorKind::JetStream(error)))
             }
-            Response::Err { error } => Err(Error::new(ConsumerErrorKind::JetStream(error))),
         }
     }
 
     fn failure(self, failure: Failure, source: Source) -> Result<Consumer<T>, ConsumerError> {
+        drop(self);
         Err(Error::with_source(consumer_failure(failure.kind()), source))
     }
 }
@@ -71,10 +81,15 @@ fn getting_row<T>(
 ) -> Result<GettingConsumer<T>, OutOfMemory>
     ensures { IfOk result (λ row. row ≡ record { scope = scope.now; consumer = consumer.now; stream = stream.now; of = record {} }) }
 {
+    let (scope, consumer, stream) = all_3(
+        scope.try_clone(),
+        Text::from_str(alloc, consumer),
+        Text::from_str(alloc, stream),
+    )?;
     Ok(GettingConsumer {
-        scope: scope.try_clone()?,
-        consumer: Text::from_str(alloc, consumer)?,
-        stream: Text::from_str(alloc, stream)?,
+        scope,
+        consumer,
+        stream,
         of: PhantomData,
     })
 }

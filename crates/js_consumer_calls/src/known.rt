@@ -4,7 +4,7 @@ ghost use Rattle.std.specs.Fmt.{decimal};
 ghost use Rattle.js_consumer_calls.specs.Asking.{asking_on, reset_body};
 
 use bytes::Bytes;
-use js_base::OutOfMemory;
+use js_base::{OutOfMemory, both};
 use js_call::{ApiScope, RawCall};
 use js_json::consumer::Info;
 use js_subjects::of_consumer;
@@ -20,8 +20,11 @@ pub(crate) fn ask_on(
 ) -> Result<RawCall, OutOfMemory>
     ensures { IfOk result (λ asked. asked ≡ asking_on scope.now words.now info.now body) }
 {
-    let subject = of_consumer(alloc, words, info.stream_name.as_str(), info.name.as_str())?;
-    scope.ask(alloc, subject.as_str(), body)
+    let subject = of_consumer(alloc, words, info.stream_name.as_str(), info.name.as_str());
+    let (body, subject) = both(Ok(body), subject)?;
+    let asked = scope.ask(alloc, subject.as_str(), body);
+    drop(subject);
+    asked
 }
 
 fn reset_text(alloc: Global, sequence: u64) -> Result<String, OutOfMemory>

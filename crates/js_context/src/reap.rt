@@ -14,10 +14,12 @@ use std::sync::Wait;
 fn is_settled(shown: Shown) -> bool
     ensures { result ≡ is_settled shown }
 {
-    match shown {
+    let settled = match &shown {
         Shown::Came(_) | Shown::Gone | Shown::Due => true,
         Shown::Still => false,
-    }
+    };
+    drop(shown);
+    settled
 }
 
 impl Context {

@@ -201,7 +201,10 @@ impl Seen {
         match mem::replace(self, Seen::Nothing) {
             Seen::Message { message, .. } => Some(message),
             Seen::Nothing => None,
-            Seen::Reply(_) => None,
+            Seen::Reply(reply) => {
+                drop(reply);
+                None
+            }
         }
     }
 }

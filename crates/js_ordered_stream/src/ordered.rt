@@ -268,14 +268,16 @@ impl Ordered {
             moment: now,
             what: &tick,
         };
-        pass_first(
+        let passed = pass_first(
             alloc,
             &context,
             link,
             &mut self.consumer,
             &self.left.todo,
             &mut self.left.seen,
-        )
+        );
+        drop(tick);
+        passed
     }
 
     /// A closed inbox ends the stream.

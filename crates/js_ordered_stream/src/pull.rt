@@ -41,7 +41,9 @@ fn first_source(alloc: Global, given: &ReplayInput) -> Result<Source, OutOfMemor
         what: &tick,
     };
     let unknown = Subject::from(String::new(alloc));
-    texts::source_of(&context, 0, 0, unknown, &given.first)
+    let source = texts::source_of(&context, 0, 0, unknown, &given.first);
+    drop(tick);
+    source
 }
 
 /// A reader that reads this inbox, and has read nothing yet.

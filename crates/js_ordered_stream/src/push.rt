@@ -85,14 +85,6 @@ fn open_consumer<L: Link>(
     ensures { ListensFirst result given.now (L.view link.old) (L.view link.new) }
 {
     let name = given.first.name.try_clone()?;
-    let tick = EventKind::Tick;
-    let context = EventContext {
-        settings: &given.settings,
-        setup: &given.setup,
-        first: &given.first,
-        moment: 0,
-        what: &tick,
-    };
     match subscribe(alloc, link, &given.first) {
         Err(refused) => {
             drop(name);
@@ -101,7 +93,16 @@ fn open_consumer<L: Link>(
         Ok(inbox) => {
             let start = given.setup.configured_start();
             let mut consumer = ordered::first_consumer(start, name, Phase::Idle);
+            let tick = EventKind::Tick;
+            let context = EventContext {
+                settings: &given.settings,
+                setup: &given.setup,
+                first: &given.first,
+                moment: 0,
+                what: &tick,
+            };
             listen(&context, &mut consumer, inbox);
+            drop(tick);
             Ok(consumer)
         }
     }

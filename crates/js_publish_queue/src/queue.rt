@@ -49,12 +49,14 @@ impl Drop for PublishQueue {
     fn drop(self) {
         let PublishQueue {
             mut context,
-            unsent: _,
+            unsent,
             flying,
             next: _,
             patience: _,
         } = self;
         detach_all(&mut context, flying);
+        drop(context);
+        drop(unsent);
     }
 }
 
@@ -101,6 +103,7 @@ impl PublishQueue {
         ensures err { OnErr result (self.new ≡ self.old) }
     {
         let Some(next) = self.next.checked_add(1) else {
+            drop(message);
             return Err(OutOfMemory);
         };
         let tag = Tag(self.next);

@@ -56,8 +56,14 @@ pub(crate) fn try_to_send<R: Wait, L: Link>(
     match Sending::new(copy).poll(rt, alloc, context, link, now) {
         Turn::Ready(Ok(future)) => Tried::Went(future),
         Turn::Ready(Err(error)) => refused(error, message),
-        Turn::Pending(_) => Tried::Stays(PublishErrorKind::MaxAckPending),
-        Turn::OutOfMemory(_) => Tried::NoMemory,
+        Turn::Pending(sending) => {
+            drop(sending);
+            Tried::Stays(PublishErrorKind::MaxAckPending)
+        }
+        Turn::OutOfMemory(sending) => {
+            drop(sending);
+            Tried::NoMemory
+        }
     }
 }
 
@@ -67,6 +73,7 @@ fn refused(error: PublishError, message: &OutboundMessage) -> Tried
 {
     let kind = *error.kind();
     if may_go_later(kind, message) {
+        drop(error);
         Tried::Stays(kind)
     } else {
         Tried::Fails(error)

@@ -3,7 +3,7 @@ ghost use Rattle.std.specs.Prelude.{◌≡◌, IfOk};
 ghost use Rattle.js_base.specs.Clock.{is_over};
 
 use crate::published::Tag;
-use js_base::{Moment, Nanos, OutOfMemory, TryClone, due};
+use js_base::{Moment, Nanos, OutOfMemory, TryClone, all_3, due};
 use js_message::OutboundMessage;
 
 /// A message that was not sent.
@@ -22,7 +22,9 @@ impl Unsent {
     pub(crate) fn into_tag(self) -> Tag
         ensures { result ≡ self.tag }
     {
-        self.tag
+        let tag = self.tag;
+        drop(self);
+        tag
     }
 
     /// Whether its time is over.
@@ -37,9 +39,14 @@ impl Unsent {
 pub(crate) fn copy_of(message: &OutboundMessage) -> Result<OutboundMessage, OutOfMemory>
     ensures { IfOk result (λ copy. copy ≡ message.now) }
 {
+    let (subject, payload, headers) = all_3(
+        message.subject.try_clone(),
+        message.payload.try_clone(),
+        message.headers.try_clone(),
+    )?;
     Ok(OutboundMessage {
-        subject: message.subject.try_clone()?,
-        payload: message.payload.clone()?,
-        headers: message.headers.try_clone()?,
+        subject,
+        payload,
+        headers,
     })
 }

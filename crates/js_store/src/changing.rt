@@ -13,7 +13,7 @@ use crate::kv;
 use crate::level::{AfterLevel, AskLevel, IfAllowed, after_level};
 use crate::outcome::{BucketCall, Outcome};
 use crate::store::{Store, StoreNames, answered_names, store_of};
-use js_base::{Error, OutOfMemory, Source, Text, TryClone, both};
+use js_base::{Error, OutOfMemory, Source, Text, TryClone, all_3, both};
 use js_call::{ApiScope, Then};
 use js_stream_calls::{
     CreateOrUpdateStream, CreateStreamError, CreateStreamErrorKind, StreamHandle, UpdateStream,
@@ -35,11 +35,14 @@ impl ChangedBucket {
     fn named(alloc: Global, scope: &ApiScope, bucket: &Text) -> Result<ChangedBucket, OutOfMemory>
         ensures { IfOk result (λ changed. changed ≡ record { bucket = bucket.now; scope = scope.now; stream_name = stream_name bucket.now }) }
     {
-        let stream_name = kv::stream_name(alloc, bucket.as_str())?;
-        let bucket = bucket.try_clone()?;
+        let (stream_name, bucket, scope) = all_3(
+            kv::stream_name(alloc, bucket.as_str()),
+            bucket.try_clone(),
+            scope.try_clone(),
+        )?;
         Ok(ChangedBucket {
             bucket,
-            scope: scope.try_clone()?,
+            scope,
             stream_name,
         })
     }

@@ -124,8 +124,9 @@ fn all_keys_text(alloc: Global, bucket: &str) -> Result<String, AllocError>
 fn all_keys(alloc: Global, bucket: &str) -> Result<Items<Text>, OutOfMemory>
     ensures { IfOk result (λ subjects. subjects ≡ subjects_in bucket.now) }
 {
+    let keys = all_keys_text(alloc, bucket)?;
     let mut subjects = Items::new(alloc);
-    subjects.push(Text::from(all_keys_text(alloc, bucket)?))?;
+    subjects.push(Text::from(keys))?;
     Ok(subjects)
 }
 

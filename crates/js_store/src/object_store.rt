@@ -98,9 +98,10 @@ fn metadata_text(alloc: Global, bucket: &str) -> Result<String, AllocError>
 fn subjects_of(alloc: Global, bucket: &str) -> Result<Items<Text>, OutOfMemory>
     ensures { IfOk result (λ subjects. subjects ≡ subjects_in bucket.now) }
 {
+    let (chunks, metadata) = both(chunks_text(alloc, bucket), metadata_text(alloc, bucket))?;
     let mut subjects = Items::new(alloc);
-    subjects.push(Text::from(chunks_text(alloc, bucket)?))?;
-    subjects.push(Text::from(metadata_text(alloc, bucket)?))?;
+    subjects.push(Text::from(chunks))?;
+    subjects.push(Text::from(metadata))?;
     Ok(subjects)
 }
 

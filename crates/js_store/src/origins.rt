@@ -1,5 +1,5 @@
 //! The streams of other buckets that a bucket of keys copies.
-ghost use Rattle.std.specs.Prelude.{◌≡◌, IfOk, map, string_bytes};
+ghost use Rattle.std.specs.Prelude.{◌≡◌, ◌++◌, ◌∷◌, [], IfOk, map, string_bytes};
 ghost use Rattle.js_store.specs.Origins.{stream_name as stream_name_in, begins_as_stream, as_stream_name, of_bucket as of_bucket_in};
 
 use js_base::{Items, OutOfMemory, Text};
@@ -50,12 +50,20 @@ pub(crate) fn of_bucket(alloc: Global, mut source: Source) -> Result<Source, Out
     }
 }
 
+/// Puts the stream that a bucket copies behind those that are there.
+fn push_of_bucket(alloc: Global, source: Source, there: &mut Vec<Source>) -> Result<(), OutOfMemory>
+    ensures { IfOk result (λ _. there.new.items ≡ there.old.items ++ of_bucket_in source ∷ []) }
+{
+    there.push(of_bucket(alloc, source)?)?;
+    Ok(())
+}
+
 fn each_of_bucket(alloc: Global, sources: Vec<Source>) -> Result<Vec<Source>, OutOfMemory>
     ensures { IfOk result (λ there. there.items ≡ map of_bucket_in sources.items) }
 {
     let mut there = Vec::new(alloc);
     for source in sources {
-        there.push(of_bucket(alloc, source)?)?;
+        push_of_bucket(alloc, source, &mut there)?;
     }
     Ok(there)
 }

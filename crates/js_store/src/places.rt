@@ -2,7 +2,7 @@
 ghost use Rattle.std.specs.Prelude.{◌≡◌, IfOk, string_bytes};
 ghost use Rattle.js_store.specs.Places.{key_prefix as key_prefix_in, put_elsewhere as put_elsewhere_in, without_prefix, is_own_api as is_own_api_in, own, moved, mirrored, places_of as places_in};
 
-use js_base::{OutOfMemory, Text};
+use js_base::{OutOfMemory, Text, both};
 use js_stream_json::stream::{External, Source};
 use std::alloc::{AllocError, Global};
 
@@ -74,15 +74,18 @@ fn moved(
 {
     let elsewhere = external.api_prefix.as_str();
     if elsewhere.is_empty() {
+        let (prefix, put) = both(key_prefix(alloc, bucket), key_prefix(alloc, copied))?;
         Ok(Places {
-            prefix: key_prefix(alloc, bucket)?,
-            put_prefix: Some(key_prefix(alloc, copied)?),
+            prefix,
+            put_prefix: Some(put),
             use_jetstream_prefix: !is_own_api(api),
         })
     } else {
+        let put = put_elsewhere(alloc, elsewhere, copied);
+        let (prefix, put) = both(key_prefix(alloc, copied), put)?;
         Ok(Places {
-            prefix: key_prefix(alloc, copied)?,
-            put_prefix: Some(put_elsewhere(alloc, elsewhere, copied)?),
+            prefix,
+            put_prefix: Some(put),
             use_jetstream_prefix: false,
         })
     }

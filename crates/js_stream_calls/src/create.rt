@@ -52,7 +52,10 @@ impl ApiCall for CreatingStream {
                 info,
                 kept: None,
             }),
-            Response::Err { error } => Err(api_error(error)),
+            Response::Err { error } => {
+                drop(self);
+                Err(api_error(error))
+            }
         }
     }
 
@@ -61,6 +64,7 @@ impl ApiCall for CreatingStream {
         failure: Failure,
         source: Source,
     ) -> Result<StreamHandle<Info>, CreateStreamError> {
+        drop(self);
         Err(create_failure(failure, source))
     }
 }
@@ -70,7 +74,7 @@ pub(crate) fn body_of(alloc: Global, config: &Config) -> Result<Bytes, OutOfMemo
     ensures { IfOk result (λ body. IsTextOf config.now body) }
 {
     match config.to_text(alloc) {
-        Ok(text) => Ok(Bytes::copy_from_slice(alloc, text.as_bytes())?),
+        Ok(text) => Ok(Bytes::from_string(text)?),
         Err(_) => Err(OutOfMemory),
     }
 }

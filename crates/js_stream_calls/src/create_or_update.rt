@@ -44,10 +44,12 @@ impl ApiCall for CreatingInfo {
     }
 
     fn answer(self, reply: Response<Info>) -> Result<Info, CreateStreamError> {
+        drop(self);
         told(reply)
     }
 
     fn failure(self, failure: Failure, source: Source) -> Result<Info, CreateStreamError> {
+        drop(self);
         Err(create_failure(failure, source))
     }
 }
@@ -67,6 +69,7 @@ impl Decision<Result<Info, CreateStreamError>, Result<Info, CreateStreamError>> 
             Ok(info) => Some(Ok(info)),
             Err(error) => {
                 if let CreateStreamErrorKind::NotFound = error.kind() {
+                    drop(error);
                     None
                 } else {
                     Some(Err(error))

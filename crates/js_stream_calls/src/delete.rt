@@ -40,6 +40,7 @@ impl ApiCall for DeletingStream {
     }
 
     fn answer(self, reply: Response<DeleteStatus>) -> Result<DeleteStatus, DeleteStreamError> {
+        drop(self);
         match reply {
             Response::Ok(status) => Ok(status),
             Response::Err { error } => Err(Error::new(DeleteStreamErrorKind::JetStream(error))),
@@ -47,6 +48,7 @@ impl ApiCall for DeletingStream {
     }
 
     fn failure(self, _failure: Failure, source: Source) -> Result<DeleteStatus, DeleteStreamError> {
+        drop(self);
         Err(Error::with_source(DeleteStreamErrorKind::Request, source))
     }
 }

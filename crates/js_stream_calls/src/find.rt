@@ -6,7 +6,7 @@ ghost use Rattle.js_stream_calls.specs.Finds.{find_row, find_refusal, found, Fin
 use crate::list_error::{GetStreamByNameError, GetStreamByNameErrorKind};
 use crate::rest::first_of;
 use bytes::Bytes;
-use js_base::{Error, OutOfMemory, Source, Text, is_valid_subject};
+use js_base::{Error, OutOfMemory, Source, Text, both, is_valid_subject};
 use js_call::{ApiCall, ApiScope, Call, Failure};
 use js_fields::{ReadError, ToValue};
 use js_json::{Response, response_as};
@@ -52,6 +52,7 @@ impl ApiCall for SearchingStream {
     }
 
     fn answer(self, reply: Response<Page<Text>>) -> Result<Text, GetStreamByNameError> {
+        drop(self);
         match reply {
             Response::Ok(page) => match first_of(page.streams) {
                 Some(name) => Ok(name),
@@ -65,6 +66,7 @@ impl ApiCall for SearchingStream {
     }
 
     fn failure(self, _failure: Failure, source: Source) -> Result<Text, GetStreamByNameError> {
+        drop(self);
         Err(Error::with_source(GetStreamByNameErrorKind::Request, source))
     }
 }
@@ -80,7 +82,7 @@ fn find_body(alloc: Global, subject: &str) -> Result<Bytes, OutOfMemory>
     let text = request.to_text(alloc);
     drop(request);
     match text {
-        Ok(text) => Ok(Bytes::copy_from_slice(alloc, text.as_bytes())?),
+        Ok(text) => Ok(Bytes::from_string(text)?),
         Err(_) => Err(OutOfMemory),
     }
 }
@@ -97,10 +99,8 @@ pub fn stream_by_subject(
 ) -> Result<StreamBySubject, OutOfMemory>
     ensures { IfOk result (λ call. Finds scope.now subject.now call) }
 {
-    let meaning = SearchingStream {
-        subject: Text::from_str(alloc, subject)?,
-    };
     let body = find_body(alloc, subject)?;
-    let asked = scope.ask(alloc, "STREAM.NAMES", body)?;
-    Ok(Call::new(meaning, asked))
+    let asked = scope.ask(alloc, "STREAM.NAMES", body);
+    let (subject, asked) = both(Text::from_str(alloc, subject), asked)?;
+    Ok(Call::new(SearchingStream { subject }, asked))
 }

@@ -7,7 +7,7 @@ use crate::error::{GetStreamError, GetStreamErrorKind};
 use crate::handle::StreamHandle;
 use crate::kept::KeptInfo;
 use crate::name::get_refusal;
-use js_base::{Error, OutOfMemory, Source, Text, TryClone};
+use js_base::{Error, OutOfMemory, Source, Text, TryClone, both};
 use js_call::{ApiCall, ApiScope, Call, Failure};
 use js_fields::ReadError;
 use js_json::{Response, response_as};
@@ -50,7 +50,10 @@ impl ApiCall for GettingStream {
                 info,
                 kept: Some(config),
             }),
-            Response::Err { error } => Err(Error::new(GetStreamErrorKind::JetStream(error))),
+            Response::Err { error } => {
+                drop(self);
+                Err(Error::new(GetStreamErrorKind::JetStream(error)))
+            }
         }
     }
 
@@ -59,6 +62,7 @@ impl ApiCall for GettingStream {
         _failure: Failure,
         source: Source,
     ) -> Result<StreamHandle<Info>, GetStreamError> {
+        drop(self);
         Err(Error::with_source(GetStreamErrorKind::Request, source))
     }
 }
@@ -67,10 +71,8 @@ impl ApiCall for GettingStream {
 fn getting_row(alloc: Global, scope: &ApiScope, name: &str) -> Result<GettingStream, OutOfMemory>
     ensures { IfOk result (λ row. row ≡ record { scope = scope.now; name = name.now }) }
 {
-    Ok(GettingStream {
-        scope: scope.try_clone()?,
-        name: Text::from_str(alloc, name)?,
-    })
+    let (scope, name) = both(scope.try_clone(), Text::from_str(alloc, name))?;
+    Ok(GettingStream { scope, name })
 }
 
 /// Gets a stream with what the server knows of it. The handle keeps the configuration as it was sent, every member of it.
@@ -88,9 +90,10 @@ pub fn get_stream(alloc: Global, scope: &ApiScope, name: &str) -> Result<GetStre
 fn bare_handle(alloc: Global, scope: &ApiScope, name: &str) -> Result<StreamHandle<()>, OutOfMemory>
     ensures { IfOk result (λ h. h ≡ handle scope.now name.now) }
 {
+    let (scope, name) = both(scope.try_clone(), Text::from_str(alloc, name))?;
     Ok(StreamHandle {
-        scope: scope.try_clone()?,
-        name: Text::from_str(alloc, name)?,
+        scope,
+        name,
         info: (),
         kept: None,
     })

@@ -8,7 +8,7 @@ use crate::error::{CreateStreamError, api_error, create_failure};
 use crate::handle::StreamHandle;
 use crate::name::name_refusal;
 use crate::places::Placing;
-use js_base::{Error, OutOfMemory, Source, Text, TryClone};
+use js_base::{Error, OutOfMemory, Source, Text, TryClone, both};
 use js_call::{ApiCall, ApiScope, Call, Failure, IfAbsent, Then};
 use js_fields::ReadError;
 use js_json::{Response, response_as};
@@ -55,7 +55,9 @@ impl ApiCall for FindingStream {
                 kept: None,
             })),
             Response::Err { error } => {
+                drop(self);
                 if error.code == 404 {
+                    drop(error);
                     Ok(None)
                 } else {
                     Err(api_error(error))
@@ -69,6 +71,7 @@ impl ApiCall for FindingStream {
         failure: Failure,
         source: Source,
     ) -> Result<Option<StreamHandle<Info>>, CreateStreamError> {
+        drop(self);
         Err(create_failure(failure, source))
     }
 }
@@ -77,10 +80,8 @@ impl ApiCall for FindingStream {
 fn finding_row(alloc: Global, scope: &ApiScope, name: &str) -> Result<FindingStream, OutOfMemory>
     ensures { IfOk result (λ row. row ≡ record { scope = scope.now; name = name.now }) }
 {
-    Ok(FindingStream {
-        scope: scope.try_clone()?,
-        name: Text::from_str(alloc, name)?,
-    })
+    let (scope, name) = both(scope.try_clone(), Text::from_str(alloc, name))?;
+    Ok(FindingStream { scope, name })
 }
 
 fn find_stream(

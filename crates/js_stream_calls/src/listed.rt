@@ -35,7 +35,9 @@ impl Listed for Text {
             offset,
             subject: None,
         };
-        request.to_text(alloc)
+        let text = request.to_text(alloc);
+        drop(request);
+        text
     }
 }
 

@@ -56,7 +56,7 @@ fn page_body<T: Listed>(alloc: Global, offset: u64) -> Result<Bytes, OutOfMemory
     ensures { IfOk result (λ body. text_of (T.list.request offset) ≡ Ok body) }
 {
     match T::request_text(alloc, offset) {
-        Ok(text) => Ok(Bytes::copy_from_slice(alloc, text.as_bytes())?),
+        Ok(text) => Ok(Bytes::from_string(text)?),
         Err(_) => Err(OutOfMemory),
     }
 }

@@ -74,7 +74,9 @@ pub(crate) fn first_of<T: Drop>(streams: Option<Items<T>>) -> Option<T>
             let mut rest = Rest {
                 items: items.into_vec(),
             };
-            rest.pop()
+            let first = rest.pop();
+            drop(rest);
+            first
         }
     }
 }

@@ -50,10 +50,12 @@ impl ApiCall for UpdatingStream {
     }
 
     fn answer(self, reply: Response<Info>) -> Result<Info, UpdateStreamError> {
+        drop(self);
         told(reply)
     }
 
     fn failure(self, failure: Failure, source: Source) -> Result<Info, UpdateStreamError> {
+        drop(self);
         Err(create_failure(failure, source))
     }
 }

@@ -25,7 +25,7 @@ fn text_body(alloc: Global, sent: &Value) -> Result<Bytes, OutOfMemory>
     if has_float(sent) {
         return Err(OutOfMemory);
     }
-    Ok(Bytes::copy_from_slice(alloc, sent.to_string(alloc)?.as_bytes())?)
+    Ok(Bytes::from_string(sent.to_string(alloc)?)?)
 }
 
 fn body_over(
@@ -37,7 +37,9 @@ fn body_over(
     ensures { IfOk result (λ body. body ≡ compact_text (over_in (view kept.now) (view before.now) (view after.now))) }
 {
     let sent = over(alloc, kept, before, after)?;
-    text_body(alloc, &sent)
+    let body = text_body(alloc, &sent);
+    drop(sent);
+    body
 }
 
 /// What is written now, over what was kept.
@@ -51,7 +53,11 @@ fn written_body(
 {
     // What was written reads, so what is refused here is want of memory.
     match Value::from_str(alloc, kept.as_str()) {
-        Ok(kept) => body_over(alloc, &kept, before, after),
+        Ok(kept) => {
+            let body = body_over(alloc, &kept, before, after);
+            drop(kept);
+            body
+        }
         Err(_) => Err(OutOfMemory),
     }
 }
@@ -83,13 +89,15 @@ fn keeping_body(
 ) -> Result<Bytes, OutOfMemory>
     ensures { IfOk result (λ body. KeepsIn kept.now.text read.now config.now body) }
 {
-    let Ok(before) = read.to_value(alloc) else {
-        return Err(OutOfMemory);
-    };
-    let Ok(after) = config.to_value(alloc) else {
-        return Err(OutOfMemory);
-    };
-    sent_body(alloc, kept, &before, &after)
+    match both(read.to_value(alloc), config.to_value(alloc)) {
+        Ok((before, after)) => {
+            let body = sent_body(alloc, kept, &before, &after);
+            drop(before);
+            drop(after);
+            body
+        }
+        Err(_) => Err(OutOfMemory),
+    }
 }
 
 /// The same for a handle: one that kept nothing asks with the configuration alone.

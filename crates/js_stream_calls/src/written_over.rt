@@ -5,6 +5,7 @@ ghost use Rattle.serde_json.specs.Find.{get};
 ghost use Rattle.serde_json.specs.View.{view, members_view};
 ghost use Rattle.js_stream_calls.specs.Over.{over as over_in, members_over as members_over_in, with_new, if_new, kept_member, is_same, member_or};
 
+use js_base::both;
 use js_fields::has_float;
 use serde_json::{Map, Value, put};
 use std::alloc::{AllocError, Global};
@@ -26,9 +27,11 @@ pub(crate) fn is_same(alloc: Global, before: &Value, after: &Value) -> Result<bo
     if has_float(before) || has_float(after) {
         return Ok(false);
     }
-    let before = before.to_string(alloc)?;
-    let after = after.to_string(alloc)?;
-    Ok(before.as_str() == after.as_str())
+    let (before, after) = both(before.to_string(alloc), after.to_string(alloc))?;
+    let same = before.as_str() == after.as_str();
+    drop(before);
+    drop(after);
+    Ok(same)
 }
 
 /// What is written over a value. Where it is written as before, the value stays as it was kept; else an object's members go over
@@ -48,8 +51,10 @@ pub(crate) fn over(
     match (kept, after) {
         (Value::Object(members), Value::Object(changed)) => {
             let mut out = Map::new(alloc);
-            members_over(alloc, members, before, after, &mut out)?;
-            put_new(alloc, kept, changed, &mut out)?;
+            let all_over = members_over(alloc, members, before, after, &mut out);
+            let (mut out, _) = both(Ok(out), all_over)?;
+            let all_new = put_new(alloc, kept, changed, &mut out);
+            let (out, _) = both(Ok(out), all_new)?;
             Ok(Value::Object(out))
         }
         _ => after.clone(),

@@ -72,7 +72,10 @@ fn no_words_answered<R: Threads + Wait + Sync, S: Source, K: Sink>(
 fn says_nothing<R: Threads + Wait + Sync>(rt: &R, alloc: Global) -> Status {
     let mut input = MemorySource::new(Vec::new(alloc), Vec::new(alloc));
     let mut output = MemorySink::new(alloc, 1, Vec::new(alloc));
-    no_words_answered(rt, alloc, &mut input, &mut output)
+    let status = no_words_answered(rt, alloc, &mut input, &mut output);
+    drop(output);
+    drop(input);
+    status
 }
 
 // Words some of which are empty, how they end, and what is written.

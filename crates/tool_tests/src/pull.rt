@@ -2,7 +2,7 @@
 
 use crate::tables::same;
 use bytes::Bytes;
-use js_base::{HeaderMap, Message, OutOfMemory, StatusCode, Subject, Text};
+use js_base::{HeaderMap, Message, OutOfMemory, StatusCode, Subject, Text, all_4, both};
 use js_fields::ReadError;
 use js_json::consumer::Info;
 use js_json::pull::BatchConfig;
@@ -71,11 +71,13 @@ fn source(api: Text, stream: Text, name: Text, subject: Subject, config: BatchCo
 
 // A reader of a consumer that caps its batches at 7 messages.
 fn reader(alloc: Global) -> Result<Reader, ReadError> {
-    let api = Text::from_str(alloc, "$JS.API")?;
-    let stream = Text::from_str(alloc, "events")?;
-    let name = Text::from_str(alloc, "c1")?;
-    let subject = Subject::new(alloc, "_INBOX.t.0")?;
-    let config = told_of(info(alloc))?;
+    let named = all_4(
+        Text::from_str(alloc, "$JS.API"),
+        Text::from_str(alloc, "events"),
+        Text::from_str(alloc, "c1"),
+        Subject::new(alloc, "_INBOX.t.0"),
+    )?;
+    let ((api, stream, name, subject), config) = both(Ok(named), told_of(info(alloc)))?;
     Ok(Reader::new(source(api, stream, name, subject, config)))
 }
 
@@ -104,6 +106,7 @@ fn requests_are_made(rt: HostRuntime) {
     says_subject(&rt, reader.source.pull_subject(rt.alloc()), PULL);
     says_subject(&rt, reader.source.info_subject(rt.alloc()), INQUIRY);
     says_body(&rt, reader.pull_body(rt.alloc()), BODY);
+    drop(reader);
 }
 
 fn message(
@@ -134,7 +137,10 @@ fn waiting(
     payload: &str,
     status: Option<StatusCode>,
 ) -> Result<Option<u64>, OutOfMemory> {
-    waiting_of(alloc, &message(alloc, payload, status, None)?)
+    let reply = message(alloc, payload, status, None)?;
+    let waiting = waiting_of(alloc, &reply);
+    drop(reply);
+    waiting
 }
 
 // Answers, with the status of each, and how many requests wait where it holds an info.
@@ -168,7 +174,10 @@ fn pinned(alloc: Global) -> Result<Message, OutOfMemory> {
 }
 
 fn note(alloc: Global, reader: &mut Reader) -> Result<(), OutOfMemory> {
-    reader.note_pin(alloc, &pinned(alloc)?)
+    let arrival = pinned(alloc)?;
+    let noted = reader.note_pin(alloc, &arrival);
+    drop(arrival);
+    noted
 }
 
 const PINNED_BODY: &str =
@@ -179,4 +188,5 @@ fn an_arrival_may_name_a_pin(rt: HostRuntime) {
     let mut reader = reader(rt.alloc()).expect(&rt, "memory");
     same(&rt, "noted", note(rt.alloc(), &mut reader), Ok(()));
     says_body(&rt, reader.pull_body(rt.alloc()), PINNED_BODY);
+    drop(reader);
 }

@@ -4,7 +4,7 @@ ghost use Rattle.js_window.specs.Caller.{held};
 
 use crate::steps::{NO_FAULTS, answered, sink, source};
 use crate::tables::same;
-use js_base::OutOfMemory;
+use js_base::{OutOfMemory, both};
 use js_tool::{Gate, MemorySink, Open, Source, Status, WindowCounts, run_window, take_calls};
 use js_window::{Pass, Permit, Take, Window};
 use std::alloc::{AllocError, Global};
@@ -98,6 +98,7 @@ fn workers_meet_in_threads_alone(rt: HostRuntime) {
         Ok(BOTH),
     );
     same(&rt, "threads", meeting.is_passed(), true);
+    drop(meeting);
     let meeting = Meeting::new();
     same(
         &rt,
@@ -106,6 +107,7 @@ fn workers_meet_in_threads_alone(rt: HostRuntime) {
         Ok(()),
     );
     same(&rt, "in turn", meeting.is_passed(), false);
+    drop(meeting);
 }
 
 // How many takes workers make that share permits, and whether all are free at their end.
@@ -150,8 +152,12 @@ fn counts_line<R: Threads + Wait + Sync>(
     rt: &R,
     alloc: Global,
 ) -> Result<(Status, bool), AllocError> {
-    let mut input = source(alloc, Vec::new(alloc), NO_FAULTS)?;
-    counts_into(rt, alloc, &mut input, &mut sink(alloc, NO_FAULTS)?)
+    let input = source(alloc, Vec::new(alloc), NO_FAULTS);
+    let (mut input, mut output) = both(input, sink(alloc, NO_FAULTS))?;
+    let counts = counts_into(rt, alloc, &mut input, &mut output);
+    drop(output);
+    drop(input);
+    counts
 }
 
 #[test]

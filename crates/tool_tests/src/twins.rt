@@ -10,6 +10,7 @@ mod twin;
 use crate::tables::same;
 use crate::twins::course::{Replayed, drawn, read};
 use crate::twins::rows::{ROWS, Row};
+use js_ordered::Run;
 use std::alloc::Global;
 use std::fmt::Debug;
 use std::process::Abort;
@@ -29,11 +30,24 @@ fn says<C: Replayed, E: Debug + Drop>(
     replayed: Result<C, E>,
 ) -> Result<(), Fail> {
     let run = replayed?.run(alloc)?;
+    let said = says_run(rt, alloc, row, polled, &run);
+    drop(run);
+    said
+}
+
+/// The same of the run of the replay.
+fn says_run<C: Replayed, E: Debug + Drop>(
+    rt: &impl Abort,
+    alloc: Global,
+    row: &str,
+    polled: Result<C, E>,
+    run: &Run,
+) -> Result<(), Fail> {
     let steps = run.steps.as_slice().len() as u64;
     same(
         rt,
         row,
-        polled?.polled(alloc, &run)?,
+        polled?.polled(alloc, run)?,
         (steps.saturating_add(1), run.ended),
     );
     Ok(())

@@ -7,6 +7,7 @@ use js_base::{Moment, OutOfMemory, Turn};
 use js_link::{InboxId, Link, MemoryLink, Sent};
 use js_message::{AckError, AckKind, Acker, DoubleAck, Message};
 use std::alloc::Global;
+use std::mem;
 
 const START: Moment = 1_790_000_000_000_000_000;
 
@@ -36,7 +37,10 @@ fn ack<L: Link>(alloc: Global, link: &mut L, by: By, kind: Option<AckKind>) -> A
 type Acked = Result<String, OutOfMemory>;
 
 fn ack_by_message<L: Link>(alloc: Global, link: &mut L, kind: Option<AckKind>) -> Acked {
-    message_acks(alloc, link, &delivered(alloc, Some(REPLY))?, kind)
+    let message = delivered(alloc, Some(REPLY))?;
+    let acked = message_acks(alloc, link, &message, kind);
+    drop(message);
+    acked
 }
 
 fn ack_by_acker<L: Link>(
@@ -84,7 +88,10 @@ fn double_ack(alloc: Global, by: By, kind: Option<AckKind>) -> Result<DoubleAck,
 }
 
 fn ask_by_message(alloc: Global, kind: Option<AckKind>) -> Result<DoubleAck, OutOfMemory> {
-    message_asks(alloc, &delivered(alloc, Some(REPLY))?, kind)
+    let message = delivered(alloc, Some(REPLY))?;
+    let asked = message_asks(alloc, &message, kind);
+    drop(message);
+    asked
 }
 
 fn ask_by_acker(
@@ -124,11 +131,14 @@ fn poll<L: Link>(alloc: Global, link: &mut L, call: &mut Option<DoubleAck>, afte
     };
     match state.poll(alloc, link, START.saturating_add(after)) {
         Turn::Pending(state) => {
-            *call = Some(state);
+            drop(mem::replace(call, Some(state)));
             word(alloc, "pending")
         }
         Turn::Ready(found) => ended(alloc, found),
-        Turn::OutOfMemory(_) => Err(OutOfMemory),
+        Turn::OutOfMemory(state) => {
+            drop(state);
+            Err(OutOfMemory)
+        }
     }
 }
 
@@ -183,7 +193,8 @@ fn befalls(alloc: Global, link: &mut MemoryLink, event: Event) -> Acked {
 fn told(alloc: Global, link: &mut MemoryLink, call: &mut Option<DoubleAck>, event: Event) -> Acked {
     match event {
         Event::Begin(by, kind) => {
-            *call = Some(double_ack(alloc, by, kind)?);
+            let asked = double_ack(alloc, by, kind)?;
+            drop(mem::replace(call, Some(asked)));
             word(alloc, "")
         }
         Event::Poll(after) => poll(alloc, link, call, after),
@@ -257,6 +268,8 @@ fn acks_follow_what_befalls(rt: HostRuntime) {
         let found = told(rt.alloc(), &mut link, &mut call, *event);
         says_at(&rt, place, found, wanted);
     }
+    drop(call);
+    drop(link);
 }
 
 #[test]

@@ -4,7 +4,7 @@ use crate::tables::{printed, same, says};
 use bytes::Bytes;
 use js_base::{
     Boxed, ByName, Entry, Error, Header, HeaderMap, Items, Message, OutOfMemory, Source, State,
-    StatusCode, Subject, Text, TextMap, TryClone, is_valid_subject, subject_matches,
+    StatusCode, Subject, Text, TextMap, TryClone, all_3, both, is_valid_subject, subject_matches,
 };
 use std::alloc::Global;
 use std::process::Abort;
@@ -74,14 +74,18 @@ fn make(alloc: Global, headers: &mut HeaderMap, change: Change) -> Result<(), Ou
     }
 }
 
+fn add_pair(text: &mut String, name: &str, value: &str) -> Result<(), OutOfMemory> {
+    text.push_str(name)?;
+    text.push_str("=")?;
+    text.push_str(value)?;
+    Ok(text.push_str(";")?)
+}
+
 /// The names and values in order.
 fn pairs(alloc: Global, headers: &HeaderMap) -> Result<String, OutOfMemory> {
     let mut text = String::new(alloc);
     for (name, value) in headers.iter() {
-        text.push_str(name)?;
-        text.push_str("=")?;
-        text.push_str(value)?;
-        text.push_str(";")?;
+        add_pair(&mut text, name, value)?;
     }
     Ok(text)
 }
@@ -227,10 +231,13 @@ fn error_text(alloc: Global, cause: Cause) -> Result<String, OutOfMemory> {
 }
 
 fn api_text(alloc: Global, cause: Cause) -> Result<String, OutOfMemory> {
-    match error_of(source_of(alloc, cause)?).api_error() {
-        Some(error) => printed(alloc, error),
+    let error = error_of(source_of(alloc, cause)?);
+    let text = match error.api_error() {
+        Some(api) => printed(alloc, api),
         None => printed(alloc, "none"),
-    }
+    };
+    drop(error);
+    text
 }
 
 #[test]
@@ -258,14 +265,23 @@ fn is_copied<T: TryClone + PartialEq>(value: T) -> Result<bool, OutOfMemory> {
     Ok(value.try_clone()? == value)
 }
 
+fn payload(alloc: Global) -> Result<Bytes, OutOfMemory> {
+    Ok(Bytes::copy_from_slice(alloc, b"a")?)
+}
+
 fn message(alloc: Global) -> Result<Message, OutOfMemory> {
+    let (subject, payload, description) = all_3(
+        Subject::new(alloc, "events.a"),
+        payload(alloc),
+        text_of(alloc, Some("b")),
+    )?;
     Ok(Message {
-        subject: Subject::new(alloc, "events.a")?,
+        subject,
         reply: None,
-        payload: Bytes::copy_from_slice(alloc, b"a")?,
+        payload,
         headers: None,
         status: None,
-        description: text_of(alloc, Some("b"))?,
+        description,
         length: 9,
     })
 }
@@ -285,25 +301,38 @@ fn is_box_copied(alloc: Global) -> Result<bool, OutOfMemory> {
     is_copied(Boxed::new(alloc, message(alloc)?)?)
 }
 
-fn is_map_copied(alloc: Global) -> Result<bool, OutOfMemory> {
-    let mut names = ByName::new(alloc);
-    names.insert(Text::from_str(alloc, "n")?, Text::from_str(alloc, "v")?)?;
-    is_copied(ByName::from(names.into_map()))
+/// Texts by name, of which there is one.
+fn texts(alloc: Global) -> Result<TextMap, OutOfMemory> {
+    let (name, value) = both(Text::from_str(alloc, "n"), Text::from_str(alloc, "v"))?;
+    let mut texts = TextMap::new(alloc);
+    texts.insert(name, value)?;
+    Ok(texts)
 }
 
-/// Whether texts by name are equal to what is made of the plain map of strings that is made of them.
-fn are_strings_copied(alloc: Global) -> Result<bool, OutOfMemory> {
-    let mut texts = TextMap::new(alloc);
-    texts.insert(Text::from_str(alloc, "n")?, Text::from_str(alloc, "v")?)?;
+fn is_map_copied(alloc: Global) -> Result<bool, OutOfMemory> {
+    is_copied(ByName::from(texts(alloc)?.into_map()))
+}
+
+/// What is made of the plain map of strings that is made of texts by name.
+fn by_strings(alloc: Global, texts: &TextMap) -> Result<TextMap, OutOfMemory> {
     let strings = texts.to_strings(alloc)?;
-    Ok(TextMap::from_strings(alloc, &strings)? == texts)
+    TextMap::from_strings(alloc, &strings)
+}
+
+/// Whether that is equal to the texts.
+fn are_strings_copied(alloc: Global) -> Result<bool, OutOfMemory> {
+    let texts = texts(alloc)?;
+    let copy = by_strings(alloc, &texts);
+    let (copy, texts) = both(copy, Ok(texts))?;
+    Ok(copy == texts)
 }
 
 fn is_entry_copied(alloc: Global) -> Result<bool, OutOfMemory> {
+    let (subject, payload) = both(Subject::new(alloc, "events.a"), payload(alloc))?;
     is_copied(Entry {
-        subject: Subject::new(alloc, "events.a")?,
+        subject,
         sequence: 1,
-        payload: Bytes::copy_from_slice(alloc, b"a")?,
+        payload,
     })
 }
 
@@ -313,13 +342,18 @@ fn are_items_copied(alloc: Global) -> Result<bool, OutOfMemory> {
     is_copied(items)
 }
 
-/// How many items are left where those of one name go and another is added.
-fn kept(alloc: Global) -> Result<usize, OutOfMemory> {
-    let mut items = Items::new(alloc);
+fn add_and_keep(items: &mut Items<u64>) -> Result<(), OutOfMemory> {
     items.push(1)?;
     items.push(2)?;
     items.push(1)?;
     items.keep_and_push(|item: &u64| *item != 1, 3)?;
+    Ok(())
+}
+
+/// How many items are left where those of one name go and another is added.
+fn kept(alloc: Global) -> Result<usize, OutOfMemory> {
+    let mut items = Items::new(alloc);
+    add_and_keep(&mut items)?;
     Ok(items.as_slice().len())
 }
 

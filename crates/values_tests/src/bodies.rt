@@ -2,7 +2,7 @@
 
 use crate::tables::{same, says};
 use crate::{answer_rows, consumer_rows, stream_rows};
-use js_base::{Text, TryClone};
+use js_base::{Text, TryClone, both};
 use js_codes::errors::Error;
 use js_codes::is_valid_name;
 use js_fields::{FromValue, ReadError, ToValue, value_of};
@@ -118,7 +118,10 @@ fn consumer_info(alloc: Global, info: &consumer::Info) -> Words {
 
 /// The same of a copy.
 fn copied_consumer_info(alloc: Global, info: &consumer::Info) -> Words {
-    consumer_info(alloc, &info.try_clone()?)
+    let copy = info.try_clone()?;
+    let words = consumer_info(alloc, &copy);
+    drop(copy);
+    words
 }
 
 /// The info, or the error.
@@ -130,7 +133,10 @@ fn answered(alloc: Global, response: &Response<consumer::Info>) -> Words {
 }
 
 fn in_answer(alloc: Global, text: &str) -> Words {
-    answered(alloc, &response_as(alloc, text.as_bytes())?)
+    let response = response_as(alloc, text.as_bytes())?;
+    let words = answered(alloc, &response);
+    drop(response);
+    words
 }
 
 /// Messages, bytes, first and last sequence.
@@ -142,21 +148,38 @@ fn state_text(alloc: Global, state: &stream::State) -> Words {
     Ok(format!(in alloc; "{messages} {bytes} {first} {last}")?)
 }
 
+/// The same of a copy.
+fn copied_state_text(alloc: Global, state: &stream::State) -> Words {
+    let copy = state.try_clone()?;
+    let words = state_text(alloc, &copy);
+    drop(copy);
+    words
+}
+
 /// The state, when the stream was made, in nanoseconds, and its configuration.
 fn stream_info(alloc: Global, info: &stream::Info) -> Words {
-    let state = state_text(alloc, &info.state.try_clone()?)?;
+    let state = copied_state_text(alloc, &info.state);
+    let (state, config) = both(state, info.config.to_text(alloc))?;
     let created = info.created.as_nanosecond();
-    let config = info.config.to_text(alloc)?;
-    Ok(format!(in alloc; "{state} {created} {config}")?)
+    let words = format!(in alloc; "{state} {created} {config}");
+    drop(config);
+    drop(state);
+    Ok(words?)
 }
 
 /// The same of a copy.
 fn copied_stream_info(alloc: Global, info: &stream::Info) -> Words {
-    stream_info(alloc, &info.try_clone()?)
+    let copy = info.try_clone()?;
+    let words = stream_info(alloc, &copy);
+    drop(copy);
+    words
 }
 
 fn in_stream_info(alloc: Global, text: &str) -> Words {
-    copied_stream_info(alloc, &read(alloc, text)?)
+    let info = read(alloc, text)?;
+    let words = copied_stream_info(alloc, &info);
+    drop(info);
+    words
 }
 
 /// How many a list has in all, and how many stand in this page.
@@ -200,11 +223,17 @@ fn stored(alloc: Global, response: &Response<PublishAck>) -> Words {
 }
 
 fn answer(alloc: Global, text: &str) -> Words {
-    stored(alloc, &response_as(alloc, text.as_bytes())?)
+    let response = response_as(alloc, text.as_bytes())?;
+    let words = stored(alloc, &response);
+    drop(response);
+    words
 }
 
 fn answer_value(alloc: Global, text: &str) -> Words {
-    stored(alloc, &read(alloc, text)?)
+    let response = read(alloc, text)?;
+    let words = stored(alloc, &response);
+    drop(response);
+    words
 }
 
 fn printed(alloc: Global, text: &str) -> Words {
@@ -213,7 +242,10 @@ fn printed(alloc: Global, text: &str) -> Words {
 
 /// When a reader was pinned, in nanoseconds.
 fn pin(alloc: Global, text: &str) -> Words {
-    match read::<consumer::PriorityGroupState>(alloc, text)?.pinned_ts {
+    let state = read::<consumer::PriorityGroupState>(alloc, text)?;
+    let pinned = state.pinned_ts;
+    drop(state);
+    match pinned {
         None => Ok(String::from_str(alloc, "none")?),
         Some(instant) => {
             let since = instant.as_nanosecond();
@@ -233,7 +265,9 @@ fn cluster(alloc: Global, text: &str) -> Words {
     let cluster: consumer::ClusterInfo = read(alloc, text)?;
     let name = text_or_none(&cluster.name);
     let leader = text_or_none(&cluster.leader);
-    Ok(format!(in alloc; "{name} {leader}")?)
+    let words = format!(in alloc; "{name} {leader}");
+    drop(cluster);
+    Ok(words?)
 }
 
 fn told(alloc: Global, body: Body, text: &str) -> Words {
@@ -268,12 +302,14 @@ fn answers_are_read(rt: HostRuntime) {
 
 /// The limits of an account, how many requests it has made, and whether it has no tiers.
 fn limits_of(alloc: Global, text: &str) -> Result<(Limits, u64, bool), ReadError> {
-    let account = read::<Account>(alloc, text)?.try_clone()?;
-    Ok((
-        account.limits,
-        account.requests.total,
-        account.tiers.is_empty(),
-    ))
+    let read = read::<Account>(alloc, text)?;
+    let copy = read.try_clone();
+    drop(read);
+    let account = copy?;
+    let (limits, total) = (account.limits, account.requests.total);
+    let has_no_tiers = account.tiers.is_empty();
+    drop(account);
+    Ok((limits, total, has_no_tiers))
 }
 
 /// The limits that the account tells.

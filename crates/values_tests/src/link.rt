@@ -3,7 +3,7 @@
 use crate::received::received;
 use crate::tables::{printed, same, says_at};
 use crate::words::word;
-use js_base::{HeaderMap, Message, OutOfMemory};
+use js_base::{HeaderMap, Message, OutOfMemory, both};
 use js_link::{
     Answer, InboxId, Link, LinkError, MemoryLink, RequestId, ScriptedServer, Sent, Taken, Watch,
 };
@@ -26,6 +26,13 @@ enum Step {
 /// The body of a message.
 fn body(alloc: Global, message: &Message) -> Result<String, OutOfMemory> {
     Ok(String::from_utf8_lossy(alloc, message.payload.as_slice())?)
+}
+
+/// The same of a message that is let go of.
+fn owned_body(alloc: Global, message: Message) -> Result<String, OutOfMemory> {
+    let text = body(alloc, &message);
+    drop(message);
+    text
 }
 
 fn open_inbox<L: Link>(alloc: Global, link: &mut L) -> Result<String, OutOfMemory> {
@@ -63,7 +70,7 @@ fn publish<L: Link>(alloc: Global, link: &mut L, subject: &str) -> Result<String
 
 fn take<L: Link>(alloc: Global, link: &mut L, inbox: u64) -> Result<String, OutOfMemory> {
     match link.take(InboxId(inbox)) {
-        Taken::Message(message) => body(alloc, &message),
+        Taken::Message(message) => owned_body(alloc, message),
         Taken::Empty => word(alloc, "empty"),
         Taken::Closed => word(alloc, "closed"),
     }
@@ -71,7 +78,7 @@ fn take<L: Link>(alloc: Global, link: &mut L, inbox: u64) -> Result<String, OutO
 
 fn answer<L: Link>(alloc: Global, link: &mut L, request: u64) -> Result<String, OutOfMemory> {
     match link.answer(RequestId(request)) {
-        Answer::Got(message) => body(alloc, &message),
+        Answer::Got(message) => owned_body(alloc, message),
         Answer::Waiting => word(alloc, "waiting"),
         Answer::Gone => word(alloc, "gone"),
     }
@@ -223,6 +230,7 @@ fn a_link_does_what_it_is_told(rt: HostRuntime) {
     for (place, (event, wanted)) in EVENTS.iter().enumerate() {
         says_at(&rt, place, told(rt.alloc(), &mut link, *event), wanted);
     }
+    drop(link);
 }
 
 /// Whether the first thing that a link sent is a message to `a` with this reply, and with these headers.
@@ -271,6 +279,7 @@ fn a_link_keeps_what_it_sends(rt: HostRuntime) {
     );
     link.set_limits(5, None);
     same(&rt, "limits", limits(&link), (5, None));
+    drop(link);
 }
 
 /// The replies of a script, each with its subject.
@@ -285,12 +294,18 @@ fn scripted(
     server.script(alloc, subject, received(alloc, reply, None, None)?)
 }
 
+fn script_all(alloc: Global, server: &mut ScriptedServer) -> Result<(), OutOfMemory> {
+    for &(subject, reply) in SCRIPT {
+        scripted(alloc, server, subject, reply)?;
+    }
+    Ok(())
+}
+
 /// A server with that script.
 fn serving(alloc: Global) -> Result<ScriptedServer, OutOfMemory> {
     let mut server = ScriptedServer::new(alloc, MemoryLink::new(alloc, "_INBOX.t")?);
-    for &(subject, reply) in SCRIPT {
-        scripted(alloc, &mut server, subject, reply)?;
-    }
+    let scripted = script_all(alloc, &mut server);
+    let (_, server) = both(scripted, Ok(server))?;
     Ok(server)
 }
 
@@ -322,4 +337,5 @@ fn a_server_answers_from_its_script(rt: HostRuntime) {
         says_at(&rt, place, called(rt.alloc(), &mut server, *call), wanted);
     }
     same(&rt, "sent", server.link().sent().len(), 7);
+    drop(server);
 }

@@ -143,7 +143,10 @@ fn place_of(alloc: Global, message: &Message) -> Result<String, OutOfMemory> {
 }
 
 fn place(alloc: Global, reply: Option<&str>) -> Result<String, OutOfMemory> {
-    place_of(alloc, &delivered(alloc, reply)?)
+    let message = delivered(alloc, reply)?;
+    let place = place_of(alloc, &message);
+    drop(message);
+    place
 }
 
 /// A reply subject, and the sequence that its message tells, or why it tells none.
@@ -165,10 +168,11 @@ fn acks_reply(alloc: Global, acker: &Acker) -> Result<bool, OutOfMemory> {
 /// Whether a message is split into one without its reply subject and what acknowledges to that.
 fn is_split(alloc: Global) -> Result<bool, OutOfMemory> {
     let (message, acker) = delivered(alloc, Some(REPLY))?.split();
-    if message.reply.is_some() {
-        return Ok(false);
-    }
-    acks_reply(alloc, &acker)
+    let has_reply = message.reply.is_some();
+    drop(message);
+    let acks = acks_reply(alloc, &acker);
+    drop(acker);
+    Ok(acks? && !has_reply)
 }
 
 #[test]
@@ -290,6 +294,7 @@ fn bodies_and_headers_are_those_of_the_protocol(rt: HostRuntime) {
     }
     let message = outbound(rt.alloc()).expect(&rt, "a message");
     says_all(&rt, &message);
+    drop(message);
 }
 
 /// Headers of a stored message. Of equal names the last counts.
@@ -359,7 +364,11 @@ fn read_word(alloc: Global, read: &StreamMessage) -> Result<String, OutOfMemory>
 fn stored(alloc: Global, pairs: Headers) -> Result<String, OutOfMemory> {
     let message = received(alloc, "a", None, headers_of(alloc, pairs)?)?;
     match StreamMessage::try_from_message(alloc, message) {
-        Ok(read) => read_word(alloc, &read),
+        Ok(read) => {
+            let word = read_word(alloc, &read);
+            drop(read);
+            word
+        }
         Err(error) => printed(alloc, error),
     }
 }

@@ -60,10 +60,15 @@ fn row(alloc: Global, entry: &Entry) -> Result<String, OutOfMemory> {
     Ok(format!(in alloc; "{subject} {sequence} {payload};")?)
 }
 
+fn add_row(alloc: Global, text: &mut String, entry: &Entry) -> Result<(), OutOfMemory> {
+    let row = row(alloc, entry)?;
+    Ok(text.push_str(row.as_str())?)
+}
+
 fn told(alloc: Global, entries: &[Entry]) -> Result<String, OutOfMemory> {
     let mut text = String::new(alloc);
     for entry in entries {
-        text.push_str(row(alloc, entry)?.as_str())?;
+        add_row(alloc, &mut text, entry)?;
     }
     Ok(text)
 }

@@ -1,7 +1,7 @@
 //! Messages that the tests receive.
 
 use bytes::Bytes;
-use js_base::{HeaderMap, OutOfMemory, Subject};
+use js_base::{HeaderMap, OutOfMemory, Subject, all_4};
 use js_message::Message;
 use std::alloc::Global;
 
@@ -19,6 +19,10 @@ pub(crate) fn reply_of(alloc: Global, reply: Option<&str>) -> Result<Option<Subj
     }
 }
 
+fn bytes_of(alloc: Global, text: &str) -> Result<Bytes, OutOfMemory> {
+    Ok(Bytes::copy_from_slice(alloc, text.as_bytes())?)
+}
+
 /// A message on `events.a`.
 pub(crate) fn received(
     alloc: Global,
@@ -26,10 +30,16 @@ pub(crate) fn received(
     reply: Option<Subject>,
     headers: Option<HeaderMap>,
 ) -> Result<js_base::Message, OutOfMemory> {
+    let (subject, payload, reply, headers) = all_4(
+        Subject::new(alloc, "events.a"),
+        bytes_of(alloc, payload),
+        Ok(reply),
+        Ok(headers),
+    )?;
     Ok(js_base::Message {
-        subject: Subject::new(alloc, "events.a")?,
+        subject,
         reply,
-        payload: Bytes::copy_from_slice(alloc, payload.as_bytes())?,
+        payload,
         headers,
         status: None,
         description: None,

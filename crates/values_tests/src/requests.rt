@@ -1,7 +1,7 @@
 //! Bodies that the client writes, and consumers' configurations of each kind.
 
 use crate::tables::{same, says};
-use js_base::{Text, TryClone};
+use js_base::{Text, TryClone, both};
 use js_fields::{FromValue, ReadError, ToValue, value_of};
 use js_json::consumer::{
     AckPolicy, Action, Config, CreateRequest, DeliverPolicy, FromConsumer, IntoConsumerConfig,
@@ -14,6 +14,7 @@ use js_stream_json::stream::{
 };
 use std::alloc::Global;
 use std::fmt::Debug;
+use std::mem;
 use std::process::Abort;
 
 type Words = Result<String, ReadError>;
@@ -40,11 +41,12 @@ enum Body {
 }
 
 fn stream_named(alloc: Global, name: &str) -> Words {
-    let config = stream::Config {
-        name: Text::from_str(alloc, name)?,
-        ..stream::Config::new(alloc)
-    };
-    config.to_text(alloc)
+    let name = Text::from_str(alloc, name)?;
+    let mut config = stream::Config::new(alloc);
+    drop(mem::replace(&mut config.name, name));
+    let text = config.to_text(alloc);
+    drop(config);
+    text
 }
 
 fn names(alloc: Global, offset: u64, subject: Option<&str>) -> Words {
@@ -65,18 +67,21 @@ fn ordered_request() -> BatchConfig {
 }
 
 fn pinned(alloc: Global, id: &str) -> Words {
+    let (group, pin) = both(Text::from_str(alloc, "g"), Text::from_str(alloc, id))?;
     let request = BatchConfig {
         batch: 1,
         no_wait: true,
         max_bytes: 9,
         min_pending: Some(2),
         min_ack_pending: Some(3),
-        group: Some(Text::from_str(alloc, "g")?),
+        group: Some(group),
         priority: Some(4),
         ..BatchConfig::new()
     };
-    let pin = Text::from_str(alloc, id)?;
-    request.request_text(alloc, Some(&pin))
+    let text = request.request_text(alloc, Some(&pin));
+    drop(request);
+    drop(pin);
+    text
 }
 
 fn ordered_pull(alloc: Global, start_sequence: u64) -> Result<pull::OrderedConfig, ReadError> {
@@ -89,8 +94,10 @@ fn ordered_pull(alloc: Global, start_sequence: u64) -> Result<pull::OrderedConfi
 }
 
 fn ordered_push(alloc: Global, start_sequence: u64) -> Result<push::OrderedConfig, ReadError> {
-    let deliver_subject = Text::from_str(alloc, "_INBOX.t.1")?;
-    let name = Text::from_str(alloc, "c1_1")?;
+    let (deliver_subject, name) = both(
+        Text::from_str(alloc, "_INBOX.t.1"),
+        Text::from_str(alloc, "c1_1"),
+    )?;
     Ok(push::OrderedConfig {
         deliver_subject,
         name: Some(name),
@@ -112,13 +119,19 @@ fn request(action: Action, config: Config, stream_name: Text) -> CreateRequest {
 fn create_pull(alloc: Global, start_sequence: u64) -> Words {
     let stream_name = Text::from_str(alloc, "events")?;
     let config = ordered_pull(alloc, start_sequence)?.into_consumer_config(alloc);
-    request(Action::CreateOrUpdate, config, stream_name).to_text(alloc)
+    let asked = request(Action::CreateOrUpdate, config, stream_name);
+    let text = asked.to_text(alloc);
+    drop(asked);
+    text
 }
 
 fn update_push(alloc: Global, start_sequence: u64) -> Words {
     let stream_name = Text::from_str(alloc, "events")?;
     let config = ordered_push(alloc, start_sequence)?.into_consumer_config(alloc);
-    request(Action::Update, config, stream_name).to_text(alloc)
+    let asked = request(Action::Update, config, stream_name);
+    let text = asked.to_text(alloc);
+    drop(asked);
+    text
 }
 
 fn written(alloc: Global, body: Body) -> Words {

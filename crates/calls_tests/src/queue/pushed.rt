@@ -1,7 +1,7 @@
 //! The push consumer of the work queue.
 
 use crate::queue::server::{api, info};
-use js_base::{Nanos, OutOfMemory, Text};
+use js_base::{Nanos, OutOfMemory, Text, both};
 use js_consumer_calls::PushConsumer;
 use js_json::consumer::Info;
 use js_json::push::Config;
@@ -21,9 +21,12 @@ fn deliver_to(alloc: Global, info: &mut Info, subject: &str) -> Result<(), OutOf
 
 fn pushing(alloc: Global, subject: &str) -> Result<Info, OutOfMemory> {
     let mut info = info(alloc)?;
-    if subject != "-" {
-        deliver_to(alloc, &mut info, subject)?;
-    }
+    let delivering = if subject == "-" {
+        Ok(())
+    } else {
+        deliver_to(alloc, &mut info, subject)
+    };
+    let (info, _) = both(Ok(info), delivering)?;
     Ok(info)
 }
 

@@ -51,14 +51,16 @@ impl From<Messages> for Reader {
 impl Answered for Message {
     fn word(&self, alloc: Global) -> Words {
         let payload = String::from_utf8_lossy(alloc, self.message.payload.as_slice())?;
-        match self.info() {
+        let words = match self.info() {
             Ok(info) => {
                 let sequence = info.stream_sequence;
                 let delivered = info.delivered;
-                Ok(format!(in alloc; "{payload}, sequence {sequence}, delivery {delivered}")?)
+                format!(in alloc; "{payload}, sequence {sequence}, delivery {delivered}")
             }
-            Err(error) => Ok(format!(in alloc; "{payload}, {error}")?),
-        }
+            Err(error) => format!(in alloc; "{payload}, {error}"),
+        };
+        drop(payload);
+        Ok(words?)
     }
 }
 

@@ -20,10 +20,12 @@ fn asked(alloc: Global, subject: &Subject, payload: &Bytes) -> Words {
 
 fn published(alloc: Global, subject: &Subject, reply: &Option<Subject>, payload: &Bytes) -> Words {
     let payload = String::from_utf8_lossy(alloc, payload.as_slice())?;
-    match reply {
-        Some(reply) => Ok(format!(in alloc; "publishes \"{payload}\" to {subject} for {reply}")?),
-        None => Ok(format!(in alloc; "publishes \"{payload}\" to {subject}")?),
-    }
+    let words = match reply {
+        Some(reply) => format!(in alloc; "publishes \"{payload}\" to {subject} for {reply}"),
+        None => format!(in alloc; "publishes \"{payload}\" to {subject}"),
+    };
+    drop(payload);
+    Ok(words?)
 }
 
 /// One thing that was sent.

@@ -2,7 +2,7 @@
 
 use crate::server::scope;
 use bytes::Bytes;
-use js_base::{HeaderMap, Message, OutOfMemory, StatusCode, Subject, Text, TryClone};
+use js_base::{HeaderMap, Message, OutOfMemory, StatusCode, Subject, Text, TryClone, all_3};
 use js_call::ApiScope;
 use js_consumer_calls::PullConsumer;
 use js_json::consumer::{FromConsumer, Info};
@@ -47,7 +47,11 @@ fn config(info: &Info) -> Result<pull::Config, OutOfMemory> {
 fn known(info: Info, scope: ApiScope) -> Result<PullConsumer, OutOfMemory> {
     match config(&info) {
         Ok(config) => Ok(PullConsumer::new(config, info, scope)),
-        Err(OutOfMemory) => Err(OutOfMemory),
+        Err(OutOfMemory) => {
+            drop(info);
+            drop(scope);
+            Err(OutOfMemory)
+        }
     }
 }
 
@@ -131,9 +135,12 @@ pub(crate) fn status(alloc: Global, code: u16, description: &str) -> Result<Mess
 
 /// A heartbeat that asks for an answer to that subject.
 pub(crate) fn flow_control(alloc: Global, subject: &str) -> Result<Message, OutOfMemory> {
-    let description = Text::from_str(alloc, "FlowControl Request")?;
-    let reply = Subject::new(alloc, subject)?;
-    Ok(said(body(alloc, "")?, (100, description), Some(reply), None))
+    let (description, reply, body) = all_3(
+        Text::from_str(alloc, "FlowControl Request"),
+        Subject::new(alloc, subject),
+        body(alloc, ""),
+    )?;
+    Ok(said(body, (100, description), Some(reply), None))
 }
 
 fn stalled_headers(alloc: Global, subject: &str) -> Result<HeaderMap, OutOfMemory> {
@@ -144,9 +151,12 @@ fn stalled_headers(alloc: Global, subject: &str) -> Result<HeaderMap, OutOfMemor
 
 /// A heartbeat of a consumer that waits for an answer to that subject.
 pub(crate) fn stalled(alloc: Global, subject: &str) -> Result<Message, OutOfMemory> {
-    let description = Text::from_str(alloc, "Idle Heartbeat")?;
-    let headers = stalled_headers(alloc, subject)?;
-    Ok(said(body(alloc, "")?, (100, description), None, Some(headers)))
+    let (description, headers, body) = all_3(
+        Text::from_str(alloc, "Idle Heartbeat"),
+        stalled_headers(alloc, subject),
+        body(alloc, ""),
+    )?;
+    Ok(said(body, (100, description), None, Some(headers)))
 }
 
 /// A number, or 0.

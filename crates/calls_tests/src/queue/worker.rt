@@ -122,7 +122,10 @@ impl Worker {
         let link = MemoryLink::new(alloc, "_INBOX.t")?;
         match consumer(alloc) {
             Ok(consumer) => Ok(Worker::over(link, consumer)),
-            Err(OutOfMemory) => Err(OutOfMemory),
+            Err(OutOfMemory) => {
+                drop(link);
+                Err(OutOfMemory)
+            }
         }
     }
 

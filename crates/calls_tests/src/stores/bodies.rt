@@ -41,11 +41,12 @@ fn asked_of<S: State>(alloc: Global, server: &mut ScriptedServer, call: S) -> Wo
 /// The last request that the first poll of a call sends. The account that it may ask for first has an API of level 1, so that markers are asked for.
 fn asked<S: State>(alloc: Global, call: Result<S, OutOfMemory>) -> Words {
     match call {
-        Ok(call) => asked_of(
-            alloc,
-            &mut serving(alloc, &[(Asked::Account, Reply::Level1)])?,
-            call,
-        ),
+        Ok(call) => {
+            let mut server = serving(alloc, &[(Asked::Account, Reply::Level1)])?;
+            let request = asked_of(alloc, &mut server, call);
+            drop(server);
+            request
+        }
         Err(OutOfMemory) => Err(OutOfMemory),
     }
 }
@@ -62,6 +63,7 @@ fn buckets_of_keys_send_these_bodies(rt: HostRuntime) {
         let told = keys.told(rt.alloc(), &context);
         says(&rt, keys.bucket(), told, keys.requests());
     }
+    drop(context);
 }
 
 #[test]
@@ -71,4 +73,5 @@ fn buckets_of_objects_send_these_bodies(rt: HostRuntime) {
         let told = objects.told(rt.alloc(), &context);
         says(&rt, objects.bucket(), told, objects.requests());
     }
+    drop(context);
 }

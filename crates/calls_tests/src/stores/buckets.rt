@@ -240,6 +240,7 @@ const CALLS: &[Row<Call>] = &[
 fn calls_on_keys_ask_and_answer(rt: HostRuntime) {
     let context = context(&rt, rt.alloc(), "$JS.API").expect(&rt, "context");
     says_each(&rt, rt.alloc(), &context, CALLS);
+    drop(context);
 }
 
 /// A bucket under another prefix of the API, which is told.
@@ -253,6 +254,7 @@ const ELSEWHERE: &[Row<Call>] = &[(
 fn another_api_is_told(rt: HostRuntime) {
     let context = context(&rt, rt.alloc(), "$JS.hub.API").expect(&rt, "context");
     says_each(&rt, rt.alloc(), &context, ELSEWHERE);
+    drop(context);
 }
 
 /// What the making of a bucket comes to whose account is told at once, and whose stream is not within 200 nanoseconds.
@@ -262,11 +264,10 @@ fn late_over(alloc: Global, context: &Context, server: &mut ScriptedServer) -> W
 }
 
 fn late(alloc: Global, context: &Context) -> Words {
-    late_over(
-        alloc,
-        context,
-        &mut serving(alloc, &[(Asked::Account, Reply::Level0)])?,
-    )
+    let mut server = serving(alloc, &[(Asked::Account, Reply::Level0)])?;
+    let words = late_over(alloc, context, &mut server);
+    drop(server);
+    words
 }
 
 #[test]
@@ -274,4 +275,5 @@ fn a_stream_that_is_not_made_in_time_is_told(rt: HostRuntime) {
     let context = context(&rt, rt.alloc(), "$JS.API").expect(&rt, "context");
     let wanted = "timed out: jetstream request timed out: timed out";
     says(&rt, wanted, late(rt.alloc(), &context), wanted);
+    drop(context);
 }

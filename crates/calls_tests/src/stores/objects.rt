@@ -94,4 +94,5 @@ const CALLS: &[Row<Call>] = &[
 fn calls_on_objects_ask_and_answer(rt: HostRuntime) {
     let context = context(&rt, rt.alloc(), "$JS.API").expect(&rt, "context");
     says_each(&rt, rt.alloc(), &context, CALLS);
+    drop(context);
 }

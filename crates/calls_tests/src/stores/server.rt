@@ -4,7 +4,7 @@ use crate::server::{Answered, asked_word, ended, is_request, scripted, silent, s
 use crate::stores::script::{Asked, Reply};
 use crate::tables::says;
 use crate::words::{Words, word};
-use js_base::{Error, OutOfMemory, Text};
+use js_base::{Error, OutOfMemory, Text, both};
 use js_call::State;
 use js_context::Context;
 use js_json::account::Account;
@@ -32,7 +32,8 @@ pub(crate) fn serving(
     script: &[(Asked, Reply)],
 ) -> Result<ScriptedServer, OutOfMemory> {
     let mut server = silent(alloc)?;
-    add_all(alloc, &mut server, script)?;
+    let added = add_all(alloc, &mut server, script);
+    let (server, _) = both(Ok(server), added)?;
     Ok(server)
 }
 
@@ -143,7 +144,10 @@ fn outcome<C: ContextCase>(
     call: C,
     script: &[(Asked, Reply)],
 ) -> Words {
-    told(alloc, context, call, script, &mut serving(alloc, script)?)
+    let mut server = serving(alloc, script)?;
+    let words = told(alloc, context, call, script, &mut server);
+    drop(server);
+    words
 }
 
 /// A call, what it asks and is replied, and what it comes to.

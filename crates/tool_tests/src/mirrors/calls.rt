@@ -1,8 +1,7 @@
 //! Each call of a mirror.
 
-use crate::mirrors::draw::entry;
+use crate::mirrors::draw::{entry, entry_with};
 use crate::tables::same;
-use bytes::Bytes;
 use js_mirror::{Mirror, MirrorError, Slot};
 use std::alloc::{AllocError, Global};
 use std::test::Fail;
@@ -106,9 +105,8 @@ fn merged_differing(alloc: Global, mirror: &mut Mirror) -> Answer {
 
 /// A mirror with another entry 5.
 fn differing(alloc: Global) -> Result<Mirror, MirrorError> {
+    let other = entry_with(alloc, 5, b"other")?;
     let mut mirror = Mirror::new(alloc, 3);
-    let mut other = entry(alloc, 5)?;
-    other.payload = Bytes::copy_from_slice(alloc, b"other")?;
     mirror.push(other)?;
     Ok(mirror)
 }

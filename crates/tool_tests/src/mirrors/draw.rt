@@ -2,7 +2,7 @@
 ghost use Rattle.std.specs.Prelude.{◌<◌};
 
 use bytes::Bytes;
-use js_base::{Entry, OutOfMemory, Subject};
+use js_base::{Entry, OutOfMemory, Subject, both};
 use js_mirror::{Mirror, MirrorError};
 use rand_core::utils::NextWord;
 use rand_pcg::Pcg32;
@@ -10,13 +10,31 @@ use std::alloc::Global;
 
 /// The log's entry with this sequence, which is the same whenever it is drawn.
 pub(crate) fn entry(alloc: Global, sequence: u64) -> Result<Entry, OutOfMemory> {
-    let subject = format!(in alloc; "key.{}", sequence % 5)?;
     let payload = format!(in alloc; "{sequence}")?;
+    entry_with(alloc, sequence, payload.as_bytes())
+}
+
+/// An entry with this sequence and this payload, on the subject of the log's.
+pub(crate) fn entry_with(
+    alloc: Global,
+    sequence: u64,
+    payload: &[u8],
+) -> Result<Entry, OutOfMemory> {
+    let (subject, payload) = both(subject_of(alloc, sequence), bytes_of(alloc, payload))?;
     Ok(Entry {
-        subject: Subject::new(alloc, subject.as_str())?,
+        subject,
         sequence,
-        payload: Bytes::copy_from_slice(alloc, payload.as_bytes())?,
+        payload,
     })
+}
+
+fn subject_of(alloc: Global, sequence: u64) -> Result<Subject, OutOfMemory> {
+    let text = format!(in alloc; "key.{}", sequence % 5)?;
+    Subject::new(alloc, text.as_str())
+}
+
+fn bytes_of(alloc: Global, payload: &[u8]) -> Result<Bytes, OutOfMemory> {
+    Ok(Bytes::copy_from_slice(alloc, payload)?)
 }
 
 /// A mirror from a start on that has each of the next 40 entries of the log, or has it not.

@@ -60,12 +60,15 @@ fn told_of(alloc: Global, table: &Projection) -> Result<String, OutOfMemory> {
 /// What is told of the run's table. Sequences 4 and 9 have one subject.
 const TABLE: &str = "table up to 9: 2 rows\nkey.4 has b\"9\"\n";
 
-fn says_both(rt: &impl Abort, alloc: Global, run: &Run) -> Result<(), Fail> {
-    let at_once = told(alloc, project(alloc, run)?)?;
-    same(rt, "at once", at_once.as_str(), TABLE);
-    let as_they_come = told(alloc, advanced(alloc, run)?)?;
-    same(rt, "as they come", as_they_come.as_str(), TABLE);
+fn says_table(rt: &impl Abort, row: &str, told: Result<String, OutOfMemory>) -> Result<(), Fail> {
+    let told = told?;
+    same(rt, row, told.as_str(), TABLE);
     Ok(())
+}
+
+fn says_both(rt: &impl Abort, alloc: Global, run: &Run) -> Result<(), Fail> {
+    says_table(rt, "at once", told(alloc, project(alloc, run)?))?;
+    says_table(rt, "as they come", told(alloc, advanced(alloc, run)?))
 }
 
 #[test]

@@ -137,14 +137,15 @@ fn tell(alloc: Global, text: &mut String, sessions: &[Session]) -> Result<(), Fa
     for session in sessions {
         so_far = one(alloc, text, so_far, session)?;
     }
-    writeln!(
+    let written = writeln!(
         text,
         "{} sessions, {} committed, next {}",
         so_far.count(),
         so_far.committed(),
         so_far.next()
-    )?;
-    Ok(())
+    );
+    drop(so_far);
+    Ok(written?)
 }
 
 /// A session that is replayed. What runs it is generic over it, since it has many parts, which then need not be looked into.

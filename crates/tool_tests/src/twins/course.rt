@@ -40,17 +40,25 @@ impl Replayed for Course {
         let Course { setup, events } = self;
         let start = setup.start;
         let mut twin = Twin::open(alloc, setup)?;
-        Ok((twin.count(alloc, start, events, run), twin.ended))
+        let polled = (twin.count(alloc, start, events, run), twin.ended);
+        drop(twin);
+        Ok(polled)
     }
+}
+
+fn read_lines(alloc: Global, payloads: &mut Payloads, text: &str) -> Result<Vec<Event>, Unread> {
+    let mut events = Vec::new(alloc);
+    for line in text.lines() {
+        events.push(next_line(alloc, payloads, 2, line.as_bytes())?)?;
+    }
+    Ok(events)
 }
 
 fn read_events(alloc: Global, text: &str) -> Result<Vec<Event>, Unread> {
     let mut payloads = Payloads::new(alloc);
-    let mut events = Vec::new(alloc);
-    for line in text.lines() {
-        events.push(next_line(alloc, &mut payloads, 2, line.as_bytes())?)?;
-    }
-    Ok(events)
+    let events = read_lines(alloc, &mut payloads, text);
+    drop(payloads);
+    events
 }
 
 /// What the lines of a transcript say.

@@ -2,7 +2,7 @@
 
 use crate::twins::happening::happen;
 use crate::twins::shown::{is_handed, is_sent};
-use js_base::{Message, Moment, Next};
+use js_base::{Message, Moment, Next, both};
 use js_link::{MemoryLink, Sent};
 use js_ordered::{Event, OrderedSetup, Output, Run, Step};
 use js_ordered_stream::{OrderedError, pull, push};
@@ -67,6 +67,18 @@ fn has_sent(sent: &[Sent], before: usize, outputs: &mut Iter<'_, Output>) -> boo
     true
 }
 
+/// Whether what a poll hands out is what is put out next, or none where it is and another poll follows.
+fn agreement(
+    next: &Next<Result<Message, OrderedError>>,
+    outputs: &mut Iter<'_, Output>,
+) -> Option<bool> {
+    match next {
+        Next::Item(item) if is_handed(item, next_shown(outputs)) => None,
+        Next::Item(_) | Next::OutOfMemory => Some(false),
+        _ => Some(next_shown(outputs).is_none()),
+    }
+}
+
 /// A consumer over a link in memory, and whether it has ended.
 #[derive(Drop)]
 pub(crate) struct Twin {
@@ -78,36 +90,58 @@ pub(crate) struct Twin {
 impl Twin {
     /// A consumer of that setup.
     pub(crate) fn open(alloc: Global, setup: Setup) -> Result<Twin, Fail> {
-        let mut link = MemoryLink::new(alloc, setup.settings.inbox_prefix.as_str())?;
-        let reader = Reader::open(alloc, &mut link, setup)?;
-        Ok(Twin {
-            reader,
-            link,
-            ended: false,
-        })
+        let link = MemoryLink::new(alloc, setup.settings.inbox_prefix.as_str());
+        let (mut link, setup) = both(link, Ok(setup))?;
+        match Reader::open(alloc, &mut link, setup) {
+            Ok(reader) => Ok(Twin {
+                reader,
+                link,
+                ended: false,
+            }),
+            Err(fault) => {
+                drop(link);
+                Err(fault)
+            }
+        }
     }
 
     /// Whether polls until it waits or has ended do just what a step of the replay puts out.
     fn agrees(&mut self, alloc: Global, now: Moment, step: &Step) -> bool {
         let mut outputs = step.outputs.as_slice().iter();
         for _ in 0..u64::MAX {
-            let before = self.link.sent().len();
-            let next = self.reader.poll(alloc, &mut self.link, now);
-            if !has_sent(self.link.sent(), before, &mut outputs) {
-                return false;
-            }
-            self.ended = matches!(&next, Next::End);
-            match &next {
-                Next::Item(item) => {
-                    if !is_handed(item, next_shown(&mut outputs)) {
-                        return false;
-                    }
-                }
-                Next::OutOfMemory => return false,
-                _ => return next_shown(&mut outputs).is_none(),
+            if let Some(agrees) = self.polled(alloc, now, &mut outputs) {
+                return agrees;
             }
         }
         false
+    }
+
+    /// Whether a poll does what is put out next, or none where it does and another poll follows.
+    fn polled(
+        &mut self,
+        alloc: Global,
+        now: Moment,
+        outputs: &mut Iter<'_, Output>,
+    ) -> Option<bool> {
+        let before = self.link.sent().len();
+        let next = self.reader.poll(alloc, &mut self.link, now);
+        let agrees = self.compared(&next, before, outputs);
+        drop(next);
+        agrees
+    }
+
+    /// The same of what was sent since so much was, and of what a poll hands out.
+    fn compared(
+        &mut self,
+        next: &Next<Result<Message, OrderedError>>,
+        before: usize,
+        outputs: &mut Iter<'_, Output>,
+    ) -> Option<bool> {
+        if !has_sent(self.link.sent(), before, outputs) {
+            return Some(false);
+        }
+        self.ended = matches!(next, Next::End);
+        agreement(next, outputs)
     }
 
     /// Whether it does what the replay puts out for an event.

@@ -2,11 +2,12 @@
 
 use crate::stores::bodies::{add, asked, requests};
 use crate::words::Words;
-use js_base::{Items, OutOfMemory, Text};
+use js_base::{Items, OutOfMemory, Text, both};
 use js_context::Context;
 use js_store::{StoreCalls, kv};
 use js_stream_json::stream::{External, Placement, Republish, Source, StorageType};
 use std::alloc::Global;
+use std::mem;
 
 /// A bucket, by what it has that others have not.
 #[derive(Clone, Copy, Drop)]
@@ -68,18 +69,22 @@ fn source(alloc: Global, bucket: &str, start_sequence: Option<u64>) -> Result<So
 
 /// The bucket of another domain.
 fn elsewhere(alloc: Global) -> Result<Source, OutOfMemory> {
-    let external = external(alloc)?;
-    let mut source = source(alloc, "plain", None)?;
-    source.external = Some(external);
+    let (external, mut source) = both(external(alloc), source(alloc, "plain", None))?;
+    drop(mem::replace(&mut source.external, Some(external)));
     Ok(source)
 }
 
 /// One by the name of its bucket, and one by that of its stream.
 fn sources(alloc: Global) -> Result<Items<Source>, OutOfMemory> {
     let mut sources = Items::new(alloc);
+    add_sources(alloc, &mut sources)?;
+    Ok(sources)
+}
+
+fn add_sources(alloc: Global, sources: &mut Items<Source>) -> Result<(), OutOfMemory> {
     sources.push(source(alloc, "plain", None)?)?;
     sources.push(source(alloc, "KV_history", Some(5))?)?;
-    Ok(sources)
+    Ok(())
 }
 
 fn placement(alloc: Global) -> Result<Placement, OutOfMemory> {
@@ -162,13 +167,16 @@ impl Keys {
     }
 
     fn config(self, alloc: Global, description: &str) -> Result<kv::Config, OutOfMemory> {
-        let mut config = kv::Config {
-            bucket: Text::from_str(alloc, self.bucket())?,
-            description: Text::from_str(alloc, description)?,
-            ..kv::Config::new(alloc)
-        };
+        let (bucket, description) = both(
+            Text::from_str(alloc, self.bucket()),
+            Text::from_str(alloc, description),
+        )?;
+        let mut config = kv::Config::new(alloc);
+        drop(mem::replace(&mut config.bucket, bucket));
+        drop(mem::replace(&mut config.description, description));
         self.set(&mut config);
-        self.fill(alloc, &mut config)?;
+        let filled = self.fill(alloc, &mut config);
+        let (config, _) = both(Ok(config), filled)?;
         Ok(config)
     }
 
@@ -183,20 +191,18 @@ impl Keys {
         asked(alloc, context.update_key_value(alloc, config))
     }
 
+    fn tell(self, alloc: Global, context: &Context, lines: &mut String) -> Result<(), OutOfMemory> {
+        let bucket = self.bucket();
+        add(lines, self.created(alloc, context))?;
+        add(lines, self.updated(alloc, context))?;
+        add(lines, asked(alloc, context.get_key_value(alloc, bucket)))?;
+        add(lines, asked(alloc, context.delete_key_value(alloc, bucket)))
+    }
+
     /// The bucket is made, changed, got and deleted.
     pub(crate) fn told(self, alloc: Global, context: &Context) -> Words {
-        let bucket = self.bucket();
         let mut lines = String::new(alloc);
-        add(&mut lines, self.created(alloc, context))?;
-        add(&mut lines, self.updated(alloc, context))?;
-        add(
-            &mut lines,
-            asked(alloc, context.get_key_value(alloc, bucket)),
-        )?;
-        add(
-            &mut lines,
-            asked(alloc, context.delete_key_value(alloc, bucket)),
-        )?;
+        self.tell(alloc, context, &mut lines)?;
         Ok(lines)
     }
 }
