@@ -3,7 +3,7 @@ ghost use Rattle.std.specs.Prelude.{◌≡◌, ◌+◌, ◌∷◌, ◌++◌, [],
 ghost use Rattle.js_ordered.specs.IncrementalReplay.{HasCome, IsEnd, IsWithin, course_given, course_rest};
 ghost use Rattle.js_ordered.specs.Driven.{IsLeft};
 ghost use Rattle.js_table.specs.Fold.{event as ran_by};
-ghost use Rattle.js_table.specs.Refusal.{first_of};
+ghost use Rattle.js_table.specs.Refusal.{first_of, refuse_input as refused_at};
 ghost use Rattle.js_table.specs.declared.consumer.ReplayInput.{ReplayInput};
 ghost use Rattle.js_table.specs.declared.event.Event as events;
 
@@ -214,6 +214,23 @@ impl<'a> IncrementalReplay<'a> {
         self.count
     }
 
+    // What is wrong with what the course was opened with.
+    fn refuse_given(&self) -> Option<ReplayError>
+        ensures { result ≡ refused_at (course_given self.now) self.now.moment [] }
+    {
+        let tick = EventKind::Tick;
+        let context = EventContext {
+            settings: self.settings,
+            setup: self.setup,
+            first: self.first,
+            moment: self.moment,
+            what: &tick,
+        };
+        let refusal = refuse_input(&context, &[]);
+        drop(tick);
+        refusal
+    }
+
     /// Whether the consumer has ended, where no more events come.
     ///
     /// # Errors
@@ -226,15 +243,7 @@ impl<'a> IncrementalReplay<'a> {
         if !self.todo.is_empty() {
             return Err(ReplayError::OutOfMemory);
         }
-        let tick = EventKind::Tick;
-        let context = EventContext {
-            settings: self.settings,
-            setup: self.setup,
-            first: self.first,
-            moment: self.moment,
-            what: &tick,
-        };
-        if let Some(refusal) = refuse_input(&context, &[]) {
+        if let Some(refusal) = self.refuse_given() {
             return Err(refusal);
         }
         if let Some(place) = self.early {

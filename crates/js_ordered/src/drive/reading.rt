@@ -17,7 +17,7 @@ use crate::drive::arrivals::check_arrival;
 use crate::drive::give::{Sending, request_for, send, tell};
 use crate::drive::recreation::has_reply;
 use bytes::Bytes;
-use js_base::{Message, OutOfMemory, TryClone};
+use js_base::{Message, OutOfMemory, TryClone, all_3};
 use js_pull::{Due, InfoRequest, Reader, Reason, Step as Read, check_inquiry, reason_of};
 use js_table::passing::{NextTasks, Step, reading};
 use js_table::{EventContext, EventKind, Output, Phase, ReplayState};
@@ -43,10 +43,15 @@ fn pull_request(alloc: Global, up: bool, reader: &Reader) -> Result<Option<Outpu
     if !up {
         return Ok(None);
     }
+    let (subject, reply, payload) = all_3(
+        reader.source.pull_subject(alloc),
+        reader.source.subject.try_clone(),
+        reader.pull_body(alloc),
+    )?;
     Ok(Some(Output::Publish {
-        subject: reader.source.pull_subject(alloc)?,
-        reply: Some(reader.source.subject.try_clone()?),
-        payload: reader.pull_body(alloc)?,
+        subject,
+        reply: Some(reply),
+        payload,
     }))
 }
 
