@@ -9,19 +9,35 @@ ghost use Rattle.js_bookmark.specs.declared.session.Session.{Session};
 
 use crate::error::SessionsError;
 use crate::session::{Line, Session, SessionRun};
-use crate::session_replay::{SessionEnd, SessionReplay, Sessions};
+use crate::session_replay::{SessionReplay, Sessions};
 use bytes::Bytes;
-use js_base::{Items, OutOfMemory, Subject, TryClone};
+use js_base::{Items, OutOfMemory, Subject, TryClone, both, each_copied};
 use js_ordered::{Output, Run, Step};
 use std::alloc::Global;
 
 fn request_of(number: u64, subject: &Subject, payload: &Bytes) -> Result<Output, OutOfMemory>
     ensures { IfOk result (λ copy. copy ≡ Output.Request number subject.now payload.now) }
 {
+    let (subject, payload) = both(subject.try_clone(), payload.try_clone())?;
     Ok(Output::Request {
         number,
-        subject: subject.try_clone()?,
-        payload: payload.clone()?,
+        subject,
+        payload,
+    })
+}
+
+fn publish_of(
+    subject: &Subject,
+    reply: &Option<Subject>,
+    payload: &Bytes,
+) -> Result<Output, OutOfMemory>
+    ensures { IfOk result (λ copy. copy ≡ Output.Publish subject.now reply.now payload.now) }
+{
+    let (subject, reply, payload) = each_copied(subject, reply, payload)?;
+    Ok(Output::Publish {
+        subject,
+        reply,
+        payload,
     })
 }
 
@@ -34,12 +50,15 @@ fn copy_of(output: &Output) -> Result<Output, OutOfMemory>
             consumer_sequence,
             subject,
             payload,
-        } => Ok(Output::Yield {
-            stream_sequence: *stream_sequence,
-            consumer_sequence: *consumer_sequence,
-            subject: subject.try_clone()?,
-            payload: payload.clone()?,
-        }),
+        } => {
+            let (subject, payload) = both(subject.try_clone(), payload.try_clone())?;
+            Ok(Output::Yield {
+                stream_sequence: *stream_sequence,
+                consumer_sequence: *consumer_sequence,
+                subject,
+                payload,
+            })
+        }
         Output::Item { kind } => Ok(Output::Item { kind: *kind }),
         Output::Recreate {
             recreation_count,
@@ -57,11 +76,7 @@ fn copy_of(output: &Output) -> Result<Output, OutOfMemory>
             subject,
             reply,
             payload,
-        } => Ok(Output::Publish {
-            subject: subject.try_clone()?,
-            reply: reply.try_clone()?,
-            payload: payload.clone()?,
-        }),
+        } => publish_of(subject, reply, payload),
         Output::Subscribe { inbox, subject } => Ok(Output::Subscribe {
             inbox: *inbox,
             subject: subject.try_clone()?,
@@ -161,21 +176,25 @@ fn run_session(
             return Err(SessionsError::OutOfMemory);
         }
     };
-    let SessionEnd {
-        sessions,
-        ended,
-        committed,
-    } = course.end()?;
-    let next = sessions.next();
-    runs.push(SessionRun {
+    let end = match course.end() {
+        Ok(end) => end,
+        Err(refusal) => {
+            drop(opening);
+            drop(steps);
+            return Err(refusal);
+        }
+    };
+    let next = end.sessions.next();
+    let pushed = runs.push(SessionRun {
         run: Run {
             opening,
             steps,
-            ended,
+            ended: end.ended,
         },
-        committed,
+        committed: end.committed,
         next,
-    })?;
+    });
+    let (sessions, ()) = both(Ok(end.sessions), pushed)?;
     Ok(sessions)
 }
 

@@ -5,7 +5,7 @@ ghost use Rattle.js_table.specs.Texts.{config_of, filters};
 ghost use Rattle.js_bookmark.specs.Progress.{agreed};
 ghost use Rattle.js_bookmark.specs.Sessions.{same_scope, scope_of};
 
-use js_base::{Items, OutOfMemory, Text, TryClone};
+use js_base::{Items, OutOfMemory, Text, TryClone, both};
 use js_json::consumer::Info;
 use js_ordered::OrderedSetup;
 use std::alloc::Global;
@@ -30,28 +30,23 @@ fn filter_subjects(setup: &OrderedSetup) -> &Items<Text>
 fn filters_of(alloc: Global, setup: &OrderedSetup) -> Result<Items<Text>, OutOfMemory>
     ensures { IfOk result (λ list. list ≡ filters setup.now) }
 {
-    let subjects = filter_subjects(setup).try_clone()?;
     let subject = setup.filter_subject();
+    let further = filter_subjects(setup).try_clone();
     if subject.is_empty() {
-        return Ok(subjects);
+        return further;
     }
-    let mut filters = subjects.into_vec();
-    filters.insert(0, Text::from_str(alloc, subject)?)?;
+    let (first, further) = both(Text::from_str(alloc, subject), further)?;
+    let mut filters = further.into_vec();
+    filters.insert(0, first)?;
     Ok(Items::from(filters))
 }
 
 impl Scope {
-    pub(crate) fn of(
-        alloc: Global,
-        setup: &OrderedSetup,
-        first: &Info,
-    ) -> Result<Scope, OutOfMemory>
+    fn of(alloc: Global, setup: &OrderedSetup, first: &Info) -> Result<Scope, OutOfMemory>
         ensures { IfOk result (λ scope. scope ≡ scope_of setup.now first.now) }
     {
-        Ok(Scope {
-            stream: first.stream_name.try_clone()?,
-            filters: filters_of(alloc, setup)?,
-        })
+        let (stream, filters) = both(first.stream_name.try_clone(), filters_of(alloc, setup))?;
+        Ok(Scope { stream, filters })
     }
 
     fn is_same(&self, other: &Scope) -> bool
@@ -61,18 +56,35 @@ impl Scope {
     }
 
     /// What the first session reads, which is this where there was none. None where this is something else.
-    pub(crate) fn agreed(self, first: Option<Scope>) -> Option<Scope>
+    fn agreed(self, first: Option<Scope>) -> Option<Scope>
         ensures { result ≡ agreed first self }
     {
         match first {
             None => Some(self),
             Some(first) => {
-                if first.is_same(&self) {
+                let same = first.is_same(&self);
+                drop(self);
+                if same {
                     Some(first)
                 } else {
+                    drop(first);
                     None
                 }
             }
         }
+    }
+
+    /// What the first session reads, where one with this setup, to which the server has told this first, reads the same. None where it reads
+    /// something else.
+    pub(crate) fn after(
+        alloc: Global,
+        before: Option<Scope>,
+        setup: &OrderedSetup,
+        first: &Info,
+    ) -> Result<Option<Scope>, OutOfMemory>
+        ensures { IfOk result (λ scope. scope ≡ agreed before (scope_of setup.now first.now)) }
+    {
+        let (before, scope) = both(Ok(before), Scope::of(alloc, setup, first))?;
+        Ok(scope.agreed(before))
     }
 }

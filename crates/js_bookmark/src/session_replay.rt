@@ -9,7 +9,7 @@ ghost use Rattle.js_bookmark.specs.declared.session.Session.{Session};
 use crate::error::SessionsError;
 use crate::mark::Mark;
 use crate::scope::Scope;
-use js_base::{Moment, OutOfMemory};
+use js_base::{Moment, OutOfMemory, both};
 use js_json::consumer::Info;
 use js_ordered::{Event, IncrementalReplay, OrderedSetup, Output, ReplayError, Settings};
 use js_table::next_number;
@@ -128,20 +128,22 @@ impl Sessions {
         ensures { (next : ℕ) → (done : List Session) → HaveEnded next done self
             → Begins next done (record { settings = settings.now; setup = setup.now; first = first.now; start = start; lines = [] }) result }
     {
-        let Sessions {
-            count,
-            next,
-            committed,
-            scope,
-        } = self;
-        let number = next_number(count)?;
+        let number = match next_number(self.count) {
+            Ok(number) => number,
+            Err(OutOfMemory) => {
+                drop(self);
+                return Err(SessionsError::OutOfMemory);
+            }
+        };
+        let next = self.next;
         if !is_at(next, setup.configured_start()) {
+            drop(self);
             return Err(SessionsError::WrongStart {
                 session: number,
                 next,
             });
         }
-        let Some(scope) = Scope::of(alloc, setup, first)?.agreed(scope) else {
+        let Some(scope) = Scope::after(alloc, self.scope, setup, first)? else {
             return Err(SessionsError::WrongFilter { session: number });
         };
         let course = IncrementalReplay::open(alloc, settings, setup, first, start)?;
@@ -150,12 +152,13 @@ impl Sessions {
             Ok(yielded) => yielded,
             Err(OutOfMemory) => {
                 drop(course);
+                drop(scope);
                 return Err(SessionsError::OutOfMemory);
             }
         };
         Ok(SessionReplay {
             number,
-            before: committed,
+            before: self.committed,
             scope,
             course,
             yielded,
@@ -227,18 +230,24 @@ impl<'a> SessionReplay<'a> {
             has_failed,
             ..
         } = self;
+        let ended = course.end();
+        drop(course);
         if has_failed {
-            drop(course);
+            drop(scope);
             return Err(SessionsError::OutOfMemory);
         }
-        let ended = match course.end() {
+        let ended = match ended {
             Ok(ended) => ended,
-            Err(error) => return Err(replay_refusal(number, error)),
+            Err(error) => {
+                drop(scope);
+                return Err(replay_refusal(number, error));
+            }
         };
         let Some(next) = saved.next else {
+            drop(scope);
             return Err(SessionsError::BookmarkEnd { session: number });
         };
-        let committed = sum_of(before, saved.count)?;
+        let (scope, committed) = both(Ok(scope), sum_of(before, saved.count))?;
         Ok(SessionEnd {
             sessions: Sessions {
                 count: number,

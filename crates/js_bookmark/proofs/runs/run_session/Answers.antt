@@ -1,6 +1,8 @@
-use Rattle.std.proofs.Common.{List, refl, subst}
+use Rattle.std.proofs.Common.{◌++◌, ◌∷◌, [], List, refl, subst}
+use Rattle.std.proofs.lemmas.Result.{IfOk-at_ok}
 use Rattle.js_bookmark.specs.declared.session.Line.{Line}
-use Rattle.js_bookmark.specs.Progress.{HasStepped, with_lines}
+use Rattle.js_bookmark.specs.declared.session_replay.Sessions.{Sessions}
+use Rattle.js_bookmark.specs.Progress.{HasStepped, HaveEnded, with_lines}
 use Rattle.js_bookmark.proofs.Running.{run_is, runs_more}
 use Rattle.js_bookmark.proofs.runs.run_session.Goals as goal
 
@@ -15,11 +17,12 @@ returns c = λ next done have.
     let course = c.opening_and_steps-told.new.course in
     let stepped : HasStepped next done s course c.in-Ok-told.told.1 =
     subst (λ (lines : List Line). HasStepped next done (with_lines s lines) course c.in-Ok-told.told.1) c.as_slice.ensures steps in
-    let ended = c.in_ok-sessions.ensures.ended next done s stepped.come in
+    let ended = c.in-Ok-end.ensures.ended next done s stepped.come in
+    let values = c.in_ok-sessions.ensures.values in
     record {
-      ended = ended.sessions;
+      ended = IfOk-at_ok (λ (sessions : Sessions). HaveEnded next (done ++ s ∷ []) sessions) values.0 ended.sessions;
       so_far =
-          runs_more next done s c.args.runs.now c.push.new.self _ have.so_far
-          (run_is next done s c.in-Ok.course c.in_ok-sessions.field-0 c.in-Ok-told.told.0 c.in-Ok-told.told.1 c.in-Ok-told.told.0.outputs c.next-next.result begun opened refl stepped.so_far ended c.next-next.ensures)
-          c.in_ok-push.ensures.ok;
+          runs_more next done s c.args.runs.now c.push-pushed.new.self _ have.so_far
+          (run_is next done s c.in-Ok.course c.in-Ok-end.end c.in-Ok-told.told.0 c.in-Ok-told.told.1 c.in-Ok-told.told.0.outputs c.next-next.result begun opened refl stepped.so_far ended c.next-next.ensures)
+          (rw values.1 at c.push-pushed.ensures.ok);
     }

@@ -1,5 +1,7 @@
-use Rattle.std.proofs.Common.{ℕ, ◌++◌, ◌∷◌, [], Some, refl, sym, ap, subst}
+use Rattle.std.proofs.Common.{◌≡◌, ℕ, ◌+◌, ◌++◌, ◌∷◌, [], Some, refl, sym, ap, ◌∙◌, subst}
+use Rattle.std.proofs.lemmas.Result.{IfOk-at_ok}
 use Rattle.js_bookmark.specs.declared.error.SessionsError.{SessionsError}
+use Rattle.js_bookmark.specs.declared.scope.Scope.{Scope}
 use Rattle.js_bookmark.specs.Lines.{events_of}
 use Rattle.js_bookmark.specs.Sessions.{IsRefusal, given_of}
 use Rattle.js_bookmark.proofs.Coming.{ends_last, ends_refused, ends_well}
@@ -17,5 +19,10 @@ returns-in_default-clause-ended c = λ next done s come.
 pub returns-clause-ended : goal.returns-clause-ended
 returns-clause-ended c = λ next done s come.
     let ended = c.in-Ok.ensures.ended (given_of s) s.start (events_of s.lines) come.course in
+    let values = c.in_ok-scope.ensures.values in
+    let kept : c.in_ok-scope.scope ≡ c.args.self.scope = IfOk-at_ok (λ (scope : Scope). scope ≡ c.args.self.scope) values.0 refl in
+    let sum : c.in_ok-scope.committed ≡ c.args.self.before + c.args.self.saved.count =
+    IfOk-at_ok (λ (n : ℕ). n ≡ c.args.self.before + c.args.self.saved.count) values.1 c.sum_of.ensures in
     ends_well next done s c.args.self _ c.in-Some.next come ended.0 ended.1 c.in-Some.is refl
-    (ap (λ (n : ℕ). record { count = c.args.self.number; next = c.in-Some.next; committed = n; scope = Some c.args.self.scope }) c.in_ok-committed.ensures)
+    (ap (λ (n : ℕ). record { count = c.args.self.number; next = c.in-Some.next; committed = n; scope = Some c.in_ok-scope.scope }) sum
+    ∙ ap (λ (scope : Scope). record { count = c.args.self.number; next = c.in-Some.next; committed = c.args.self.before + c.args.self.saved.count; scope = Some scope }) kept)
