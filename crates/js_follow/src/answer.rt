@@ -126,7 +126,9 @@ impl<'s> Listener<'s> {
             Err(Unread::BadLine(line)) => return Ok(bad_line(alloc, line)),
             Err(Unread::OutOfMemory) => return Err(AllocError),
         };
-        match self.replay.advance(alloc, &event) {
+        let passed = self.replay.advance(alloc, &event);
+        drop(event);
+        match passed {
             Ok(()) => self.answer(alloc),
             Err(OutOfMemory) => Err(AllocError),
         }

@@ -183,12 +183,19 @@ fn open<P: Peer>(
         Err(AllocError) => return Status::OutOfMemory,
     };
     match greet(alloc, &listener, peer) {
-        Some(status) => status,
+        Some(status) => {
+            drop(listener);
+            status
+        }
         None => {
             if more {
-                listen(alloc, &mut listener, lines, peer)
+                let status = listen(alloc, &mut listener, lines, peer);
+                drop(listener);
+                status
             } else {
-                finish(alloc, &listener, peer)
+                let status = finish(alloc, &listener, peer);
+                drop(listener);
+                status
             }
         }
     }
@@ -217,7 +224,9 @@ fn begin<P: Peer>(alloc: Global, more: bool, lines: &mut IncomingLines, peer: &m
     ensures { (from : Dialogue) → HasBegun from (P.view peer.old) more lines.old.line lines.old.left → IsOver from (P.view peer.new) result }
 {
     let first = first_line(alloc, lines.line());
-    begin_with(alloc, &first, more, lines, peer)
+    let status = begin_with(alloc, &first, more, lines, peer);
+    drop(first);
+    status
 }
 
 // Hears all lines.

@@ -86,9 +86,14 @@ impl<'s> Gathering<'s> {
             → result ≡ ending_of g start es }
     {
         let Gathering { course, entries } = self;
-        match course.end() {
+        let ended = course.end();
+        drop(course);
+        match ended {
             Ok(_) => Ending::Yields(entries),
-            Err(refusal) => Ending::Refused(refusal),
+            Err(refusal) => {
+                drop(entries);
+                Ending::Refused(refusal)
+            }
         }
     }
 }

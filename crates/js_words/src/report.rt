@@ -137,13 +137,19 @@ pub(crate) fn report_on(
 {
     let mut lines = Lines::new(alloc, bytes);
     if !lines.read(alloc) {
+        drop(lines);
         return Err(Unread::BadLine(1));
     }
     let setup = match first_line(alloc, lines.line()) {
         Ok(setup) => setup,
-        Err(unread) => return Err(unread),
+        Err(unread) => {
+            drop(lines);
+            return Err(unread);
+        }
     };
-    let ending = match gather(alloc, &setup, &mut lines) {
+    let gathered = gather(alloc, &setup, &mut lines);
+    drop(lines);
+    let ending = match gathered {
         Ok(ending) => ending,
         Err(unread) => {
             drop(setup);

@@ -62,11 +62,14 @@ fn other_line(alloc: Global, line: &[u8], error: ReadError) -> Result<Said, Read
     ensures { Gives result (session_line line.now) }
 {
     let value = value_of(alloc, line)?;
-    if has_mode(&value) {
+    let begins = has_mode(&value);
+    let saves = is_save(&value);
+    drop(value);
+    if begins {
         let setup = setup_line(alloc, line)?;
         return Ok(Said::Begins(setup));
     }
-    if is_save(&value) {
+    if saves {
         return Ok(Said::Says(Line::Save));
     }
     Err(error)

@@ -97,7 +97,9 @@ fn done(ended: EndedText) -> Result<SessionsReport, AllocError>
     ensures { IfOk result (λ report. report ≡ reports.Done (ended.text.items ++ sessions_end ended.sessions.count ended.sessions.committed ended.sessions.next)) }
 {
     let EndedText { sessions, mut text } = ended;
-    push_all(&mut text, &sessions)?;
+    let pushed = push_all(&mut text, &sessions);
+    drop(sessions);
+    pushed?;
     Ok(SessionsReport::Done(Items::from(text)))
 }
 
@@ -171,11 +173,15 @@ pub(crate) fn sessions_report(
 {
     let mut lines = Lines::new(alloc, bytes);
     if !lines.read(alloc) {
+        drop(lines);
         return Err(Unread::BadLine(1));
     }
     let setup = match first_line(alloc, lines.line()) {
         Ok(setup) => setup,
-        Err(unread) => return Err(unread),
+        Err(unread) => {
+            drop(lines);
+            return Err(unread);
+        }
     };
     let mut reader = Reader {
         lines,

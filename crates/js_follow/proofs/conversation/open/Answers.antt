@@ -8,7 +8,7 @@ returns-in-Err g c = λ from line reads begun. begun_stops from (g.P.Peer.view c
 
 pub returns-then-more : goal.returns-then-more
 returns-then-more g c = λ from line reads begun.
-    c.listen.ensures from (line ∷ [])
+    c.listen-status.ensures from (line ∷ [])
     (began from (g.P.Peer.view c.args.peer.now) (g.P.Peer.view c.greet.new.peer) c.args.more line c.args.lines.now.left c.in-Ok.listener c.if-more.true begun c.in-None.ensures.writes
     (λ gone same cut. c.in-None.ensures.greeted from c.args.setup.now line _ c.in-Ok.ensures reads gone same cut)
     (λ has. c.in-None.ensures.said c.args.setup.now line c.args.lines.now.left c.in-Ok.ensures reads has refl))

@@ -23,13 +23,13 @@ returns-in-Err c =
     sym c.new-lines.ensures.lines ∙ c.if-not-read.ensures ∙ ap (λ (line : List ℕ). line ∷ left) (sym c.line.ensures) in
     first_stops c.args.bytes c.line.result.now left c.in-Err.unread cut c.in-Err.ensures
 
-pub returns-in-Err-gather : goal.returns-in-Err-gather
-returns-in-Err-gather c =
+pub returns-in-Err-gathered : goal.returns-in-Err-gathered
+returns-in-Err-gathered c =
     let left = c.read.new.self.left in
     let cut : lines_of c.args.bytes ≡ c.line.result.now ∷ left =
     sym c.new-lines.ensures.lines ∙ c.if-not-read.ensures ∙ ap (λ (line : List ℕ). line ∷ left) (sym c.line.ensures) in
     let read : transcript c.args.bytes ≡ with_lines c.in-Ok.setup left = with_setup c.args.bytes c.line.result.now left c.in-Ok.setup cut c.in-Ok.ensures in
-    subst (λ (reading : Result Transcript ℕ). StopsAt c.in-Err-gather.unread reading) (sym read) c.in-Err-gather.ensures
+    subst (λ (reading : Result Transcript ℕ). StopsAt c.in-Err-gathered.unread reading) (sym read) c.in-Err-gathered.ensures
 
 pub returns-in-Ok-report : goal.returns-in-Ok-report
 returns-in-Ok-report c =
@@ -37,7 +37,7 @@ returns-in-Ok-report c =
     let cut : lines_of c.args.bytes ≡ c.line.result.now ∷ left =
     sym c.new-lines.ensures.lines ∙ c.if-not-read.ensures ∙ ap (λ (line : List ℕ). line ∷ left) (sym c.line.ensures) in
     let read : transcript c.args.bytes ≡ with_lines c.in-Ok.setup left = with_setup c.args.bytes c.line.result.now left c.in-Ok.setup cut c.in-Ok.ensures in
-    let gathered = c.in-Ok-gather.ensures in
+    let gathered = c.in-Ok-gathered.ensures in
     let t : Transcript = record { setup = c.in-Ok.setup; events = gathered.0 } in
     let start = configured_start c.in-Ok.setup.setup in
     let made = c.in-Ok-report.ensures in
