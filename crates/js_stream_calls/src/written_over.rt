@@ -51,10 +51,8 @@ pub(crate) fn over(
     match (kept, after) {
         (Value::Object(members), Value::Object(changed)) => {
             let mut out = Map::new(alloc);
-            let all_over = members_over(alloc, members, before, after, &mut out);
-            let (mut out, _) = both(Ok(out), all_over)?;
-            let all_new = put_new(alloc, kept, changed, &mut out);
-            let (out, _) = both(Ok(out), all_new)?;
+            members_over(alloc, members, before, after, &mut out)?;
+            put_new(alloc, kept, changed, &mut out)?;
             Ok(Value::Object(out))
         }
         _ => after.clone(),
