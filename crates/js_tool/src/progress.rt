@@ -108,6 +108,32 @@ fn pass_lines(
     Ok(())
 }
 
+// Passes all lines of a piece and of those behind it.
+fn pass_pieces(
+    alloc: Global,
+    payloads: &mut Payloads,
+    progress: &mut Progress<'_>,
+    piece: &[u8],
+    bytes: &mut Pieces,
+) -> Result<(), Unread>
+    requires { progress.old.course.value.count + length piece.now + length bytes.old ≤ 67_108_864 }
+    ensures { PassesLines progress.old (lines_of piece.now ++ lines_of bytes.old) progress.new result }
+{
+    match pass_lines(alloc, payloads, progress, piece) {
+        Ok(()) => {}
+        Err(unread) => return Err(unread),
+    }
+    while let Some(piece) = next_piece(alloc, bytes) {
+        let passed = pass_lines(alloc, payloads, progress, &piece);
+        drop(piece);
+        match passed {
+            Ok(()) => {}
+            Err(unread) => return Err(unread),
+        }
+    }
+    Ok(())
+}
+
 fn pass_all(
     alloc: Global,
     progress: &mut Progress<'_>,
@@ -118,17 +144,10 @@ fn pass_all(
     ensures { PassesLines progress.old (lines_of piece.now ++ lines_of bytes) progress.new result }
 {
     let mut payloads = Payloads::new(alloc);
-    match pass_lines(alloc, &mut payloads, progress, piece) {
-        Ok(()) => {}
-        Err(unread) => return Err(unread),
-    }
-    while let Some(piece) = next_piece(alloc, &mut bytes) {
-        match pass_lines(alloc, &mut payloads, progress, &piece) {
-            Ok(()) => {}
-            Err(unread) => return Err(unread),
-        }
-    }
-    Ok(())
+    let passed = pass_pieces(alloc, &mut payloads, progress, piece, &mut bytes);
+    drop(payloads);
+    drop(bytes);
+    passed
 }
 
 fn replay_events(
@@ -142,12 +161,21 @@ fn replay_events(
 {
     let mut progress = match Progress::open(alloc, setup) {
         Ok(progress) => progress,
-        Err(OutOfMemory) => return Err(AllocError),
+        Err(OutOfMemory) => {
+            drop(bytes);
+            return Err(AllocError);
+        }
     };
     match pass_all(alloc, &mut progress, piece, bytes) {
         Ok(()) => progress.finish(alloc),
-        Err(Unread::BadLine(line)) => Ok(CommandOutcome::BadLine(line)),
-        Err(Unread::OutOfMemory) => Err(AllocError),
+        Err(Unread::BadLine(line)) => {
+            drop(progress);
+            Ok(CommandOutcome::BadLine(line))
+        }
+        Err(Unread::OutOfMemory) => {
+            drop(progress);
+            Err(AllocError)
+        }
     }
 }
 
@@ -164,8 +192,14 @@ fn replay_rest(
 {
     match first {
         Ok(setup) => replay_events(alloc, setup, piece, bytes),
-        Err(Unread::BadLine(line)) => Ok(CommandOutcome::BadLine(*line)),
-        Err(Unread::OutOfMemory) => Err(AllocError),
+        Err(Unread::BadLine(line)) => {
+            drop(bytes);
+            Ok(CommandOutcome::BadLine(*line))
+        }
+        Err(Unread::OutOfMemory) => {
+            drop(bytes);
+            Err(AllocError)
+        }
     }
 }
 

@@ -204,7 +204,11 @@ fn alone(
     match (found, next) {
         (None, next) => Ok(next),
         (found, None) => Ok(found),
-        _ => Err(ReadError::WrongKind { key }),
+        (found, next) => {
+            drop(found);
+            drop(next);
+            Err(ReadError::WrongKind { key })
+        }
     }
 }
 
@@ -336,8 +340,11 @@ fn any_line(alloc: Global, payloads: &mut Payloads, line: &[u8]) -> Result<Event
             Key::Watcher,
         ],
     ) {
-        event_fields(alloc, payloads, &object)
+        let event = event_fields(alloc, payloads, &object);
+        drop(object);
+        event
     } else {
+        drop(object);
         Err(ReadError::NotJson)
     }
 }

@@ -202,8 +202,11 @@ pub fn setup_line(alloc: Global, line: &[u8]) -> Result<Setup, ReadError>
         &object,
         &[Key::Mode, Key::Start, Key::Settings, Key::Config, Key::Info],
     ) {
-        setup_fields(alloc, &object)
+        let setup = setup_fields(alloc, &object);
+        drop(object);
+        setup
     } else {
+        drop(object);
         Err(ReadError::NotJson)
     }
 }

@@ -1,7 +1,7 @@
 use Rattle.std.proofs.Common.{◌≤◌, ◌+◌, ◌++◌, length}
 use Rattle.js_io.specs.Lines.{lines_of}
 use Rattle.js_tool.specs.Progress.{PassesTo}
-use Rattle.js_tool.proofs.progress.pass_all.Given as goal
+use Rattle.js_tool.proofs.progress.pass_pieces.Given as goal
 
 abbrev pub invariant-loop-piece : goal.invariant-loop-piece
 invariant-loop-piece l = record {
