@@ -5,6 +5,6 @@ use Rattle.js_follow.proofs.conversation.begin.Goals as goal
 
 pub returns : goal.returns
 returns g c = λ from begun.
-    c.begin_with.ensures from c.args.lines.now.line
+    c.begin_with-status.ensures from c.args.lines.now.line
     (subst (λ (line : List ℕ). GivesLines (λ s. s) c.first_line-first.result (numbered 1 (setup_line line))) c.line.ensures c.first_line-first.ensures)
     begun
