@@ -2,15 +2,23 @@
 ghost use Rattle.std.specs.Prelude.{◌≡◌};
 ghost use Rattle.jetstream.specs.declared.any_error.AnyError.TheVariants as any;
 
+mod from;
+
 use js_base::OutOfMemory;
-use js_consumer_calls::ConsumerError;
-use js_context::PublishError;
+use js_call::{RequestError, SendError};
+use js_consumer_calls::{
+    ConsumerCreateStrictError, ConsumerError, ConsumerInfoError, ConsumerUpdateError,
+};
+use js_context::{BuildError, PublishError};
+use js_json::consumer::ConfigError;
 use js_link::LinkError;
+use js_message::{AckError, InfoError, MessageInfoError, StreamMessageError};
 use js_reader_calls::ordered::OrderedError;
 use js_reader_calls::pull::{
     BatchError, BatchItemError, BatchRequestError, MessagesError, StreamError,
 };
-use js_stream_calls::{CreateStreamError, GetStreamError};
+use js_store::{CreateKeyValueError, KeyValueError, ObjectStoreError, UpdateKeyValueError};
+use js_stream_calls::{AccountError, CreateStreamError, GetStreamByNameError, GetStreamError};
 use std::alloc::{AllocError, AllocFailed};
 use std::{error, fmt, io};
 
@@ -43,6 +51,40 @@ pub enum AnyError {
     PushMessages(js_reader_calls::push::MessagesError),
     /// An ordered consumer told of something in place of a message.
     Ordered(OrderedError),
+    /// The account was not told.
+    Account(AccountError),
+    /// No stream was found for a subject.
+    FindStream(GetStreamByNameError),
+    /// A request has no reply, or a list no next page.
+    Request(RequestError),
+    /// A request that awaits no reply was not sent.
+    Send(SendError),
+    /// A context was not built.
+    Build(BuildError),
+    /// The info of a consumer was not told.
+    ConsumerInfo(ConsumerInfoError),
+    /// A consumer was not made, where none may be there already.
+    CreateConsumerStrict(ConsumerCreateStrictError),
+    /// A consumer was not changed.
+    UpdateConsumer(ConsumerUpdateError),
+    /// A configuration is none of a consumer of that kind.
+    ConsumerConfig(ConfigError),
+    /// A bucket of keys was not got or deleted.
+    KeyValue(KeyValueError),
+    /// A bucket, of keys or of objects, was not made.
+    CreateKeyValue(CreateKeyValueError),
+    /// A bucket of keys was not changed.
+    UpdateKeyValue(UpdateKeyValueError),
+    /// A bucket of objects was not got or deleted.
+    ObjectStore(ObjectStoreError),
+    /// A message was not acknowledged.
+    Ack(AckError),
+    /// A message does not say where it stands in its stream.
+    MessageInfo(MessageInfoError),
+    /// A text is no acknowledgement subject.
+    AckSubject(InfoError),
+    /// A message is none that was got from a stream.
+    StreamMessage(StreamMessageError),
     /// Something was not read or written.
     Io(io::Error),
 }
@@ -63,6 +105,23 @@ impl fmt::Display for AnyError {
             AnyError::BatchItem(error) => write!(f, "{error}"),
             AnyError::PushMessages(error) => write!(f, "{error}"),
             AnyError::Ordered(error) => write!(f, "{error}"),
+            AnyError::Account(error) => write!(f, "{error}"),
+            AnyError::FindStream(error) => write!(f, "{error}"),
+            AnyError::Request(error) => write!(f, "{error}"),
+            AnyError::Send(error) => write!(f, "{error}"),
+            AnyError::Build(error) => write!(f, "{error}"),
+            AnyError::ConsumerInfo(error) => write!(f, "{error}"),
+            AnyError::CreateConsumerStrict(error) => write!(f, "{error}"),
+            AnyError::UpdateConsumer(error) => write!(f, "{error}"),
+            AnyError::ConsumerConfig(error) => write!(f, "{error}"),
+            AnyError::KeyValue(error) => write!(f, "{error}"),
+            AnyError::CreateKeyValue(error) => write!(f, "{error}"),
+            AnyError::UpdateKeyValue(error) => write!(f, "{error}"),
+            AnyError::ObjectStore(error) => write!(f, "{error}"),
+            AnyError::Ack(error) => write!(f, "{error}"),
+            AnyError::MessageInfo(error) => write!(f, "{error}"),
+            AnyError::AckSubject(error) => write!(f, "{error}"),
+            AnyError::StreamMessage(error) => write!(f, "{error}"),
             AnyError::Io(error) => write!(f, "{error}"),
         }
     }
@@ -91,109 +150,5 @@ impl<T: Drop> From<AllocFailed<T>> for AnyError {
 
     fn from(_error: AllocFailed<T>) -> AnyError {
         AnyError::OutOfMemory
-    }
-}
-
-impl From<LinkError> for AnyError {
-    ghost from_gives = { λ error told. told ≡ any.Link error };
-
-    fn from(error: LinkError) -> AnyError {
-        AnyError::Link(error)
-    }
-}
-
-impl From<PublishError> for AnyError {
-    ghost from_gives = { λ error told. told ≡ any.Publish error };
-
-    fn from(error: PublishError) -> AnyError {
-        AnyError::Publish(error)
-    }
-}
-
-impl From<io::Error> for AnyError {
-    ghost from_gives = { λ error told. told ≡ any.Io error };
-
-    fn from(error: io::Error) -> AnyError {
-        AnyError::Io(error)
-    }
-}
-
-impl From<CreateStreamError> for AnyError {
-    ghost from_gives = { λ error told. told ≡ any.CreateStream error };
-
-    fn from(error: CreateStreamError) -> AnyError {
-        AnyError::CreateStream(error)
-    }
-}
-
-impl From<GetStreamError> for AnyError {
-    ghost from_gives = { λ error told. told ≡ any.GetStream error };
-
-    fn from(error: GetStreamError) -> AnyError {
-        AnyError::GetStream(error)
-    }
-}
-
-impl From<ConsumerError> for AnyError {
-    ghost from_gives = { λ error told. told ≡ any.Consumer error };
-
-    fn from(error: ConsumerError) -> AnyError {
-        AnyError::Consumer(error)
-    }
-}
-
-impl From<MessagesError> for AnyError {
-    ghost from_gives = { λ error told. told ≡ any.Messages error };
-
-    fn from(error: MessagesError) -> AnyError {
-        AnyError::Messages(error)
-    }
-}
-
-impl From<StreamError> for AnyError {
-    ghost from_gives = { λ error told. told ≡ any.Stream error };
-
-    fn from(error: StreamError) -> AnyError {
-        AnyError::Stream(error)
-    }
-}
-
-impl From<BatchError> for AnyError {
-    ghost from_gives = { λ error told. told ≡ any.Batch error };
-
-    fn from(error: BatchError) -> AnyError {
-        AnyError::Batch(error)
-    }
-}
-
-impl From<BatchRequestError> for AnyError {
-    ghost from_gives = { λ error told. told ≡ any.BatchRequest error };
-
-    fn from(error: BatchRequestError) -> AnyError {
-        AnyError::BatchRequest(error)
-    }
-}
-
-impl From<BatchItemError> for AnyError {
-    ghost from_gives = { λ error told. told ≡ any.BatchItem error };
-
-    fn from(error: BatchItemError) -> AnyError {
-        AnyError::BatchItem(error)
-    }
-}
-
-impl From<js_reader_calls::push::MessagesError> for AnyError {
-    ghost from_gives = { λ error told. told ≡ any.PushMessages error };
-
-    fn from(error: js_reader_calls::push::MessagesError) -> AnyError {
-        AnyError::PushMessages(error)
-    }
-}
-
-impl From<OrderedError> for AnyError {
-    ghost from_gives = { λ error told. told ≡ any.Ordered error };
-
-    fn from(error: OrderedError) -> AnyError {
-        AnyError::Ordered(error)
     }
 }

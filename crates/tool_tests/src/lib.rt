@@ -20,6 +20,6 @@ mod tables;
 #[cfg(test)]
 mod threads;
 #[cfg(test)]
-mod twins;
+mod polled;
 
 pub use faults::failing;

@@ -1,7 +1,7 @@
 //! What a consumer is made with, and what happens to it.
 ghost use Rattle.std.specs.Prelude.{◌≤◌};
 
-use crate::twins::twin::Twin;
+use crate::polled::consumer::PolledConsumer;
 use js_base::OutOfMemory;
 use js_generate::{generated, given};
 use js_ordered::{Event, ReplayError, ReplayInput, Run, replay_ordered};
@@ -20,12 +20,12 @@ pub(crate) trait Replayed: Drop {
 
 /// A consumer's setup, and its events.
 #[derive(Drop)]
-pub(crate) struct Course {
+pub(crate) struct Transcript {
     setup: Setup,
     events: Vec<Event>,
 }
 
-impl Replayed for Course {
+impl Replayed for Transcript {
     fn run(&self, alloc: Global) -> Result<Run, ReplayError> {
         let Setup {
             settings,
@@ -37,11 +37,11 @@ impl Replayed for Course {
     }
 
     fn polled(self, alloc: Global, run: &Run) -> Result<(u64, bool), Fail> {
-        let Course { setup, events } = self;
+        let Transcript { setup, events } = self;
         let start = setup.start;
-        let mut twin = Twin::open(alloc, setup)?;
-        let polled = (twin.count(alloc, start, events, run), twin.ended);
-        drop(twin);
+        let mut consumer = PolledConsumer::open(alloc, setup)?;
+        let polled = (consumer.count(alloc, start, events, run), consumer.ended);
+        drop(consumer);
         Ok(polled)
     }
 }
@@ -62,14 +62,14 @@ fn read_events(alloc: Global, text: &str) -> Result<Vec<Event>, Unread> {
 }
 
 /// What the lines of a transcript say.
-pub(crate) fn read(alloc: Global, setup: &str, events: &str) -> Result<Course, Unread> {
+pub(crate) fn read(alloc: Global, setup: &str, events: &str) -> Result<Transcript, Unread> {
     let events = read_events(alloc, events)?;
     let setup = first_line(alloc, setup.as_bytes())?;
-    Ok(Course { setup, events })
+    Ok(Transcript { setup, events })
 }
 
 /// So many events that a seed gives, and their consumer.
-pub(crate) fn drawn(alloc: Global, seed: u64, count: u64) -> Result<Course, OutOfMemory>
+pub(crate) fn drawn(alloc: Global, seed: u64, count: u64) -> Result<Transcript, OutOfMemory>
     requires { count ≤ 200_000 }
 {
     let events = generated(alloc, seed, count)?;
@@ -84,5 +84,5 @@ pub(crate) fn drawn(alloc: Global, seed: u64, count: u64) -> Result<Course, OutO
         first,
         start: 0,
     };
-    Ok(Course { setup, events })
+    Ok(Transcript { setup, events })
 }

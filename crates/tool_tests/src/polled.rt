@@ -1,15 +1,15 @@
 //! Ordered consumers that are polled, beside the replay: what an event has a consumer send and hand out is what the replay puts out for it, but for
 //! recreations, which a poll shows by their requests alone.
 
-mod course;
-mod happening;
+mod consumer;
+mod event;
 mod rows;
 mod shown;
-mod twin;
+mod transcript;
 
 use crate::tables::same;
-use crate::twins::course::{Replayed, drawn, read};
-use crate::twins::rows::{ROWS, Row};
+use crate::polled::transcript::{Replayed, drawn, read};
+use crate::polled::rows::{ROWS, Row};
 use js_ordered::Run;
 use std::alloc::Global;
 use std::fmt::Debug;

@@ -1,7 +1,7 @@
 //! A consumer that is polled beside its replay.
 
-use crate::twins::happening::happen;
-use crate::twins::shown::{is_handed, is_sent};
+use crate::polled::event::happen;
+use crate::polled::shown::{is_handed, is_sent};
 use js_base::{Message, Moment, Next, both};
 use js_link::{MemoryLink, Sent};
 use js_ordered::{Event, OrderedSetup, Output, Run, Step};
@@ -81,19 +81,19 @@ fn agreement(
 
 /// A consumer over a link in memory, and whether it has ended.
 #[derive(Drop)]
-pub(crate) struct Twin {
+pub(crate) struct PolledConsumer {
     reader: Reader,
     link: MemoryLink,
     pub ended: bool,
 }
 
-impl Twin {
+impl PolledConsumer {
     /// A consumer of that setup.
-    pub(crate) fn open(alloc: Global, setup: Setup) -> Result<Twin, Fail> {
+    pub(crate) fn open(alloc: Global, setup: Setup) -> Result<PolledConsumer, Fail> {
         let link = MemoryLink::new(alloc, setup.settings.inbox_prefix.as_str());
         let (mut link, setup) = both(link, Ok(setup))?;
         match Reader::open(alloc, &mut link, setup) {
-            Ok(reader) => Ok(Twin {
+            Ok(reader) => Ok(PolledConsumer {
                 reader,
                 link,
                 ended: false,
