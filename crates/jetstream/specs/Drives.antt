@@ -1,9 +1,11 @@
 -- A call that is polled in its place.
-use Rattle.std.specs.Prelude.{◌≡◌, ℕ, Option, Some, None}
+use Rattle.std.specs.Prelude.{◌≡◌, ℕ, Option, Some, None, ⊤}
 use Rattle.js_base.specs.declared.turn.Next.{Next}
 use Rattle.js_base.specs.declared.turn.Next.TheVariants as next
 use Rattle.js_base.specs.declared.turn.Turn.{Turn}
 use Rattle.js_base.specs.declared.turn.Turn.TheVariants as turn
+use Rattle.js_call.specs.Wakes.{IsLeftAlone, IsSent}
+use Rattle.js_call.specs.declared.open_request.OpenRequest.{OpenRequest}
 use Rattle.js_link.specs.LinkView.{LinkView}
 
 -- what stands in the place after a poll of this call that answers so
@@ -22,3 +24,14 @@ StaysEmpty after _ old new = ⊥
 abbrev pub Drives : {S A : Type 0} → (S → ℕ → Turn S A → LinkView → LinkView → Type 0) → Option S → Option S → ℕ → Next A → LinkView → LinkView → Type 0
 Drives polled None after now result old new = StaysEmpty after result old new
 Drives polled (Some call) after now result old new = Leaves polled call after now result old new
+
+-- a call that stands in a place and is left alone is pending there, and neither it nor the link is changed
+abbrev pub SleepsInPlace : {S A : Type 0} → (S → Option OpenRequest) → Option S → Option S → ℕ → Next A → LinkView → LinkView → Type 0
+SleepsInPlace waits_for None after now result old new = ⊤
+SleepsInPlace waits_for (Some call) after now result old new =
+    IsLeftAlone (waits_for call) now old → (result ≡ next.Pending) × (after ≡ Some call) × (new ≡ old)
+
+-- a call that stands in a place after this answer waits for a request, where the answer is that it is pending
+abbrev pub PendsInPlace : {S A : Type 0} → (S → Option OpenRequest) → Option S → Next A → Type 0
+PendsInPlace waits_for (Some call) next.Pending = IsSent (waits_for call)
+PendsInPlace waits_for place result = ⊤

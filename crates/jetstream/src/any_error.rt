@@ -10,6 +10,7 @@ use js_consumer_calls::{
     ConsumerCreateStrictError, ConsumerError, ConsumerInfoError, ConsumerUpdateError,
 };
 use js_context::{BuildError, PublishError};
+use js_fields::ReadError;
 use js_json::consumer::ConfigError;
 use js_link::LinkError;
 use js_message::{AckError, InfoError, MessageInfoError, StreamMessageError};
@@ -85,6 +86,8 @@ pub enum AnyError {
     AckSubject(InfoError),
     /// A message is none that was got from a stream.
     StreamMessage(StreamMessageError),
+    /// A value does not read, or cannot be written.
+    Read(ReadError),
     /// Something was not read or written.
     Io(io::Error),
 }
@@ -122,6 +125,7 @@ impl fmt::Display for AnyError {
             AnyError::MessageInfo(error) => write!(f, "{error}"),
             AnyError::AckSubject(error) => write!(f, "{error}"),
             AnyError::StreamMessage(error) => write!(f, "{error}"),
+            AnyError::Read(error) => write!(f, "{error}"),
             AnyError::Io(error) => write!(f, "{error}"),
         }
     }

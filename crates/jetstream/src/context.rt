@@ -1,11 +1,18 @@
 //! A client's end of JetStream, what makes its requests, the lists of its streams, and its calls on buckets.
+//!
+//! Here too stand the errors of its calls, with their kinds; what they are of stands in [`stream`](crate::stream), [`consumer`](crate::consumer),
+//! [`publish`](crate::publish) and [`account`](crate::account).
+
+pub mod traits;
+
 pub use js_call::{
     ApiRequest, ApiScope, OpenRequest, RawCall, RawRequest, RequestError, RequestErrorKind,
     SendError,
 };
+pub use js_consumer_calls::{ConsumerInfoError, ConsumerInfoErrorKind};
 pub use js_context::{
-    BuildError, ClientProvider, Context, ContextBuilder, No, Publisher, RequestSender, Requester,
-    TimeoutProvider, ToAssign, Yes,
+    BuildError, Context, ContextBuilder, No, PublishAckFuture, PublishError, PublishErrorKind,
+    ToAssign, Yes,
 };
 pub use js_store::{
     CreateKeyValueError, CreateKeyValueErrorKind, CreateObjectStoreError,
@@ -14,6 +21,9 @@ pub use js_store::{
     UpdateKeyValueErrorKind,
 };
 pub use js_stream_calls::{
-    GetStreamByNameError, GetStreamByNameErrorKind, SearchingStream, StreamBySubject, StreamNames,
-    Streams, StreamsError, StreamsErrorKind,
+    AccountError, AccountErrorKind, CreateStreamError, CreateStreamErrorKind, DeleteStreamError,
+    DeleteStreamErrorKind, GetStreamByNameError, GetStreamByNameErrorKind, GetStreamError,
+    GetStreamErrorKind, SearchingStream, StreamBySubject, StreamNames, Streams, StreamsError,
+    StreamsErrorKind, UpdateStreamError, UpdateStreamErrorKind,
 };
+pub use traits::{ClientProvider, Publisher, RequestSender, Requester, TimeoutProvider};

@@ -29,13 +29,17 @@ pub record SendsRequestTo (reply : List ℕ) (scope : ApiScope) (subject : List 
   pub names : RepliesOf (Ok reply) request.inbox old between
   pub publishes : Publishes (under scope.prefix subject) (Some reply) request.headers (body_of request.payload) between new
 
--- nothing was sent, and the link failed
+-- nothing has changed, but that a fresh subject may have been named
+abbrev pub NamesAtMost : LinkView → LinkView → Type 0
+NamesAtMost old new = new ≡ record old { numbers = new.numbers }
+
+-- nothing was sent: the link failed, and has changed nothing but what it counts and names
 pub record SendFails (old new : LinkView) : Type 0 where
   pub risen : HasRisen old.faults new.faults
-  pub sent : new.sent ≡ old.sent
+  pub same : NamesAtMost (record old { faults = new.faults }) new
 
 -- what `send_request` does
 abbrev pub SendsRequest : Result (Unit {0}) SendError → ApiScope → List ℕ → RawRequest → LinkView → LinkView → Type 0
 SendsRequest (Ok _) scope subject request old new = (reply : List ℕ) × SendsRequestTo reply scope subject request old new
 SendsRequest (Err LinkFailed) scope subject request old new = SendFails old new
-SendsRequest (Err OutOfMemory) scope subject request old new = (new.faults ≡ old.faults) × (new.sent ≡ old.sent)
+SendsRequest (Err OutOfMemory) scope subject request old new = NamesAtMost old new

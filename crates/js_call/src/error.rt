@@ -1,11 +1,11 @@
 //! Why a request has no reply, and why one was not sent.
 ghost use Rattle.std.specs.Prelude.{◌≡◌, Some};
-ghost use Rattle.js_call.specs.Texts.{request_text};
+ghost use Rattle.js_call.specs.Texts.{request_text, send_text};
 ghost use Rattle.js_call.specs.declared.error.SendError.TheVariants.{OutOfMemory as memory};
 
 use js_base::Error;
 use std::alloc::AllocError;
-use std::fmt;
+use std::{error, fmt};
 
 /// Why a request has no reply.
 #[derive(Clone, Copy, Debug, PartialEq, Eq)]
@@ -44,6 +44,19 @@ pub enum SendError {
     /// Memory ran out.
     OutOfMemory,
 }
+
+impl fmt::Display for SendError {
+    ghost output = { λ error. Some (send_text error) };
+
+    fn fmt<W: fmt::Write>(&self, f: &mut fmt::Formatter<W>) -> fmt::Result {
+        f.write_str(match self {
+            SendError::LinkFailed => "link failed",
+            SendError::OutOfMemory => "out of memory",
+        })
+    }
+}
+
+impl error::Error for SendError {}
 
 impl From<AllocError> for SendError {
     ghost from_gives = { λ _ e. e ≡ memory };

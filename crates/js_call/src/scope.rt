@@ -38,10 +38,7 @@ fn text_under(alloc: Global, prefix: &str, subject: &str) -> Result<String, Allo
 pub(crate) fn body_text(alloc: Global, value: &Value) -> Result<Bytes, OutOfMemory>
     ensures { IfOk result (λ body. IsTextOf (view value.now) body) }
 {
-    let text = value.to_string(alloc)?;
-    let body = Bytes::copy_from_slice(alloc, text.as_bytes());
-    drop(text);
-    Ok(body?)
+    Ok(Bytes::from_string(value.to_string(alloc)?)?)
 }
 
 impl ApiScope {

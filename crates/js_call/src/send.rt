@@ -50,7 +50,8 @@ fn reply_subject<L: Link>(
 impl ApiScope {
     /// Publishes the request under the prefix. Its answer goes to the request's inbox, or else to a fresh subject of the link.
     ///
-    /// `LinkFailed` comes only where the link failed in this call; nothing was sent then.
+    /// `LinkFailed` comes only where the link failed in this call. Where it is refused, nothing was sent, and nothing has changed but that a fresh
+    /// subject may have been named.
     pub fn send_request<L: Link>(
         &self,
         alloc: Global,

@@ -30,6 +30,9 @@ impl OutboxLink {
     /// prefix, a dot, the token and a dot; no other client of the server may have the same prefix and token. The first thing that is to be sent is the
     /// subscription of all answers, which has the number 0.
     ///
+    /// Tell it by `set_state` that it is connected before a reader is polled over it: an ordered push consumer that finds it unconnected makes its
+    /// consumer anew.
+    ///
     /// `Failed` comes exactly where prefix or token is no subject.
     pub fn new(alloc: Global, inbox_prefix: &str, token: &str) -> Result<OutboxLink, LinkError>
         ensures opened { IfOk result (λ link. IsOpened (front_of inbox_prefix.now token.now) link) }

@@ -8,6 +8,7 @@ use js_consumer_calls::{
     ConsumerCreateStrictError, ConsumerError, ConsumerInfoError, ConsumerUpdateError,
 };
 use js_context::{BuildError, PublishError};
+use js_fields::ReadError;
 use js_json::consumer::ConfigError;
 use js_link::LinkError;
 use js_message::{AckError, InfoError, MessageInfoError, StreamMessageError};
@@ -256,5 +257,13 @@ impl From<StreamMessageError> for AnyError {
 
     fn from(error: StreamMessageError) -> AnyError {
         AnyError::StreamMessage(error)
+    }
+}
+
+impl From<ReadError> for AnyError {
+    ghost from_gives = { λ error told. told ≡ any.Read error };
+
+    fn from(error: ReadError) -> AnyError {
+        AnyError::Read(error)
     }
 }
