@@ -30,4 +30,4 @@ pub use builder::{ContextBuilder, No, ToAssign, Yes};
 pub use context::Context;
 pub use provider::{ClientProvider, Publisher, RequestSender, Requester, TimeoutProvider};
 pub use publish_error::{PublishError, PublishErrorKind};
-pub use sending::Sending;
+pub use sending::{Attempt, Sending, try_to_send};

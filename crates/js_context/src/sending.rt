@@ -23,14 +23,14 @@ pub struct Sending {
 }
 
 /// What one try to send came to.
-pub(crate) enum Attempt {
-    /// It may not be sent.
+pub enum Attempt {
+    /// It may not be sent: `Other` where its subject is none, `MaxPayloadExceeded` where payload and headers are longer than the link sends.
     Barred(PublishErrorKind),
-    /// There was no room for its ack.
+    /// There was no memory for a place for its ack.
     NoRoom,
     /// No permit was free.
     Full,
-    /// The link did not send it.
+    /// The link did not send it. Its permit was given back.
     Unsent(LinkError),
     /// It was sent.
     Went(PublishAckFuture),
@@ -52,7 +52,9 @@ fn is_longer(message: &OutboundMessage, limit: u64) -> bool
 }
 
 /// Tests the message, takes a permit and sends. The permit of a message that was not sent is given back.
-fn try_to_send<R: Wait, L: Link>(
+///
+/// It is the one try that a poll of a [`Sending`] makes, for who keeps the message itself.
+pub fn try_to_send<R: Wait, L: Link>(
     message: &OutboundMessage,
     rt: &R,
     alloc: Global,
