@@ -66,18 +66,22 @@ fn sleep(
     }
 }
 
-/// Publishes this many messages, and awaits what becomes of each.
-fn publish(
+/// Pushes this many messages.
+fn push(rt: &impl AllocGlobal, queue: &mut PublishQueue, messages: u64) -> Result<(), AnyError> {
+    for _ in 0..messages {
+        queue.publish(rt.alloc(), "log.line", b"0123456789abcdef", 0)?;
+    }
+    Ok(())
+}
+
+/// Sends what was pushed, and awaits what becomes of each message.
+fn send(
     rt: &(impl AllocGlobal + Wait),
     queue: &mut PublishQueue,
     link: &mut OutboxLink,
-    messages: u64,
     tally: &mut Tally,
 ) -> Result<(), AnyError> {
     let mut now = 0;
-    for _ in 0..messages {
-        queue.publish(rt.alloc(), "log.line", b"0123456789abcdef", now)?;
-    }
     for _ in 0..u64::MAX {
         match queue.poll_next(rt, rt.alloc(), link, now) {
             Next::Item(published) => {
@@ -114,7 +118,8 @@ fn publish_in_batches(
             break;
         }
         left -= batch;
-        publish(rt, queue, link, batch, &mut tally)?;
+        push(rt, queue, batch)?;
+        send(rt, queue, link, &mut tally)?;
     }
     Ok(tally)
 }
