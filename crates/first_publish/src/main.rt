@@ -1,15 +1,16 @@
-//! Gets a consumer, publishes a message, awaits its ack, and reads the message back. What `serve` does, an adapter to a real connection would do.
+//! Gets a consumer, publishes a message, awaits its ack, reads the message back and acknowledges it. What `serve` does, an adapter to a real connection would do.
 #![tactic(auto)]
 
 mod server;
 
 use jetstream::consumer::pull::{Config, PullCalls};
-use jetstream::link::OutboxLink;
+use jetstream::link::{ConnectionState, OutboxLink};
 use jetstream::{AnyError, Context, Next, PublishQueue, drive};
 use server::serve;
 
 fn main(rt: HostRuntime) -> Result<(), AnyError> {
     let mut link = OutboxLink::new(rt.alloc(), "_INBOX", "c1")?;
+    link.set_state(ConnectionState::Connected);
     let context = Context::new(&rt, rt.alloc())?;
     let reader = context.get_consumer_from_stream::<Config>(rt.alloc(), "reader", "news")?;
     let mut queue = PublishQueue::new(rt.alloc(), context, 5_000_000_000);
@@ -24,7 +25,9 @@ fn main(rt: HostRuntime) -> Result<(), AnyError> {
         }
         if let Some(news) = &mut news {
             if let Next::Item(message) = news.poll_next(rt.alloc(), &mut link, now) {
-                println!(rt; "read {:?}", message?.message.payload)?;
+                let message = message?;
+                println!(rt; "read {:?}", message.message.payload)?;
+                message.ack(rt.alloc(), &mut link)?;
             }
         }
         serve(&rt, &mut link)?;

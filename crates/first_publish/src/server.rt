@@ -1,7 +1,8 @@
-//! The server, played: it prints each message with a reply subject that reaches it, and answers it.
+//! The server, played: it prints each message that reaches it, and answers one with a reply subject.
 
-use jetstream::AnyError;
 use jetstream::link::{OutboxLink, Outgoing, PlainMessage, received};
+use jetstream::{AnyError, OutOfMemory, Subject};
+use std::alloc::Global;
 
 /// Takes all that is to be sent, and brings what a server would send then.
 pub fn serve(rt: &(impl Print + AllocGlobal), link: &mut OutboxLink) -> Result<(), AnyError> {
@@ -20,24 +21,36 @@ fn answer(
     link: &mut OutboxLink,
     item: &Outgoing,
 ) -> Result<(), AnyError> {
-    if let Outgoing::Publish {
+    let Outgoing::Publish {
         subject,
-        reply: Some(reply),
+        reply,
         request,
         ..
     } = item
-    {
-        println!(rt; "PUB {subject} {reply}")?;
-        match request {
-            Some(_) => bring(
-                link,
-                0,
-                received(rt.alloc(), reply.as_str(), answer_to(subject.as_str()))?,
-            )?,
-            None => bring(link, 1, received(rt.alloc(), "news.today", b"hello")?)?,
+    else {
+        return Ok(());
+    };
+    match (reply, request) {
+        (Some(reply), Some(_)) => {
+            println!(rt; "PUB {subject} {reply}")?;
+            let body = answer_to(subject.as_str());
+            bring(link, 0, received(rt.alloc(), reply.as_str(), body)?)
         }
+        (Some(reply), None) => {
+            println!(rt; "PUB {subject} {reply}")?;
+            bring(link, 1, stored(rt.alloc())?)
+        }
+        (None, _) => Ok(println!(rt; "PUB {subject}")?),
     }
-    Ok(())
+}
+
+/// The message that was stored, as it is delivered: its reply subject says where it stands, and is where it is acknowledged.
+fn stored(alloc: Global) -> Result<PlainMessage, OutOfMemory> {
+    let reply = Subject::new(alloc, "$JS.ACK.news.reader.1.1.1.1790230470084404000.0")?;
+    Ok(PlainMessage {
+        reply: Some(reply),
+        ..received(alloc, "news.today", b"hello")?
+    })
 }
 
 /// A message was stored as the stream's first, or a consumer is there.
