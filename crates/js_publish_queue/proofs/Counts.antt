@@ -4,6 +4,7 @@ use Rattle.std.proofs.lemmas.Bool.Decides.{eqb_tells}
 use Rattle.std.proofs.lemmas.List.Elements.{All-append, All-head, All-map, All-tail}
 use Rattle.std.proofs.lemmas.List.Sums.{sum_by-append, sum_by-cons}
 use Rattle.std.specs.Prelude.{All, ◌==◌}
+use Rattle.js_link.specs.LinkView.{LinkView}
 use Rattle.js_context.specs.Contexts.{ContextView}
 use Rattle.js_publish_queue.specs.declared.flying.Flying.{Flying}
 use Rattle.js_publish_queue.specs.declared.unsent.Unsent.{Unsent}
@@ -32,7 +33,7 @@ times-none tag (x ∷ xs) below =
     sum_by-cons (λ t. cond (t == tag) 1 0) x xs ∙ not_here tag x _ h rest
 
 -- nothing has gone on, or one thing after the other
-pub each_same : (p q : QueueView) → q.unsent ≡ p.unsent → q.in_flight ≡ p.in_flight → EachHasOne [] p q
+pub each_same : (p q : QueueView) → q.unsent ≡ p.unsent → q.flying ≡ p.flying → EachHasOne [] p q
 each_same p q u f = λ tag. rw (u, f) refl
 
 pub each_then : (outcomes : List ℕ) (p q r : QueueView) → EachHasOne [] p q → EachHasOne outcomes q r → EachHasOne outcomes p r
@@ -50,17 +51,22 @@ over tag t flight waiting = omega (arith, times-append tag flight (t ∷ waiting
 behind : (tag t : ℕ) (rest waiting : List ℕ) → times tag ((t ∷ rest) ++ waiting) ≡ times tag ((rest ++ t ∷ []) ++ waiting)
 behind tag t rest waiting = omega (arith, times-append tag (t ∷ rest) waiting, times-append tag (rest ++ t ∷ []) waiting, times-append tag rest (t ∷ []), times-front tag t rest)
 
-pub sends_each : (step : Step) (p q : QueueView) → Sends step p q → EachHasOne (outcome_of step) p q
-sends_each Made p q h = λ tag. rw (h.1, h.2) (went tag h.0.tag.0 p.in_flight (waiting_tags q.unsent))
-sends_each (Over published) p q h = λ tag. rw (h.1, h.2, h.3) (over tag h.0.tag.0 p.in_flight (waiting_tags q.unsent))
-sends_each Stays p q stands = each_same p q stands.unsent stands.in_flight
-sends_each NoMemory p q stands = each_same p q stands.unsent stands.in_flight
+-- one more in flight
+tags-push : (flying : List Flying) (f : Flying) → tags_of (flying ++ f ∷ []) ≡ tags_of flying ++ f.tag.0 ∷ []
+tags-push [] f = refl
+tags-push (x ∷ flying) f = ap (λ tags. x.tag.0 ∷ tags) (tags-push flying f)
 
-pub looks_each : (step : Step) (p q : QueueView) → Looks step p q → EachHasOne (outcome_of step) p q
-looks_each (Over published) p q h = λ tag. rw (h.0, h.1) refl
-looks_each Made p q b = λ tag. rw (b.unsent, b.before, b.after) (behind tag b.tag b.rest (waiting_tags p.unsent))
-looks_each NoMemory p q b = λ tag. rw (b.unsent, b.before, b.after) (behind tag b.tag b.rest (waiting_tags p.unsent))
-looks_each Stays p q stands = each_same p q stands.unsent stands.in_flight
+pub sends_each : (now : ℕ) (step : Step) (p q : QueueView) (v w : LinkView) → Sends now step p q v w → EachHasOne (outcome_of step) p q
+sends_each now Made p q v w h = λ tag. rw (h.was, h.is, tags-push p.flying h.ack, h.tag) (went tag h.first.tag.0 (tags_of p.flying) (waiting_tags q.unsent))
+sends_each now (Over published) p q v w h = λ tag. rw (h.was, h.flying, h.tag) (over tag h.first.tag.0 (tags_of p.flying) (waiting_tags q.unsent))
+sends_each now Stays p q v w h = each_same p q h.stands.unsent h.stands.flying
+sends_each now NoMemory p q v w h = each_same p q h.stands.unsent h.stands.flying
+
+pub looks_each : (now : ℕ) (step : Step) (p q : QueueView) (v w : LinkView) → Looks now step p q v w → EachHasOne (outcome_of step) p q
+looks_each now (Over published) p q v w h = λ tag. rw (h.unsent, h.was, h.tag) refl
+looks_each now Made p q v w b = λ tag. rw (b.unsent, b.was, b.is, tags-push b.rest b.next, b.tag) (behind tag b.first.tag.0 (tags_of b.rest) (waiting_tags p.unsent))
+looks_each now NoMemory p q v w b = λ tag. rw (b.unsent, b.was, b.is, tags-push b.rest b.next, b.tag) (behind tag b.first.tag.0 (tags_of b.rest) (waiting_tags p.unsent))
+looks_each now Stays p q v w h = each_same p q (ap (λ (x : QueueView). x.unsent) h.same) (ap (λ (x : QueueView). x.flying) h.same)
 
 -- what steps one after the other leave as it is
 pub keeps_then : (p q r : QueueView) → Keeps p q → Keeps q r → Keeps p r
@@ -86,11 +92,3 @@ keeps_same p = record {
 -- the tag that is given next stands nowhere
 pub next_is_fresh : (c : ContextView) (unsent : List Unsent) (flying : List Flying) (next : ℕ) → IsQueue c unsent flying next → times next (tags_of flying ++ waiting_tags unsent) ≡ 0
 next_is_fresh c unsent flying next q = times-none next (tags_of flying ++ waiting_tags unsent) (All-append (λ t. t < next) (tags_of flying) (waiting_tags unsent) (All-map (λ t. t < next) (λ f. f.tag.0) flying q.sent_below) (All-map (λ t. t < next) (λ u. u.tag.0) unsent q.unsent_below))
-
--- one more in flight
-tags-push : (flying : List Flying) (f : Flying) → tags_of (flying ++ f ∷ []) ≡ tags_of flying ++ f.tag.0 ∷ []
-tags-push [] f = refl
-tags-push (x ∷ flying) f = ap (λ tags. x.tag.0 ∷ tags) (tags-push flying f)
-
-pub tags_more : (flying before after : List Flying) (f : Flying) → before ≡ flying → after ≡ before ++ f ∷ [] → tags_of after ≡ tags_of flying ++ f.tag.0 ∷ []
-tags_more flying before after f b a = rw (a, b) (tags-push flying f)

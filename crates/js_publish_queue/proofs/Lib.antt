@@ -1,4 +1,5 @@
 pub mod Counts
 pub mod Awaiting
 pub mod Rounds
+pub mod Running
 pub mod Sleeping

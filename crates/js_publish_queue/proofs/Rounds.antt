@@ -6,11 +6,13 @@ use Rattle.std.specs.Prelude.{All, ◌||◌}
 use Rattle.js_link.specs.LinkView.{LinkView}
 use Rattle.js_call.specs.declared.open_request.OpenRequest.{OpenRequest}
 use Rattle.js_call.specs.Wakes.{IsLeftAlone, IsSent, is_due}
+use Rattle.js_context.specs.Wakes.{ack_waits_for}
+use Rattle.js_publish_queue.specs.declared.flying.Flying.{Flying}
 use Rattle.js_publish_queue.specs.declared.queue.Step.{Step}
 use Rattle.js_publish_queue.specs.declared.queue.Step.TheVariants.{Made, Stays, Over, NoMemory}
+use Rattle.js_publish_queue.specs.Flights.{waits_of}
 use Rattle.js_publish_queue.specs.Queue.{QueueView}
 use Rattle.js_publish_queue.specs.Rests.{GoesOn, HaveClocks, IsUnanswered, LooksInVain}
-use Rattle.js_publish_queue.specs.Steps.{GoesBehind, Looks}
 use Rattle.js_publish_queue.specs.Wakes.{is_one_due}
 
 heads : {A : Type 0} → (x y : A) (xs ys : List A) → x ∷ xs ≡ y ∷ ys → x ≡ y
@@ -75,50 +77,54 @@ IsAlone now v sent = IsLeftAlone sent now v
 abbrev pub AreLeftAlone : ℕ → LinkView → List (Option OpenRequest) → Type 0
 AreLeftAlone now v waits = All (λ sent. IsLeftAlone sent now v) waits
 
+-- the waits of acks of which one went behind the others
+waits-push : (flying : List Flying) (f : Flying) → waits_of (flying ++ f ∷ []) ≡ waits_of flying ++ ack_waits_for f.future ∷ []
+waits-push [] f = refl
+waits-push (x ∷ flying) f = ap (λ waits. ack_waits_for x.future ∷ waits) (waits-push flying f)
+
 -- so many were looked at, and are what they were
 pub record Rests (k now : ℕ) (old new : QueueView) (before after : LinkView) : Type 0 where
-  pub tags : Round k old.in_flight new.in_flight
-  pub waits : Round k old.waits new.waits
-  pub same : new ≡ record old { in_flight = new.in_flight; waits = new.waits }
+  pub flying : Round k old.flying new.flying
+  pub same : new ≡ record old { flying = new.flying }
   pub link : after ≡ before
-  pub alone : AreLeftAlone now after new.waits
+  pub alone : AreLeftAlone now after (waits_of new.flying)
 
-pub rests_none : (now : ℕ) (q : QueueView) (v : LinkView) → AreLeftAlone now v q.waits → Rests 0 now q q v v
-rests_none now q v alone = record { tags = round_none q.in_flight; waits = round_none q.waits; same = refl; link = refl; alone = alone }
+pub rests_none : (now : ℕ) (q : QueueView) (v : LinkView) → AreLeftAlone now v (waits_of q.flying) → Rests 0 now q q v v
+rests_none now q v alone = record { flying = round_none q.flying; same = refl; link = refl; alone = alone }
 
 -- a look at one that is left alone
-pub looks_made : (k now : ℕ) (old mid new : QueueView) (before between after : LinkView) (step : Step) → Rests k now old mid before between → k < length old.waits → LooksInVain now step mid new between after
+pub looks_made : (k now : ℕ) (old mid new : QueueView) (before between after : LinkView) (step : Step) → Rests k now old mid before between → k < length old.flying → LooksInVain now step mid new between after
     → step ≡ Made
 looks_made k now old mid new before between after step r below vain =
-    let (sent, more, is) = round_first k old.waits mid.waits r.waits below in
-    let alone = subst (λ (w : List (Option OpenRequest)). AreLeftAlone now between w) is r.alone in
-    let (made, link, waits, same) = vain sent more is (All-head (IsAlone now between) sent more alone) in
+    let (first, more, is) = round_first k old.flying mid.flying r.flying below in
+    let alone = subst (λ (f : List Flying). AreLeftAlone now between (waits_of f)) is r.alone in
+    let (made, link, same) = vain first more is (All-head (IsAlone now between) (ack_waits_for first.future) (waits_of more) alone) in
     made
 
-pub rests_more : (k now : ℕ) (old mid new : QueueView) (before between after : LinkView) (step : Step) → Rests k now old mid before between → k < length old.in_flight → k < length old.waits
-    → Looks step mid new → LooksInVain now step mid new between after → Rests (k + 1) now old new before after
-rests_more k now old mid new before between after step r below_tags below looks vain =
-    let (sent, more, is) = round_first k old.waits mid.waits r.waits below in
-    let alone = subst (λ (w : List (Option OpenRequest)). AreLeftAlone now between w) is r.alone in
-    let head = All-head (IsAlone now between) sent more alone in
-    let (made, link, waits, same) = vain sent more is head in
-    let behind : GoesBehind mid new = subst (λ (s : Step). Looks s mid new) made looks in
+pub rests_more : (k now : ℕ) (old mid new : QueueView) (before between after : LinkView) (step : Step) → Rests k now old mid before between → k < length old.flying → LooksInVain now step mid new between after
+    → Rests (k + 1) now old new before after
+rests_more k now old mid new before between after step r below vain =
+    let (first, more, is) = round_first k old.flying mid.flying r.flying below in
+    let alone = subst (λ (f : List Flying). AreLeftAlone now between (waits_of f)) is r.alone in
+    let head = All-head (IsAlone now between) (ack_waits_for first.future) (waits_of more) alone in
+    let (made, link, same) = vain first more is head in
+    let goes : new.flying ≡ more ++ first ∷ [] = ap (λ (q : QueueView). q.flying) same in
+    let round = round_more k old.flying mid.flying first more new.flying r.flying below is goes in
     record {
-      tags = round_more k old.in_flight mid.in_flight behind.tag behind.rest new.in_flight r.tags below_tags behind.before behind.after;
-      waits = round_more k old.waits mid.waits sent more new.waits r.waits below is waits;
-      same = same ∙ ap (λ (q : QueueView). record q { in_flight = new.in_flight; waits = new.waits }) r.same;
+      flying = round;
+      same = same ∙ ap (λ (q : QueueView). record q { flying = more ++ first ∷ [] }) r.same ∙ ap (λ (f : List Flying). record old { flying = f }) (sym goes);
       link = link ∙ r.link;
       alone =
-          subst (λ (v : LinkView). AreLeftAlone now v new.waits) (sym link)
-          (subst (λ (w : List (Option OpenRequest)). AreLeftAlone now between w) (sym waits)
-          (All-push (IsAlone now between) more sent (All-tail (IsAlone now between) sent more alone) head));
+          subst (λ (v : LinkView). AreLeftAlone now v (waits_of new.flying)) (sym link)
+          (subst (λ (f : List Flying). AreLeftAlone now between (waits_of f)) (sym goes)
+          (subst (λ (w : List (Option OpenRequest)). AreLeftAlone now between w) (sym (waits-push more first))
+          (All-push (IsAlone now between) (waits_of more) (ack_waits_for first.future) (All-tail (IsAlone now between) (ack_waits_for first.future) (waits_of more) alone) head)));
     }
 
-pub rests_all : (k now : ℕ) (old new : QueueView) (before after : LinkView) → Rests k now old new before after → k ≡ length old.in_flight → k ≡ length old.waits → (after ≡ before) × (new ≡ old)
-rests_all k now old new before after r all_tags all = (
+pub rests_all : (k now : ℕ) (old new : QueueView) (before after : LinkView) → Rests k now old new before after → k ≡ length old.flying → (after ≡ before) × (new ≡ old)
+rests_all k now old new before after r all = (
   r.link,
-  r.same ∙ ap (λ (t : List ℕ). record old { in_flight = t; waits = new.waits }) (round_all k old.in_flight new.in_flight r.tags all_tags)
-      ∙ ap (λ (w : List (Option OpenRequest)). record old { waits = w }) (round_all k old.waits new.waits r.waits all),
+  r.same ∙ ap (λ (f : List Flying). record old { flying = f }) (round_all k old.flying new.flying r.flying all),
 )
 
 -- ---- acks whose clocks have begun
@@ -131,12 +137,17 @@ pub record LastSent (k n : ℕ) (waits : List (Option OpenRequest)) : Type 0 whe
   pub count : length front + k ≡ n
   pub sent : All IsSent back
 
-pub last_none : (waits : List (Option OpenRequest)) → LastSent 0 (length waits) waits
-last_none waits = record { front = waits; back = []; is = sym (append-nil waits); count = omega arith; sent = All-nil IsSent }
+waits-length : (flying : List Flying) → length (waits_of flying) ≡ length flying
+waits-length [] = refl
+waits-length (x ∷ flying) = omega (arith, waits-length flying)
 
-last_by : (k n : ℕ) (q r : QueueView) (front back : List (Option OpenRequest)) → q.waits ≡ front ++ back → length front + k ≡ n → All IsSent back → k < n → GoesOn Made q r → LastSent (k + 1) n r.waits
-last_by k n q r [] back is count sent below on = absurd (omega (arith, count, below))
-last_by k n q r (f ∷ front) back is count sent below (first, known, more, was, after, one) = record {
+pub last_none : (flying : List Flying) → LastSent 0 (length flying) (waits_of flying)
+last_none flying = record { front = waits_of flying; back = []; is = sym (append-nil (waits_of flying)); count = omega (arith, waits-length flying); sent = All-nil IsSent }
+
+last_by : (k n : ℕ) (waits then front back more : List (Option OpenRequest)) (first known : Option OpenRequest) → waits ≡ front ++ back → length front + k ≡ n → All IsSent back → k < n → waits ≡ first ∷ more
+    → then ≡ more ++ known ∷ [] → IsSent known → LastSent (k + 1) n then
+last_by k n waits then [] back more first known is count sent below was after one = absurd (omega (arith, count, below))
+last_by k n waits then (f ∷ front) back more first known is count sent below was after one = record {
   front = front;
   back = back ++ known ∷ [];
   is = after ∙ ap (λ (w : List (Option OpenRequest)). w ++ known ∷ []) (tails first f more (front ++ back) (sym was ∙ is)) ∙ append_assoc front back (known ∷ []);
@@ -144,8 +155,9 @@ last_by k n q r (f ∷ front) back is count sent below (first, known, more, was,
   sent = All-push IsSent back known sent one;
 }
 
-pub last_more : (k n : ℕ) (q r : QueueView) → LastSent k n q.waits → k < n → GoesOn Made q r → LastSent (k + 1) n r.waits
-last_more k n q r l below on = last_by k n q r l.front l.back l.is l.count l.sent below on
+pub last_more : (k n : ℕ) (q r : QueueView) → LastSent k n (waits_of q.flying) → k < n → GoesOn Made q r → LastSent (k + 1) n (waits_of r.flying)
+last_more k n q r l below (first, next, more, was, after, one) =
+    last_by k n (waits_of q.flying) (waits_of r.flying) l.front l.back (waits_of more) (ack_waits_for first.future) (ack_waits_for next.future) l.is l.count l.sent below (ap waits_of was) (ap waits_of after ∙ waits-push more next) one
 
 last_in : (k n : ℕ) (waits front back : List (Option OpenRequest)) → waits ≡ front ++ back → length front + k ≡ n → All IsSent back → k ≡ n → All IsSent waits
 last_in k n waits [] back is count sent all = subst (λ (w : List (Option OpenRequest)). All IsSent w) (sym is) sent
@@ -157,7 +169,7 @@ last_all k n waits l all = last_in k n waits l.front l.back l.is l.count l.sent 
 -- the step that ends the looks
 pub clocks_at : (step : Step) (q r : QueueView) → (step ≡ Made → ⊥) → GoesOn step q r → HaveClocks step r
 clocks_at Made q r not on = absurd (not refl)
-clocks_at Stays q r not on = subst (λ (w : List (Option OpenRequest)). All IsSent w) (sym on) (All-nil IsSent)
+clocks_at Stays q r not on = subst (λ (f : List Flying). All IsSent (waits_of f)) (sym on) (All-nil IsSent)
 clocks_at NoMemory q r not on = tt
 clocks_at (Over published) q r not on = tt
 

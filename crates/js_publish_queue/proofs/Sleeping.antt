@@ -18,6 +18,7 @@ use Rattle.js_publish_queue.specs.declared.published.Published.{Published}
 use Rattle.js_publish_queue.specs.declared.queue.Step.{Step}
 use Rattle.js_publish_queue.specs.declared.queue.Step.TheVariants as steps
 use Rattle.js_publish_queue.specs.declared.unsent.Unsent.{Unsent}
+use Rattle.js_publish_queue.specs.Flights.{waits_of}
 use Rattle.js_publish_queue.specs.Queue.{QueueView}
 use Rattle.js_publish_queue.specs.Rests.{CanSendNone, IsAsItWas, IsQueueLeftAlone, LooksOnAtNothing, QueueSleeps, SendsNothing}
 use Rattle.js_publish_queue.specs.Steps.{Sends}
@@ -57,10 +58,10 @@ untouched [] p q same = same
 untouched (first ∷ more) p q same = inl same
 
 -- what such a step leaves
-pub left_as_it_was : (unsent : List Unsent) (p q : QueueView) → IsAsItWas unsent p q → (q.unsent ≡ p.unsent) × (q.waits ≡ p.waits)
-left_as_it_was [] p q same = (ap (λ (z : QueueView). z.unsent) same, ap (λ (z : QueueView). z.waits) same)
-left_as_it_was (first ∷ more) p q (inl same) = (ap (λ (z : QueueView). z.unsent) same, ap (λ (z : QueueView). z.waits) same)
-left_as_it_was (first ∷ more) p q (inr asked) = (ap (λ (z : QueueView). z.unsent) asked.same, ap (λ (z : QueueView). z.waits) asked.same)
+pub left_as_it_was : (unsent : List Unsent) (p q : QueueView) → IsAsItWas unsent p q → (q.unsent ≡ p.unsent) × (waits_of q.flying ≡ waits_of p.flying)
+left_as_it_was [] p q same = (ap (λ (z : QueueView). z.unsent) same, ap (λ (z : QueueView). waits_of z.flying) same)
+left_as_it_was (first ∷ more) p q (inl same) = (ap (λ (z : QueueView). z.unsent) same, ap (λ (z : QueueView). waits_of z.flying) same)
+left_as_it_was (first ∷ more) p q (inr asked) = (ap (λ (z : QueueView). z.unsent) asked.same, ap (λ (z : QueueView). waits_of z.flying) asked.same)
 
 -- the same, of a step after which nothing had changed before
 pub steps_on : (now : ℕ) (step : Step) (old mid new : QueueView) (before between after : LinkView) → mid ≡ old → between ≡ before → SendsNothing now step mid new between after
@@ -68,24 +69,24 @@ pub steps_on : (now : ℕ) (step : Step) (old mid new : QueueView) (before betwe
 steps_on now step old mid new before between after same link sends = subst (λ (z : QueueView × LinkView). SendsNothing now step z.0 new z.1 after) (λ i. (same i, link i)) sends
 
 -- so that it is no step that sends the first message
-pub goes_not_on : (now : ℕ) (old mid new : QueueView) (before between after : LinkView) → mid ≡ old → between ≡ before → Sends steps.Made mid new → SendsNothing now steps.Made mid new between after
+pub goes_not_on : (now : ℕ) (old mid new : QueueView) (before between after : LinkView) → mid ≡ old → between ≡ before → Sends now steps.Made mid new between after → SendsNothing now steps.Made mid new between after
     → CanSendNone old.unsent old.context before → is_first_over old.patience old.unsent now ≡ false → ⊥
 goes_not_on now old mid new before between after same link sent sends none early =
-    let (first, was, goes) = subst (λ (q : QueueView). Sends steps.Made q new) same sent in
+    let first = subst (λ (q : QueueView). Sends now steps.Made q new between after) same sent in
     let (quiet, still, stays) = steps_on now steps.Made old mid new before between after same link sends none early in
-    omega (arith, ap length was, ap length (left_as_it_was old.unsent old new stays).0)
+    omega (arith, ap length first.was, ap length (left_as_it_was old.unsent old new stays).0)
 
 -- ---- a poll
 
 pub first_early : (now : ℕ) (q : QueueView) (v : LinkView) → IsQueueLeftAlone now q v → is_first_over q.patience q.unsent now ≡ false
-first_early now q v alone = (either_false (is_first_over q.patience q.unsent now) (is_one_due q.waits now) alone.early).0
+first_early now q v alone = (either_false (is_first_over q.patience q.unsent now) (is_one_due (waits_of q.flying) now) alone.early).0
 
 pub sleeps_on : (now : ℕ) (step : Step) (result : Next Published) (old mid new : QueueView) (before between after : LinkView) → IsQueueLeftAlone now old before → SendsNothing now step old mid before between
     → LooksOnAtNothing now result mid new between after → QueueSleeps old new before after result
 sleeps_on now step result old mid new before between after alone sends looks =
-    let (first, acks) = either_false (is_first_over old.patience old.unsent now) (is_one_due old.waits now) alone.early in
+    let (first, acks) = either_false (is_first_over old.patience old.unsent now) (is_one_due (waits_of old.flying) now) alone.early in
     let (none, link, stays) = sends alone.sends_none first in
-    let here = subst (λ (v : LinkView). All (λ sent. IsLeftAlone sent now v) mid.waits) (sym link)
-    (subst (λ (w : List (Option OpenRequest)). All (λ sent. IsLeftAlone sent now before) w) (sym (left_as_it_was old.unsent old mid stays).1) (alone_all now before old.waits acks alone.unanswered)) in
+    let here = subst (λ (v : LinkView). All (λ sent. IsLeftAlone sent now v) (waits_of mid.flying)) (sym link)
+    (subst (λ (w : List (Option OpenRequest)). All (λ sent. IsLeftAlone sent now before) w) (sym (left_as_it_was old.unsent old mid stays).1) (alone_all now before (waits_of old.flying) acks alone.unanswered)) in
     let (quiet, still, same) = looks here in
     record { quiet = quiet; link = still ∙ link; same = subst (λ (q : QueueView). IsAsItWas old.unsent old q) (sym same) stays }

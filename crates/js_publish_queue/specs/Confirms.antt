@@ -1,16 +1,18 @@
 -- A message that is published and whose ack is awaited, in one call.
-use Rattle.std.specs.Prelude.{ℕ, ◌≡◌, ◌+◌, ⊤, Option, None, Ok, Err}
+use Rattle.std.specs.Prelude.{ℕ, ◌≡◌, ◌+◌, ⊤, Option, None, List, [], ◌∷◌, Ok, Err}
 use Rattle.js_base.specs.declared.turn.Turn.{Turn}
 use Rattle.js_base.specs.declared.turn.Turn.TheVariants.{Pending, Ready, OutOfMemory}
 use Rattle.js_link.specs.LinkView.{LinkView}
 use Rattle.js_call.specs.declared.open_request.OpenRequest.{OpenRequest}
 use Rattle.js_context.specs.declared.ack_future.PublishAckFuture.{PublishAckFuture}
+use Rattle.js_context.specs.declared.context.Detached.{Detached}
 use Rattle.js_context.specs.declared.sending.Sending.{Sending}
 use Rattle.js_window.specs.Caller.{held}
 use Rattle.js_context.specs.Acks.{Acked, AckPolled, AckTurn, IsAwaitedBy}
 use Rattle.js_context.specs.Contexts.{ContextView}
 use Rattle.js_context.specs.Sendings.{SendPolled, SendTurn}
 use Rattle.js_context.specs.Wakes.{ack_waits_for}
+use Rattle.js_publish_queue.specs.Flights.{detached_ack}
 use Rattle.js_publish_queue.specs.declared.confirm.Confirming.{Confirming}
 use Rattle.js_publish_queue.specs.declared.confirm.Confirming.TheVariants.{Sends, Awaits}
 
@@ -70,6 +72,11 @@ IsStillOf (OutOfMemory next) d = BelongsTo next d
 abbrev pub permits : Confirming → ℕ
 permits (Sends sending) = 0
 permits (Awaits future) = 1
+
+-- the ack that is detached with it, once it was sent
+abbrev pub detached_of : Confirming → List Detached
+detached_of (Sends sending) = []
+detached_of (Awaits future) = detached_ack future ∷ []
 
 -- what a poll leaves bears as many, and an answer bears none
 abbrev pub permits_left : ConfirmTurn → ℕ

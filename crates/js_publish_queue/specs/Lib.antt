@@ -4,4 +4,6 @@ pub mod Queue
 pub mod Wakes
 pub mod Steps
 pub mod Rests
+pub mod Polls
+pub mod Told
 pub mod Confirms

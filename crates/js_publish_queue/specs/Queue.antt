@@ -1,21 +1,19 @@
 -- A queue of messages that are published, and what each of its calls does.
-use Rattle.std.specs.Prelude.{ℕ, ◌≡◌, ◌<◌, ◌++◌, ◌==◌, Option, List, [], ◌∷◌, map, count_by, All}
+use Rattle.std.specs.Prelude.{ℕ, ◌≡◌, ◌<◌, ◌++◌, ◌==◌, List, [], ◌∷◌, map, count_by, All}
 use Rattle.js_base.specs.declared.turn.Next.{Next}
 use Rattle.js_base.specs.declared.turn.Next.TheVariants as next
-use Rattle.js_call.specs.declared.open_request.OpenRequest.{OpenRequest}
 use Rattle.js_context.specs.Contexts.{ContextView}
 use Rattle.js_publish_queue.specs.declared.published.Published.{Published}
 use Rattle.js_publish_queue.specs.declared.unsent.Unsent.{Unsent}
 use Rattle.js_publish_queue.specs.declared.flying.Flying.{Flying}
 use Rattle.js_publish_queue.specs.Tries.{IsSameCaller}
-use Rattle.js_publish_queue.specs.Flights.{AreAwaited}
+use Rattle.js_publish_queue.specs.Flights.{AreAwaited, tags_of}
 
 -- what a queue is to those that use it
 pub record QueueView : Type 0 where
   pub context : ContextView
   pub unsent : List Unsent  -- the messages that were not sent, in the order in which they were pushed
-  pub in_flight : List ℕ  -- the tags of those that were sent
-  pub waits : List (Option OpenRequest)  -- the request that each of those waits for, none where its ack is to be polled at once
+  pub flying : List Flying  -- the acks of those that were sent, each with the tag of its message
   pub next : ℕ  -- the tag that is given next
   pub patience : ℕ  -- how long a message may wait for its sending
 
@@ -25,7 +23,7 @@ waiting_tags unsent = map (λ u. u.tag.0) unsent
 
 -- the tags of all messages whose outcome is not known
 abbrev pub open_tags : QueueView → List ℕ
-open_tags q = q.in_flight ++ waiting_tags q.unsent
+open_tags q = tags_of q.flying ++ waiting_tags q.unsent
 
 -- how often a tag stands among tags
 abbrev pub times : ℕ → List ℕ → ℕ

@@ -7,10 +7,13 @@ use Rattle.js_call.specs.declared.open_request.OpenRequest.{OpenRequest}
 use Rattle.js_call.specs.Wakes.{IsLeftAlone, IsSent}
 use Rattle.js_context.specs.Contexts.{ContextView, Takes}
 use Rattle.js_context.specs.Sendings.{LacksPermit}
+use Rattle.js_context.specs.Wakes.{ack_waits_for}
+use Rattle.js_publish_queue.specs.declared.flying.Flying.{Flying}
 use Rattle.js_publish_queue.specs.declared.published.Published.{Published}
 use Rattle.js_publish_queue.specs.declared.unsent.Unsent.{Unsent}
 use Rattle.js_publish_queue.specs.declared.queue.Step.{Step}
 use Rattle.js_publish_queue.specs.declared.queue.Step.TheVariants as steps
+use Rattle.js_publish_queue.specs.Flights.{waits_of}
 use Rattle.js_publish_queue.specs.Queue.{QueueView, open_tags}
 use Rattle.js_publish_queue.specs.Steps.{outcome_of}
 use Rattle.js_publish_queue.specs.Wakes.{is_first_over, queue_due}
@@ -28,7 +31,7 @@ CanSendNone (first ∷ more) c v = LacksPermit first.message c v
 -- no message can be sent, each ack in flight has its clock, no answer to it has come, and it is not the time to wake
 pub record IsQueueLeftAlone (now : ℕ) (q : QueueView) (v : LinkView) : Type 0 where
   pub sends_none : CanSendNone q.unsent q.context v
-  pub unanswered : All (IsUnanswered v) q.waits
+  pub unanswered : All (IsUnanswered v) (waits_of q.flying)
   pub early : queue_due q now ≡ false
 
 -- no outcome is handed out
@@ -59,7 +62,7 @@ SleepsIfLeftAlone now old new before after result = IsQueueLeftAlone now old bef
 
 -- after it has pended each ack in flight has its clock
 abbrev pub QueuePends : Next Published → QueueView → Type 0
-QueuePends next.Pending q = All IsSent q.waits
+QueuePends next.Pending q = All IsSent (waits_of q.flying)
 QueuePends next.End q = ⊤
 QueuePends next.OutOfMemory q = ⊤
 QueuePends (next.Item published) q = ⊤
@@ -74,30 +77,30 @@ SendsNothing now step old new before after =
 
 -- the first ack goes behind the others with its clock, unless it is known
 abbrev pub GoesOn : Step → QueueView → QueueView → Type 0
-GoesOn steps.Made old new = (first : Option OpenRequest) × (sent : Option OpenRequest) × (more : List (Option OpenRequest)) × (old.waits ≡ first ∷ more) × (new.waits ≡ more ++ sent ∷ []) × IsSent sent
-GoesOn steps.Stays old new = new.waits ≡ []
+GoesOn steps.Made old new = (first : Flying) × (next : Flying) × (more : List Flying) × (old.flying ≡ first ∷ more) × (new.flying ≡ more ++ next ∷ []) × IsSent (ack_waits_for next.future)
+GoesOn steps.Stays old new = new.flying ≡ []
 GoesOn steps.NoMemory old new = ⊤
 GoesOn (steps.Over published) old new = ⊤
 
 -- an ack that is left alone goes behind the others as it is
 abbrev pub LooksInVain : ℕ → Step → QueueView → QueueView → LinkView → LinkView → Type 0
 LooksInVain now step old new before after =
-    (sent : Option OpenRequest) (more : List (Option OpenRequest)) → old.waits ≡ sent ∷ more → IsLeftAlone sent now before
-    → (step ≡ steps.Made) × (after ≡ before) × (new.waits ≡ more ++ sent ∷ []) × (new ≡ record old { in_flight = new.in_flight; waits = new.waits })
+    (first : Flying) (more : List Flying) → old.flying ≡ first ∷ more → IsLeftAlone (ack_waits_for first.future) now before
+    → (step ≡ steps.Made) × (after ≡ before) × (new ≡ record old { flying = more ++ first ∷ [] })
 
 -- each ack was looked at, and has its clock
 abbrev pub HaveClocks : Step → QueueView → Type 0
-HaveClocks steps.Made q = All IsSent q.waits
-HaveClocks steps.Stays q = All IsSent q.waits
+HaveClocks steps.Made q = All IsSent (waits_of q.flying)
+HaveClocks steps.Stays q = All IsSent (waits_of q.flying)
 HaveClocks steps.NoMemory q = ⊤
 HaveClocks (steps.Over published) q = ⊤
 
 -- acks that are left alone are what they were
 abbrev pub LooksAtNothing : ℕ → Step → QueueView → QueueView → LinkView → LinkView → Type 0
 LooksAtNothing now step old new before after =
-    All (λ sent. IsLeftAlone sent now before) old.waits → (step ≡ steps.Made) × (after ≡ before) × (new ≡ old)
+    All (λ sent. IsLeftAlone sent now before) (waits_of old.flying) → (step ≡ steps.Made) × (after ≡ before) × (new ≡ old)
 
 -- the same, and what is handed out
 abbrev pub LooksOnAtNothing : ℕ → Next Published → QueueView → QueueView → LinkView → LinkView → Type 0
 LooksOnAtNothing now result old new before after =
-    All (λ sent. IsLeftAlone sent now before) old.waits → IsQuiet result new × (after ≡ before) × (new ≡ old)
+    All (λ sent. IsLeftAlone sent now before) (waits_of old.flying) → IsQuiet result new × (after ≡ before) × (new ≡ old)

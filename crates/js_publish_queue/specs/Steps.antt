@@ -1,9 +1,21 @@
 -- The steps of a queue.
-use Rattle.std.specs.Prelude.{ℕ, ◌≡◌, ◌++◌, List, [], ◌∷◌}
+use Rattle.std.specs.Prelude.{ℕ, ◌≡◌, ◌++◌, ◌⊎◌, true, Option, Some, None, List, [], ◌∷◌, Err}
+use Rattle.js_base.specs.Clock.{is_over}
+use Rattle.js_base.specs.Errors.{plain}
+use Rattle.js_base.specs.declared.turn.Turn.TheVariants.{Pending, Ready, OutOfMemory}
+use Rattle.js_link.specs.LinkView.{LinkView}
+use Rattle.js_context.specs.Acks.{AckPolled, AckTurn}
+use Rattle.js_context.specs.Contexts.{ContextView}
+use Rattle.js_context.specs.Sendings.{IsBarred, SendsUnder}
+use Rattle.js_context.specs.declared.ack_future.PublishAckFuture.{PublishAckFuture}
+use Rattle.js_context.specs.declared.publish_error.PublishErrorKind.{PublishErrorKind}
+use Rattle.js_publish_queue.specs.declared.flying.Flying.{Flying}
+use Rattle.js_publish_queue.specs.declared.published.Published.{Published}
 use Rattle.js_publish_queue.specs.declared.unsent.Unsent.{Unsent}
 use Rattle.js_publish_queue.specs.declared.queue.Step.{Step}
 use Rattle.js_publish_queue.specs.declared.queue.Step.TheVariants.{Made, Stays, Over, NoMemory}
 use Rattle.js_publish_queue.specs.Queue.{QueueView}
+use Rattle.js_publish_queue.specs.Tries.{IsPrevented, SendsNone}
 
 -- the tag of the outcome that a step brings
 abbrev pub outcome_of : Step → List ℕ
@@ -12,29 +24,83 @@ outcome_of Made = []
 outcome_of Stays = []
 outcome_of NoMemory = []
 
+-- the outcome that a step brings
+abbrev pub brought : Step → Option Published
+brought (Over published) = Some published
+brought Made = None
+brought Stays = None
+brought NoMemory = None
+
 -- no message has gone on
 pub record Stands (old new : QueueView) : Type 0 where
   pub unsent : new.unsent ≡ old.unsent
-  pub in_flight : new.in_flight ≡ old.in_flight
+  pub flying : new.flying ≡ old.flying
 
--- the first message was sent, has its outcome, or stays
-abbrev pub Sends : Step → QueueView → QueueView → Type 0
-Sends Made old new = (first : Unsent) × (old.unsent ≡ first ∷ new.unsent) × (new.in_flight ≡ old.in_flight ++ first.tag.0 ∷ [])
-Sends (Over published) old new = (first : Unsent) × (old.unsent ≡ first ∷ new.unsent) × (new.in_flight ≡ old.in_flight) × (published.tag.0 ≡ first.tag.0)
-Sends Stays old new = Stands old new
-Sends NoMemory old new = Stands old new
+-- nothing was sent, and no message has gone on
+pub record StaysFirst (old new : QueueView) (before after : LinkView) : Type 0 where
+  pub stands : Stands old new
+  pub none : SendsNone old.context new.context before after
 
--- the first ack went behind the others
-pub record GoesBehind (old new : QueueView) : Type 0 where
+-- the first message was sent under a permit, and its ack is awaited under its tag
+pub record SendsFirst (old new : QueueView) (before after : LinkView) : Type 0 where
+  pub first : Unsent
+  pub ack : Flying
+  pub was : old.unsent ≡ first ∷ new.unsent
+  pub is : new.flying ≡ old.flying ++ ack ∷ []
+  pub tag : ack.tag ≡ first.tag
+  pub sends : SendsUnder first.message ack.future old.context new.context before after
+
+-- Why a message is given up. It can't be sent; or it could not be sent now, and has waited for as long as a message may.
+abbrev pub IsGivenUpFor : PublishErrorKind → Unsent → ℕ → ℕ → ContextView → ContextView → LinkView → LinkView → Type 0
+IsGivenUpFor why u patience now c d before after =
+    IsBarred why u.message before ⊎ (IsPrevented why u.message c d before after × (is_over u.since patience now ≡ true))
+
+-- the first message was given up, and the reason is its outcome
+pub record GivesUp (now : ℕ) (published : Published) (old new : QueueView) (before after : LinkView) : Type 0 where
+  pub first : Unsent
+  pub was : old.unsent ≡ first ∷ new.unsent
+  pub flying : new.flying ≡ old.flying
+  pub tag : published.tag ≡ first.tag
+  pub why : PublishErrorKind
+  pub outcome : published.outcome ≡ Err (plain why)
+  pub because : IsGivenUpFor why first old.patience now old.context new.context before after
+  pub none : SendsNone old.context new.context before after
+
+-- what a try to send the first message comes to
+abbrev pub Sends : ℕ → Step → QueueView → QueueView → LinkView → LinkView → Type 0
+Sends now Made old new before after = SendsFirst old new before after
+Sends now (Over published) old new before after = GivesUp now published old new before after
+Sends now Stays old new before after = StaysFirst old new before after
+Sends now NoMemory old new before after = StaysFirst old new before after
+
+-- the first ack was looked at, is not known, and went behind the others
+pub record GoesBehind (now : ℕ) (left : PublishAckFuture → AckTurn) (old new : QueueView) (before after : LinkView) : Type 0 where
   pub unsent : new.unsent ≡ old.unsent
-  pub tag : ℕ
-  pub rest : List ℕ
-  pub before : old.in_flight ≡ tag ∷ rest
-  pub after : new.in_flight ≡ rest ++ tag ∷ []
+  pub first : Flying
+  pub next : Flying
+  pub rest : List Flying
+  pub was : old.flying ≡ first ∷ rest
+  pub is : new.flying ≡ rest ++ next ∷ []
+  pub tag : next.tag ≡ first.tag
+  pub polled : AckPolled first.future.reply first.future now (left next.future) old.context new.context before after
 
--- the first ack is known, or went behind the others
-abbrev pub Looks : Step → QueueView → QueueView → Type 0
-Looks (Over published) old new = (new.unsent ≡ old.unsent) × (old.in_flight ≡ published.tag.0 ∷ new.in_flight)
-Looks Made old new = GoesBehind old new
-Looks NoMemory old new = GoesBehind old new
-Looks Stays old new = Stands old new
+-- the first ack is known, and what it answered is the outcome of its message
+pub record Settles (now : ℕ) (published : Published) (old new : QueueView) (before after : LinkView) : Type 0 where
+  pub unsent : new.unsent ≡ old.unsent
+  pub ack : Flying
+  pub was : old.flying ≡ ack ∷ new.flying
+  pub tag : published.tag ≡ ack.tag
+  pub polled : AckPolled ack.future.reply ack.future now (Ready published.outcome) old.context new.context before after
+
+-- no message is in flight, and nothing was done
+pub record LooksAtNone (old new : QueueView) (before after : LinkView) : Type 0 where
+  pub none : old.flying ≡ []
+  pub same : new ≡ old
+  pub link : after ≡ before
+
+-- what a look at the first ack comes to
+abbrev pub Looks : ℕ → Step → QueueView → QueueView → LinkView → LinkView → Type 0
+Looks now (Over published) old new before after = Settles now published old new before after
+Looks now Made old new before after = GoesBehind now (λ next. Pending next) old new before after
+Looks now NoMemory old new before after = GoesBehind now (λ next. OutOfMemory next) old new before after
+Looks now Stays old new before after = LooksAtNone old new before after

@@ -1,12 +1,17 @@
 -- One try to send a message.
-use Rattle.std.specs.Prelude.{◌≡◌, ◌+◌, None}
+use Rattle.std.specs.Prelude.{◌≡◌, ◌+◌, Bool, true, false, None}
+use Rattle.js_base.specs.Errors.{plain}
+use Rattle.js_base.specs.Match.{is_valid_subject}
+use Rattle.js_base.specs.declared.error.Error.{Error}
 use Rattle.js_link.specs.LinkView.{LinkView}
-use Rattle.js_link.specs.Calls.{Asks}
+use Rattle.js_link.specs.Calls.{FailsToSend}
 use Rattle.js_message.specs.declared.publish.OutboundMessage.{OutboundMessage}
 use Rattle.js_context.specs.Contexts.{ContextView, Takes}
 use Rattle.js_context.specs.Acks.{IsAwaitedBy}
-use Rattle.js_context.specs.Sendings.{LacksPermit}
+use Rattle.js_context.specs.Sendings.{IsBarred, IsSendable, LacksPermit, SendsUnder}
 use Rattle.js_context.specs.declared.ack_future.PublishAckFuture.{PublishAckFuture}
+use Rattle.js_context.specs.declared.publish_error.PublishErrorKind.{PublishErrorKind}
+use Rattle.js_context.specs.declared.publish_error.PublishErrorKind.TheVariants as kind
 use Rattle.js_publish_queue.specs.declared.tries.Tried.{Tried}
 use Rattle.js_publish_queue.specs.declared.tries.Tried.TheVariants.{Went, Stays, Fails, NoMemory}
 
@@ -32,14 +37,31 @@ pub record SendsNone (c d : ContextView) (old new : LinkView) : Type 0 where
 pub record SendsIt (m : OutboundMessage) (future : PublishAckFuture) (c d : ContextView) (old new : LinkView) : Type 0 where
   pub caller : IsSameCaller c d
   pub awaited : d.awaited ≡ c.awaited + 1
-  pub asks : Asks future.request.0 m.subject m.headers m.payload old new
+  pub sends : SendsUnder m future c d old new
   pub bears : IsAwaitedBy future d
+
+-- why a message was not sent that can be sent: no permit was free, or the link failed
+abbrev pub Prevents : PublishErrorKind → ContextView → ContextView → LinkView → LinkView → Type 0
+Prevents kind.MaxAckPending c d old new = Takes None c d × (new ≡ old)
+Prevents kind.Other c d old new = FailsToSend old new
+Prevents _ c d old new = ⊥
+
+-- the message can be sent, and was not, for this reason
+pub record IsPrevented (why : PublishErrorKind) (m : OutboundMessage) (c d : ContextView) (old new : LinkView) : Type 0 where
+  pub sendable : IsSendable m old
+  pub because : Prevents why c d old new
+
+-- the message can never be sent, for this reason, which is the error
+pub record IsLost (m : OutboundMessage) (error : Error PublishErrorKind) (old : LinkView) : Type 0 where
+  pub why : PublishErrorKind
+  pub is : error ≡ plain why
+  pub barred : IsBarred why m old
 
 -- what a try does
 abbrev pub Tries : OutboundMessage → Tried → ContextView → ContextView → LinkView → LinkView → Type 0
 Tries m (Went future) c d old new = SendsIt m future c d old new
-Tries m (Stays kind) c d old new = SendsNone c d old new
-Tries m (Fails error) c d old new = SendsNone c d old new
+Tries m (Stays why) c d old new = SendsNone c d old new × IsPrevented why m c d old new
+Tries m (Fails error) c d old new = SendsNone c d old new × IsLost m error old
 Tries m NoMemory c d old new = SendsNone c d old new
 
 -- no permit was free and a later try may send it, or memory ran out before that
@@ -53,9 +75,15 @@ GetsNone (Fails error) c d = ⊥
 abbrev pub GetsNoneIfFull : OutboundMessage → Tried → ContextView → ContextView → LinkView → LinkView → Type 0
 GetsNoneIfFull m tried c d old new = LacksPermit m c old → GetsNone tried c d × (new ≡ old)
 
--- a message that was not sent
-abbrev pub IsRefusal : Tried → Type 0
-IsRefusal (Went future) = ⊥
-IsRefusal (Stays kind) = Unit {0}
-IsRefusal (Fails error) = Unit {0}
-IsRefusal NoMemory = ⊥
+-- a later try may send a message that was refused like this, if its subject is one, or once a permit is free
+abbrev pub may_go_later : PublishErrorKind → OutboundMessage → Bool
+may_go_later kind.Other m = is_valid_subject m.subject
+may_go_later kind.MaxAckPending m = true
+may_go_later _ m = false
+
+-- a message that was refused with this error stays where a later try may send it
+abbrev pub IsRefusal : Error PublishErrorKind → OutboundMessage → Tried → Type 0
+IsRefusal error m (Went future) = ⊥
+IsRefusal error m (Stays why) = (why ≡ error.kind) × (may_go_later error.kind m ≡ true)
+IsRefusal error m (Fails why) = (why ≡ error) × (may_go_later error.kind m ≡ false)
+IsRefusal error m NoMemory = ⊥

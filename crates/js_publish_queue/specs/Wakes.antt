@@ -4,6 +4,7 @@ use Rattle.js_base.specs.Clock.{is_over}
 use Rattle.js_call.specs.declared.open_request.OpenRequest.{OpenRequest}
 use Rattle.js_call.specs.Wakes.{is_due}
 use Rattle.js_publish_queue.specs.declared.unsent.Unsent.{Unsent}
+use Rattle.js_publish_queue.specs.Flights.{waits_of}
 use Rattle.js_publish_queue.specs.Queue.{QueueView}
 
 -- the time of one of these requests is over
@@ -18,4 +19,4 @@ is_first_over patience (first ∷ more) now = is_over first.since patience now
 
 -- it is the time of a queue to be polled, though nothing came and no permit is free
 abbrev pub queue_due : QueueView → ℕ → Bool
-queue_due q now = is_first_over q.patience q.unsent now || is_one_due q.waits now
+queue_due q now = is_first_over q.patience q.unsent now || is_one_due (waits_of q.flying) now

@@ -1,12 +1,12 @@
 //! A message that is published, and whose ack is awaited, as one call.
-ghost use Rattle.std.specs.Prelude.{◌≡◌, ◌+◌, ◌<◌, ◌^◌, ℕ, IfOk, None};
+ghost use Rattle.std.specs.Prelude.{◌≡◌, ◌+◌, ◌<◌, ◌^◌, ◌++◌, ℕ, IfOk, None};
 ghost use Rattle.js_message.specs.Publishing.{outbound};
 ghost use Rattle.js_base.specs.Clock.{has_come};
 ghost use Rattle.js_call.specs.Wakes.{Sleeps, is_due, request_of};
 ghost use Rattle.js_context.specs.Acks.{IsAwaitedBy};
 ghost use Rattle.js_context.specs.Messages.{sending};
 ghost use Rattle.js_context.specs.Wakes.{ack_waits_for};
-ghost use Rattle.js_publish_queue.specs.Confirms.{BelongsTo, ConfirmPolled, HoldsBeside, IsStillOf, Looks, confirming_waits_for, permits};
+ghost use Rattle.js_publish_queue.specs.Confirms.{BelongsTo, ConfirmPolled, HoldsBeside, IsStillOf, Looks, confirming_waits_for, detached_of, permits};
 ghost use Rattle.js_publish_queue.specs.declared.confirm.Confirming.TheVariants.{Awaits, Sends};
 
 use bytes::Bytes;
@@ -109,7 +109,9 @@ impl Confirming {
     /// From here on nobody awaits it. A message that was not sent is let go; the ack of one that was sent is looked after by `Context::reap`.
     pub fn detach(self, context: &mut Context)
         requires { BelongsTo self context.old }
-        ensures { context.new.awaited + permits self ≡ context.old.awaited }
+        ensures awaited { context.new.awaited + permits self ≡ context.old.awaited }
+        ensures same { context.new ≡ record context.old { awaited = context.new.awaited; detached = context.new.detached } }
+        ensures list { context.new.detached ≡ context.old.detached ++ detached_of self }
     {
         match self {
             Confirming::Sends(_) => {}

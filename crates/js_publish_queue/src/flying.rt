@@ -1,5 +1,4 @@
 //! Messages that were sent, and whose acks are awaited.
-ghost use Rattle.std.specs.Prelude.{length};
 ghost use Rattle.js_publish_queue.specs.Flights.{AreAwaited, Detaches};
 
 use crate::published::Tag;
@@ -15,7 +14,7 @@ pub(crate) struct Flying {
 /// From here on nobody awaits these acks: the context looks after them.
 pub(crate) fn detach_all(context: &mut Context, mut flying: VecDeque<Flying>)
     requires { AreAwaited flying.items context.old }
-    ensures { Detaches (length flying.items) context.old context.new }
+    ensures { Detaches flying.items context.old context.new }
 {
     while let Some(Flying { tag: _, future }) = flying.pop_front() {
         future.detach(context);

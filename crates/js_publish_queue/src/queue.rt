@@ -5,7 +5,8 @@ ghost use Rattle.js_window.specs.Caller.{held};
 ghost use Rattle.js_base.specs.Clock.{has_come};
 ghost use Rattle.js_publish_queue.specs.Queue.{EachHasOne, EndsEmpty, Keeps, handed, open_tags, times};
 ghost use Rattle.js_publish_queue.specs.Flights.{Detaches};
-ghost use Rattle.js_publish_queue.specs.Steps.{Looks, Sends, outcome_of};
+ghost use Rattle.js_publish_queue.specs.Polls.{IsLeftOf, Polls, Runs, handed_out, place};
+ghost use Rattle.js_publish_queue.specs.Steps.{Looks, Sends, brought, outcome_of};
 ghost use Rattle.js_publish_queue.specs.Wakes.{is_first_over, queue_due};
 ghost use Rattle.js_publish_queue.specs.Rests.{GoesOn, HaveClocks, IsQuiet, LooksAtNothing, LooksInVain, LooksOnAtNothing, QueuePends, SendsNothing, SleepsIfLeftAlone};
 
@@ -35,12 +36,11 @@ pub struct PublishQueue {
 }
 
 impl Model for PublishQueue {
-    ghost use Rattle.js_publish_queue.specs.Flights.{tags_of, waits_of};
     ghost use Rattle.js_publish_queue.specs.Queue.{QueueView, IsQueue};
 
     ghost Value = { QueueView };
 
-    ghost view = { λ q. record { context = q.context; unsent = q.unsent.items; in_flight = tags_of q.flying.items; waits = waits_of q.flying.items; next = q.next; patience = q.patience } };
+    ghost view = { λ q. record { context = q.context; unsent = q.unsent.items; flying = q.flying.items; next = q.next; patience = q.patience } };
 
     ghost invariant = { λ q. IsQueue q.context q.unsent.items q.flying.items q.next };
 }
@@ -84,7 +84,7 @@ enum Step {
 impl PublishQueue {
     /// A queue without messages. A message waits as long as that for its sending, in nanoseconds, from its push on.
     pub fn new(alloc: Global, context: Context, patience: Nanos) -> PublishQueue
-        ensures { result ≡ record { context = context; unsent = []; in_flight = []; waits = []; next = 0; patience = patience } }
+        ensures { result ≡ record { context = context; unsent = []; flying = []; next = 0; patience = patience } }
     {
         PublishQueue {
             context,
@@ -125,15 +125,22 @@ impl PublishQueue {
         now: Moment,
     ) -> Result<Tag, OutOfMemory>
         ensures tag { IfOk result (λ tag. tag.0 ≡ self.old.next) }
+        ensures fresh { times self.old.next (open_tags self.old) ≡ 0 }
         ensures ok { OnOk result (self.new ≡ record self.old { unsent = self.old.unsent ++ record { tag = record { 0 = self.old.next }; message = outbound subject.now payload.now None; since = now } ∷ []; next = self.old.next + 1 }) }
         ensures err { OnErr result (self.new ≡ self.old) }
     {
+        // Opened also where no message is made: the tag that is given next is a new one.
+        let _next = self.next;
         let subject = Subject::new(alloc, subject)?;
         let payload = Bytes::copy_from_slice(alloc, payload)?;
         self.push(OutboundMessage::new(subject, payload, None), now)
     }
 
     /// Sends what permits allow, then looks at the acks, and hands out an outcome.
+    ///
+    /// The outcome of a message that was sent is what its own ack answered, as [`PublishAckFuture::poll`](js_context::PublishAckFuture::poll) says. One that
+    /// can't be sent is over at once: `Other` where its subject is none, `MaxPayloadExceeded` where it is longer than the link sends. One that could be sent is
+    /// over at the poll that fails to send it when it has waited for the queue's patience: `MaxAckPending` where no permit was free, `Other` where the link failed.
     ///
     /// `Pending` comes where no outcome is known and messages are left, `End` where none is left.
     ///
@@ -150,6 +157,8 @@ impl PublishQueue {
         now: Moment,
     ) -> Next<Published>
         ensures each { EachHasOne (handed result) self.old self.new }
+        ensures left { IsLeftOf self.old.unsent self.new.unsent }
+        ensures own { Polls now (handed_out result) (place self.old (L.view link.old)) (place self.new (L.view link.new)) }
         ensures end { EndsEmpty result self.new }
         ensures keeps { Keeps self.old self.new }
         ensures sleeps { SleepsIfLeftAlone now self.old self.new (L.view link.old) (L.view link.new) result }
@@ -172,6 +181,7 @@ impl PublishQueue {
         now: Moment,
     ) -> Next<Published>
         ensures each { EachHasOne (handed result) self.old self.new }
+        ensures runs { Runs now (handed_out result) (place self.old (L.view link.old)) (place self.new (L.view link.new)) }
         ensures end { EndsEmpty result self.new }
         ensures keeps { Keeps self.old self.new }
         ensures sleeps { LooksOnAtNothing now result self.old self.new (L.view link.old) (L.view link.new) }
@@ -188,8 +198,7 @@ impl PublishQueue {
     /// How many messages were sent and have no ack yet. Each of them bears a permit that the context holds, so that they are never more than the
     /// permits of its window.
     pub fn in_flight(&self) -> usize
-        ensures count { result ≡ length self.now.in_flight }
-        ensures waits { result ≡ length self.now.waits }
+        ensures count { result ≡ length self.now.flying }
         ensures held { result ≤ held self.now.context.pass }
     {
         let _awaited = self.context.awaited();
@@ -242,6 +251,7 @@ impl PublishQueue {
     /// Tries to send the messages in order, up to the first that stays or whose outcome is known.
     fn send<R: Wait, L: Link>(&mut self, rt: &R, alloc: Global, link: &mut L, now: Moment) -> Step
         ensures each { EachHasOne (outcome_of result) self.old self.new }
+        ensures runs { Runs now (brought result) (place self.old (L.view link.old)) (place self.new (L.view link.new)) }
         ensures keeps { Keeps self.old self.new }
         ensures sleeps { SendsNothing now result self.old self.new (L.view link.old) (L.view link.new) }
     {
@@ -263,7 +273,7 @@ impl PublishQueue {
         link: &mut L,
         now: Moment,
     ) -> Step
-        ensures sends { Sends result self.old self.new }
+        ensures sends { Sends now result self.old self.new (L.view link.old) (L.view link.new) }
         ensures keeps { Keeps self.old self.new }
         ensures sleeps { SendsNothing now result self.old self.new (L.view link.old) (L.view link.new) }
     {
@@ -301,6 +311,7 @@ impl PublishQueue {
     /// Looks at each ack once, up to the first that is known. Those that were looked at go behind the others.
     fn look<R: Wait, L: Link>(&mut self, rt: &R, alloc: Global, link: &mut L, now: Moment) -> Step
         ensures each { EachHasOne (outcome_of result) self.old self.new }
+        ensures runs { Runs now (brought result) (place self.old (L.view link.old)) (place self.new (L.view link.new)) }
         ensures keeps { Keeps self.old self.new }
         ensures sleeps { LooksAtNothing now result self.old self.new (L.view link.old) (L.view link.new) }
         ensures clocks { HaveClocks result self.new }
@@ -323,7 +334,7 @@ impl PublishQueue {
         link: &mut L,
         now: Moment,
     ) -> Step
-        ensures looks { Looks result self.old self.new }
+        ensures looks { Looks now result self.old self.new (L.view link.old) (L.view link.new) }
         ensures keeps { Keeps self.old self.new }
         ensures sleeps { LooksInVain now result self.old self.new (L.view link.old) (L.view link.new) }
         ensures on { GoesOn result self.old self.new }
@@ -348,7 +359,7 @@ impl PublishQueue {
     /// no permit is lost.
     pub fn close(self) -> Closed
         ensures unsent { result.unsent.items ≡ self.unsent }
-        ensures context { Detaches (length self.in_flight) self.context result.context }
+        ensures context { Detaches self.flying self.context result.context }
     {
         let PublishQueue {
             mut context,

@@ -1,9 +1,9 @@
 //! One try to send a message.
-ghost use Rattle.std.specs.Prelude.{◌≡◌, true};
+ghost use Rattle.std.specs.Prelude.{◌≡◌};
 ghost use Rattle.js_link.specs.LinkView.{LinkView};
 ghost use Rattle.js_base.specs.Errors.{plain};
 ghost use Rattle.js_context.specs.declared.publish_error.PublishErrorKind.TheVariants.{MaxAckPending};
-ghost use Rattle.js_publish_queue.specs.Tries.{GetsNoneIfFull, IsRefusal, Tries};
+ghost use Rattle.js_publish_queue.specs.Tries.{GetsNoneIfFull, IsRefusal, Tries, may_go_later};
 ghost use Rattle.js_publish_queue.specs.declared.tries.Tried.TheVariants.{Stays};
 
 use crate::unsent::copy_of;
@@ -28,7 +28,7 @@ pub(crate) enum Tried {
 
 /// Whether a later try may send what was refused like this.
 fn may_go_later(kind: PublishErrorKind, message: &OutboundMessage) -> bool
-    ensures { kind ≡ MaxAckPending → result ≡ true }
+    ensures { result ≡ may_go_later kind message.now }
 {
     match kind {
         PublishErrorKind::Other => is_valid_subject(message.subject.as_str()),
@@ -68,7 +68,7 @@ pub(crate) fn try_to_send<R: Wait, L: Link>(
 }
 
 fn refused(error: PublishError, message: &OutboundMessage) -> Tried
-    ensures refusal { IsRefusal result }
+    ensures refusal { IsRefusal error message.now result }
     ensures full { error ≡ plain MaxAckPending → result ≡ Stays MaxAckPending }
 {
     let kind = *error.kind();

@@ -1,6 +1,16 @@
-use Rattle.std.proofs.Common.{◌≡◌, length, ap, ◌∙◌, arith, length-append}
+use Rattle.std.proofs.Common.{◌≡◌, List, [], ◌∷◌, ◌++◌, length, sym, ap, ◌∙◌, arith, append_assoc}
+use Rattle.js_context.specs.Contexts.{ContextView}
+use Rattle.js_context.specs.declared.context.Detached.{Detached}
+use Rattle.js_publish_queue.specs.declared.flying.Flying.{Flying}
+use Rattle.js_publish_queue.specs.Flights.{detached_ack, detached_acks}
 use Rattle.js_publish_queue.proofs.Awaiting.{detached_rest}
 use Rattle.js_publish_queue.proofs.flying.detach_all.Goals as goal
+
+-- one more ack was detached
+one_more : (c e : ContextView) (f : Flying) (rest flying : List Flying) (all : List Detached) → flying ≡ f ∷ rest → c.detached ++ detached_acks flying ≡ all → e.detached ≡ c.detached ++ detached_ack f.future ∷ [] → e.detached ++ detached_acks rest ≡ all
+one_more c e f rest flying all is before more =
+    ap (λ (xs : List Detached). xs ++ detached_acks rest) more ∙ append_assoc c.detached (detached_ack f.future ∷ []) (detached_acks rest)
+    ∙ ap (λ (fs : List Flying). c.detached ++ detached_acks fs) (sym is) ∙ before
 
 pub loop-future-preserved : goal.loop-future-preserved
 loop-future-preserved c =
@@ -9,7 +19,8 @@ loop-future-preserved c =
     let pass : c.detach.new.context.pass ≡ c.loop-future.context.pass = ap (λ x. x.pass) c.detach.ensures.list in
     record {
       awaited = detached_rest c.in-Some.field-0 c.pop_front.new.self.items c.loop-future.context c.detach.new.context c.detach.ensures.awaited pass (rw items at before.awaited);
-      pass = pass ∙ before.pass;
+      same = c.detach.ensures.list ∙ ap (λ (x : ContextView). record x { awaited = c.detach.new.context.awaited; detached = c.loop-future.context.detached ++ detached_ack c.in-Some.field-0.future ∷ [] }) before.same
+          ∙ ap (λ (xs : List Detached). record c.args.context.now { awaited = c.detach.new.context.awaited; detached = xs }) (sym (ap (λ (x : ContextView). x.detached) c.detach.ensures.list));
       counted = omega (arith, before.counted, c.detach.ensures.awaited, ap length items);
-      detached = omega (arith, before.detached, ap length items, simp length-append at (ap (λ x. length x.detached) c.detach.ensures.list));
+      list = one_more c.loop-future.context c.detach.new.context c.in-Some.field-0 c.pop_front.new.self.items _ _ items before.list (ap (λ (x : ContextView). x.detached) c.detach.ensures.list);
     }

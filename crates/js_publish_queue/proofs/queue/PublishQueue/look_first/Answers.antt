@@ -1,7 +1,5 @@
 use Rattle.std.proofs.Common.{refl, rules}
 use Rattle.std.proofs.lemmas.Grind.{common_steps}
-use Rattle.js_context.specs.Wakes.{ack_waits_for}
-use Rattle.js_publish_queue.specs.Flights.{waits_of}
 use Rattle.js_publish_queue.proofs.Awaiting.{behind, landed}
 use Rattle.js_publish_queue.proofs.Sleeping.{pending_is_sent}
 use Rattle.js_publish_queue.proofs.queue.PublishQueue.look_first.Goals as goal
@@ -17,9 +15,9 @@ invariant_of-self-in-OutOfMemory g c = behind _ _ _ _ _ _ _ _ _ c.in-Some.ensure
 
 pub returns-in-Pending-clause-on : goal.returns-in-Pending-clause-on
 returns-in-Pending-clause-on g c = (
-  ack_waits_for c.in-Some.field-0.future,
-  ack_waits_for c.in-Pending.future,
-  waits_of c.pop_front.new.self.items,
+  c.in-Some.field-0,
+  record { tag = c.in-Some.field-0.tag; future = c.in-Pending.future },
+  c.pop_front.new.self.items,
   search (rules, common_steps),
   search (rules, common_steps),
   pending_is_sent _ _ _ _ _ _ _ _ refl c.in-Pending.ensures.polled,
