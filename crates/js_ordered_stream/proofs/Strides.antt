@@ -250,6 +250,9 @@ yields_end x e = cc
 yields_waits : (x : Message) → Yields x ≡ Waits → ⊥
 yields_waits x e = cc
 
+yields_lacks : (x : Message) → Yields x ≡ Lacks → ⊥
+yields_lacks x e = cc
+
 tells_ends : (k : ItemKind) → Tells k ≡ Ends → ⊥
 tells_ends k e = cc
 
@@ -259,11 +262,17 @@ tells_end k e = cc
 tells_waits : (k : ItemKind) → Tells k ≡ Waits → ⊥
 tells_waits k e = cc
 
+tells_lacks : (k : ItemKind) → Tells k ≡ Lacks → ⊥
+tells_lacks k e = cc
+
 end_ends : HandsEnd ≡ Ends → ⊥
 end_ends e = cc
 
 end_waits : HandsEnd ≡ Waits → ⊥
 end_waits e = cc
+
+end_lacks : HandsEnd ≡ Lacks → ⊥
+end_lacks e = cc
 
 ends_end : Ends ≡ HandsEnd → ⊥
 ends_end e = cc
@@ -271,11 +280,17 @@ ends_end e = cc
 ends_waits : Ends ≡ Waits → ⊥
 ends_waits e = cc
 
+ends_lacks : Ends ≡ Lacks → ⊥
+ends_lacks e = cc
+
 waits_end : Waits ≡ HandsEnd → ⊥
 waits_end e = cc
 
 waits_ends : Waits ≡ Ends → ⊥
 waits_ends e = cc
+
+waits_lacks : Waits ≡ Lacks → ⊥
+waits_lacks e = cc
 
 lacks_end : Lacks ≡ HandsEnd → ⊥
 lacks_end e = cc
@@ -315,6 +330,7 @@ poll_waits g now quiet old at v u walked is none = record {
   exhausted = λ e. absurd (waits_end e);
   ended = unended Waits old.consumer.phase waits_ends walked.alive;
   alive = λ _. unspent at.consumer.phase walked.spent;
+  unspent = λ e. absurd (waits_lacks e);
   waits = λ _. quiet_turn g walked.strides old at (walked.turn is) walked.leads none;
   gapless = λ s whole kept honest. poll_gapless g walked.strides false old at Waits walked.leads walked.silent s whole kept honest;
 }
@@ -334,6 +350,7 @@ poll_lacks g now quiet old at new v u w walked same view = record {
   exhausted = λ e. absurd (lacks_end e);
   ended = unended Lacks old.consumer.phase lacks_ends walked.alive;
   alive = λ e. absurd (lacks_waits e);
+  unspent = λ _. unspent new.consumer.phase (ap (λ (x : Position). is_spent x.consumer.phase) same ∙ walked.spent);
   waits = λ e. absurd (lacks_waits e);
   gapless = λ s whole kept honest. poll_gapless g walked.strides false old new Lacks (same ∙ walked.leads) walked.silent s whole kept honest;
 }
@@ -355,6 +372,7 @@ poll_closes g now quiet old at new v u w walked leads closing =
       exhausted = λ e. absurd (ends_end e);
       ended = ((λ _. inl refl), (λ _. refl));
       alive = λ e. absurd (ends_waits e);
+      unspent = λ e. absurd (ends_lacks e);
       waits = λ e. absurd (ends_waits e);
       gapless = λ s whole kept honest. poll_gapless g walked.strides true old new Ends to walked.silent s whole kept honest;
     }
@@ -374,6 +392,7 @@ poll_over g now old v over = record {
   exhausted = λ e. absurd (ends_end e);
   ended = ((λ _. inr over), (λ _. refl));
   alive = λ e. absurd (ends_waits e);
+  unspent = λ e. absurd (ends_lacks e);
   waits = λ e. absurd (ends_waits e);
   gapless = λ s whole kept honest. poll_gapless g [] false old old Ends refl refl s whole kept honest;
 }
@@ -432,9 +451,9 @@ last_row g now quiet met old at new v u w outputs walked passes hands =
 
 -- it hands something out
 poll_hands : (g : ReplayInput) (now : ℕ) (quiet : Bool) (met : Met) (old at new : Position) (v u w : LinkView) (answer : Answer) → Walked g now quiet old at v u → PassesNext g now met at new u w
-    → handed (step_met g now met at).outputs ≡ handed_by answer → (answer ≡ Ends → ⊥) → (answer ≡ Waits → ⊥) → (answer ≡ HandsEnd → ⊥)
+    → handed (step_met g now met at).outputs ≡ handed_by answer → (answer ≡ Ends → ⊥) → (answer ≡ Waits → ⊥) → (answer ≡ HandsEnd → ⊥) → (answer ≡ Lacks → ⊥)
     → ((strides : List Stride) → last_arrival g strides old ≡ message_at g now met at → IsTaken g answer strides old) → Polls g now old new v w answer
-poll_hands g now quiet met old at new v u w answer walked passes hands no_end no_wait no_spent taken =
+poll_hands g now quiet met old at new v u w answer walked passes hands no_end no_wait no_spent no_lack taken =
     let last : Last g now old new v w (handed_by answer) (message_at g now met at) = last_row g now quiet met old at new v u w (handed_by answer) walked passes hands in
     record {
       strides = last.strides;
@@ -449,6 +468,7 @@ poll_hands g now quiet met old at new v u w answer walked passes hands no_end no
       exhausted = λ e. absurd (no_spent e);
       ended = unended answer old.consumer.phase no_end walked.alive;
       alive = λ e. absurd (no_wait e);
+      unspent = λ e. absurd (no_lack e);
       waits = λ e. absurd (no_wait e);
       gapless = λ s whole kept honest. poll_gapless g last.strides false old new answer last.leads last.out s whole kept honest;
     }
@@ -456,13 +476,13 @@ poll_hands g now quiet met old at new v u w answer walked passes hands no_end no
 pub poll_yields : (g : ReplayInput) (now : ℕ) (quiet : Bool) (met : Met) (old at new : Position) (v u w : LinkView) (message : Message) → Walked g now quiet old at v u → PassesNext g now met at new u w
     → handed (step_met g now met at).outputs ≡ handed_by (Yields message) → seen_by (first_row at.todo) met ≡ Some message → Polls g now old new v w (Yields message)
 poll_yields g now quiet met old at new v u w message walked passes hands took =
-    poll_hands g now quiet met old at new v u w (Yields message) walked passes hands (λ e. yields_ends message e) (λ e. yields_waits message e) (λ e. yields_end message e)
+    poll_hands g now quiet met old at new v u w (Yields message) walked passes hands (λ e. yields_ends message e) (λ e. yields_waits message e) (λ e. yields_end message e) (λ e. yields_lacks message e)
     (λ strides last. last ∙ looked_from (first_row at.todo) now (poll_wish g at) met message u w passes.meets took)
 
 poll_tells : (g : ReplayInput) (now : ℕ) (quiet : Bool) (met : Met) (old at new : Position) (v u w : LinkView) (kind : ItemKind) → Walked g now quiet old at v u → PassesNext g now met at new u w
     → handed (step_met g now met at).outputs ≡ handed_by (Tells kind) → Polls g now old new v w (Tells kind)
 poll_tells g now quiet met old at new v u w kind walked passes hands =
-    poll_hands g now quiet met old at new v u w (Tells kind) walked passes hands (λ e. tells_ends kind e) (λ e. tells_waits kind e) (λ e. tells_end kind e) (λ strides last. tt)
+    poll_hands g now quiet met old at new v u w (Tells kind) walked passes hands (λ e. tells_ends kind e) (λ e. tells_waits kind e) (λ e. tells_end kind e) (λ e. tells_lacks kind e) (λ strides last. tt)
 
 error_tells : (kind : ItemKind) → told_of (error_kind kind) ≡ Tells kind
 error_tells item.MissingHeartbeat = refl
@@ -496,6 +516,7 @@ poll_exhausts g now quiet met old at new v u w walked passes hands spent =
       exhausted = λ _. (unspent old.consumer.phase (over_spent old.consumer.phase walked.alive), is_exhausted new.consumer.phase spent);
       ended = unended HandsEnd old.consumer.phase end_ends walked.alive;
       alive = λ e. absurd (end_waits e);
+      unspent = λ e. absurd (end_lacks e);
       waits = λ e. absurd (end_waits e);
       gapless = λ s whole kept honest. poll_gapless g last.strides false old new HandsEnd last.leads last.out s whole kept honest;
     }

@@ -152,4 +152,6 @@ pub record IsPoll {V : Type 0} (g : ReplayInput) (meets : Wish → Met → V →
   -- it waits only after a quiet turn, and where it can go on
   pub alive : answer ≡ Waits → new.consumer.phase ≢ Exhausted
   pub waits : answer ≡ Waits → (first : List Stride) × (last : List Stride) × (strides ≡ first ++ last) × IsQuietTurn g last (walk g first old).position
+  -- a poll that lacks memory has not come to the end that is told once
+  pub unspent : answer ≡ Lacks → new.consumer.phase ≢ Exhausted
   pub gapless : (s : Server) → HasWholeLists g.setup s → IsKeptPosition g.setup s old → IsHonestWalk g s strides old → KeepsPoll g.setup s old.consumer.core.stream_sequence new answer
