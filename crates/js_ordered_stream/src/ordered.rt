@@ -2,6 +2,7 @@
 ghost use Rattle.std.specs.Prelude.{◌≡◌, ◌<◌, ◌^◌, ◌||◌, ◌&&◌, ◌++◌, IfOk, OnErr, false, not, true, ℕ};
 ghost use Rattle.js_link.specs.Meets.{Meets};
 ghost use Rattle.js_table.specs.Tasks.{next_rows};
+ghost use Rattle.js_ordered_stream.specs.Inbox.{ClosesInbox, inbox_of};
 ghost use Rattle.js_ordered_stream.specs.Rows.{Fits, has_message, kept_if, later_of, left_rows, message_in, read_in, seen_after};
 ghost use Rattle.js_ordered_stream.specs.Stream.{PassesFirst, TurnsTo, first_at, given_to, handing, is_spent as has_no_sequence, poll_answer, position_of, silent_by, turned_by, with_retries};
 ghost use Rattle.js_base.specs.Clock.{has_come};
@@ -11,12 +12,13 @@ ghost use Rattle.js_turns.specs.Polling.{IsPoll, closed_at, is_reading as reads_
 ghost use Rattle.js_turns.specs.Wakes.{phase_due};
 
 use crate::error::{OrderedError, error_of, sequence_end};
+use crate::inbox::{close_inbox, inbox_of};
 use crate::left::{First, Left, Seen, Todo, put};
 use crate::rows::{Handed, Stepped, Stop, begin, pass};
 use crate::wakes::phase_end;
 use js_base::{Boxed, Message, Moment, Next, OutOfMemory, State, Text};
 use js_json::consumer::Info;
-use js_link::Link;
+use js_link::{InboxId, Link};
 use js_table::passing::event::is_over;
 use js_table::{
     Consumer, EventContext, EventKind, ItemKind, OrderedCore, OrderedSetup, Phase, ReplayInput,
@@ -201,6 +203,22 @@ impl Ordered {
         ensures { (now : ℕ) → now < 2 ^ 64 → has_come result now ≡ phase_due now (position_of self.now).consumer.phase }
     {
         phase_end(&self.consumer.phase)
+    }
+
+    /// The inbox that is open for it.
+    pub(crate) fn inbox(&self) -> Option<InboxId>
+        ensures { result ≡ inbox_of (position_of self.now).consumer.phase }
+    {
+        inbox_of(&self.consumer.phase)
+    }
+
+    /// Lets go of it, and closes its inbox.
+    pub(crate) fn leave<L: Link>(self, link: &mut L)
+        ensures { ClosesInbox (inbox_of (position_of self).consumer.phase) (L.view link.old) (L.view link.new) }
+    {
+        let inbox = self.inbox();
+        drop(self);
+        close_inbox(link, inbox);
     }
 
     /// Passes row after row, up to the first that hands something out.

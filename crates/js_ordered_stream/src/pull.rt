@@ -1,6 +1,7 @@
 //! The stream of an ordered pull consumer.
 ghost use Rattle.std.specs.Prelude.{◌≡◌, ◌<◌, ◌^◌, ℕ, [], IfOk};
 ghost use Rattle.js_link.specs.Meets.{Meets};
+ghost use Rattle.js_ordered_stream.specs.Inbox.{ClosesInbox, inbox_of};
 ghost use Rattle.js_ordered_stream.specs.Opening.{IsGaplessPull, OpensConsumer, OpensOrdered, given_of_pull, position_of_pull};
 ghost use Rattle.js_ordered_stream.specs.Stream.{poll_answer};
 ghost use Rattle.js_base.specs.Clock.{has_come};
@@ -15,7 +16,7 @@ use crate::ordered;
 use js_base::{Message, Moment, Next, OutOfMemory, Subject, TryClone};
 use js_json::consumer::Info;
 use js_json::pull::OrderedConfig;
-use js_link::{Link, LinkError};
+use js_link::{InboxId, Link, LinkError};
 use js_pull::{Reader, Source};
 use js_table::{
     Consumer, EventContext, EventKind, OrderedSetup, Phase, ReplayInput, Settings, texts,
@@ -139,5 +140,21 @@ impl Ordered {
         ensures { (now : ℕ) → now < 2 ^ 64 → has_come result now ≡ phase_due now (position_of_pull self.now).consumer.phase }
     {
         self.polled.wakes_at()
+    }
+
+    /// The inbox that is open for it: the one that it reads, or the one of the consumer that is being made. None in between, and at its end.
+    /// One that ended with an error leaves the inbox that it had open at the link.
+    pub fn inbox(&self) -> Option<InboxId>
+        ensures { result ≡ inbox_of (position_of_pull self.now).consumer.phase }
+    {
+        self.polled.inbox()
+    }
+
+    /// Lets go of it, and closes its inbox, where it has one: what lies in it is lost. One that is let go without this leaves its inbox
+    /// open. The server's consumer is not deleted; it goes when nobody has asked for messages for its inactive threshold.
+    pub fn close<L: Link>(self, link: &mut L)
+        ensures { ClosesInbox (inbox_of (position_of_pull self).consumer.phase) (L.view link.old) (L.view link.new) }
+    {
+        self.polled.leave(link);
     }
 }
