@@ -541,11 +541,11 @@ on_hands g h now quiet kept result old at new end v u w same walked turned stays
     (subst (λ (x : Position). Polls g now old x v w (Yields t.0)) (sym stays)
     (poll_yields g now quiet t.2 old at new v u w t.0 walked t.3 t.4 t.5))
 
-pub on_tells : (g h : ReplayInput) (now : ℕ) (quiet : Bool) (kind : ItemKind) (told : OrderedErrorKind) (old at new : Position) (v u w : LinkView) → h ≡ g → Walked g now quiet old at v u
-    → told ≡ error_kind kind → TurnsTo (turns.Tells kind) None h now at new u w → Polls g now old new v w (told_of told)
-on_tells g h now quiet kind told old at new v u w same walked is turned =
+pub on_tells : (g h : ReplayInput) (now : ℕ) (quiet : Bool) (kind : ItemKind) (told : OrderedErrorKind) (old at new end : Position) (v u w : LinkView) → h ≡ g → Walked g now quiet old at v u
+    → told ≡ error_kind kind → TurnsTo (turns.Tells kind) None h now at new u w → end ≡ new → Polls g now old end v w (told_of told)
+on_tells g h now quiet kind told old at new end v u w same walked is turned stays =
     let t : TurnsTo (turns.Tells kind) None g now at new u w = known (turns.Tells kind) None g h now at new u w same turned in
-    poll_errs g now quiet t.0 old at new v u w kind told is walked t.1 t.2
+    subst (λ (x : Position). Polls g now old x v w (told_of told)) (sym stays) (poll_errs g now quiet t.0 old at new v u w kind told is walked t.1 t.2)
 
 pub on_exhausted : (g h : ReplayInput) (now : ℕ) (quiet : Bool) (told : OrderedErrorKind) (old at new : Position) (v u w : LinkView) → h ≡ g → Walked g now quiet old at v u
     → told ≡ error.SequenceEnd → TurnsTo turns.Exhausted None h now at new u w → Polls g now old new v w (told_of told)

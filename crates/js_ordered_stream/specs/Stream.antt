@@ -1,6 +1,8 @@
 -- Where an ordered stream stands, and what its polls answer.
-use Rattle.std.specs.Prelude.{◌≡◌, ℕ, Bool, true, false, ◌||◌, List, [], Option, Some, None, Result, Ok, Err, codes, is_some}
+use Rattle.std.specs.Prelude.{◌≡◌, ℕ, Bool, true, false, ◌||◌, List, [], Option, Some, None, Result, Ok, Err, codes, is_some, option_map}
 use Rattle.js_base.specs.declared.error.Error.{Error}
+use Rattle.js_base.specs.declared.error.Source.{Source}
+use Rattle.js_base.specs.declared.error.Source.TheVariants as source
 use Rattle.js_base.specs.Errors.{kind_of}
 use Rattle.js_base.specs.declared.message.Message.{Message}
 use Rattle.js_base.specs.declared.message.State.TheVariants.{Connected}
@@ -25,6 +27,7 @@ use Rattle.js_ordered_stream.specs.Rows.{Fits, PassesRow, later_of, left_rows, s
 use Rattle.js_table.specs.OrderedCore.{new_core}
 use Rattle.js_table.specs.State.{Matter}
 use Rattle.js_pull.specs.Asking.{is_shut}
+use Rattle.js_pull_stream.specs.Stream.{description_of}
 use Rattle.js_table.specs.declared.consumer.Consumer.{Consumer}
 use Rattle.js_table.specs.declared.consumer.ReplayInput.{ReplayInput}
 use Rattle.js_table.specs.declared.consumer.Phase.{Phase}
@@ -47,6 +50,11 @@ error_kind item.PushBasedConsumer = error.PushBasedConsumer
 error_kind item.Pull = error.Pull
 error_kind item.Recreate = error.Recreate
 error_kind item.Other = error.Other
+
+-- what it comes from: a limit is told with the server's description, where it sent one
+abbrev pub source_by : OrderedErrorKind → Option Message → Option Source
+source_by error.RequestLimitExceeded message = option_map (λ text. source.Text text) (description_of message)
+source_by kind message = None
 
 -- how it is printed
 abbrev pub kind_text : OrderedErrorKind → List ℕ

@@ -34,14 +34,14 @@ returns-in-Hands-clause-polls g c =
 pub returns-in-Tells-clause-polls : goal.returns-in-Tells-clause-polls
 returns-in-Tells-clause-polls g c =
     let view = g.L.Link.view in
-    on_tells (given_to c.args.self.now) (given_to c.rows.self) c.args.now c.rows.quiet c.in-Tells.kind (kind_of c.error_of.result) (position_of c.args.self.now) (position_of c.rows.self) (position_of c.pass_next.new.self) (view c.args.link.now) (view c.rows.link) (view c.pass_next.new.link)
-    c.rows.invariant.given c.rows.invariant.walked c.error_of.ensures c.in-Tells.ensures.turns
+    on_tells (given_to c.args.self.now) (given_to c.rows.self) c.args.now c.rows.quiet c.in-Tells.kind (kind_of c.tell.result) (position_of c.args.self.now) (position_of c.rows.self) (position_of c.pass_next.new.self) (position_of c.tell.new.self) (view c.args.link.now) (view c.rows.link) (view c.pass_next.new.link)
+    c.rows.invariant.given c.rows.invariant.walked c.tell.ensures.tells c.in-Tells.ensures.turns c.tell.ensures.place
 
 pub returns-in-Exhausted-clause-polls : goal.returns-in-Exhausted-clause-polls
 returns-in-Exhausted-clause-polls g c =
     let view = g.L.Link.view in
     on_exhausted (given_to c.args.self.now) (given_to c.rows.self) c.args.now c.rows.quiet (kind_of c.sequence_end.result) (position_of c.args.self.now) (position_of c.rows.self) (position_of c.pass_next.new.self) (view c.args.link.now) (view c.rows.link) (view c.pass_next.new.link)
-    c.rows.invariant.given c.rows.invariant.walked c.sequence_end.ensures c.in-Exhausted.ensures.turns
+    c.rows.invariant.given c.rows.invariant.walked c.sequence_end.ensures.tells c.in-Exhausted.ensures.turns
 
 pub returns-in-Closed-clause-polls : goal.returns-in-Closed-clause-polls
 returns-in-Closed-clause-polls g c =
