@@ -23,7 +23,7 @@ use Rattle.js_ordered_stream.specs.declared.ordered.Turned.{Turned}
 use Rattle.js_ordered_stream.specs.declared.ordered.Turned.TheVariants as turns
 use Rattle.js_base.specs.declared.error.Error.{Error}
 use Rattle.js_base.specs.declared.turn.Next.{Next}
-use Rattle.js_ordered_stream.specs.Stream.{PassesNext, TurnsTo, error_kind, handing, poll_answer, told_of, is_spent, step_met, stride_met, stirring}
+use Rattle.js_ordered_stream.specs.Stream.{PassesNext, TurnsTo, error_kind, handing, is_given, poll_answer, told_of, is_spent, step_met, stride_met, stirring}
 use Rattle.js_turns.specs.Polling.{Answer, Yields, Tells, HandsEnd, Waits, Ends, Lacks, IsPoll, IsMet, IsQuietRow, AreQuiet, IsQuietTurn, IsTaken, StopsAtFirst, last_arrival, looked_at, poll_wish, closed_at, handed_by}
 use Rattle.js_turns.specs.Turns.{Position, Stride, IsStride, step, walk, handed, first_row}
 use Rattle.js_turns.specs.Wishes.{arrival_of, matter_of}
@@ -491,6 +491,15 @@ error_tells item.PushBasedConsumer = refl
 error_tells item.Pull = refl
 error_tells item.Recreate = refl
 error_tells item.Other = refl
+
+-- it is of a kind that is given
+pub error_given : (kind : ItemKind) → is_given (error_kind kind) ≡ true
+error_given item.MissingHeartbeat = refl
+error_given item.RequestLimitExceeded = refl
+error_given item.PushBasedConsumer = refl
+error_given item.Pull = refl
+error_given item.Recreate = refl
+error_given item.Other = refl
 
 -- an error of the table
 pub poll_errs : (g : ReplayInput) (now : ℕ) (quiet : Bool) (met : Met) (old at new : Position) (v u w : LinkView) (kind : ItemKind) (told : OrderedErrorKind) → told ≡ error_kind kind → Walked g now quiet old at v u → PassesNext g now met at new u w

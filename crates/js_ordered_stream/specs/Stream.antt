@@ -1,5 +1,5 @@
 -- Where an ordered stream stands, and what its polls answer.
-use Rattle.std.specs.Prelude.{◌≡◌, ℕ, Bool, true, false, ◌||◌, List, [], Option, Some, None, Result, Ok, Err, codes, is_some, option_map}
+use Rattle.std.specs.Prelude.{◌≡◌, ℕ, Bool, true, false, ◌||◌, List, [], Option, Some, None, Result, Ok, Err, codes, is_some, option_map, ⊤}
 use Rattle.js_base.specs.declared.error.Error.{Error}
 use Rattle.js_base.specs.declared.error.Source.{Source}
 use Rattle.js_base.specs.declared.error.Source.TheVariants as source
@@ -65,8 +65,18 @@ kind_text error.Recreate = codes "consumer recreation failed"
 kind_text error.RequestLimitExceeded = codes "pull request exceeded consumer limits"
 kind_text error.PushBasedConsumer = codes "cannot use with push consumer"
 kind_text error.SequenceEnd = codes "sequence end"
+kind_text error.ConsumerDeleted = codes "consumer deleted"
+kind_text error.NoResponders = codes "no responders"
+kind_text error.PullBasedConsumer = codes "cannot use with push consumer"
 
--- what an error answers
+-- an error of this kind may come
+abbrev pub is_given : OrderedErrorKind → Bool
+is_given error.ConsumerDeleted = false
+is_given error.NoResponders = false
+is_given error.PullBasedConsumer = false
+is_given kind = true
+
+-- what an error answers. One of a kind that is never given would be any other error
 abbrev pub told_of : OrderedErrorKind → Answer
 told_of error.MissingHeartbeat = Tells item.MissingHeartbeat
 told_of error.Pull = Tells item.Pull
@@ -75,6 +85,9 @@ told_of error.Recreate = Tells item.Recreate
 told_of error.RequestLimitExceeded = Tells item.RequestLimitExceeded
 told_of error.PushBasedConsumer = Tells item.PushBasedConsumer
 told_of error.SequenceEnd = HandsEnd
+told_of error.ConsumerDeleted = Tells item.Other
+told_of error.NoResponders = Tells item.Other
+told_of error.PullBasedConsumer = Tells item.Other
 
 -- what a poll answers
 abbrev pub poll_answer : Next (Result Message (Error OrderedErrorKind)) → Answer
@@ -83,6 +96,11 @@ poll_answer (next.Item (Err e)) = told_of (kind_of e)
 poll_answer next.Pending = Waits
 poll_answer next.End = Ends
 poll_answer next.OutOfMemory = Lacks
+
+-- an error that a poll answers is of a kind that is given
+abbrev pub IsGivenKind : Next (Result Message (Error OrderedErrorKind)) → Type 0
+IsGivenKind (next.Item (Err e)) = is_given (kind_of e) ≡ true
+IsGivenKind answer = ⊤
 
 -- the message that was kept is handed out
 abbrev pub handing : Option Message → Next (Result Message (Error OrderedErrorKind))

@@ -25,6 +25,12 @@ pub enum OrderedErrorKind {
     PushBasedConsumer,
     /// A recreation is due after the last of all sequences. The stream has ended.
     SequenceEnd,
+    /// Never given: a consumer that is deleted is made anew.
+    ConsumerDeleted,
+    /// Never given: where nobody answers a pull request, the consumer is made anew.
+    NoResponders,
+    /// Never given: a stream of a consumer that delivers to no subject is not opened.
+    PullBasedConsumer,
 }
 
 impl fmt::Display for OrderedErrorKind {
@@ -39,6 +45,9 @@ impl fmt::Display for OrderedErrorKind {
             OrderedErrorKind::RequestLimitExceeded => "pull request exceeded consumer limits",
             OrderedErrorKind::PushBasedConsumer => "cannot use with push consumer",
             OrderedErrorKind::SequenceEnd => "sequence end",
+            OrderedErrorKind::ConsumerDeleted => "consumer deleted",
+            OrderedErrorKind::NoResponders => "no responders",
+            OrderedErrorKind::PullBasedConsumer => "cannot use with push consumer",
         })
     }
 }

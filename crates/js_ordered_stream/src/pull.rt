@@ -3,7 +3,7 @@ ghost use Rattle.std.specs.Prelude.{◌≡◌, ◌<◌, ◌^◌, ℕ, [], IfOk};
 ghost use Rattle.js_link.specs.Meets.{Meets};
 ghost use Rattle.js_ordered_stream.specs.Inbox.{ClosesInbox, inbox_of};
 ghost use Rattle.js_ordered_stream.specs.Opening.{IsGaplessPull, OpensConsumer, OpensOrdered, given_of_pull, position_of_pull};
-ghost use Rattle.js_ordered_stream.specs.Stream.{poll_answer};
+ghost use Rattle.js_ordered_stream.specs.Stream.{IsGivenKind, poll_answer};
 ghost use Rattle.js_base.specs.Clock.{has_come};
 ghost use Rattle.js_pull.specs.Reader.{new_reader};
 ghost use Rattle.js_table.specs.Texts.{source_of};
@@ -128,6 +128,7 @@ impl Ordered {
     ) -> Next<Result<Message, OrderedError>>
         ensures given { given_of_pull self.new ≡ given_of_pull self.old }
         ensures polls { IsPoll (given_of_pull self.old) Meets now (position_of_pull self.old) (position_of_pull self.new) (L.view link.old) (L.view link.new) (poll_answer result) }
+        ensures kinds { IsGivenKind result }
         ensures sleeps { SleepsIfLeftAlone (given_of_pull self.old) now (position_of_pull self.old) (position_of_pull self.new) (L.view link.old) (L.view link.new) (poll_answer result) }
     {
         self.polled.poll_next(alloc, link, now)

@@ -1,7 +1,7 @@
-use Rattle.std.proofs.Common.{Bool, refl, sym, subst, ◌∙◌}
+use Rattle.std.proofs.Common.{Bool, refl, sym, ap, subst, ◌∙◌}
 use Rattle.js_ordered_stream.specs.Rows.{message_in}
-use Rattle.js_ordered_stream.specs.Stream.{given_to, position_of}
-use Rattle.js_ordered_stream.proofs.Strides.{Walked, walked_none, on_waits, on_silent, on_hands, on_tells, on_exhausted, on_closed, on_lacks, poll_lacks}
+use Rattle.js_ordered_stream.specs.Stream.{given_to, is_given, position_of}
+use Rattle.js_ordered_stream.proofs.Strides.{Walked, walked_none, error_given, on_waits, on_silent, on_hands, on_tells, on_exhausted, on_closed, on_lacks, poll_lacks}
 use Rattle.js_ordered_stream.proofs.Turning.{rested}
 use Rattle.js_base.specs.Errors.{kind_of}
 use Rattle.js_ordered_stream.proofs.ordered.Ordered.walk.Goals as goal
@@ -59,3 +59,9 @@ pub returns-clause-polls : goal.returns-clause-polls
 returns-clause-polls g c =
     let view = g.L.Link.view in
     poll_lacks (given_to c.args.self.now) c.args.now c.rows.quiet (position_of c.args.self.now) (position_of c.rows.self) (position_of c.rows.self) (view c.args.link.now) (view c.rows.link) (view c.rows.link) c.rows.invariant.walked refl refl
+
+pub returns-in-Tells-clause-kinds : goal.returns-in-Tells-clause-kinds
+returns-in-Tells-clause-kinds g c = ap is_given c.tell.ensures.tells ∙ error_given c.in-Tells.kind
+
+pub returns-in-Exhausted-clause-kinds : goal.returns-in-Exhausted-clause-kinds
+returns-in-Exhausted-clause-kinds g c = ap is_given c.sequence_end.ensures.tells
