@@ -3,7 +3,7 @@ use Rattle.std.specs.Prelude.{◌≡◌, ℕ, Bool, true, false, ◌||◌, List,
 use Rattle.js_base.specs.declared.error.Error.{Error}
 use Rattle.js_base.specs.declared.error.Source.{Source}
 use Rattle.js_base.specs.declared.error.Source.TheVariants as source
-use Rattle.js_base.specs.Errors.{kind_of}
+use Rattle.js_base.specs.Errors.{kind_of, source_of}
 use Rattle.js_base.specs.declared.message.Message.{Message}
 use Rattle.js_base.specs.declared.message.State.TheVariants.{Connected}
 use Rattle.js_base.specs.declared.turn.Next.{Next}
@@ -36,7 +36,7 @@ use Rattle.js_table.specs.declared.row.Row.{Row}
 use Rattle.js_table.specs.declared.run.ItemKind.{ItemKind}
 use Rattle.js_table.specs.declared.run.ItemKind.TheVariants as item
 use Rattle.js_table.specs.declared.setup.Settings.{Settings}
-use Rattle.js_turns.specs.Polling.{Answer, Yields, Tells, HandsEnd, Waits, Ends, Lacks, poll_wish, has_started, closed_at, handed_by}
+use Rattle.js_turns.specs.Polling.{Answer, Yields, Tells, HandsEnd, Waits, Ends, Lacks, IsPoll, last_arrival, poll_wish, has_started, closed_at, handed_by}
 use Rattle.js_turns.specs.Turns.{Position, Stride, Moved, step, first_row, later_rows, handed}
 use Rattle.js_turns.specs.Wishes.{matter_of}
 
@@ -107,6 +107,16 @@ abbrev pub handing : Option Message → Next (Result Message (Error OrderedError
 handing (Some message) = next.Item (Ok message)
 handing None = next.OutOfMemory
 
+-- an error is told with the source that it has where this is the message that the last row looked at
+abbrev pub HasSource : Next (Result Message (Error OrderedErrorKind)) → Option Message → Type 0
+HasSource (next.Item (Err e)) message = source_of e ≡ source_by (kind_of e) message
+HasSource answer message = ⊤
+
+-- a poll, and the source of the error that it answers
+abbrev pub PollsWithSource : ReplayInput → ℕ → Position → Position → LinkView → LinkView → Next (Result Message (Error OrderedErrorKind)) → Type 0
+PollsWithSource g now old new before after result =
+    (poll : IsPoll g Meets now old new before after (poll_answer result)) × HasSource result (last_arrival g poll.strides old)
+
 -- ---- where a stream stands
 
 -- what it is made with
@@ -148,7 +158,7 @@ pub record PassesNext (g : ReplayInput) (now : ℕ) (met : Met) (old new : Posit
 abbrev pub hands_out : ReplayInput → ℕ → Met → Position → Answer → Type 0
 hands_out g now met at answer = handed (step_met g now met at).outputs ≡ handed_by answer
 
--- the next row of a position was passed, which has kept this message to be handed out, or its inbox is closed, or there was no memory for it
+-- the next row of a position was passed, which has kept this message to be handed out, or looked at it and tells an error, or its inbox is closed, or there was no memory for it
 abbrev pub TurnsTo : Turned → Option Message → ReplayInput → ℕ → Position → Position → LinkView → LinkView → Type 0
 TurnsTo (turns.Silent stirs) kept g now old new before after =
     (met : Met) × PassesNext g now met old new before after × (handed (step_met g now met old).outputs ≡ [])
@@ -156,7 +166,7 @@ TurnsTo (turns.Silent stirs) kept g now old new before after =
 TurnsTo turns.Hands kept g now old new before after =
     (message : Message) × (kept ≡ Some message) × (met : Met) × PassesNext g now met old new before after × hands_out g now met old (Yields message) × (seen_by (first_row old.todo) met ≡ Some message)
 TurnsTo (turns.Tells kind) kept g now old new before after =
-    (met : Met) × PassesNext g now met old new before after × hands_out g now met old (Tells kind)
+    (met : Met) × PassesNext g now met old new before after × hands_out g now met old (Tells kind) × (kept ≡ seen_by (first_row old.todo) met)
 TurnsTo turns.Exhausted kept g now old new before after =
     (met : Met) × PassesNext g now met old new before after × (handed (step_met g now met old).outputs ≡ [])
     × (is_spent new.consumer.phase ≡ true)

@@ -4,7 +4,7 @@ ghost use Rattle.js_link.specs.Meets.{Meets};
 ghost use Rattle.js_table.specs.Tasks.{next_rows};
 ghost use Rattle.js_ordered_stream.specs.Inbox.{ClosesInbox, inbox_of};
 ghost use Rattle.js_ordered_stream.specs.Rows.{Fits, has_message, kept_if, later_of, left_rows, message_in, read_in, seen_after};
-ghost use Rattle.js_ordered_stream.specs.Stream.{IsGivenKind, PassesFirst, TurnsTo, error_kind, first_at, given_to, handing, is_spent as has_no_sequence, poll_answer, position_of, silent_by, source_by, turned_by, with_retries};
+ghost use Rattle.js_ordered_stream.specs.Stream.{IsGivenKind, PassesFirst, PollsWithSource, TurnsTo, error_kind, first_at, given_to, handing, is_spent as has_no_sequence, poll_answer, position_of, silent_by, source_by, turned_by, with_retries};
 ghost use Rattle.js_base.specs.Clock.{has_come};
 ghost use Rattle.js_base.specs.Errors.{kind_of, source_of};
 ghost use Rattle.js_table.specs.Fold.{is_over as has_ended};
@@ -192,6 +192,7 @@ impl Ordered {
     ) -> Next<Result<Message, OrderedError>>
         ensures given { given_to self.new ≡ given_to self.old }
         ensures polls { IsPoll (given_to self.old) Meets now (position_of self.old) (position_of self.new) (L.view link.old) (L.view link.new) (poll_answer result) }
+        ensures sources { PollsWithSource (given_to self.old) now (position_of self.old) (position_of self.new) (L.view link.old) (L.view link.new) result }
         ensures kinds { IsGivenKind result }
     {
         if is_over(&self.consumer.phase) {
@@ -234,7 +235,7 @@ impl Ordered {
     ) -> Next<Result<Message, OrderedError>>
         requires { has_ended self.old.consumer.phase ≡ false }
         ensures given { given_to self.new ≡ given_to self.old }
-        ensures polls { IsPoll (given_to self.old) Meets now (position_of self.old) (position_of self.new) (L.view link.old) (L.view link.new) (poll_answer result) }
+        ensures sources { PollsWithSource (given_to self.old) now (position_of self.old) (position_of self.new) (L.view link.old) (L.view link.new) result }
         ensures kinds { IsGivenKind result }
     {
         let mut quiet = false;

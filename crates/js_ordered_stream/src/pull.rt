@@ -3,7 +3,7 @@ ghost use Rattle.std.specs.Prelude.{◌≡◌, ◌<◌, ◌^◌, ℕ, [], IfOk};
 ghost use Rattle.js_link.specs.Meets.{Meets};
 ghost use Rattle.js_ordered_stream.specs.Inbox.{ClosesInbox, inbox_of};
 ghost use Rattle.js_ordered_stream.specs.Opening.{IsGaplessPull, OpensConsumer, OpensOrdered, given_of_pull, position_of_pull};
-ghost use Rattle.js_ordered_stream.specs.Stream.{IsGivenKind, poll_answer};
+ghost use Rattle.js_ordered_stream.specs.Stream.{IsGivenKind, PollsWithSource, poll_answer};
 ghost use Rattle.js_base.specs.Clock.{has_come};
 ghost use Rattle.js_pull.specs.Reader.{new_reader};
 ghost use Rattle.js_table.specs.Texts.{source_of};
@@ -118,6 +118,8 @@ impl Ordered {
 
     /// Reads the next message or error. It waits after a turn in which nothing came.
     ///
+    /// The source of an error of kind `RequestLimitExceeded` is the server's description, where it sent one. No other error has a source.
+    ///
     /// After `Pending` it may be left alone until something comes for it or `wakes_at` has come: a poll before that does nothing.
     /// What comes is a message in its inbox, the end of its inbox, an answer that it waits for, and a change of the connection.
     pub fn poll_next<L: Link>(
@@ -128,6 +130,7 @@ impl Ordered {
     ) -> Next<Result<Message, OrderedError>>
         ensures given { given_of_pull self.new ≡ given_of_pull self.old }
         ensures polls { IsPoll (given_of_pull self.old) Meets now (position_of_pull self.old) (position_of_pull self.new) (L.view link.old) (L.view link.new) (poll_answer result) }
+        ensures sources { PollsWithSource (given_of_pull self.old) now (position_of_pull self.old) (position_of_pull self.new) (L.view link.old) (L.view link.new) result }
         ensures kinds { IsGivenKind result }
         ensures sleeps { SleepsIfLeftAlone (given_of_pull self.old) now (position_of_pull self.old) (position_of_pull self.new) (L.view link.old) (L.view link.new) (poll_answer result) }
     {
@@ -144,7 +147,9 @@ impl Ordered {
     }
 
     /// The inbox that is open for it: the one that it reads, or the one of the consumer that is being made. None in between, and at its end.
-    /// One that ended with an error leaves the inbox that it had open at the link.
+    ///
+    /// One that ends with `RequestLimitExceeded` or `PushBasedConsumer` leaves its inbox open at the link, and names it no more: what asks
+    /// before the poll can close it.
     pub fn inbox(&self) -> Option<InboxId>
         ensures { result ≡ inbox_of (position_of_pull self.now).consumer.phase }
     {

@@ -3,7 +3,7 @@ ghost use Rattle.std.specs.Prelude.{◌≡◌, ◌<◌, ◌^◌, IfOk, Some, ℕ
 ghost use Rattle.js_link.specs.Meets.{Meets};
 ghost use Rattle.js_ordered_stream.specs.Inbox.{ClosesInbox, inbox_of};
 ghost use Rattle.js_ordered_stream.specs.Opening.{IsGaplessPush, ListensFirst, OpensPushed, Subscribes, given_of_push, open_text, position_of_push};
-ghost use Rattle.js_ordered_stream.specs.Stream.{IsGivenKind, poll_answer};
+ghost use Rattle.js_ordered_stream.specs.Stream.{IsGivenKind, PollsWithSource, poll_answer};
 ghost use Rattle.js_base.specs.Clock.{has_come};
 ghost use Rattle.js_turns.specs.Polling.{IsPoll};
 ghost use Rattle.js_turns.specs.Wakes.{SleepsIfLeftAlone, phase_due};
@@ -158,6 +158,7 @@ impl Ordered {
     ) -> Next<Result<Message, OrderedError>>
         ensures given { given_of_push self.new ≡ given_of_push self.old }
         ensures polls { IsPoll (given_of_push self.old) Meets now (position_of_push self.old) (position_of_push self.new) (L.view link.old) (L.view link.new) (poll_answer result) }
+        ensures sources { PollsWithSource (given_of_push self.old) now (position_of_push self.old) (position_of_push self.new) (L.view link.old) (L.view link.new) result }
         ensures kinds { IsGivenKind result }
         ensures sleeps { SleepsIfLeftAlone (given_of_push self.old) now (position_of_push self.old) (position_of_push self.new) (L.view link.old) (L.view link.new) (poll_answer result) }
     {
@@ -174,7 +175,8 @@ impl Ordered {
     }
 
     /// The inbox that is open for it: the one that it reads, or the one of the consumer that is being made. None in between, and at its end.
-    /// One that ended with the watcher leaves the inbox that it had open at the link.
+    ///
+    /// One that ends with the connection's watcher leaves its inbox open at the link, and names it no more: what asks before the poll can close it.
     pub fn inbox(&self) -> Option<InboxId>
         ensures { result ≡ inbox_of (position_of_push self.now).consumer.phase }
     {
