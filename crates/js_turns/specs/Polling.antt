@@ -7,7 +7,6 @@ use Rattle.js_pull.specs.Asking.{is_shut}
 use Rattle.js_table.specs.declared.consumer.ReplayInput.{ReplayInput}
 use Rattle.js_table.specs.declared.consumer.Phase.{Phase}
 use Rattle.js_table.specs.declared.consumer.Phase.TheVariants.{Pulls, Pushes, Ended, Exhausted}
-use Rattle.js_table.specs.declared.row.Arrival.{Arrival}
 use Rattle.js_table.specs.declared.row.Row.{Row}
 use Rattle.js_table.specs.declared.row.Row.TheVariants.{Hold, Hear}
 use Rattle.js_table.specs.declared.run.ItemKind.{ItemKind}
