@@ -3,3 +3,4 @@ pub mod Awaiting
 pub mod Rounds
 pub mod Running
 pub mod Sleeping
+pub mod Trying

@@ -1,7 +1,6 @@
 -- One try to send a message.
-use Rattle.std.specs.Prelude.{◌≡◌, ◌+◌, Bool, true, false, None}
+use Rattle.std.specs.Prelude.{◌≡◌, ◌+◌, None}
 use Rattle.js_base.specs.Errors.{plain}
-use Rattle.js_base.specs.Match.{is_valid_subject}
 use Rattle.js_base.specs.declared.error.Error.{Error}
 use Rattle.js_link.specs.LinkView.{LinkView}
 use Rattle.js_link.specs.Calls.{FailsToSend}
@@ -74,16 +73,3 @@ GetsNone (Fails error) c d = ⊥
 -- a try of a message that lacks a permit sends nothing
 abbrev pub GetsNoneIfFull : OutboundMessage → Tried → ContextView → ContextView → LinkView → LinkView → Type 0
 GetsNoneIfFull m tried c d old new = LacksPermit m c old → GetsNone tried c d × (new ≡ old)
-
--- a later try may send a message that was refused like this, if its subject is one, or once a permit is free
-abbrev pub may_go_later : PublishErrorKind → OutboundMessage → Bool
-may_go_later kind.Other m = is_valid_subject m.subject
-may_go_later kind.MaxAckPending m = true
-may_go_later _ m = false
-
--- a message that was refused with this error stays where a later try may send it
-abbrev pub IsRefusal : Error PublishErrorKind → OutboundMessage → Tried → Type 0
-IsRefusal error m (Went future) = ⊥
-IsRefusal error m (Stays why) = (why ≡ error.kind) × (may_go_later error.kind m ≡ true)
-IsRefusal error m (Fails why) = (why ≡ error) × (may_go_later error.kind m ≡ false)
-IsRefusal error m NoMemory = ⊥

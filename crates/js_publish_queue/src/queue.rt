@@ -283,7 +283,7 @@ impl PublishQueue {
         let Some(first) = self.unsent.pop_front() else {
             return Step::Stays;
         };
-        match try_to_send(&first.message, rt, alloc, &mut self.context, link, now) {
+        match try_to_send(&first.message, rt, alloc, &mut self.context, link) {
             Tried::Went(future) => {
                 let tag = first.into_tag();
                 self.flying.push_back_reserved(Flying { tag, future });

@@ -1,9 +1,9 @@
 //! A message that was not sent.
-ghost use Rattle.std.specs.Prelude.{◌≡◌, IfOk};
+ghost use Rattle.std.specs.Prelude.{◌≡◌};
 ghost use Rattle.js_base.specs.Clock.{is_over};
 
 use crate::published::Tag;
-use js_base::{Moment, Nanos, OutOfMemory, TryClone, all_3, due};
+use js_base::{Moment, Nanos, due};
 use js_message::OutboundMessage;
 
 /// A message that was not sent.
@@ -33,20 +33,4 @@ impl Unsent {
     {
         due(now, self.since, patience)
     }
-}
-
-/// A copy of a message, which shares its payload.
-pub(crate) fn copy_of(message: &OutboundMessage) -> Result<OutboundMessage, OutOfMemory>
-    ensures { IfOk result (λ copy. copy ≡ message.now) }
-{
-    let (subject, payload, headers) = all_3(
-        message.subject.try_clone(),
-        message.payload.try_clone(),
-        message.headers.try_clone(),
-    )?;
-    Ok(OutboundMessage {
-        subject,
-        payload,
-        headers,
-    })
 }
