@@ -2,7 +2,7 @@
 use js_base::Message;
 use js_link::Sent;
 use js_ordered::{ItemKind, Output};
-use js_ordered_stream::{OrderedError, OrderedErrorKind};
+use js_reader_calls::ordered::{OrderedError, OrderedErrorKind};
 use js_table::place_of;
 
 /// Whether that is what was sent.
@@ -88,9 +88,12 @@ fn item_kind(kind: OrderedErrorKind) -> Option<ItemKind> {
 }
 
 /// Whether that is what was handed out.
-pub(crate) fn is_handed(item: &Result<Message, OrderedError>, output: Option<&Output>) -> bool {
+pub(crate) fn is_handed(
+    item: &Result<js_message::Message, OrderedError>,
+    output: Option<&Output>,
+) -> bool {
     match (item, output) {
-        (Ok(message), _) => is_yield(message, output),
+        (Ok(message), _) => is_yield(&message.message, output),
         (Err(error), Some(Output::Item { kind })) => item_kind(*error.kind()) == Some(*kind),
         _ => false,
     }
