@@ -1,5 +1,5 @@
 -- When a stream has something to do by itself, and that it may be left alone until then.
-use Rattle.std.specs.Prelude.{◌≡◌, ◌⊎◌, ⊤, ℕ, Bool, true, false, ◌||◌, [], Option, Some, None, if◌then◌else◌}
+use Rattle.std.specs.Prelude.{◌≡◌, ◌⊎◌, ⊤, ℕ, Bool, true, false, ◌||◌, [], Option, None, if◌then◌else◌}
 use Rattle.js_base.specs.Clock.{is_due, is_any_due}
 use Rattle.js_base.specs.declared.clock.Timer.{Timer}
 use Rattle.js_link.specs.LinkView.{LinkView}

@@ -1,5 +1,6 @@
 //! A pull stream over its link: it passes row after row, and may stop between any two.
 ghost use Rattle.std.specs.Prelude.{◌≡◌, ◌<◌, ◌^◌, ℕ, IfOk, None, Some, false, true};
+ghost use Rattle.js_link.specs.Calls.{Closes};
 ghost use Rattle.js_link.specs.LinkView.{LinkView};
 ghost use Rattle.js_link.specs.Meets.{Meets};
 ghost use Rattle.js_link.specs.Met.{message_of};
@@ -17,7 +18,7 @@ use crate::left::Left;
 use crate::wakes::wakes_at;
 use js_base::{Error, Message, Moment, Nanos, Next, State, Text};
 use js_json::pull::BatchConfig;
-use js_link::{Link, LinkError, Watch};
+use js_link::{InboxId, Link, LinkError, Watch};
 use js_pull::{Due, MessagesErrorKind, Notice, Reader, Source, Todo};
 use std::alloc::Global;
 
@@ -64,7 +65,7 @@ pub struct Consumer<'a> {
     pub info_timeout: Option<Nanos>,
 }
 
-/// A pull stream.
+/// A pull stream. One that is let go leaves its inbox open: `close` lets go of it and closes its inbox.
 #[derive(Drop)]
 pub struct Stream {
     reader: Reader,
@@ -209,6 +210,23 @@ impl Stream {
         Ok(opened)
     }
 
+    /// The inbox that it reads.
+    pub fn inbox(&self) -> InboxId
+        ensures { result.0 ≡ (position_of self.now).reader.source.inbox }
+    {
+        InboxId(self.reader.source.inbox)
+    }
+
+    /// Lets go of it, and closes its inbox: what lies in it is lost, and so is a message that was taken and is held. The requests
+    /// that are open at the server run out by themselves.
+    pub fn close<L: Link>(self, link: &mut L)
+        ensures { Closes (position_of self).reader.source.inbox (L.view link.old) (L.view link.new) }
+    {
+        let inbox = self.inbox();
+        drop(self);
+        link.unsubscribe(inbox);
+    }
+
     /// Whether its last event is over.
     pub fn rests(&self) -> bool
         ensures { result ≡ rows_empty (position_of self.now).todo }
@@ -249,7 +267,7 @@ impl Stream {
         if met.is_shut() {
             drop(met);
             drop(spare);
-            self.close();
+            self.end();
             return Turned::Closed;
         }
         let step = self.reader.pass(now, due, spare, &met);
@@ -259,7 +277,7 @@ impl Stream {
     }
 
     /// A closed inbox ends the stream.
-    fn close(&mut self)
+    fn end(&mut self)
         ensures place { position_of self.new ≡ closed_at true (position_of self.old) }
         ensures held { self.new.held ≡ self.old.held }
     {

@@ -14,6 +14,7 @@ use Rattle.js_link.specs.LinkView.{LinkView}
 use Rattle.js_link.specs.Calls.{Takes, TakesOf, Closes}
 use Rattle.js_link.specs.declared.link.Taken.{Taken}
 use Rattle.js_link.specs.declared.link.Taken.TheVariants as taken
+use Rattle.js_link.specs.declared.sent.InboxId.{InboxId}
 use Rattle.js_message.specs.declared.message.Message.{Message}
 use Rattle.js_consumer_calls.specs.declared.consumer.Consumer.{Consumer}
 use Rattle.js_pull.specs.Reader.{timer_from}
@@ -69,6 +70,18 @@ OpensUnlessPinned false (Err e) now c config old new = RefusesBatch e c config o
 -- what `messages` of the builders of batches does
 abbrev pub OpensBatch : Result Batch (Error BatchErrorKind) → ℕ → Consumer pull.Config → BatchConfig → LinkView → LinkView → Type 0
 OpensBatch result now c config old new = OpensUnlessPinned (is_pinned c.config.priority_policy) result now c config old new
+
+-- ---- it is let go
+
+-- the inbox that it reads, until it has ended
+abbrev pub inbox_of : Option ℕ → Option InboxId
+inbox_of None = None
+inbox_of (Some inbox) = Some (record { 0 = inbox })
+
+-- an inbox that is still open is closed
+abbrev pub ClosesIfOpen : Option ℕ → LinkView → LinkView → Type 0
+ClosesIfOpen None old new = new ≡ old
+ClosesIfOpen (Some inbox) old new = Closes inbox old new
 
 -- ---- it is polled
 

@@ -13,3 +13,4 @@ pub mod PushRows
 pub mod PushPolls
 pub mod PushOpening
 pub mod OrderedOpening
+pub mod OrderedPolls

@@ -54,6 +54,6 @@ given_answer next.End = Ends
 given_answer next.OutOfMemory = Lacks
 
 -- a message that is given waits so long for its answer
-abbrev pub IsTimed : ℕ → Next (Result Message (Error MessagesErrorKind)) → Type 0
+abbrev pub IsTimed : {E : Type 0} → ℕ → Next (Result Message E) → Type 0
 IsTimed timeout (next.Item (Ok given)) = given.timeout ≡ timeout
 IsTimed timeout answer = ⊤

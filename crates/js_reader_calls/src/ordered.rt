@@ -1,7 +1,7 @@
 //! The calls of ordered consumers, which read their messages in order and without a gap.
 
-mod pull;
-mod push;
+pub mod pull;
+pub mod push;
 mod settings;
 
 pub use crate::pull::{StreamError, StreamErrorKind};

@@ -3,7 +3,7 @@ ghost use Rattle.std.specs.Prelude.{◌≡◌, ◌<◌, ◌==◌, ◌^◌, ℕ, 
 ghost use Rattle.js_link.specs.Calls.{Closes};
 ghost use Rattle.js_base.specs.Clock.{has_come};
 ghost use Rattle.js_reader_calls.specs.Arrivals.{arrival_of};
-ghost use Rattle.js_reader_calls.specs.Batches.{ClosesIf, PollsBatch, SleepsIfQuiet, batch_due, ended, given, heard, heard_message, new_batch};
+ghost use Rattle.js_reader_calls.specs.Batches.{ClosesIf, ClosesIfOpen, PollsBatch, SleepsIfQuiet, batch_due, ended, given, heard, heard_message, inbox_of, new_batch};
 ghost use Rattle.js_reader_calls.specs.Runs.{KeepsItsNumber, StaysEnded};
 
 use crate::pull::batch_item::{Arrival, BatchItemError, arrival_of};
@@ -13,8 +13,8 @@ use js_message::Message;
 
 /// One batch of messages. It gives at most as many as were asked for, and then it has ended.
 ///
-/// Where it ends it closes its inbox. One that is let go before that leaves its inbox open, and so does one of no messages that is never
-/// polled.
+/// Where it ends it closes its inbox. One that is let go before that leaves its inbox open, also one of no messages that was never
+/// polled: `close` lets go of it and closes its inbox.
 #[derive(Drop)]
 pub struct Batch {
     /// Its inbox, until it has ended.
@@ -74,6 +74,27 @@ impl Batch {
             left,
             timer,
             timeout,
+        }
+    }
+
+    /// The inbox that it reads. One that has ended has none.
+    pub fn inbox(&self) -> Option<InboxId>
+        ensures { result ≡ inbox_of self.now.inbox }
+    {
+        match self.inbox {
+            None => None,
+            Some(inbox) => Some(InboxId(inbox)),
+        }
+    }
+
+    /// Lets go of it, and closes its inbox where that is still open: what lies in it is lost. Its request that is open at the server runs
+    /// out by itself.
+    pub fn close<L: Link>(self, link: &mut L)
+        ensures { ClosesIfOpen self.inbox (L.view link.old) (L.view link.new) }
+    {
+        match self.inbox {
+            None => {}
+            Some(inbox) => link.unsubscribe(InboxId(inbox)),
         }
     }
 

@@ -1,5 +1,6 @@
 //! A stream of messages: it asks a pull consumer again and again.
 ghost use Rattle.std.specs.Prelude.{◌≡◌, ◌<◌, ◌^◌, ℕ};
+ghost use Rattle.js_link.specs.Calls.{Closes};
 ghost use Rattle.js_link.specs.Meets.{Meets};
 ghost use Rattle.js_pull_stream.specs.Stream.{IsPoll};
 ghost use Rattle.js_pull_stream.specs.Turns.{position_of, seen_by};
@@ -12,12 +13,15 @@ use crate::pull::known::{info_timeout, is_pinned, message_timeout};
 use js_base::{Error, Moment, Nanos, Next};
 use js_consumer_calls::PullConsumer;
 use js_json::pull::BatchConfig;
-use js_link::{Link, LinkError};
+use js_link::{InboxId, Link, LinkError};
 use js_message::Message;
 use js_pull_stream::{Consumer, MessagesError};
 use std::alloc::Global;
 
 /// A stream of the messages of a pull consumer. It keeps requests open at the server, as many as it takes.
+///
+/// One that is let go leaves its inbox open, to which the server goes on delivering what was asked for: `close` lets go of it and closes
+/// its inbox.
 #[derive(Drop)]
 pub struct Stream {
     reader: js_pull_stream::Stream,
@@ -66,6 +70,21 @@ impl Stream {
             }),
             Err(error) => Err(Error::new(stream_refusal(error))),
         }
+    }
+
+    /// The inbox that it reads.
+    pub fn inbox(&self) -> InboxId
+        ensures { result.0 ≡ (position_of self.now.reader).reader.source.inbox }
+    {
+        self.reader.inbox()
+    }
+
+    /// Lets go of it, and closes its inbox: what lies in it is lost, and so is a message that was taken and is held. The requests
+    /// that are open at the server run out by themselves.
+    pub fn close<L: Link>(self, link: &mut L)
+        ensures { Closes (position_of self.reader).reader.source.inbox (L.view link.old) (L.view link.new) }
+    {
+        self.reader.close(link);
     }
 
     /// Reads the next message or error, as the stream below does (`js_pull_stream::Stream::poll_next`). Its messages are acknowledged

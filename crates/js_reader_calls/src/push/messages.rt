@@ -1,5 +1,6 @@
 //! The reader of a push consumer.
 ghost use Rattle.std.specs.Prelude.{◌≡◌, ◌<◌, ◌^◌, ℕ};
+ghost use Rattle.js_link.specs.Calls.{Closes};
 ghost use Rattle.js_base.specs.Clock.{has_come};
 ghost use Rattle.js_base.specs.Errors.{plain};
 ghost use Rattle.js_reader_calls.specs.PushRows.{arrival_row, armed, hear, new_messages, next_row, pass, silence_row};
@@ -18,7 +19,8 @@ use std::mem;
 
 /// The messages of a push consumer, in the order in which they come.
 ///
-/// It answers flow control, and tells where heartbeats are missing. One that is let go leaves its inbox open.
+/// It answers flow control, and tells where heartbeats are missing. One that is let go leaves its inbox open, to which the server goes on
+/// delivering: `close` lets go of it and closes its inbox.
 #[derive(Drop)]
 pub struct Messages {
     inbox: u64,
@@ -49,6 +51,23 @@ impl Messages {
             next: Row::Arm,
             timeout,
         }
+    }
+
+    /// The inbox that it reads.
+    pub fn inbox(&self) -> InboxId
+        ensures { result.0 ≡ self.now.inbox }
+    {
+        InboxId(self.inbox)
+    }
+
+    /// Lets go of it, and closes its inbox: what lies in it is lost, and the server delivers nothing more to it. A heartbeat that is still to
+    /// be answered stays without an answer.
+    pub fn close<L: Link>(self, link: &mut L)
+        ensures { Closes self.inbox (L.view link.old) (L.view link.new) }
+    {
+        let inbox = self.inbox();
+        drop(self);
+        link.unsubscribe(inbox);
     }
 
     /// Its timer begins.

@@ -4,7 +4,7 @@ use Rattle.js_pull_stream.proofs.Turning.{passes_closed, passes_step}
 use Rattle.js_pull_stream.proofs.stream.Stream.finish.Goals as goal
 
 pub returns-then-is_shut-clause-passes : goal.returns-then-is_shut-clause-passes
-returns-then-is_shut-clause-passes c = λ before after m. passes_closed _ _ _ _ _ _ _ before after c.requires.first c.is_shut.ensures c.if-is_shut.true c.close.ensures.place m.meets
+returns-then-is_shut-clause-passes c = λ before after m. passes_closed _ _ _ _ _ _ _ before after c.requires.first c.is_shut.ensures c.if-is_shut.true c.end.ensures.place m.meets
 
 pub returns-clause-passes : goal.returns-clause-passes
 returns-clause-passes c = λ before after m.
