@@ -4,6 +4,7 @@ ghost use Rattle.js_base.specs.Clock.{has_come};
 ghost use Rattle.js_json.specs.declared.pull.OrderedConfig.{OrderedConfig};
 ghost use Rattle.js_link.specs.Meets.{Meets};
 ghost use Rattle.js_consumer_calls.specs.declared.consumer.Consumer.{Consumer};
+ghost use Rattle.js_ordered_stream.specs.Inbox.{ClosesInbox, inbox_of};
 ghost use Rattle.js_ordered_stream.specs.Opening.{IsGaplessPull, given_of_pull, position_of_pull};
 ghost use Rattle.js_turns.specs.Polling.{IsPoll};
 ghost use Rattle.js_turns.specs.Wakes.{SleepsIfLeftAlone, phase_due};
@@ -15,14 +16,15 @@ use crate::ordered::settings::settings_of;
 use crate::pull::{StreamError, message_timeout, stream_refusal};
 use js_base::{Error, Moment, Nanos, Next};
 use js_consumer_calls::OrderedPullConsumer;
-use js_link::Link;
+use js_link::{InboxId, Link};
 use js_message::Message;
 use js_ordered_stream::OrderedError;
 use std::alloc::Global;
 
 /// The messages of an ordered pull consumer, in order and without a gap. It makes its consumer anew where a message is missing.
 ///
-/// Its messages want no acknowledgement.
+/// Its messages want no acknowledgement. One that is let go leaves its inbox open, to which the server goes on delivering: `close` lets go
+/// of it and closes its inbox.
 #[derive(Drop)]
 pub struct Ordered {
     reader: js_ordered_stream::pull::Ordered,
@@ -46,6 +48,22 @@ pub trait OrderedPullCalls: Drop {
 }
 
 impl Ordered {
+    /// The inbox that is open for it: the one that it reads, or the one of the consumer that is being made. It has another one each time its
+    /// consumer was made anew, and none in between and at its end. One that ended with an error leaves the inbox that it had open at the link.
+    pub fn inbox(&self) -> Option<InboxId>
+        ensures { result ≡ inbox_of (position_of_pull self.now.reader).consumer.phase }
+    {
+        self.reader.inbox()
+    }
+
+    /// Lets go of it, and closes its inbox, where it has one: what lies in it is lost. The server's consumer is not deleted: it goes when
+    /// nobody has asked for messages for its inactive threshold.
+    pub fn close<L: Link>(self, link: &mut L)
+        ensures { ClosesInbox (inbox_of (position_of_pull self.reader).consumer.phase) (L.view link.old) (L.view link.new) }
+    {
+        self.reader.close(link);
+    }
+
     /// Reads the next message or error, as the reader below does (`js_ordered_stream::pull::Ordered::poll_next`): it waits after a turn in
     /// which nothing came. Its messages tell their place by `info`. They want no acknowledgement; where one is double-acked, it waits for the
     /// answer as long as the scope of the consumer says, or five seconds.
