@@ -93,11 +93,12 @@ fn has_sent(sent: &[Sent], before: usize, outputs: &mut Iter<'_, Output>) -> boo
 
 /// Whether what a poll hands out is what is put out next, or none where it is and another poll follows.
 fn agreement(
+    alloc: Global,
     next: &Next<Result<Message, OrderedError>>,
     outputs: &mut Iter<'_, Output>,
 ) -> Option<bool> {
     match next {
-        Next::Item(item) if is_handed(item, next_shown(outputs)) => None,
+        Next::Item(item) if is_handed(alloc, item, next_shown(outputs)) => None,
         Next::Item(_) | Next::OutOfMemory => Some(false),
         _ => Some(next_shown(outputs).is_none()),
     }
@@ -149,7 +150,7 @@ impl PolledConsumer {
     ) -> Option<bool> {
         let before = self.link.sent().len();
         let next = self.reader.poll(alloc, &mut self.link, now);
-        let agrees = self.compared(&next, before, outputs);
+        let agrees = self.compared(alloc, &next, before, outputs);
         drop(next);
         agrees
     }
@@ -157,6 +158,7 @@ impl PolledConsumer {
     /// The same of what was sent since so much was, and of what a poll hands out.
     fn compared(
         &mut self,
+        alloc: Global,
         next: &Next<Result<Message, OrderedError>>,
         before: usize,
         outputs: &mut Iter<'_, Output>,
@@ -165,7 +167,7 @@ impl PolledConsumer {
             return Some(false);
         }
         self.ended = matches!(next, Next::End);
-        agreement(next, outputs)
+        agreement(alloc, next, outputs)
     }
 
     /// Whether it does what the replay puts out for an event.
