@@ -2,3 +2,4 @@ pub mod Reading
 pub mod Counting
 pub mod Limiting
 mod Polling
+mod Sourcing

@@ -1,13 +1,18 @@
 -- What a poll of an ordered consumer's reader answers.
-use Rattle.std.specs.Prelude.{Result, Ok, Err}
-use Rattle.js_base.specs.Errors.{kind_of}
+use Rattle.std.specs.Prelude.{◌≡◌, ⊤, ℕ, true, Option, Result, Ok, Err}
+use Rattle.js_base.specs.Errors.{kind_of, source_of}
 use Rattle.js_base.specs.declared.error.Error.{Error}
+use Rattle.js_base.specs.declared.message.Message as base
 use Rattle.js_base.specs.declared.turn.Next.{Next}
 use Rattle.js_base.specs.declared.turn.Next.TheVariants as next
+use Rattle.js_link.specs.LinkView.{LinkView}
+use Rattle.js_link.specs.Meets.{Meets}
 use Rattle.js_message.specs.declared.message.Message.{Message}
-use Rattle.js_ordered_stream.specs.Stream.{told_of}
+use Rattle.js_ordered_stream.specs.Stream.{is_given, source_by, told_of}
 use Rattle.js_ordered_stream.specs.declared.error.OrderedErrorKind.{OrderedErrorKind}
-use Rattle.js_turns.specs.Polling.{Answer, Yields, Waits, Ends, Lacks}
+use Rattle.js_table.specs.declared.consumer.ReplayInput.{ReplayInput}
+use Rattle.js_turns.specs.Polling.{Answer, IsPoll, Yields, Waits, Ends, Lacks, last_arrival}
+use Rattle.js_turns.specs.Turns.{Position}
 
 -- what `poll_next` answers, of which the message is handed out with how long its acknowledgement waits
 abbrev pub given_answer : Next (Result Message (Error OrderedErrorKind)) → Answer
@@ -16,3 +21,18 @@ given_answer (next.Item (Err e)) = told_of (kind_of e)
 given_answer next.Pending = Waits
 given_answer next.End = Ends
 given_answer next.OutOfMemory = Lacks
+
+-- an error that it answers is of a kind that is given
+abbrev pub IsGivenKind : Next (Result Message (Error OrderedErrorKind)) → Type 0
+IsGivenKind (next.Item (Err e)) = is_given (kind_of e) ≡ true
+IsGivenKind answer = ⊤
+
+-- an error is told with the source that it has where this is the message that the last row looked at
+abbrev pub HasSource : Next (Result Message (Error OrderedErrorKind)) → Option base.Message → Type 0
+HasSource (next.Item (Err e)) message = source_of e ≡ source_by (kind_of e) message
+HasSource answer message = ⊤
+
+-- a poll, and the source of the error that it answers
+abbrev pub PollsWithSource : ReplayInput → ℕ → Position → Position → LinkView → LinkView → Next (Result Message (Error OrderedErrorKind)) → Type 0
+PollsWithSource g now old new before after result =
+    (poll : IsPoll g Meets now old new before after (given_answer result)) × HasSource result (last_arrival g poll.strides old)

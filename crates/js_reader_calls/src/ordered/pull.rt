@@ -9,7 +9,7 @@ ghost use Rattle.js_ordered_stream.specs.Opening.{IsGaplessPull, given_of_pull, 
 ghost use Rattle.js_turns.specs.Polling.{IsPoll};
 ghost use Rattle.js_turns.specs.Wakes.{SleepsIfLeftAlone, phase_due};
 ghost use Rattle.js_reader_calls.specs.OrderedOpening.{OpensPull};
-ghost use Rattle.js_reader_calls.specs.OrderedPolls.{given_answer};
+ghost use Rattle.js_reader_calls.specs.OrderedPolls.{IsGivenKind, PollsWithSource, given_answer};
 ghost use Rattle.js_reader_calls.specs.Streams.{IsTimed};
 
 use crate::ordered::settings::settings_of;
@@ -49,7 +49,10 @@ pub trait OrderedPullCalls: Drop {
 
 impl Ordered {
     /// The inbox that is open for it: the one that it reads, or the one of the consumer that is being made. It has another one each time its
-    /// consumer was made anew, and none in between and at its end. One that ended with an error leaves the inbox that it had open at the link.
+    /// consumer was made anew, and none in between and at its end.
+    ///
+    /// One that ends with `RequestLimitExceeded` or `PushBasedConsumer` leaves its inbox open at the link, and names it no more: what asks
+    /// before the poll can close it.
     pub fn inbox(&self) -> Option<InboxId>
         ensures { result ≡ inbox_of (position_of_pull self.now.reader).consumer.phase }
     {
@@ -68,6 +71,8 @@ impl Ordered {
     /// which nothing came. Its messages tell their place by `info`. They want no acknowledgement; where one is double-acked, it waits for the
     /// answer as long as the scope of the consumer says, or five seconds.
     ///
+    /// The source of an error of kind `RequestLimitExceeded` is the server's description, where it sent one. No other error has a source.
+    ///
     /// After `Pending` it may be left alone until something comes for it or `wakes_at` has come: a poll before that does nothing.
     /// What comes is a message in its inbox, the end of its inbox, an answer that it waits for, and a change of the connection.
     pub fn poll_next<L: Link>(
@@ -78,6 +83,8 @@ impl Ordered {
     ) -> Next<Result<Message, OrderedError>>
         ensures given { given_of_pull self.new.reader ≡ given_of_pull self.old.reader }
         ensures polls { IsPoll (given_of_pull self.old.reader) Meets now (position_of_pull self.old.reader) (position_of_pull self.new.reader) (L.view link.old) (L.view link.new) (given_answer result) }
+        ensures sources { PollsWithSource (given_of_pull self.old.reader) now (position_of_pull self.old.reader) (position_of_pull self.new.reader) (L.view link.old) (L.view link.new) result }
+        ensures kinds { IsGivenKind result }
         ensures sleeps { SleepsIfLeftAlone (given_of_pull self.old.reader) now (position_of_pull self.old.reader) (position_of_pull self.new.reader) (L.view link.old) (L.view link.new) (given_answer result) }
         ensures timed { IsTimed self.old.timeout result }
         ensures kept { self.new.timeout ≡ self.old.timeout }

@@ -9,7 +9,7 @@ ghost use Rattle.js_ordered_stream.specs.Opening.{IsGaplessPush, given_of_push, 
 ghost use Rattle.js_turns.specs.Polling.{IsPoll};
 ghost use Rattle.js_turns.specs.Wakes.{SleepsIfLeftAlone, phase_due};
 ghost use Rattle.js_reader_calls.specs.OrderedOpening.{OpensPush, open_refusal};
-ghost use Rattle.js_reader_calls.specs.OrderedPolls.{given_answer};
+ghost use Rattle.js_reader_calls.specs.OrderedPolls.{IsGivenKind, PollsWithSource, given_answer};
 ghost use Rattle.js_reader_calls.specs.Streams.{IsTimed};
 
 use crate::ordered::settings::settings_of;
@@ -61,7 +61,10 @@ fn open_refusal(error: OpenError) -> StreamErrorKind
 
 impl Ordered {
     /// The inbox that is open for it: the one that it reads, or the one of the consumer that is being made. It has another one each time its
-    /// consumer was made anew, and none in between and at its end. One that ended with its watcher leaves the inbox that it had open at the link.
+    /// consumer was made anew, and none in between and at its end.
+    ///
+    /// One that ends with the connection's watcher leaves its inbox open at the link, and names it no more: what asks before the poll can
+    /// close it.
     pub fn inbox(&self) -> Option<InboxId>
         ensures { result ≡ inbox_of (position_of_push self.now.reader).consumer.phase }
     {
@@ -91,6 +94,8 @@ impl Ordered {
     ) -> Next<Result<Message, OrderedError>>
         ensures given { given_of_push self.new.reader ≡ given_of_push self.old.reader }
         ensures polls { IsPoll (given_of_push self.old.reader) Meets now (position_of_push self.old.reader) (position_of_push self.new.reader) (L.view link.old) (L.view link.new) (given_answer result) }
+        ensures sources { PollsWithSource (given_of_push self.old.reader) now (position_of_push self.old.reader) (position_of_push self.new.reader) (L.view link.old) (L.view link.new) result }
+        ensures kinds { IsGivenKind result }
         ensures sleeps { SleepsIfLeftAlone (given_of_push self.old.reader) now (position_of_push self.old.reader) (position_of_push self.new.reader) (L.view link.old) (L.view link.new) (given_answer result) }
         ensures timed { IsTimed self.old.timeout result }
         ensures kept { self.new.timeout ≡ self.old.timeout }
