@@ -10,7 +10,7 @@ use Rattle.js_table.specs.declared.consumer.ReplayInput.{ReplayInput}
 use Rattle.js_table.specs.declared.event.Event.{Event}
 use Rattle.js_table.specs.declared.run.Output.{Output}
 use Rattle.js_table.specs.declared.run.ReplayError.{ReplayError}
-use Rattle.js_table.specs.declared.run.ReplayError.TheVariants as replay
+use Rattle.js_table.specs.declared.run.ReplayError.TheVariants as replay_error
 use Rattle.js_table.specs.declared.run.Step.{Step}
 use Rattle.js_table.specs.Fold.{fold}
 use Rattle.js_table.specs.Gapless.{Entry, yields, joined, all_outputs}
@@ -81,8 +81,8 @@ yields_first g start =
 
 pub begun : (next : ℕ) (done : List Session) (s : Session) (old : Sessions) (c : SessionReplay) (kept : Scope) → HaveEnded next done old
     → s.lines ≡ [] → c.number ≡ old.count + 1 → is_at old.next (configured_start s.setup) ≡ true → agreed old.scope (scope_of s.setup s.first) ≡ Some kept
-    → c.before ≡ old.committed → c.scope ≡ kept → HasCome (given_of s) s.start [] c.course
-    → c.saved ≡ mark_of old.next [] → c.yielded ≡ mark_of old.next (yields c.course.outputs) → c.has_failed ≡ false
+    → c.before ≡ old.committed → c.scope ≡ kept → HasCome (given_of s) s.start [] c.replay
+    → c.saved ≡ mark_of old.next [] → c.yielded ≡ mark_of old.next (yields c.replay.outputs) → c.has_failed ≡ false
     → HasComeTo next done s c
 begun next done s old c kept ended empty number starts agrees before scope come saved_none yielded sound =
     let no_events : [] ≡ events_of s.lines = ap events_of (sym empty) in
@@ -95,9 +95,9 @@ begun next done s old c kept ended empty number starts agrees before scope come 
       accepted = ended.accepted;
       starts = ap (λ (n : ℕ). is_at n (configured_start s.setup)) (sym ended.goes_on) ∙ starts;
       matches = agreed_same (first_scope done) (scope_of s.setup s.first) kept first;
-      course = subst (λ (es : List Event). HasCome (given_of s) s.start es c.course) no_events come;
+      replay = subst (λ (es : List Event). HasCome (given_of s) s.start es c.replay) no_events come;
       yielded =
-          yielded ∙ ap (λ (n : ℕ). mark_of n (yields c.course.outputs)) ended.goes_on
+          yielded ∙ ap (λ (n : ℕ). mark_of n (yields c.replay.outputs)) ended.goes_on
           ∙ ap (λ (outputs : List Output). mark_of b (yields outputs)) come.outputs
           ∙ ap (mark_of b) (sym (yields_first (given_of s) s.start))
           ∙ ap (λ (es : List Event). mark_of b (yields (all_outputs (fold (given_of s) s.start es)))) no_events;
@@ -112,10 +112,10 @@ begun next done s old c kept ended empty number starts agrees before scope come 
 -- an event is passed
 pub comes_event : (next : ℕ) (done : List Session) (s : Session) (e : Event) (c new : SessionReplay) → HasComeTo next done s c
     → new.number ≡ c.number → new.before ≡ c.before → new.scope ≡ c.scope
-    → HasCome (given_of s) s.start (events_of s.lines ++ e ∷ []) new.course
-    → ((at : ℕ) (entries : List Entry) → c.yielded ≡ mark_of at entries → new.yielded ≡ mark_of at (entries ++ yields new.course.outputs))
+    → HasCome (given_of s) s.start (events_of s.lines ++ e ∷ []) new.replay
+    → ((at : ℕ) (entries : List Entry) → c.yielded ≡ mark_of at entries → new.yielded ≡ mark_of at (entries ++ yields new.replay.outputs))
     → new.saved ≡ c.saved → new.has_failed ≡ false → HasComeTo next done (with_line s (line.Event e)) new
-comes_event next done s e c new come number before scope course yielded same sound =
+comes_event next done s e c new come number before scope replay yielded same sound =
     let g : ReplayInput = given_of s in
     let es : List Event = events_of s.lines in
     let one : es ++ e ∷ [] ≡ events_of (s.lines ++ line.Event e ∷ []) = sym (events_event s.lines e) in
@@ -127,10 +127,10 @@ comes_event next done s e c new come number before scope course yielded same sou
       accepted = come.accepted;
       starts = come.starts;
       matches = come.matches;
-      course = subst (λ (all : List Event). HasCome g s.start all new.course) one course;
+      replay = subst (λ (all : List Event). HasCome g s.start all new.replay) one replay;
       yielded =
           yielded b (yields (all_outputs (run_of s))) come.yielded
-          ∙ ap (λ (outputs : List Output). mark_of b (yields (all_outputs (run_of s)) ++ yields outputs)) course.outputs
+          ∙ ap (λ (outputs : List Output). mark_of b (yields (all_outputs (run_of s)) ++ yields outputs)) replay.outputs
           ∙ ap (mark_of b) (sym (yields_grow g s.start es e))
           ∙ ap (λ (all : List Event). mark_of b (yields (all_outputs (fold g s.start all)))) one;
       saved =
@@ -143,9 +143,9 @@ comes_event next done s e c new come number before scope course yielded same sou
 
 -- or all is committed
 pub comes_save : (next : ℕ) (done : List Session) (s : Session) (c new : SessionReplay) → HasComeTo next done s c
-    → new.number ≡ c.number → new.before ≡ c.before → new.scope ≡ c.scope → new.course ≡ c.course → new.yielded ≡ c.yielded → new.saved ≡ c.yielded → new.has_failed ≡ c.has_failed
+    → new.number ≡ c.number → new.before ≡ c.before → new.scope ≡ c.scope → new.replay ≡ c.replay → new.yielded ≡ c.yielded → new.saved ≡ c.yielded → new.has_failed ≡ c.has_failed
     → HasComeTo next done (with_line s line.Save) new
-comes_save next done s c new come number before scope course yielded same sound =
+comes_save next done s c new come number before scope replay yielded same sound =
     let g : ReplayInput = given_of s in
     let es : List Event = events_of s.lines in
     let one : es ≡ events_of (s.lines ++ line.Save ∷ []) = sym (events_save s.lines) in
@@ -157,9 +157,9 @@ comes_save next done s c new come number before scope course yielded same sound 
       accepted = come.accepted;
       starts = come.starts;
       matches = come.matches;
-      course =
-          subst (λ (all : List Event). HasCome g s.start all new.course) one
-          (subst (λ (course : IncrementalReplay). HasCome g s.start es course) (sym course) come.course);
+      replay =
+          subst (λ (all : List Event). HasCome g s.start all new.replay) one
+          (subst (λ (replay : IncrementalReplay). HasCome g s.start es replay) (sym replay) come.replay);
       yielded = yielded ∙ come.yielded ∙ ap (λ (all : List Event). mark_of b (yields (all_outputs (fold g s.start all)))) one;
       saved =
           same ∙ come.yielded
@@ -174,11 +174,11 @@ comes_save next done s c new come number before scope course yielded same sound 
 -- its replay is refused,
 pub ends_refused : (next : ℕ) (done : List Session) (s : Session) (c : SessionReplay) (refusal : ReplayError) → HasComeTo next done s c → refuse (given_of s) s.start (events_of s.lines) ≡ Some refusal
     → IsRefusal next (done ++ s ∷ []) (replay_refusal c.number refusal)
-ends_refused next done s c replay.OutOfMemory come refused = tt
-ends_refused next done s c replay.NoDeliverSubject come refused = replay_refused next c.number done s replay.NoDeliverSubject come.accepted come.number come.starts come.matches refused
-ends_refused next done s c (replay.BadSettings field) come refused = replay_refused next c.number done s (replay.BadSettings field) come.accepted come.number come.starts come.matches refused
-ends_refused next done s c (replay.BadEvent place) come refused = replay_refused next c.number done s (replay.BadEvent place) come.accepted come.number come.starts come.matches refused
-ends_refused next done s c (replay.SequenceEnd place) come refused = replay_refused next c.number done s (replay.SequenceEnd place) come.accepted come.number come.starts come.matches refused
+ends_refused next done s c replay_error.OutOfMemory come refused = tt
+ends_refused next done s c replay_error.NoDeliverSubject come refused = replay_refused next c.number done s replay_error.NoDeliverSubject come.accepted come.number come.starts come.matches refused
+ends_refused next done s c (replay_error.BadSettings field) come refused = replay_refused next c.number done s (replay_error.BadSettings field) come.accepted come.number come.starts come.matches refused
+ends_refused next done s c (replay_error.BadEvent place) come refused = replay_refused next c.number done s (replay_error.BadEvent place) come.accepted come.number come.starts come.matches refused
+ends_refused next done s c (replay_error.SequenceEnd place) come refused = replay_refused next c.number done s (replay_error.SequenceEnd place) come.accepted come.number come.starts come.matches refused
 
 within_none : (b : Bool) (at : ℕ) → (if b then None else Some at) ≡ None → b ≡ true
 within_none true at is = refl

@@ -9,7 +9,6 @@ use Rattle.js_table.specs.declared.event.Event.{Event}
 use Rattle.js_table.specs.declared.run.Output.{Output}
 use Rattle.js_table.specs.declared.run.Step.{Step}
 use Rattle.js_table.specs.Fold.{fold, step_of}
-use Rattle.js_table.specs.Gapless.{Logged, Server}
 use Rattle.js_bookmark.specs.declared.session_replay.SessionReplay.{SessionReplay}
 use Rattle.js_bookmark.specs.declared.session_replay.SessionEnd.{SessionEnd}
 use Rattle.js_bookmark.specs.declared.error.SessionsError.{SessionsError}
@@ -17,11 +16,9 @@ use Rattle.js_bookmark.specs.declared.session.Line.{Line}
 use Rattle.js_bookmark.specs.declared.session.Line.TheVariants as line
 use Rattle.js_bookmark.specs.declared.session.Session.{Session}
 use Rattle.js_bookmark.specs.declared.session.SessionRun.{SessionRun}
-use Rattle.js_bookmark.specs.Joined.{AreServed, LeaveNoGap}
 use Rattle.js_bookmark.specs.Lines.{events_of, bookmark}
 use Rattle.js_bookmark.specs.Progress.{with_line, with_lines, HasComeTo, HasEnded, HasStepped}
-use Rattle.js_bookmark.specs.Sessions.{given_of, run_of, committed, all_committed, session_run, runs, IsAnswer, IsRefusal}
-use Rattle.js_bookmark.proofs.Joining.{sessions_leave_no_gap}
+use Rattle.js_bookmark.specs.Sessions.{given_of, run_of, committed, all_committed, session_run, runs, IsRefusal}
 use Rattle.js_bookmark.proofs.Refusing.{refusal_stays}
 use Rattle.js_bookmark.proofs.Saving.{events_event, events_save}
 use Rattle.js_bookmark.proofs.Sessioning.{runs_on}
@@ -34,7 +31,7 @@ steps_none s = sym (no_steps (given_of s) s.start)
 
 -- an event adds the step that it puts out
 pub steps_event : (next : ℕ) (done : List Session) (s : Session) (e : Event) (new : SessionReplay) (before steps : List Step) (step : Step) (outputs : List Output)
-    → HasComeTo next done (with_line s (line.Event e)) new → before ≡ (run_of s).steps → outputs ≡ new.course.outputs → step.outputs ≡ outputs → steps ≡ before ++ step ∷ []
+    → HasComeTo next done (with_line s (line.Event e)) new → before ≡ (run_of s).steps → outputs ≡ new.replay.outputs → step.outputs ≡ outputs → steps ≡ before ++ step ∷ []
     → steps ≡ (run_of (with_line s (line.Event e))).steps
 steps_event next done s e new before steps step outputs come were put copied added =
     let g : ReplayInput = given_of s in
@@ -42,7 +39,7 @@ steps_event next done s e new before steps step outputs come were put copied add
     let all : List Event = events_of (s.lines ++ line.Event e ∷ []) in
     let one : es ++ e ∷ [] ≡ all = sym (events_event s.lines e) in
     let made : List Output → Step = λ some. record { outputs = some } in
-    let is : step ≡ step_of (last g s.start all) = ap made (copied ∙ put ∙ come.course.outputs) in
+    let is : step ≡ step_of (last g s.start all) = ap made (copied ∙ put ∙ come.replay.outputs) in
     added
     ∙ ap (λ (some : List Step). some ++ step ∷ []) were
     ∙ ap (λ (x : Step). (fold g s.start es).steps ++ x ∷ []) is
@@ -56,7 +53,7 @@ steps_save s steps were = were ∙ ap (λ (es : List Event). (fold (given_of s) 
 
 -- with an event
 pub stepped_event : {E : Type 0} (next : ℕ) (done : List Session) (s : Session) (e : Event) (c new : SessionReplay) (before steps : List Step) (step : Step) (outputs : List Output) (l : Line) (result : Result (Unit {0}) E)
-    → l ≡ line.Event e → HasStepped next done s c before → HasComeTo next done (with_line s (line.Event e)) new → outputs ≡ new.course.outputs → step.outputs ≡ outputs
+    → l ≡ line.Event e → HasStepped next done s c before → HasComeTo next done (with_line s (line.Event e)) new → outputs ≡ new.replay.outputs → step.outputs ≡ outputs
     → OnOk result (steps ≡ before ++ step ∷ []) → OnOk result (HasStepped next done (with_line s l) new steps)
 stepped_event next done s e c new before steps step outputs l (Ok u) is stepped come put copied added =
     subst (λ (l : Line). HasStepped next done (with_line s l) new steps) (sym is)
@@ -74,12 +71,12 @@ stepped_save next done s c new steps l is stepped come =
 
 -- what a session has come to is its run
 pub run_is : (next : ℕ) (done : List Session) (s : Session) (began : SessionReplay) (end : SessionEnd) (opening : Step) (steps : List Step) (outputs : List Output) (at : ℕ)
-    → HasComeTo next done (with_lines s []) began → outputs ≡ began.course.outputs → opening.outputs ≡ outputs → steps ≡ (run_of s).steps → HasEnded next done s end → at ≡ end.sessions.next
+    → HasComeTo next done (with_lines s []) began → outputs ≡ began.replay.outputs → opening.outputs ≡ outputs → steps ≡ (run_of s).steps → HasEnded next done s end → at ≡ end.sessions.next
     → record { run = record { opening = opening; steps = steps; ended = end.ended }; committed = end.committed; next = at } ≡ session_run (bookmark next (all_committed done)) s
 run_is next done s began end opening steps outputs at come put copied were ended behind =
     let g : ReplayInput = given_of s in
     let made : List Output → Step = λ some. record { outputs = some } in
-    let first : opening ≡ (run_of s).opening = ap made (copied ∙ put ∙ come.course.outputs) ∙ sym (opening_is g s.start (events_of s.lines)) in
+    let first : opening ≡ (run_of s).opening = ap made (copied ∙ put ∙ come.replay.outputs) ∙ sym (opening_is g s.start (events_of s.lines)) in
     let of : Step → List Step → Bool → ℕ → ℕ → SessionRun = λ opening steps ended count at. record { run = record { opening = opening; steps = steps; ended = ended }; committed = count; next = at } in
     ap (λ (x : Step). of x steps end.ended end.committed at) first
     ∙ ap (λ (x : List Step). of (run_of s).opening x end.ended end.committed at) were
@@ -108,11 +105,3 @@ refused_at next sessions i s refusal within is refused =
     let whole : (take i sessions ++ s ∷ []) ++ drop (i + 1) sessions ≡ sessions =
     ap (λ (front : List Session). front ++ drop (i + 1) sessions) (front_more sessions i s within is) ∙ take-append-drop (i + 1) sessions in
     subst (λ (all : List Session). IsRefusal next all refusal) whole (refusal_stays next (take i sessions ++ s ∷ []) (drop (i + 1) sessions) refusal refused)
-
--- ---- the theorem
-
--- where all runs are answered, the committed yields leave no gap
-pub answer_leaves_no_gap : (log : List Logged) (servers : List Server) (next : ℕ) (sessions : List Session) (result : Result (List SessionRun) SessionsError) → IsAnswer next sessions result
-    → AreServed log [] sessions servers → OnOk result (LeaveNoGap log servers next sessions)
-answer_leaves_no_gap log servers next sessions (Ok all) answer served = sessions_leave_no_gap log servers next sessions answer.0 served
-answer_leaves_no_gap log servers next sessions (Err refusal) answer served = tt

@@ -76,14 +76,14 @@ pub record HasComeTo (next : ℕ) (done : List Session) (s : Session) (c : Sessi
   pub accepted : refuse_sessions next done ≡ None
   pub starts : is_at (bookmark next (all_committed done)) (configured_start s.setup) ≡ true
   pub matches : same_scope (scope_for done s) (scope_of s.setup s.first) ≡ true
-  pub course : HasCome (given_of s) s.start (events_of s.lines) c.course
+  pub replay : HasCome (given_of s) s.start (events_of s.lines) c.replay
   pub yielded : c.yielded ≡ mark_of (bookmark next (all_committed done)) (yields (all_outputs (run_of s)))
   pub saved : c.saved ≡ mark_of (bookmark next (all_committed done)) (committed s)
   pub sound : c.has_failed ≡ false
 
 -- what the begin of a session answers: a session with no lines yet, or the refusal that applies whatever lines it has
 abbrev pub Begins : ℕ → List Session → Session → Result SessionReplay SessionsError → Type 0
-Begins next done s (Ok course) = HasComeTo next done (with_lines s []) course
+Begins next done s (Ok replay) = HasComeTo next done (with_lines s []) replay
 Begins next done s (Err refusal) = (lines : List Line) → IsRefusal next (done ++ with_lines s lines ∷ []) refusal
 
 -- the session has ended too

@@ -99,20 +99,20 @@ fn step_of(alloc: Global, outputs: &[Output]) -> Result<Step, OutOfMemory>
 
 fn pass_line(
     alloc: Global,
-    course: &mut SessionReplay<'_>,
+    replay: &mut SessionReplay<'_>,
     steps: &mut Items<Step>,
     line: &Line,
 ) -> Result<(), OutOfMemory>
-    ensures { (next : ℕ) → (done : List Session) → (s : Session) → HasStepped next done s course.old steps.old
-        → OnOk result (HasStepped next done (with_line s line.now) course.new steps.new) }
+    ensures { (next : ℕ) → (done : List Session) → (s : Session) → HasStepped next done s replay.old steps.old
+        → OnOk result (HasStepped next done (with_line s line.now) replay.new steps.new) }
 {
     match line {
         Line::Event(event) => {
-            course.advance(alloc, event)?;
-            steps.push(step_of(alloc, course.outputs())?)
+            replay.advance(alloc, event)?;
+            steps.push(step_of(alloc, replay.outputs())?)
         }
         Line::Save => {
-            course.save();
+            replay.save();
             Ok(())
         }
     }
@@ -121,15 +121,15 @@ fn pass_line(
 /// The steps of a session's events.
 fn steps_of(
     alloc: Global,
-    course: &mut SessionReplay<'_>,
+    replay: &mut SessionReplay<'_>,
     lines: &[Line],
 ) -> Result<Items<Step>, OutOfMemory>
-    ensures { (next : ℕ) → (done : List Session) → (s : Session) → HasComeTo next done (with_lines s []) course.old
-        → IfOk result (λ steps. HasStepped next done (with_lines s lines.now) course.new steps) }
+    ensures { (next : ℕ) → (done : List Session) → (s : Session) → HasComeTo next done (with_lines s []) replay.old
+        → IfOk result (λ steps. HasStepped next done (with_lines s lines.now) replay.new steps) }
 {
     let mut steps = Items::new(alloc);
     for line in lines {
-        pass_line(alloc, course, &mut steps, line)?;
+        pass_line(alloc, replay, &mut steps, line)?;
     }
     Ok(steps)
 }
@@ -137,14 +137,14 @@ fn steps_of(
 /// The opening of a session that has begun, and the steps of its events.
 fn opening_and_steps(
     alloc: Global,
-    course: &mut SessionReplay<'_>,
+    replay: &mut SessionReplay<'_>,
     lines: &[Line],
 ) -> Result<(Step, Items<Step>), OutOfMemory>
-    ensures { (next : ℕ) → (done : List Session) → (s : Session) → HasComeTo next done (with_lines s []) course.old
-        → IfOk result (λ told. (told.0.outputs ≡ course.old.course.outputs) × HasStepped next done (with_lines s lines.now) course.new told.1) }
+    ensures { (next : ℕ) → (done : List Session) → (s : Session) → HasComeTo next done (with_lines s []) replay.old
+        → IfOk result (λ told. (told.0.outputs ≡ replay.old.replay.outputs) × HasStepped next done (with_lines s lines.now) replay.new told.1) }
 {
-    let opening = step_of(alloc, course.outputs())?;
-    let steps = steps_of(alloc, course, lines)?;
+    let opening = step_of(alloc, replay.outputs())?;
+    let steps = steps_of(alloc, replay, lines)?;
     Ok((opening, steps))
 }
 
@@ -164,19 +164,19 @@ fn run_session(
         &session.first,
         session.start,
     );
-    let mut course = match begun {
-        Ok(course) => course,
+    let mut replay = match begun {
+        Ok(replay) => replay,
         Err(refusal) => return Err(refusal),
     };
-    let told = opening_and_steps(alloc, &mut course, session.lines.as_slice());
+    let told = opening_and_steps(alloc, &mut replay, session.lines.as_slice());
     let (opening, steps) = match told {
         Ok(told) => told,
         Err(OutOfMemory) => {
-            drop(course);
+            drop(replay);
             return Err(SessionsError::OutOfMemory);
         }
     };
-    let end = match course.end() {
+    let end = match replay.end() {
         Ok(end) => end,
         Err(refusal) => {
             drop(opening);

@@ -33,7 +33,7 @@ pub struct SessionReplay<'a> {
     number: u64,
     before: u64,
     scope: Scope,
-    course: IncrementalReplay<'a>,
+    replay: IncrementalReplay<'a>,
     yielded: Mark,
     saved: Mark,
     has_failed: bool,
@@ -146,12 +146,12 @@ impl Sessions {
         let Some(scope) = Scope::after(alloc, self.scope, setup, first)? else {
             return Err(SessionsError::WrongFilter { session: number });
         };
-        let course = IncrementalReplay::open(alloc, settings, setup, first, start)?;
+        let replay = IncrementalReplay::open(alloc, settings, setup, first, start)?;
         let saved = Mark::at(next);
-        let yielded = match saved.after(course.outputs()) {
+        let yielded = match saved.after(replay.outputs()) {
             Ok(yielded) => yielded,
             Err(OutOfMemory) => {
-                drop(course);
+                drop(replay);
                 drop(scope);
                 return Err(SessionsError::OutOfMemory);
             }
@@ -160,7 +160,7 @@ impl Sessions {
             number,
             before: self.committed,
             scope,
-            course,
+            replay,
             yielded,
             saved,
             has_failed: false,
@@ -184,8 +184,8 @@ impl<'a> SessionReplay<'a> {
             return Err(OutOfMemory);
         }
         self.has_failed = true;
-        self.course.advance(alloc, event)?;
-        self.yielded = self.yielded.after(self.course.outputs())?;
+        self.replay.advance(alloc, event)?;
+        self.yielded = self.yielded.after(self.replay.outputs())?;
         self.has_failed = false;
         Ok(())
     }
@@ -200,16 +200,16 @@ impl<'a> SessionReplay<'a> {
 
     /// What the last event has put out, or the opening before the first. A save puts out nothing and leaves it.
     pub fn outputs(&self) -> &[Output]
-        ensures { result.now ≡ self.now.course.outputs }
+        ensures { result.now ≡ self.now.replay.outputs }
     {
-        self.course.outputs()
+        self.replay.outputs()
     }
 
     /// The number of events so far, without the saves.
     pub fn count(&self) -> u64
-        ensures { result ≡ self.now.course.count }
+        ensures { result ≡ self.now.replay.count }
     {
-        self.course.count()
+        self.replay.count()
     }
 
     /// The session ends: what it has come to, and all sessions with it.
@@ -225,13 +225,13 @@ impl<'a> SessionReplay<'a> {
             number,
             before,
             scope,
-            course,
+            replay,
             saved,
             has_failed,
             ..
         } = self;
-        let ended = course.end();
-        drop(course);
+        let ended = replay.end();
+        drop(replay);
         if has_failed {
             drop(scope);
             return Err(SessionsError::OutOfMemory);

@@ -19,10 +19,6 @@ keeps_more first held more bytes (Some all) (Some before) None kept is consumes 
 keeps_more first held more bytes (Some all) (Some before) (Some after) kept is consumes =
     ap (λ (front : List ℕ). front ++ after) is ∙ append_assoc held bytes after ∙ ap (λ (rest : List ℕ). held ++ rest) (sym consumes) ∙ kept
 
-pub keeps_all : (first : List ℕ) (opened : Option (List ℕ)) → Keeps (prepend_known first opened) (prepend_known first opened)
-keeps_all first None = tt
-keeps_all first (Some all) = refl
-
 -- the first line feed cuts the first line off, whatever follows
 cut_before : (bytes more : List ℕ) (i : ℕ) → i < length bytes → (get_or bytes i 0 == 10) ≡ true → ((k : ℕ) → k < i → (get_or bytes k 0 == 10) ≡ true → ⊥)
     → lines_of (bytes ++ more) ≡ take i bytes ∷ lines_of (drop (i + 1) bytes ++ more)

@@ -1,5 +1,5 @@
 -- How a conversation goes on, and how it ends.
-use Rattle.std.proofs.Common.{◌≡◌, ◌⊎◌, inl, inr, ℕ, suc, ◌+◌, ◌-◌, ◌^◌, ◌≤◌, min, List, [], ◌∷◌, ◌++◌, length, take, Bool, true, false, OnErr, Option, Some, None, IfSome, Result, Ok, Err, refl, sym, ap, subst, ◌∙◌, append_assoc, append-nil, arith}
+use Rattle.std.proofs.Common.{◌≡◌, inl, inr, ℕ, ◌+◌, ◌≤◌, List, [], ◌∷◌, ◌++◌, length, take, Bool, true, false, OnErr, Option, Some, None, IfSome, Result, Ok, Err, refl, sym, ap, subst, ◌∙◌, append_assoc, append-nil, arith}
 use Rattle.std.specs.Prelude.{option_map}
 use Rattle.std.proofs.KnownBytes.{Appends-nil}
 use Rattle.std.proofs.Math.Seq.{take-append-add, take-length}
@@ -11,12 +11,11 @@ use Rattle.js_tool.specs.declared.status.Status.TheVariants as status
 use Rattle.js_tool.specs.Setups.{setup_line}
 use Rattle.js_tool.specs.Transcripts.{numbered}
 use Rattle.js_follow.specs.declared.answer.Listener.{Listener}
-use Rattle.js_follow.specs.declared.incoming.Incoming.{Incoming}
 use Rattle.js_follow.specs.declared.incoming.Incoming.TheVariants as incoming
 use Rattle.js_follow.specs.Answered.{IsTold, IsEnding, AnswersLine, AnswersEnd}
-use Rattle.js_follow.specs.Followed.{GoesOn, StopsWithin, AnswersLines, HasEnded, HasGone, IsCut, all_lines, Stands, StandsOr, Replies, IsReadStop, HasBegun, IsOver}
+use Rattle.js_follow.specs.Followed.{GoesOn, StopsWithin, HasEnded, HasGone, IsCut, all_lines, Stands, StandsOr, Replies, IsReadStop, HasBegun, IsOver}
 use Rattle.js_follow.specs.Incoming.{IsNext, lines_left}
-use Rattle.js_follow.specs.Standing.{Standing, Going, Over, opened, standing, said, said_in_all, end_of, answered, text_for, status_for}
+use Rattle.js_follow.specs.Standing.{Over, opened, standing, said, said_in_all, end_of, answered, text_for, status_for}
 use Rattle.js_follow.specs.Turns.{Dialogue, HasRead, HasWritten, Writes}
 use Rattle.js_follow.proofs.Punctually.{is_punctual}
 use Rattle.js_follow.proofs.Standings.{none_told, one_told, over_with_rest, prefix_of_all}
@@ -230,9 +229,6 @@ pub read_stops : (from now : Dialogue) (s : Status) → IsReadStop s → (s ≡ 
     → HasEnded from now s
 read_stops from now s (inl is) rose gone within = subst (λ (x : Status). HasEnded from now x) (sym is) (read_fails from now gone (rose is) within)
 read_stops from now s (inr is) rose gone within = subst (λ (x : Status). HasEnded from now x) (sym is) (out_of_memory from now gone within)
-
-pub rose_later : (before between now : ℕ) → before ≤ between → Rose between now → Rose before now
-rose_later before between now later rose = rose_since before between now later rose
 
 -- an input of no lines
 pub no_lines : (from now : Dialogue) → HasGone from now → now.taken ≡ from.taken → IsCut (all_lines from) [] (Some []) → HasEnded from now (status.BadLine 1)

@@ -1,5 +1,5 @@
 -- Call after call: what was read, written and passed on.
-use Rattle.std.proofs.Common.{◌≡◌, ℕ, zero, suc, ◌+◌, ◌-◌, ◌<◌, ◌==◌, Bool, true, false, List, [], ◌∷◌, ◌++◌, length, take, drop, get_or, if◌then◌else◌, Option, Some, None, Result, Ok, Err, refl, sym, ap, subst, ◌∙◌, arith, append-nil, append_assoc, add-one}
+use Rattle.std.proofs.Common.{◌≡◌, ℕ, zero, suc, ◌+◌, ◌-◌, ◌<◌, ◌==◌, Bool, true, false, List, [], ◌∷◌, ◌++◌, length, take, drop, get_or, if◌then◌else◌, Option, Some, None, Result, Ok, refl, sym, ap, subst, ◌∙◌, arith, append-nil, append_assoc, add-one}
 use Rattle.std.proofs.lemmas.Bool.{false_from_ne_true}
 use Rattle.std.proofs.lemmas.List.{take_rest}
 use Rattle.std.proofs.Math.Seq.{take-add}
@@ -10,7 +10,7 @@ use Rattle.js_follow.specs.declared.peer.Turn.TheVariants as turn
 use Rattle.js_follow.specs.Incoming.{HasNoFeed, IsFirstFeed}
 use Rattle.js_follow.specs.Punctual.{whole_lines, IsCaughtUp, IsPunctual, Holds, Has, HearsNext}
 use Rattle.js_follow.specs.Standing.{answered}
-use Rattle.js_follow.specs.Turns.{Dialogue, Reads, Writes, Takes, bytes_of, heard, flush_turn}
+use Rattle.js_follow.specs.Turns.{Dialogue, Reads, Writes, Takes, bytes_of, heard}
 
 -- ---- whole lines
 
@@ -51,17 +51,6 @@ wrote lines held before passed bytes old new takes has =
 
 pub wrote_punctually : (bytes : List ℕ) (old new : Option (List Turn)) → Takes old new (turn.Wrote bytes) → Holds old IsPunctual → Holds new IsPunctual
 wrote_punctually bytes old new takes has = holds_on old new (turn.Wrote bytes) IsPunctual IsPunctual takes (λ turns h. h) has
-
--- all was passed on
-pub passed_on : (lines : List (List ℕ)) (held before passed : List ℕ) (old new : Option (List Turn)) → Takes old new turn.Flushed
-    → Holds old (Has lines held before passed) → Holds new (Has lines held before before)
-passed_on lines held before passed old new takes has =
-    holds_on old new turn.Flushed (Has lines held before passed) (Has lines held before before) takes
-    (λ turns h. record { punctual = h.punctual; cut = h.cut; written = h.written; flushed = h.written }) has
-
-pub flush_punctually : {T E : Type 0} (result : Result T E) (old new : Option (List Turn)) → Takes old new (flush_turn result) → Holds old IsPunctual → Holds new IsPunctual
-flush_punctually (Ok done) old new takes has = holds_on old new turn.Flushed IsPunctual IsPunctual takes (λ turns h. h) has
-flush_punctually (Err e) old new takes has = holds_on old new (turn.Wrote []) IsPunctual IsPunctual takes (λ turns h. h) has
 
 -- where no whole line is held all was answered
 caught_up : (lines : List (List ℕ)) (held : List ℕ) (turns : List Turn) → HasNoFeed held (length held) → Has lines held (answered lines) (answered lines) turns → IsCaughtUp turns

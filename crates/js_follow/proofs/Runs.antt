@@ -1,27 +1,23 @@
 -- What was said is the text of a run, and valid input brings it about.
-use Rattle.std.proofs.Common.{◌≡◌, ℕ, ◌+◌, Bool, true, false, nat_lt, if◌then◌else◌, List, [], ◌∷◌, ◌++◌, length, Option, Some, None, IfSome, Result, Ok, Err, refl, sym, ap, subst, ◌∙◌, append-nil, append_assoc}
+use Rattle.std.proofs.Common.{◌≡◌, ℕ, ◌+◌, List, [], ◌∷◌, ◌++◌, length, Option, Some, None, IfSome, Result, Ok, Err, refl, subst}
 use Rattle.std.specs.Prelude.{⊤}
-use Rattle.std.specs.List.{AllByRecursion}
 use Rattle.std.specs.Io.KnownBytes.{Appends}
 use Rattle.js_io.specs.Lines.{lines_of}
 use Rattle.js_table.specs.declared.event.Event.{Event}
 use Rattle.js_table.specs.declared.run.ReplayError.{ReplayError}
 use Rattle.js_table.specs.Fold.{fold}
-use Rattle.js_table.specs.Refusal.{refuse, first_early}
-use Rattle.js_table.proofs.Accepted.{valid_accepted}
+use Rattle.js_table.specs.Refusal.{refuse}
 use Rattle.js_table.proofs.Promises.{fold_replays}
 use Rattle.js_tool.specs.declared.status.Status.{Status}
 use Rattle.js_tool.specs.declared.status.Status.TheVariants as status
 use Rattle.js_tool.specs.declared.transcript.setup.Setup.{Setup}
-use Rattle.js_tool.specs.declared.transcript.Transcript.{Transcript}
 use Rattle.js_tool.specs.Events.{event_line}
-use Rattle.js_tool.specs.Program.{given, IsUnlessFailed}
+use Rattle.js_tool.specs.Program.{given}
 use Rattle.js_tool.specs.Setups.{setup_line}
-use Rattle.js_tool.specs.Texts.{refusal_text, run_text}
-use Rattle.js_tool.specs.Transcripts.{◌>>=◌, numbered, events_from, with_lines, transcript_of}
-use Rattle.js_follow.specs.Followed.{AnswersLines, IsValidInput, WritesRun}
-use Rattle.js_follow.specs.Standing.{Standing, Unopened, Going, Over, text_to, passed, opened, went_on, next, after, standing, said_in_all, end_of, text_for, status_for}
-use Rattle.js_follow.proofs.Standings.{one_longer, is_run}
+use Rattle.js_tool.specs.Transcripts.{numbered}
+use Rattle.js_follow.specs.Followed.{AnswersLines, WritesRun}
+use Rattle.js_follow.specs.Standing.{Standing, Unopened, Going, Over, text_to, passed, opened, went_on, next, after, standing, said_in_all, end_of}
+use Rattle.js_follow.proofs.Standings.{is_run}
 
 -- ---- a run
 

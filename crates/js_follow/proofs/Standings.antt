@@ -1,5 +1,5 @@
 -- How a replay stands after some lines.
-use Rattle.std.proofs.Common.{◌≡◌, ℕ, zero, suc, ◌+◌, min, List, [], ◌∷◌, ◌++◌, length, take, Option, Some, None, Result, Ok, Err, refl, sym, ap, subst, ◌∙◌, arith, append-nil, append_assoc, length-append}
+use Rattle.std.proofs.Common.{◌≡◌, ℕ, ◌+◌, min, List, [], ◌∷◌, ◌++◌, length, take, Option, Some, None, Result, Ok, Err, refl, sym, ap, subst, ◌∙◌, arith, append-nil, append_assoc, length-append}
 use Rattle.std.proofs.lemmas.List.{take-append-le, take_min}
 use Rattle.js_io.specs.Causes.{AppendsPrefix}
 use Rattle.std.specs.Io.KnownBytes.{Appends}
@@ -18,7 +18,7 @@ use Rattle.js_tool.specs.Texts.{last_line, refusal_text}
 use Rattle.js_tool.specs.Transcripts.{◌>>=◌, numbered, events_from, with_lines, transcript_of}
 use Rattle.js_tool.proofs.Passing.{text_on, text_ends}
 use Rattle.js_follow.specs.Answered.{last_text}
-use Rattle.js_follow.specs.Standing.{Standing, Unopened, Going, Over, text_to, passed, opened, went_on, next, after, standing, said, said_in_all, end_of, answered, text_for, status_for}
+use Rattle.js_follow.specs.Standing.{Standing, Unopened, Going, Over, text_to, passed, opened, went_on, next, after, standing, said, said_in_all, answered, text_for}
 
 -- ---- line after line
 

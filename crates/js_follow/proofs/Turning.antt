@@ -1,5 +1,5 @@
 -- What a turn of a conversation leaves.
-use Rattle.std.proofs.Common.{◌≡◌, ℕ, List, [], ◌∷◌, ◌++◌, Bool, true, false, Option, Some, None, Result, Ok, Err, refl, sym, ap, subst, arith}
+use Rattle.std.proofs.Common.{◌≡◌, ℕ, List, [], ◌∷◌, ◌++◌, Bool, true, false, Option, Some, None, Ok, refl, sym, ap, subst, arith}
 use Rattle.std.specs.Prelude.{option_map}
 use Rattle.std.proofs.lemmas.Bool.{false≢true}
 use Rattle.js_io.specs.Causes.{Rose}
@@ -10,7 +10,7 @@ use Rattle.js_follow.specs.declared.incoming.Incoming.TheVariants as incoming
 use Rattle.js_follow.specs.declared.peer.Turn.{Turn}
 use Rattle.js_tool.specs.declared.status.Status.{Status}
 use Rattle.js_follow.specs.declared.answer.Listener.{Listener}
-use Rattle.js_follow.specs.Followed.{Stands, StandsOr, IsAt, IsOver, HasBegun, HasEnded, HasGone, IsCut, IsReadStop, TakesTurn, all_lines}
+use Rattle.js_follow.specs.Followed.{Stands, StandsOr, IsAt, IsOver, HasBegun, HasGone, IsCut, IsReadStop, TakesTurn, all_lines}
 use Rattle.js_follow.specs.Incoming.{IsNext, lines_left}
 use Rattle.js_follow.specs.Punctual.{whole_lines, Holds, Has, HearsNext, IsPunctual}
 use Rattle.js_follow.specs.Standing.{said, answered}

@@ -1,6 +1,5 @@
 -- Worked examples, which the definitions compute.
-use Rattle.std.specs.Prelude.{◌≡◌, ℕ, List, [], ◌∷◌, Option, Some, None, refl}
-use Rattle.js_tool.specs.declared.status.Status.{Status}
+use Rattle.std.specs.Prelude.{◌≡◌, ℕ, List, [], ◌∷◌, Some, None, refl}
 use Rattle.js_tool.specs.declared.status.Status.TheVariants as status
 use Rattle.js_follow.specs.declared.incoming.Incoming.TheVariants as incoming
 use Rattle.js_follow.specs.declared.peer.Turn.TheVariants as turn

@@ -1,5 +1,5 @@
 -- The lines of a peer, as they come.
-use Rattle.std.specs.Prelude.{◌≡◌, ℕ, ◌<◌, ◌==◌, Bool, true, false, List, [], ◌∷◌, ◌++◌, length, slice_index, Option, Some, None, IsTrue, option_map, ⊤}
+use Rattle.std.specs.Prelude.{◌≡◌, ℕ, ◌<◌, ◌==◌, List, [], ◌∷◌, ◌++◌, length, slice_index, Option, Some, None, IsTrue, option_map, ⊤}
 use Rattle.js_io.specs.Lines.{lines_of}
 use Rattle.js_follow.specs.declared.incoming.Incoming.{Incoming}
 use Rattle.js_follow.specs.declared.incoming.Incoming.TheVariants as incoming

@@ -149,7 +149,8 @@ is_projected es (Err OutOfMemory) same = tt
 
 -- ---- one step more
 
-joined_push : (steps : List Step) (step : Step) → joined (steps ++ step ∷ []) ≡ joined steps ++ step.outputs
+-- it adds what it puts out
+pub joined_push : (steps : List Step) (step : Step) → joined (steps ++ step ∷ []) ≡ joined steps ++ step.outputs
 joined_push [] step = append-nil step.outputs
 joined_push (first ∷ steps) step = ap (λ outputs. first.outputs ++ outputs) (joined_push steps step) ∙ sym (append_assoc first.outputs (joined steps) step.outputs)
 

@@ -1,25 +1,20 @@
 -- What an ordered pull consumer does at each arrival of a relayed mirror.
-use Rattle.std.proofs.Common.{◌≡◌, ℕ, suc, ◌+◌, ◌-◌, Bool, true, false, List, [], ◌∷◌, length, map, Option, Some, None, refl, sym, ap₂, ◌∙◌, subst, arith, append-nil}
+use Rattle.std.proofs.Common.{◌≡◌, ℕ, suc, ◌+◌, ◌-◌, Bool, true, false, List, [], ◌∷◌, length, map, Some, None, refl, sym, subst, arith, append-nil}
 use Rattle.std.specs.Prelude.{◌==◌, ◌&&◌, not, if◌then◌else◌}
 use Rattle.js_base.specs.declared.message.Message.{Message}
-use Rattle.js_base.specs.declared.message.State.{State}
 use Rattle.js_base.specs.declared.message.State.TheVariants.{Connected}
-use Rattle.js_base.specs.declared.clock.Timer.{Timer}
 use Rattle.js_base.specs.Clock.{is_any_due}
 use Rattle.js_json.specs.declared.consumer.info.Info.{Info}
 use Rattle.js_json.specs.declared.pull.OrderedConfig.{OrderedConfig}
 use Rattle.js_message.specs.Ack.{Place, readable_as}
 use Rattle.js_pull.specs.Reader as pull
 use Rattle.js_pull.specs.declared.reader.Source.{Source}
-use Rattle.js_pull.specs.declared.reader.Reader.{Reader}
 use Rattle.js_pull.specs.declared.reader.Reason.{Reason}
 use Rattle.js_pull.specs.declared.reader.Reason.TheVariants.{Low, Expired}
-use Rattle.js_pull.specs.declared.reader.InfoRequest.TheVariants.{NoInfoRequest}
 use Rattle.js_pull.specs.declared.reader.Row.TheVariants as read
 use Rattle.js_table.specs.declared.setup.Settings.{Settings}
 use Rattle.js_table.specs.declared.setup.OrderedSetup.TheVariants.{Pull}
 use Rattle.js_table.specs.declared.consumer.ReplayInput.{ReplayInput}
-use Rattle.js_table.specs.declared.consumer.Phase.{Phase}
 use Rattle.js_table.specs.declared.consumer.Phase.TheVariants.{Pulls}
 use Rattle.js_table.specs.declared.event.EventKind.TheVariants as what
 use Rattle.js_table.specs.declared.row.Row.TheVariants.{Event, Read}

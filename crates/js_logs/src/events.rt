@@ -12,8 +12,14 @@ use js_mirror::Mirror;
 use js_table::{Event, EventKind};
 use std::alloc::{AllocError, Global};
 
-/// The acknowledgement subject of the message with this sequence and number.
-fn reply(
+/// The acknowledgement subject, in the short form, of a stream's message with this sequence that a consumer is sent as its
+/// message with this number: sent once, stored at the moment 0, with none behind it. The names are taken as they are: where
+/// one has a dot, the subject says something else.
+///
+/// # Errors
+///
+/// Want of memory.
+pub fn ack_subject(
     alloc: Global,
     stream: &str,
     name: &str,
@@ -36,7 +42,7 @@ fn message(
     ensures message { IfOk result (λ message. message ≡ relayed.message stream.now name.now number entry.now) }
     ensures fits { entry.now.sequence < 2 ^ 64 }
 {
-    let reply = Subject::from(reply(alloc, stream, name, entry.sequence, number)?);
+    let reply = Subject::from(ack_subject(alloc, stream, name, entry.sequence, number)?);
     Ok(Message {
         subject: entry.subject.try_clone()?,
         reply: Some(reply),

@@ -7,7 +7,7 @@ mod projection;
 mod worked;
 mod yields;
 
-pub use events::relay;
+pub use events::{ack_subject, relay};
 pub use projection::{RunProjection, project};
 pub use worked::worked_tables;
 pub use yields::entry_of;

@@ -20,10 +20,11 @@ pub told : (left : Option (List ℕ)) (read : List ℕ) (P : List ℕ → Type 0
 told None read P whole h = tt
 told (Some bytes) read P whole h = subst P whole h
 
-not_long : (n : ℕ) → n ≤ 67_108_864 → nat_lt 67_108_864 n ≡ false
+-- the program reads up to 64 MiB
+pub not_long : (n : ℕ) → n ≤ 67_108_864 → nat_lt 67_108_864 n ≡ false
 not_long n within = grind (arith, nat_tests)
 
-is_long : (n : ℕ) → 67_108_864 < n → nat_lt 67_108_864 n ≡ true
+pub is_long : (n : ℕ) → 67_108_864 < n → nat_lt 67_108_864 n ≡ true
 is_long n above = grind (arith, nat_tests)
 
 abbrev pub reply_status : CommandOutcome → Status

@@ -1,14 +1,11 @@
 -- What lines in their shortest form say.
-use Rattle.std.proofs.Common.{◌≡◌, ℕ, ◌^◌, ◌<◌, ◌≤◌, ◌++◌, List, [], ◌∷◌, Some, codes, decimal, option_and_then, refl, sym, ap, true, ◌∙◌, arith, append-nil, append_assoc}
+use Rattle.std.proofs.Common.{◌≡◌, ℕ, ◌^◌, ◌<◌, ◌++◌, List, [], ◌∷◌, Some, codes, decimal, refl, sym, ap, true, ◌∙◌, arith, append_assoc}
 use Rattle.std.specs.Str.{IsUtf8, is_utf8, chars}
 use lib.Utf8.{encode}
-use Rattle.std.proofs.lemmas.Fmt.{IsAscii-decimal}
-use Rattle.std.proofs.lemmas.Str.{IsUtf8-append, IsUtf8-from_ascii, IsUtf8-from_is_utf8, is_utf8-from_IsUtf8}
+use Rattle.std.proofs.lemmas.Str.{IsUtf8-append, IsUtf8-from_is_utf8, is_utf8-from_IsUtf8}
 use Rattle.json.specs.Json as json
 use Rattle.json.specs.Print.{print, print_from, escape_byte, escape}
-use Rattle.json.specs.Tree.{json_tokens, depth, HasNumbers}
-use Rattle.json.proofs.Printed.Tokens.{tokens-print}
-use Rattle.json.proofs.Printed.Trees.{value-json_tokens, ArePrintable-json_tokens}
+use Rattle.json.specs.Tree.{json_tokens}
 use Rattle.json.proofs.Printed.Decimals.{IsNumber-decimal}
 use Rattle.serde_json.specs.Data.{Data, unsigned, number, string, object, no_members, member}
 use Rattle.serde_json.specs.Read.{read, of_json}
@@ -20,21 +17,12 @@ use Rattle.js_tool.specs.Members.{only, line_as}
 use Rattle.js_tool.specs.Messages.{message_fields}
 use Rattle.js_tool.specs.Events.{arrival_fields, with_key, what_fields, event_fields}
 use Rattle.js_tool.specs.Compact.{IsPlain, Says, plain_message, tick_text, arrival_rest, arrival_text}
-
--- a printed value reads as what it was printed from
-read_printed : (j : json.Json) → HasNumbers j → depth j ≤ 127 → read (print (json_tokens j)) ≡ of_json j
-read_printed j numbers shallow =
-    ap (λ r. option_and_then of_json (option_and_then (λ p. json.if_last p.0 p.1) r))
-    (ap (json.value 127) (tokens-print (json_tokens j) (ArePrintable-json_tokens j numbers) ∙ sym (append-nil (json_tokens j)))
-    ∙ value-json_tokens j 127 [] shallow)
+use Rattle.js_tool.proofs.Printed.{digits_utf8, read_printed}
 
 -- ---- UTF-8
 
 utf8 : (text : List ℕ) → is_utf8 text ≡ true → IsUtf8 text
 utf8 text is = IsUtf8-from_is_utf8 text is
-
-number_utf8 : (n : ℕ) → n < 2 ^ 64 → IsUtf8 (decimal n)
-number_utf8 n small = IsUtf8-from_ascii (decimal n) (IsAscii-decimal n small)
 
 -- ---- a bare tick
 
@@ -58,7 +46,7 @@ tick_utf8 : (at : ℕ) → at < 2 ^ 64 → IsUtf8 (tick_text at)
 unfolding is_utf8 chars encode
 tick_utf8 at small =
     IsUtf8-append (codes "{\"at\":") (decimal at ++ codes "}") (utf8 (codes "{\"at\":") refl)
-    (IsUtf8-append (decimal at) (codes "}") (number_utf8 at small) (utf8 (codes "}") refl))
+    (IsUtf8-append (decimal at) (codes "}") (digits_utf8 at small) (utf8 (codes "}") refl))
 
 tick_said : (at : ℕ) → at < 2 ^ 64 → IsUtf8 (tick_text at) → Says (tick_text at) at what.Tick
 unfolding value_of float_free line_as event_fields what_fields with_key required given natural
@@ -112,9 +100,9 @@ arrival_utf8 at inbox reply payload a i r p =
     let c : List ℕ = decimal inbox ++ (codes ",\"reply\":\"" ++ d) in
     let eu : IsUtf8 e = quoted_utf8 payload (codes "}}") p (utf8 (codes "}}") refl) in
     let du : IsUtf8 d = quoted_utf8 reply (codes ",\"payload\":\"" ++ e) r (IsUtf8-append (codes ",\"payload\":\"") e (utf8 (codes ",\"payload\":\"") refl) eu) in
-    let cu : IsUtf8 c = IsUtf8-append (decimal inbox) (codes ",\"reply\":\"" ++ d) (number_utf8 inbox i) (IsUtf8-append (codes ",\"reply\":\"") d (utf8 (codes ",\"reply\":\"") refl) du) in
+    let cu : IsUtf8 c = IsUtf8-append (decimal inbox) (codes ",\"reply\":\"" ++ d) (digits_utf8 inbox i) (IsUtf8-append (codes ",\"reply\":\"") d (utf8 (codes ",\"reply\":\"") refl) du) in
     IsUtf8-append (codes "{\"at\":") (decimal at ++ arrival_rest inbox reply payload) (utf8 (codes "{\"at\":") refl)
-    (IsUtf8-append (decimal at) (arrival_rest inbox reply payload) (number_utf8 at a)
+    (IsUtf8-append (decimal at) (arrival_rest inbox reply payload) (digits_utf8 at a)
     (IsUtf8-append (codes ",\"arrival\":{\"inbox\":") c (utf8 (codes ",\"arrival\":{\"inbox\":") refl) cu))
 
 arrival_says : (at inbox : ℕ) (reply payload : List ℕ) → at < 2 ^ 64 → inbox < 2 ^ 64 → IsPlain reply payload → IsUtf8 reply → IsUtf8 payload

@@ -3,3 +3,4 @@ mod Compact
 mod Headers
 mod Loop
 pub mod Passing
+pub mod Printed

@@ -1,5 +1,5 @@
 -- Line after line: what was passed, its text, and what the lines that are left say.
-use Rattle.std.proofs.Common.{◌≡◌, ℕ, suc, ◌+◌, ◌≤◌, Bool, List, [], ◌∷◌, ◌++◌, length, flat_map, refl, sym, ap, subst, ◌∙◌, append_assoc, append-nil, length-append, arith}
+use Rattle.std.proofs.Common.{◌≡◌, ℕ, suc, ◌+◌, ◌≤◌, Bool, List, [], ◌∷◌, ◌++◌, length, flat_map, refl, sym, ap, ◌∙◌, append_assoc, append-nil, length-append, arith}
 use Rattle.std.specs.Prelude.{Result, Ok, Err, IfOk}
 use Rattle.js_table.specs.declared.consumer.ReplayInput.{ReplayInput}
 use Rattle.js_ordered.specs.declared.incremental_replay.IncrementalReplay.{IncrementalReplay}
@@ -17,13 +17,12 @@ use Rattle.js_tool.specs.declared.transcript.Transcript.{Transcript}
 use Rattle.js_tool.specs.declared.transcript.setup.Setup.{Setup}
 use Rattle.js_tool.specs.declared.transcript.Unread.{Unread}
 use Rattle.js_tool.specs.declared.transcript.Unread.TheVariants as unread
-use Rattle.js_tool.specs.Events.{event_line}
 use Rattle.js_io.specs.Lines.{lines_of}
 use Rattle.js_tool.specs.Setups.{setup_line}
 use Rattle.js_tool.specs.Program.{given, IsReply}
 use Rattle.js_tool.specs.Progress.{text_so_far, HasPassed, read_after, PassesTo, StopsOn, IsReplyOn, IsReplyTo}
 use Rattle.js_tool.specs.Texts.{output_text, step_text, steps_text, last_line, run_text}
-use Rattle.js_tool.specs.Transcripts.{◌>>=◌, numbered, events_from, with_lines, after_lines, StopsAt, transcript, transcript_of}
+use Rattle.js_tool.specs.Transcripts.{◌>>=◌, numbered, events_from, with_lines, after_lines, transcript, transcript_of}
 use Rattle.js_tool.proofs.Called.{done_reply, refused_reply}
 
 -- ---- the text
@@ -45,9 +44,9 @@ steps_text_on n (x ∷ steps) step =
     ∙ sym (append_assoc (step_text n x) (steps_text (n + 1) steps) (step_text (n + suc (length steps)) step))
 
 -- so the opening's text is there at first
-pub text_opens : (g : ReplayInput) (start number : ℕ) (course : IncrementalReplay) (outputs : List Output) (text : List ℕ) → HasCome g start [] course → number ≡ 0 → outputs ≡ course.outputs → text ≡ flat_map (output_text number) outputs
+pub text_opens : (g : ReplayInput) (start number : ℕ) (replay : IncrementalReplay) (outputs : List Output) (text : List ℕ) → HasCome g start [] replay → number ≡ 0 → outputs ≡ replay.outputs → text ≡ flat_map (output_text number) outputs
     → text ≡ text_so_far (fold g start [])
-text_opens g start number course outputs text come first put says =
+text_opens g start number replay outputs text come first put says =
     says ∙ ap (λ (n : ℕ). flat_map (output_text n) outputs) first ∙ ap (flat_map (output_text 0)) (put ∙ come.outputs) ∙ sym (text_first g start)
 
 -- one event adds the text of its step
@@ -68,10 +67,10 @@ text_on g start es e =
     one_more es e = sym (simp length-append (omega arith))
 
 -- so it is there after one more
-pub text_passes : (g : ReplayInput) (start : ℕ) (es : List Event) (e : Event) (old : Progress) (number : ℕ) (course : IncrementalReplay) (outputs : List Output) (text : List ℕ)
-    → HasPassed g start es old → HasCome g start (es ++ e ∷ []) course → number ≡ course.count → outputs ≡ course.outputs → text ≡ old.text.items ++ flat_map (output_text number) outputs
+pub text_passes : (g : ReplayInput) (start : ℕ) (es : List Event) (e : Event) (old : Progress) (number : ℕ) (replay : IncrementalReplay) (outputs : List Output) (text : List ℕ)
+    → HasPassed g start es old → HasCome g start (es ++ e ∷ []) replay → number ≡ replay.count → outputs ≡ replay.outputs → text ≡ old.text.items ++ flat_map (output_text number) outputs
     → text ≡ text_so_far (fold g start (es ++ e ∷ []))
-text_passes g start es e old number course outputs text passed come counted put says =
+text_passes g start es e old number replay outputs text passed come counted put says =
     says
     ∙ ap (λ (before : List ℕ). before ++ flat_map (output_text number) outputs) passed.text
     ∙ ap (λ (n : ℕ). text_so_far (fold g start es) ++ flat_map (output_text n) outputs) (counted ∙ come.count)
@@ -85,53 +84,16 @@ text_ends g start es =
     ap (λ (n : ℕ). text_so_far (fold g start es) ++ last_line (fold g start es).ended n) (steps_count g start es)
 
 -- and so the whole text is there at the end
-pub text_done : (g : ReplayInput) (start : ℕ) (es : List Event) (p : Progress) (ended : Bool) (number : ℕ) (text : List ℕ) → HasPassed g start es p → ended ≡ (fold g start es).ended → number ≡ p.course.value.count
+pub text_done : (g : ReplayInput) (start : ℕ) (es : List Event) (p : Progress) (ended : Bool) (number : ℕ) (text : List ℕ) → HasPassed g start es p → ended ≡ (fold g start es).ended → number ≡ p.replay.value.count
     → text ≡ p.text.items ++ last_line ended number → text ≡ run_text (fold g start es)
 text_done g start es p ended number text passed ends counted says =
     says
     ∙ ap (λ (before : List ℕ). before ++ last_line ended number) passed.text
     ∙ ap (λ (b : Bool). text_so_far (fold g start es) ++ last_line b number) ends
-    ∙ ap (λ (n : ℕ). text_so_far (fold g start es) ++ last_line (fold g start es).ended n) (counted ∙ passed.course.count)
+    ∙ ap (λ (n : ℕ). text_so_far (fold g start es) ++ last_line (fold g start es).ended n) (counted ∙ passed.replay.count)
     ∙ sym (text_ends g start es)
 
 -- ---- lines
-
-first_read : (es : List Event) (e : Event) (reading : Result (List Event) ℕ) → after_lines es (reading >>= λ events. Ok (e ∷ events)) ≡ after_lines (es ++ e ∷ []) reading
-first_read es e (Ok events) = ap Ok (sym (append_assoc es (e ∷ []) events))
-first_read es e (Err n) = refl
-
-line_reads : (n next : ℕ) (es : List Event) (e : Event) (line : Result Event ℕ) (lines : List (List ℕ)) → line ≡ Ok e → n + 1 ≡ next
-    → after_lines es (line >>= λ event. events_from (n + 1) lines >>= λ events. Ok (event ∷ events)) ≡ after_lines (es ++ e ∷ []) (events_from next lines)
-line_reads n next es e line lines reads at =
-    ap (λ (r : Result Event ℕ). after_lines es (r >>= λ event. events_from (n + 1) lines >>= λ events. Ok (event ∷ events))) reads
-    ∙ first_read es e (events_from (n + 1) lines)
-    ∙ ap (λ (k : ℕ). after_lines (es ++ e ∷ []) (events_from k lines)) at
-
--- a line is read after others
-read_one : (es : List Event) (e : Event) (line : List ℕ) (lines : List (List ℕ)) → numbered (length es + 2) (event_line line) ≡ Ok e
-    → read_after es (line ∷ lines) ≡ read_after (es ++ e ∷ []) lines
-read_one es e line lines reads = line_reads (length es + 2) (length (es ++ e ∷ []) + 2) es e (numbered (length es + 2) (event_line line)) lines reads (sym (simp length-append (omega arith)))
-
-read_none : (n : ℕ) (es : List Event) (line : Result Event ℕ) (rest : Event → Result (List Event) ℕ) → line ≡ Err n → after_lines es (line >>= rest) ≡ Err n
-read_none n es line rest fails = ap (λ (r : Result Event ℕ). after_lines es (r >>= rest)) fails
-
--- ---- passing
-
--- a line that reads is passed with its event
-pub line_passes : (old new : Progress) (line : List ℕ) (number : ℕ) (e : Event) → number ≡ old.course.value.count + 2 → numbered number (event_line line) ≡ Ok e
-    → ((g : ReplayInput) (start : ℕ) (es : List Event) → HasPassed g start es old → HasPassed g start (es ++ e ∷ []) new)
-    → PassesTo old (line ∷ []) new []
-line_passes old new line number e is reads passes = λ g start es passed.
-    let at : number ≡ length es + 2 = is ∙ ap (λ (n : ℕ). n + 2) passed.course.count in
-    (es ++ e ∷ [], passes g start es passed, λ more. read_one es e line more (subst (λ (n : ℕ). numbered n (event_line line) ≡ Ok e) at reads))
-
--- or stops
-pub line_stops : (old : Progress) (line : List ℕ) (number : ℕ) (e : Unread) → number ≡ old.course.value.count + 2 → StopsAt e (numbered number (event_line line)) → StopsOn old (line ∷ []) e
-line_stops old line number unread.OutOfMemory is fails = tt
-line_stops old line number (unread.BadLine n) is fails = λ g start es passed more.
-    let at : number ≡ length es + 2 = is ∙ ap (λ (n : ℕ). n + 2) passed.course.count in
-    let here : numbered (length es + 2) (event_line line) ≡ Err n = subst (λ (k : ℕ). numbered k (event_line line) ≡ Err n) at fails in
-    read_none n es (numbered (length es + 2) (event_line line)) (λ event. events_from (length es + 2 + 1) more >>= λ events. Ok (event ∷ events)) here
 
 -- at first all lines are left
 pub passes_none : (p : Progress) (lines : List (List ℕ)) → PassesTo p lines p lines
@@ -157,7 +119,8 @@ read_whole : (reading : Result (List Event) ℕ) → after_lines [] reading ≡ 
 read_whole (Ok events) = refl
 read_whole (Err n) = refl
 
-whole : (lines : List (List ℕ)) → events_from 2 lines ≡ read_after [] (lines ++ [])
+-- all lines are those behind none
+pub whole : (lines : List (List ℕ)) → events_from 2 lines ≡ read_after [] (lines ++ [])
 whole lines = sym (ap (λ (all : List (List ℕ)). events_from 2 all) (append-nil lines)) ∙ sym (read_whole (events_from 2 (lines ++ [])))
 
 answered : (setup : Setup) (es : List Event) (answer : CommandOutcome) (reading : Result (List Event) ℕ) → reading ≡ Ok es → IsReplyOn (given setup) setup.start es answer

@@ -23,7 +23,7 @@ text_so_far run = step_text 0 run.opening ++ steps_text 1 run.steps
 
 -- these events were passed, and their text is there
 pub record HasPassed (g : ReplayInput) (start : ℕ) (es : List Event) (p : Progress) : Type 0 where
-  pub course : HasCome g start es p.course.value
+  pub replay : HasCome g start es p.replay.value
   pub text : p.text.items ≡ text_so_far (fold g start es)
 
 -- these events and those of the lines that follow, or the number of the first line that does not read

@@ -8,7 +8,7 @@ use js_message::read_u64;
 
 /// What the program is asked to do. It is borrowed from the words.
 #[derive(Clone, Copy)]
-pub enum Command<'a> {
+pub(crate) enum Command<'a> {
     /// To read a transcript, and to write the text of its run.
     Replay,
     /// To replay the first so many events, at most 200,000, of the transcript that a seed gives, and to write their counts.
@@ -29,7 +29,7 @@ pub enum Command<'a> {
 }
 
 /// The command that the words name, if they are in one of the forms.
-pub fn command_of(words: &[String]) -> Option<Command<'_>>
+pub(crate) fn command_of(words: &[String]) -> Option<Command<'_>>
     ensures form { option_map asked result ≡ command_in (map string_bytes words.now) }
     ensures limits { IfSome result IsWithinLimits }
 {

@@ -97,7 +97,7 @@ fn counted(alloc: Global, seed: u64, events: u64) -> Result<Summary, OutOfMemory
 }
 
 /// The line of how much the replay of a generated transcript puts out.
-pub fn summary_line(alloc: Global, summary: Summary) -> Result<Vec<u8>, AllocError>
+pub(crate) fn summary_line(alloc: Global, summary: Summary) -> Result<Vec<u8>, AllocError>
     ensures { IfOk result (λ line. line.items ≡ summary_text summary) }
 {
     let mut out = Vec::new(alloc);

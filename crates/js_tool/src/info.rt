@@ -40,7 +40,7 @@ pub(crate) fn tell_info<K: Sink>(alloc: Global, subject: &str, output: &mut K) -
 }
 
 /// The line of what a subject says.
-pub fn info_line(alloc: Global, info: &Info) -> Result<Vec<u8>, AllocError>
+pub(crate) fn info_line(alloc: Global, info: &Info) -> Result<Vec<u8>, AllocError>
     ensures { IfOk result (λ line. line.items ≡ info_text (shown info.now)) }
 {
     let mut out = Vec::new(alloc);
@@ -73,7 +73,7 @@ fn text_or_none(text: Option<&str>) -> Cell<'_>
 }
 
 /// The line of a subject that is no acknowledgement subject.
-pub fn error_line(alloc: Global, error: InfoError) -> Result<Vec<u8>, AllocError>
+pub(crate) fn error_line(alloc: Global, error: InfoError) -> Result<Vec<u8>, AllocError>
     ensures { IfOk result (λ line. line.items ≡ error_text error) }
 {
     let mut out = Vec::new(alloc);

@@ -11,9 +11,7 @@ mod text;
 mod transcript;
 mod window;
 
-pub use command::{Command, command_of, read_number};
-pub use generate::summary_line;
-pub use info::{error_line, info_line};
+pub use command::read_number;
 pub use js_io::{
     Failed, MemorySink, MemorySource, Pieces, PlainSink, PlainSource, ReadSource, Sink, Source,
     WriteSink,
@@ -21,8 +19,7 @@ pub use js_io::{
 pub use js_workers::{Gate, Open, WindowCounts, run_window, take_calls};
 pub use program::{run, run_plain};
 pub use status::Status;
-pub use text::{Cell, push_end, push_line, push_outputs, push_quoted, refusal_line};
+pub use text::{Cell, field_text, push_end, push_line, push_outputs, push_quoted, refusal_line};
 pub use transcript::{
     Payloads, Setup, Transcript, Unread, event_line, first_line, next_line, setup_line,
 };
-pub use window::window_line;

@@ -21,7 +21,7 @@ use std::alloc::{AllocError, Global};
 #[derive(Drop)]
 pub(crate) struct Progress<'s> {
     // On the heap, so that it is moved with little.
-    course: Box<IncrementalReplay<'s>>,
+    replay: Box<IncrementalReplay<'s>>,
     text: Vec<u8>,
 }
 
@@ -36,19 +36,19 @@ impl<'s> Progress<'s> {
             &setup.first,
             setup.start,
         )?;
-        let course = Box::new(alloc, opened)?;
+        let replay = Box::new(alloc, opened)?;
         let mut text = Vec::new(alloc);
-        push_outputs(&mut text, 0, course.outputs())?;
-        Ok(Progress { course, text })
+        push_outputs(&mut text, 0, replay.outputs())?;
+        Ok(Progress { replay, text })
     }
 
     fn pass(&mut self, alloc: Global, event: &Event) -> Result<(), OutOfMemory>
         ensures passed { (g : ReplayInput) → (start : ℕ) → (es : List events.Event) → HasPassed g start es self.old
             → OnOk result (HasPassed g start (es ++ event.now ∷ []) self.new) }
-        ensures counted { OnOk result (self.new.course.value.count ≡ self.old.course.value.count + 1) }
+        ensures counted { OnOk result (self.new.replay.value.count ≡ self.old.replay.value.count + 1) }
     {
-        self.course.advance(alloc, event)?;
-        push_outputs(&mut self.text, self.course.count(), self.course.outputs())?;
+        self.replay.advance(alloc, event)?;
+        push_outputs(&mut self.text, self.replay.count(), self.replay.outputs())?;
         Ok(())
     }
 
@@ -57,10 +57,10 @@ impl<'s> Progress<'s> {
         ensures { (g : ReplayInput) → (start : ℕ) → (es : List events.Event) → HasPassed g start es self.entry
             → IfOk result (λ reply. IsReplyOn g start es reply) }
     {
-        let Progress { course, mut text } = self;
-        match course.end() {
+        let Progress { replay, mut text } = self;
+        match replay.end() {
             Ok(ended) => {
-                push_end(&mut text, ended, course.count())?;
+                push_end(&mut text, ended, replay.count())?;
                 Ok(CommandOutcome::Done(text))
             }
             Err(refusal) => Ok(CommandOutcome::Refused(refusal_line(alloc, refusal)?)),
@@ -74,11 +74,11 @@ fn pass_line(
     progress: &mut Progress<'_>,
     line: &[u8],
 ) -> Result<(), Unread>
-    requires { progress.old.course.value.count ≤ 67_108_864 }
+    requires { progress.old.replay.value.count ≤ 67_108_864 }
     ensures lines { PassesLines progress.old (line.now ∷ []) progress.new result }
-    ensures counted { OnOk result (progress.new.course.value.count ≡ progress.old.course.value.count + 1) }
+    ensures counted { OnOk result (progress.new.replay.value.count ≡ progress.old.replay.value.count + 1) }
 {
-    let number = progress.course.count() + 2;
+    let number = progress.replay.count() + 2;
     let event = next_line(alloc, payloads, number, line)?;
     let passed = progress.pass(alloc, &event);
     drop(event);
@@ -95,9 +95,9 @@ fn pass_lines(
     progress: &mut Progress<'_>,
     bytes: &[u8],
 ) -> Result<(), Unread>
-    requires { progress.old.course.value.count + length bytes.now ≤ 67_108_864 }
+    requires { progress.old.replay.value.count + length bytes.now ≤ 67_108_864 }
     ensures lines { PassesLines progress.old (lines_of bytes.now) progress.new result }
-    ensures counted { OnOk result (progress.new.course.value.count ≤ progress.old.course.value.count + length bytes.now) }
+    ensures counted { OnOk result (progress.new.replay.value.count ≤ progress.old.replay.value.count + length bytes.now) }
 {
     let mut rest = bytes;
     while !rest.is_empty() {
@@ -116,7 +116,7 @@ fn pass_pieces(
     piece: &[u8],
     bytes: &mut Pieces,
 ) -> Result<(), Unread>
-    requires { progress.old.course.value.count + length piece.now + length bytes.old ≤ 67_108_864 }
+    requires { progress.old.replay.value.count + length piece.now + length bytes.old ≤ 67_108_864 }
     ensures { PassesLines progress.old (lines_of piece.now ++ lines_of bytes.old) progress.new result }
 {
     match pass_lines(alloc, payloads, progress, piece) {
@@ -140,7 +140,7 @@ fn pass_all(
     piece: &[u8],
     mut bytes: Pieces,
 ) -> Result<(), Unread>
-    requires { progress.old.course.value.count + length piece.now + length bytes ≤ 67_108_864 }
+    requires { progress.old.replay.value.count + length piece.now + length bytes ≤ 67_108_864 }
     ensures { PassesLines progress.old (lines_of piece.now ++ lines_of bytes) progress.new result }
 {
     let mut payloads = Payloads::new(alloc);

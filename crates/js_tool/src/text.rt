@@ -258,7 +258,8 @@ fn refusal_cells(refusal: ReplayError) -> (&'static [u8], Option<Cell<'static>>)
     }
 }
 
-fn field_text(field: Field) -> &'static [u8]
+/// The name of a setting, as the line of a refusal has it.
+pub fn field_text(field: Field) -> &'static [u8]
     ensures { result.now ≡ field_name field }
 {
     match field {

@@ -45,7 +45,7 @@ pub(crate) fn tell_window<R: Threads + Wait + Sync, K: Sink>(
 }
 
 /// The line of the counts of threads on a window.
-pub fn window_line(
+pub(crate) fn window_line(
     alloc: Global,
     capacity: u64,
     threads: u64,

@@ -1,6 +1,5 @@
 -- What an input calls for, by what it says, and what was answered to it.
-use Rattle.std.proofs.Common.{◌≡◌, ℕ, ◌<◌, ◌≤◌, inl, inr, List, [], length, true, false, nat_lt, Option, Some, None, IfSome, Result, Ok, Err, OnOk, OnErr, refl, subst, sym, ap, ◌∙◌, arith, rules}
-use Rattle.std.proofs.lemmas.Bool.Decides.{nat_tests}
+use Rattle.std.proofs.Common.{◌≡◌, ℕ, ◌<◌, ◌≤◌, inl, inr, List, [], length, Option, Some, None, IfSome, Result, Ok, Err, OnOk, OnErr, refl, subst, sym, ap, ◌∙◌, rules}
 use Rattle.std.specs.Io.KnownBytes.{Appends, IsAtEnd}
 use Rattle.js_io.specs.Causes.{Rose, AppendsPrefix}
 use Rattle.js_tool.specs.declared.status.Status.{Status}
@@ -8,19 +7,13 @@ use Rattle.js_tool.specs.declared.status.Status.TheVariants as status
 use Rattle.js_tool.specs.declared.transcript.Unread.{Unread}
 use Rattle.js_tool.specs.declared.transcript.Unread.TheVariants as unread
 use Rattle.js_tool.specs.Program.{WritesUnlessFault}
-use Rattle.js_tool.proofs.Called.{told}
+use Rattle.js_tool.proofs.Called.{told, not_long, is_long}
 use Rattle.js_words.specs.declared.report.Report.{Report}
 use Rattle.js_words.specs.declared.report.Report.TheVariants as report
 use Rattle.js_words.specs.Commands.{Wanted}
 use Rattle.js_words.specs.OnSessions.{AnswersSessions}
 use Rattle.js_words.specs.Reports.{Reports}
 use Rattle.js_words.specs.Told.{Writes, AnswersBytes, AnswersSource, AnswersLog, report_status, called_for}
-
-not_long : (n : ℕ) → n ≤ 67_108_864 → nat_lt 67_108_864 n ≡ false
-not_long n within = grind (arith, nat_tests)
-
-is_long : (n : ℕ) → 67_108_864 < n → nat_lt 67_108_864 n ≡ true
-is_long n above = grind (arith, nat_tests)
 
 -- ---- what bytes call for
 

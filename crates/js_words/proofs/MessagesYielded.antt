@@ -1,5 +1,5 @@
 -- What holds of the subject and the payload of each message that arrives holds of each yield.
-use Rattle.std.proofs.Common.{◌≡◌, ℕ, zero, suc, ◌+◌, Bool, true, false, List, [], ◌∷◌, ◌++◌, map, Option, Some, None, subst}
+use Rattle.std.proofs.Common.{ℕ, zero, suc, ◌+◌, Bool, true, false, List, [], ◌∷◌, ◌++◌, map, Option, Some, None, subst}
 use Rattle.std.specs.Prelude.{⊤, IfSome, nat_lt, is_some, ◌||◌, ◌==◌}
 use Rattle.std.specs.List.{AllByRecursion}
 use Rattle.js_base.specs.declared.clock.Timer.{Timer}
@@ -11,8 +11,6 @@ use Rattle.js_link.specs.Passing.{Passing}
 use Rattle.js_link.specs.declared.sent.Sent.{Sent}
 use Rattle.js_link.specs.declared.sent.Sent.TheVariants as goes
 use Rattle.js_message.specs.Ack.{Place, readable_as}
-use Rattle.js_pull.specs.Kind.{pull_kind}
-use Rattle.js_pull.specs.declared.kind.Kind.TheVariants as kind
 use Rattle.js_pull.specs.Reader as pull
 use Rattle.js_pull.specs.declared.reader.Reader.{Reader as PullReader}
 use Rattle.js_pull.specs.declared.reader.Row.{Row as PullRow}
@@ -48,7 +46,7 @@ use Rattle.js_table.specs.Reading.{message_row, told, with_sent, push_kind, beat
 use Rattle.js_table.specs.Recreation.{start_row, try_row, create_row, ask_row, succeed_row, succeed_pull, succeed_push, fail_row, message_on, hold, held_in, stage_rows, recreation_rows, created, answered, has_subject}
 use Rattle.js_table.specs.State.{Matter, Change, Unchanged, Becomes, WatcherEnds, Passed, at_phase, output_of}
 use Rattle.js_table.specs.Turn.{push_rows, go_on, is_connected, changed, watcher_ended, event_change, event_row, same_state, reader_row, row_at, pass}
-use Rattle.js_table.proofs.Keeps.{IsRead, row_read}
+use Rattle.js_table.proofs.Keeps.{HandsOnly, IsRead, row_read}
 use Rattle.js_table.proofs.Rewritten.{if_both, if_each, all_append, all_in_place}
 
 -- ---- where a message stands
@@ -82,11 +80,6 @@ record Keeps (P : List ℕ → List ℕ → Type 0) (passed : Passed) : Type 0 w
   phase : IsPhase P passed.consumer.phase
   rows : AllByRecursion (IsRow P) passed.next
   outputs : AllByRecursion (IsOutput P) passed.outputs
-
--- a reader hands out only what arrived
-abbrev HandsOnly : Option Message → PullTold → Type 0
-HandsOnly arrival (tells.Hands message) = (arrival ≡ Some message) × (pull_kind message ≡ kind.Delivered)
-HandsOnly arrival _ = ⊤
 
 module _ (P : List ℕ → List ℕ → Type 0) where
   -- ---- recreations

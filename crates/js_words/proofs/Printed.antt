@@ -1,25 +1,23 @@
 -- What the compact text of a value is: on one line, UTF-8, and read as the value.
-use Rattle.std.proofs.Common.{◌≡◌, ℕ, zero, suc, ◌^◌, ◌<◌, ◌≤◌, ◌==◌, Bool, true, false, not, ◌&&◌, nat_lt, List, [], ◌∷◌, ◌++◌, decimal, option_and_then, inl, inr, refl, sym, ap, ◌∙◌, arith, append-nil}
+use Rattle.std.proofs.Common.{◌≡◌, ℕ, zero, suc, ◌^◌, ◌<◌, ◌≤◌, ◌==◌, Bool, true, false, not, ◌&&◌, nat_lt, List, [], ◌∷◌, ◌++◌, decimal, inl, inr, refl, sym, ap, ◌∙◌, arith}
 use Rattle.std.specs.Prelude.{⊤}
 use Rattle.std.specs.Int.{IsInRange}
 use Rattle.std.specs.Str.{IsUtf8}
 use Rattle.std.specs.Str.Parse.{AllDigits}
 use Rattle.std.proofs.lemmas.Bool.{and_parts, cases_lt, cases_eq}
-use Rattle.std.proofs.lemmas.Fmt.{decimal_is_IsNumeral, IsAscii-decimal}
-use Rattle.std.proofs.lemmas.Str.{IsUtf8-append, IsUtf8-from_ascii}
+use Rattle.std.proofs.lemmas.Fmt.{decimal_is_IsNumeral}
+use Rattle.std.proofs.lemmas.Str.{IsUtf8-append}
 use Rattle.std.proofs.lemmas.Str.Parse.{digit_from_value}
-use Rattle.json.specs.Json as json
-use Rattle.json.specs.Print.{print, escape_byte, escape, quoted}
-use Rattle.json.specs.Tree.{json_tokens, depth, HasNumbers, ItemsHaveNumbers, MembersHaveNumbers}
+use Rattle.json.specs.Print.{escape_byte, escape, quoted}
+use Rattle.json.specs.Tree.{depth, HasNumbers, ItemsHaveNumbers, MembersHaveNumbers}
 use Rattle.json.proofs.Printed.Decimals.{IsNumber-decimal}
 use Rattle.json.proofs.Printed.Strings.{escape_byte_plain}
-use Rattle.json.proofs.Printed.Tokens.{tokens-print}
-use Rattle.json.proofs.Printed.Trees.{value-json_tokens, ArePrintable-json_tokens}
 use Rattle.json.proofs.Printed.Utf8.{IsUtf8-are_ascii, IsUtf8-quoted}
 use Rattle.serde_json.specs.Data.{Data, null, boolean, unsigned, negative, float, number, string, array, object, Items, no_items, item, Members, no_members, member}
 use Rattle.serde_json.specs.Read.{read, of_json}
 use Rattle.serde_json.specs.Written.{outline, items_outline, members_outline, compact_text, items_text, members_text}
 use Rattle.serde_json.proofs.Texts.{print-outline}
+use Rattle.js_tool.proofs.Printed.{digits_utf8, read_printed}
 
 -- ---- values of texts and of whole numbers
 
@@ -76,9 +74,6 @@ module _ (P Q : List ℕ → Type 0) (joined : (xs ys : List ℕ) → P xs → P
 
 one_utf8 : (x : ℕ) → nat_lt x 128 ≡ true → (x == 10) ≡ false → IsUtf8 (x ∷ [])
 one_utf8 x small other = IsUtf8-are_ascii (x ∷ []) (rw small refl)
-
-digits_utf8 : (n : ℕ) → n < 2 ^ 64 → IsUtf8 (decimal n)
-digits_utf8 n small = IsUtf8-from_ascii (decimal n) (IsAscii-decimal n small)
 
 -- the text is UTF-8 where its texts are
 pub text_utf8 : (d : Data) → IsSimple IsUtf8 d → IsUtf8 (compact_text d)
@@ -194,13 +189,6 @@ mutual
   members_have_numbers : (ms : Members) → MembersAreSimple IsUtf8 ms → MembersHaveNumbers (members_outline ms)
   members_have_numbers no_members h = tt
   members_have_numbers (member k d ms) h = (has_numbers d h.1.0, members_have_numbers ms h.1.1)
-
--- a printed value reads as what it was printed from
-read_printed : (j : json.Json) → HasNumbers j → depth j ≤ 127 → read (print (json_tokens j)) ≡ of_json j
-read_printed j numbers shallow =
-    ap (λ r. option_and_then of_json (option_and_then (λ p. json.if_last p.0 p.1) r))
-    (ap (json.value 127) (tokens-print (json_tokens j) (ArePrintable-json_tokens j numbers) ∙ sym (append-nil (json_tokens j)))
-    ∙ value-json_tokens j 127 [] shallow)
 
 -- the text of such a value is read as what its outline says
 pub text_read : (d : Data) → IsSimple IsUtf8 d → depth (outline d) ≤ 127 → read (compact_text d) ≡ of_json (outline d)

@@ -3,10 +3,8 @@ use Rattle.std.proofs.Common.{◌≡◌, ℕ, ◌+◌, ◌≤◌, List, [], ◌�
 use Rattle.std.specs.Prelude.{Option, Some, None, Result, Ok, Err}
 use Rattle.js_bookmark.specs.declared.session.Line.{Line}
 use Rattle.js_bookmark.specs.declared.session.Session.{Session}
-use Rattle.js_tool.specs.declared.transcript.Unread.{Unread}
-use Rattle.js_tool.specs.declared.transcript.Unread.TheVariants as unread
 use Rattle.js_tool.specs.declared.transcript.setup.Setup.{Setup}
-use Rattle.js_tool.specs.Transcripts.{◌>>=◌, numbered, StopsAt}
+use Rattle.js_tool.specs.Transcripts.{◌>>=◌, numbered}
 use Rattle.js_words.specs.declared.sessions.line.Said.{Said}
 use Rattle.js_words.specs.declared.sessions.line.Said.TheVariants.{Begins, Says}
 use Rattle.js_words.specs.declared.sessions.reader.Reader.{Reader}
@@ -32,21 +30,6 @@ said_first was is text said f left reads counted =
     ap (λ (lines : List (List ℕ)). said_from (was.number + 1) lines >>= f) left
     ∙ from_one (numbered (was.number + 1) (session_line text)) said (said_from (was.number + 1 + 1) is.lines.left) f reads
     ∙ ap (λ (n : ℕ). said_from (n + 1) is.lines.left >>= λ more. f (said ∷ more)) (sym counted)
-
-fails_first : {A : Type 0} (line : Result Said ℕ) (rest : Said → Result (List Said) ℕ) (f : List Said → Result A ℕ) (n : ℕ) → line ≡ Err n → ((line >>= rest) >>= f) ≡ Err n
-fails_first line rest f n fails = ap (λ (l : Result Said ℕ). (l >>= rest) >>= f) fails
-
--- or the first of them does not read
-pub said_stops : {A : Type 0} (was : Reader) (text : List ℕ) (left : List (List ℕ)) (e : Unread) (f : List Said → Result A ℕ) → was.lines.left ≡ text ∷ left
-    → StopsAt e (numbered (was.number + 1) (session_line text)) → StopsAt e (left_said was >>= f)
-said_stops was text left unread.OutOfMemory f is stops = tt
-said_stops was text left (unread.BadLine n) f is stops =
-    ap (λ (lines : List (List ℕ)). said_from (was.number + 1) lines >>= f) is
-    ∙ fails_first (numbered (was.number + 1) (session_line text)) (λ said. said_from (was.number + 1 + 1) left >>= λ more. Ok (said ∷ more)) f n stops
-
--- nothing is said where none is left
-pub said_none : {A : Type 0} (was : Reader) (f : List Said → Result A ℕ) → was.lines.left ≡ [] → (left_said was >>= f) ≡ f []
-said_none was f none = ap (λ (lines : List (List ℕ)). said_from (was.number + 1) lines >>= f) none
 
 -- ---- in a session
 
@@ -76,11 +59,6 @@ pub rest_setup : (done : List Session) (setup following : Setup) (lines : List L
 rest_setup done setup following lines was is text left reads counted =
     said_first was is text (Begins following) (λ more. Ok (all_of done setup lines more)) left reads counted ∙ setup_moves done setup following lines (left_said is)
 
--- no line was left
-pub rest_none : (done : List Session) (setup : Setup) (lines : List Line) (was : Reader) → was.lines.left ≡ [] → rest_of done setup lines was ≡ Ok (done ++ session_of setup lines ∷ [])
-rest_none done setup lines was none =
-    said_none was (λ more. Ok (all_of done setup lines more)) none ∙ ap (λ (some : List Line). Ok (done ++ session_of setup some ∷ [])) (append-nil lines)
-
 -- ---- so far
 
 -- from a session's lines and a reader's to those that have come since
@@ -88,9 +66,6 @@ abbrev pub Going : SessionText → Reader → SessionText → Reader → Type 0
 Going old was new is =
     (next : ℕ) (done : List Session) (setup : Setup) (lines : List Line) → HasText next done setup lines old
     → (all : List Line) × HasText next done setup all new × (rest_of done setup lines was ≡ rest_of done setup all is)
-
-pub going_none : (p : SessionText) (r : Reader) → Going p r p r
-going_none p r = λ next done setup lines has. (lines, has, refl)
 
 -- one line more
 pub going_line : (first old new : SessionText) (from was is : Reader) (text : List ℕ) (l : Line) → Going first from old was
@@ -134,13 +109,6 @@ after_said front reading = reading >>= λ more. Ok (front ++ more)
 abbrev pub HasRead : Reader → Reader → Type 0
 HasRead from is = (front : List Said) × (left_said from ≡ after_said front (left_said is))
 
-after_none : (r : Result (List Said) ℕ) → r ≡ after_said [] r
-after_none (Ok more) = refl
-after_none (Err n) = refl
-
-pub read_none : (r : Reader) → HasRead r r
-read_none r = ([], after_none (left_said r))
-
 front_moves : (front : List Said) (said : Said) (r : Result (List Said) ℕ) → (r >>= λ more. Ok (front ++ said ∷ more)) ≡ after_said (front ++ said ∷ []) r
 front_moves front said (Ok more) = ap Ok (sym (append_assoc front (said ∷ []) more))
 front_moves front said (Err n) = refl
@@ -154,12 +122,3 @@ read_one from was is text said before left reads counted =
 pub read_next : (from was is : Reader) (found : Option Said) (said : Said) → HasRead from was → found ≡ Some said → ReadsNext was is (Ok found) → HasRead from is
 read_next from was is None said before found reads = cc
 read_next from was is (Some other) said before found (text, left, reads, counted) = read_one from was is text other before left reads counted
-
-pub read_all : (from is : Reader) → HasRead from is → is.lines.left ≡ [] → (more : List Said) × (left_said from ≡ Ok more)
-read_all from is before none =
-    (before.0, before.1 ∙ said_none is (λ more. Ok (before.0 ++ more)) none ∙ ap Ok (append-nil before.0))
-
-pub read_stops : (from is : Reader) (text : List ℕ) (left : List (List ℕ)) (e : Unread) → HasRead from is → is.lines.left ≡ text ∷ left
-    → StopsAt e (numbered (is.number + 1) (session_line text)) → StopsAt e (left_said from)
-read_stops from is text left e before cut stops =
-    subst (λ (reading : Result (List Said) ℕ). StopsAt e reading) (sym before.1) (said_stops is text left e (λ more. Ok (before.0 ++ more)) cut stops)

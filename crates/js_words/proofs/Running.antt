@@ -1,5 +1,5 @@
 -- One session more, and all of them.
-use Rattle.std.proofs.Common.{◌≡◌, ℕ, List, [], ◌∷◌, ◌++◌, Option, Some, None, IfOk, refl, sym, ◌∙◌, subst}
+use Rattle.std.proofs.Common.{◌≡◌, ℕ, List, [], ◌∷◌, ◌++◌, Option, Some, None, IfOk, sym, ◌∙◌, subst}
 use Rattle.std.specs.Prelude.{Result, Ok, Err}
 use Rattle.js_bookmark.specs.declared.error.SessionsError.{SessionsError}
 use Rattle.js_bookmark.specs.declared.session.Session.{Session}
@@ -91,14 +91,6 @@ pub record HasRun (next : ℕ) (first : Setup) (from : Reader) (ended : EndedTex
   pub have : HaveText next done ended
   pub rest : rest_of [] first [] from ≡ rest_of done setup [] is
 
-pub run_first : (next : ℕ) (first : Setup) (from : Reader) (ended : EndedText) → HaveText next [] ended → HasRun next first from ended first from
-run_first next first from ended have = record { done = []; have = have; rest = refl }
-
-pub run_more : (next : ℕ) (first : Setup) (from : Reader) (ended all : EndedText) (setup following : Setup) (was is : Reader) → HasRun next first from ended setup was
-    → RunsOn ended setup was is (Ok (stage.More all following)) → HasRun next first from all following is
-run_more next first from ended all setup following was is run runs =
-    let (s, have, reads) = runs next run.done run.have in record { done = run.done ++ s ∷ []; have = have; rest = run.rest ∙ reads }
-
 pub run_last : (next : ℕ) (first : Setup) (from : Reader) (ended all : EndedText) (setup : Setup) (was is : Reader) (made : SessionsReport) → HasRun next first from ended setup was
     → RunsOn ended setup was is (Ok (stage.Last all)) → made ≡ report.Done (all.text.items ++ sessions_end all.sessions.count all.sessions.committed all.sessions.next)
     → Reports next (rest_of [] first [] from) (Ok made)
@@ -115,11 +107,6 @@ run_refused next first from ended setup was is refusal (Ok made) run runs (more,
 run_refused next first from ended setup was is refusal (Err u) run runs stops =
     subst (λ (reading : Result (List Session) ℕ). StopsAt u reading) (sym run.rest)
     (refused_stops next refusal is (rest_of run.done setup [] was) u (runs next run.done run.have).1 stops)
-
-pub run_stops : (next : ℕ) (first : Setup) (from : Reader) (ended : EndedText) (setup : Setup) (was is : Reader) (u : Unread) → HasRun next first from ended setup was
-    → RunsOn ended setup was is (Err u) → StopsAt u (rest_of [] first [] from)
-run_stops next first from ended setup was is u run runs =
-    subst (λ (reading : Result (List Session) ℕ). StopsAt u reading) (sym run.rest) (runs next run.done run.have)
 
 -- ---- the bytes
 

@@ -16,7 +16,7 @@ use Rattle.js_words.specs.declared.gathering.Ending.{Ending}
 use Rattle.js_words.specs.declared.gathering.Ending.TheVariants as ending
 use Rattle.js_words.specs.declared.report.Report.{Report}
 use Rattle.js_words.specs.declared.report.Report.TheVariants as report
-use Rattle.js_words.specs.Commands.{Wanted, Project, Mirror, Relay}
+use Rattle.js_words.specs.Commands.{Wanted, Relay}
 use Rattle.js_words.specs.LogTexts.{served_text}
 use Rattle.js_words.specs.Reports.{Fills, unless_falling}
 use Rattle.js_words.specs.Served.{HasTexts, IsServed, Serves, ServesFrom}
@@ -63,17 +63,6 @@ relayed_serves stream name setup start entries mirror text made filled reads rep
 pub all_ok : {A E : Type 0} (result : Result A E) → IfOk result (λ _. ⊤)
 all_ok (Ok x) = tt
 all_ok (Err e) = tt
-
--- where a refusal was made
-pub serves_refusal : {E : Type 0} (wanted : Wanted) (setup : OrderedSetup) (start : ℕ) (entries : List Entry) (line : List ℕ) (result : Result Report E)
-    → IfOk result (λ made. made ≡ report.Refused line) → IfOk result (λ made. Serves wanted setup start entries made)
-serves_refusal wanted setup start entries line (Ok made) is = subst (λ (r : Report). Serves wanted setup start entries r) (sym is) (no_more wanted)
-  where
-    no_more : (wanted : Wanted) → Serves wanted setup start entries (report.Refused line)
-    no_more (Project filter sequence) = tt
-    no_more Mirror = tt
-    no_more (Relay stream name) = tt
-serves_refusal wanted setup start entries line (Err e) is = tt
 
 -- without a configured start, and where the replay was refused
 pub serves_none : {E : Type 0} (wanted : Wanted) (setup : OrderedSetup) (start : Option ℕ) (end : Ending) (result : Result Report E) → start ≡ None

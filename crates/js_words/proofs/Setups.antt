@@ -4,8 +4,7 @@ use Rattle.std.specs.Prelude.{Result, Ok, Err, if◌then◌else◌}
 use Rattle.std.specs.List.{AllByRecursion}
 use Rattle.std.specs.Fmt.{digits}
 use Rattle.std.specs.Str.{IsUtf8}
-use Rattle.std.proofs.lemmas.Fmt.{IsAscii-decimal}
-use Rattle.std.proofs.lemmas.Str.{IsUtf8-append, IsUtf8-from_ascii}
+use Rattle.std.proofs.lemmas.Str.{IsUtf8-append}
 use Rattle.json.specs.Tree.{depth}
 use Rattle.json.proofs.Printed.Utf8.{IsUtf8-are_ascii}
 use Rattle.serde_json.specs.Data.{Data, string, object, Members, member}
@@ -25,6 +24,7 @@ use Rattle.js_tool.specs.Events.{event_line, event_keys, event_fields, what_fiel
 use Rattle.js_tool.specs.Members.{only, line_as}
 use Rattle.js_tool.specs.Messages.{message_fields}
 use Rattle.js_tool.specs.Setups.{mode_named, settings_fields, ordered_setup, setup_keys, setup_with, setup_fields, setup_line}
+use Rattle.js_tool.proofs.Printed.{digits_utf8}
 use Rattle.js_words.specs.SetupData.{with_filter, with_filters, start_member, config_data, nowhere_data, info_data, setup_data}
 use Rattle.js_words.specs.SetupRead.{relay_config, relay_info}
 use Rattle.js_words.specs.RelayText.{arrival_data}
@@ -164,9 +164,6 @@ setup_reads stream name filter filters start s n one more small =
     )
 
 -- ---- an arrival
-
-digits_utf8 : (n : ℕ) → n < 2 ^ 64 → IsUtf8 (decimal n)
-digits_utf8 n small = IsUtf8-from_ascii (decimal n) (IsAscii-decimal n small)
 
 reply_utf8 : (stream name : List ℕ) (sequence number : ℕ) → IsUtf8 stream → IsUtf8 name → sequence < 2 ^ 64 → number < 2 ^ 64 → IsUtf8 (reply stream name sequence number)
 reply_utf8 stream name sequence number s n small low =

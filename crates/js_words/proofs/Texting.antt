@@ -28,23 +28,23 @@ use Rattle.js_words.specs.SessionTexts.{bookmark_text, session_text, texts}
 
 -- ---- the opening
 
-pub text_begins : (next : ℕ) (done : List Session) (setup : Setup) (course : SessionReplay) (outputs : List Output) (before text : List ℕ) → before ≡ texts next done
-    → HasComeTo next done (session_of setup []) course → outputs ≡ course.course.outputs → text ≡ before ++ flat_map (output_text 0) outputs
+pub text_begins : (next : ℕ) (done : List Session) (setup : Setup) (replay : SessionReplay) (outputs : List Output) (before text : List ℕ) → before ≡ texts next done
+    → HasComeTo next done (session_of setup []) replay → outputs ≡ replay.replay.outputs → text ≡ before ++ flat_map (output_text 0) outputs
     → text ≡ texts next done ++ text_so_far (run_of (session_of setup []))
-text_begins next done setup course outputs before text were come put says =
+text_begins next done setup replay outputs before text were come put says =
     let g : ReplayInput = given_of (session_of setup []) in
     says
     ∙ ap (λ (some : List ℕ). some ++ flat_map (output_text 0) outputs) were
-    ∙ ap (λ (some : List Output). texts next done ++ flat_map (output_text 0) some) (put ∙ come.course.outputs)
+    ∙ ap (λ (some : List Output). texts next done ++ flat_map (output_text 0) some) (put ∙ come.replay.outputs)
     ∙ ap (λ (some : List ℕ). texts next done ++ some) (sym (text_first g setup.start))
 
 -- ---- one line more
 
-pub text_event : (next : ℕ) (done : List Session) (setup : Setup) (lines : List Line) (e : Event) (course : SessionReplay) (number : ℕ) (outputs : List Output) (before text : List ℕ)
-    → before ≡ texts next done ++ text_so_far (run_of (session_of setup lines)) → HasComeTo next done (session_of setup (lines ++ line.Event e ∷ [])) course
-    → number ≡ course.course.count → outputs ≡ course.course.outputs → text ≡ before ++ flat_map (output_text number) outputs
+pub text_event : (next : ℕ) (done : List Session) (setup : Setup) (lines : List Line) (e : Event) (replay : SessionReplay) (number : ℕ) (outputs : List Output) (before text : List ℕ)
+    → before ≡ texts next done ++ text_so_far (run_of (session_of setup lines)) → HasComeTo next done (session_of setup (lines ++ line.Event e ∷ [])) replay
+    → number ≡ replay.replay.count → outputs ≡ replay.replay.outputs → text ≡ before ++ flat_map (output_text number) outputs
     → text ≡ texts next done ++ text_so_far (run_of (session_of setup (lines ++ line.Event e ∷ [])))
-text_event next done setup lines e course number outputs before text were come counted put says =
+text_event next done setup lines e replay number outputs before text were come counted put says =
     let g : ReplayInput = given_of (session_of setup lines) in
     let start : ℕ = setup.start in
     let es : List Event = events_of lines in
@@ -56,8 +56,8 @@ text_event next done setup lines e course number outputs before text were come c
     ap (λ (some : List Event). so_far ++ more some) (sym one) ∙ sym (text_on g start es e) ∙ ap (λ (some : List Event). text_so_far (fold g start some)) one in
     says
     ∙ ap (λ (some : List ℕ). some ++ flat_map (output_text number) outputs) were
-    ∙ ap (λ (n : ℕ). (texts next done ++ so_far) ++ flat_map (output_text n) outputs) (counted ∙ come.course.count)
-    ∙ ap (λ (some : List Output). (texts next done ++ so_far) ++ flat_map (output_text (length all)) some) (put ∙ come.course.outputs)
+    ∙ ap (λ (n : ℕ). (texts next done ++ so_far) ++ flat_map (output_text n) outputs) (counted ∙ come.replay.count)
+    ∙ ap (λ (some : List Output). (texts next done ++ so_far) ++ flat_map (output_text (length all)) some) (put ∙ come.replay.outputs)
     ∙ append_assoc (texts next done) so_far (more all)
     ∙ ap (λ (some : List ℕ). texts next done ++ some) grown
 
@@ -77,7 +77,7 @@ texts_on next done s =
     ∙ ap (λ (some : List ℕ). texts next done ++ some) (append-nil (session_text run))
 
 pub text_ended : (next : ℕ) (done : List Session) (setup : Setup) (lines : List Line) (p : SessionText) (end : SessionEnd) (number at : ℕ) (with_end text : List ℕ)
-    → HasText next done setup lines p → HasEnded next done (session_of setup lines) end → number ≡ p.course.course.count → at ≡ end.sessions.next
+    → HasText next done setup lines p → HasEnded next done (session_of setup lines) end → number ≡ p.replay.replay.count → at ≡ end.sessions.next
     → with_end ≡ p.text.items ++ last_line end.ended number → text ≡ with_end ++ bookmark_text end.committed at → text ≡ texts next (done ++ session_of setup lines ∷ [])
 text_ended next done setup lines p end number at with_end text has ended counted behind ends says =
     let s : Session = session_of setup lines in
@@ -92,7 +92,7 @@ text_ended next done setup lines p end number at with_end text has ended counted
     ends
     ∙ ap (λ (some : List ℕ). some ++ last_line end.ended number) has.text
     ∙ ap (λ (b : Bool). (texts next done ++ so_far) ++ last_line b number) ended.ended
-    ∙ ap (λ (n : ℕ). (texts next done ++ so_far) ++ last_line (run_of s).ended n) (counted ∙ has.come.course.count)
+    ∙ ap (λ (n : ℕ). (texts next done ++ so_far) ++ last_line (run_of s).ended n) (counted ∙ has.come.replay.count)
     ∙ append_assoc (texts next done) so_far (last_line (run_of s).ended (length es))
     ∙ ap (λ (some : List ℕ). texts next done ++ some) (sym run) in
     says
@@ -104,19 +104,19 @@ text_ended next done setup lines p end number at with_end text has ended counted
 -- ---- what has its text
 
 pub event_passes : (old new : SessionText) (l : Line) (e : Event) (number : ℕ) (outputs : List Output) → l ≡ line.Event e
-    → ((next : ℕ) (done : List Session) (s : Session) → HasComeTo next done s old.course → HasComeTo next done (with_line s (line.Event e)) new.course)
-    → number ≡ new.course.course.count → outputs ≡ new.course.course.outputs → new.text.items ≡ old.text.items ++ flat_map (output_text number) outputs
+    → ((next : ℕ) (done : List Session) (s : Session) → HasComeTo next done s old.replay → HasComeTo next done (with_line s (line.Event e)) new.replay)
+    → number ≡ new.replay.replay.count → outputs ≡ new.replay.replay.outputs → new.text.items ≡ old.text.items ++ flat_map (output_text number) outputs
     → (next : ℕ) (done : List Session) (setup : Setup) (some : List Line) → HasText next done setup some old → HasText next done setup (some ++ l ∷ []) new
 event_passes old new l e number outputs is comes counted put says next done setup some has =
-    let come : HasComeTo next done (session_of setup (some ++ line.Event e ∷ [])) new.course = comes next done (session_of setup some) has.come in
+    let come : HasComeTo next done (session_of setup (some ++ line.Event e ∷ [])) new.replay = comes next done (session_of setup some) has.come in
     subst (λ (l : Line). HasText next done setup (some ++ l ∷ []) new) (sym is)
     (record {
       come = come;
-      text = text_event next done setup some e new.course number outputs old.text.items new.text.items has.text come counted put says;
+      text = text_event next done setup some e new.replay number outputs old.text.items new.text.items has.text come counted put says;
     })
 
 pub save_passes : (old new : SessionText) (l : Line) → l ≡ line.Save
-    → ((next : ℕ) (done : List Session) (s : Session) → HasComeTo next done s old.course → HasComeTo next done (with_line s line.Save) new.course)
+    → ((next : ℕ) (done : List Session) (s : Session) → HasComeTo next done s old.replay → HasComeTo next done (with_line s line.Save) new.replay)
     → new.text.items ≡ old.text.items → (next : ℕ) (done : List Session) (setup : Setup) (some : List Line) → HasText next done setup some old → HasText next done setup (some ++ l ∷ []) new
 save_passes old new l is comes says next done setup some has =
     subst (λ (l : Line). HasText next done setup (some ++ l ∷ []) new) (sym is)

@@ -8,8 +8,7 @@ use Rattle.std.specs.declared.cmp.Ordering.TheVariants.{Less, Equal, Greater}
 use Rattle.std.specs.Float.{binary64, float_is_finite}
 use Rattle.std.specs.Str.{IsUtf8}
 use Rattle.std.proofs.lemmas.Bool.{and_parts, or_parts, ltb-true, leb-true}
-use Rattle.std.proofs.lemmas.Fmt.{IsAscii-decimal}
-use Rattle.std.proofs.lemmas.Str.{IsUtf8-append, IsUtf8-from_ascii}
+use Rattle.std.proofs.lemmas.Str.{IsUtf8-append}
 use Rattle.fast_float.specs.Text.{minus, Parts, scan, digits_of, nearest, with_sign}
 use Rattle.json.specs.Token.{Token, begin_object, end_object, begin_array, end_array, key, boolean, null, bad}
 use Rattle.json.specs.Token as tokens_of
@@ -22,6 +21,7 @@ use Rattle.serde_json.specs.Data as values
 use Rattle.serde_json.specs.Read.{is_integer, float_of, number_from, number_of, of_json, of_items, of_members, read}
 use Rattle.serde_json.specs.Find.{is_float}
 use Rattle.serde_json.specs.Written.{number_text, compact_text, items_text, members_text, comma_if, has_float, items_have_float, members_have_float}
+use Rattle.js_tool.proofs.Printed.{digits_utf8}
 use Rattle.js_words.proofs.StringsRead.{AreTextTokens, tokens_are}
 
 -- ---- the grammar
@@ -253,9 +253,6 @@ read_is text utf8 =
     last_of (Some p) leaves = last_is p.0 p.1 leaves.0
 
 -- ---- compact texts
-
-digits_utf8 : (n : ℕ) → n < 2 ^ 64 → IsUtf8 (decimal n)
-digits_utf8 n small = IsUtf8-from_ascii (decimal n) (IsAscii-decimal n small)
 
 number_utf8 : (n : Num) → is_float n ≡ false → IsTextNumber n → IsUtf8 (number_text n)
 number_utf8 (unsigned n) whole is = digits_utf8 n is

@@ -35,7 +35,7 @@ ending_of g start es = ends (refuse g start es) (yielded (all_outputs (fold g st
 
 -- these events were passed, and what they yield is there
 pub record HasGathered (g : ReplayInput) (start : ℕ) (es : List Event) (p : Gathering) : Type 0 where
-  pub course : HasCome g start es p.course
+  pub replay : HasCome g start es p.replay
   pub entries : p.entries ≡ yielded (all_outputs (fold g start es))
 
 -- Of these lines those that are left were not passed yet: whatever follows them, all is read as it was before.

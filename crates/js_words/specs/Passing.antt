@@ -45,7 +45,7 @@ ReadsRest old (Err unread) = StopsAt unread (left_said old)
 
 -- a session has come through these lines, after others that have ended, and the text of all is there
 pub record HasText (next : ℕ) (done : List Session) (setup : Setup) (lines : List Line) (p : SessionText) : Type 0 where
-  pub come : HasComeTo next done (session_of setup lines) p.course
+  pub come : HasComeTo next done (session_of setup lines) p.replay
   pub text : p.text.items ≡ texts next done ++ text_so_far (run_of (session_of setup lines))
 
 -- these sessions have ended, and their text is there

@@ -11,7 +11,7 @@ use js_tool::read_number;
 
 /// What the program is asked to do with the yields of a transcript's replay. It is borrowed from the words.
 #[derive(Clone, Copy)]
-pub enum LogCommand<'a> {
+pub(crate) enum LogCommand<'a> {
     /// To write the last entry of each subject that a filter matches: of all yields, or of those up to a sequence.
     Project {
         filter: &'a str,
@@ -27,7 +27,7 @@ pub enum LogCommand<'a> {
 }
 
 /// The command over a log that the words name, if they are in one of its forms. Then they are no other command.
-pub fn log_command_of(words: &[String]) -> Option<LogCommand<'_>>
+pub(crate) fn log_command_of(words: &[String]) -> Option<LogCommand<'_>>
     ensures form { option_map wanted result ≡ wanted_of (map string_bytes words.now) }
     ensures apart { IfSome result (λ _. command_in (map string_bytes words.now) ≡ None) }
     ensures no_sessions { IfSome result (λ _. bookmark_of_words (map string_bytes words.now) ≡ None) }
@@ -105,7 +105,7 @@ fn with_two<'a>(name: &str, first: &'a str, second: &'a str) -> Option<LogComman
 }
 
 /// The bookmark that the words `sessions NEXT` name, a number above 0, if they are these words. Then they are no other command.
-pub fn bookmark_of(words: &[String]) -> Option<u64>
+pub(crate) fn bookmark_of(words: &[String]) -> Option<u64>
     ensures form { result ≡ bookmark_of_words (map string_bytes words.now) }
     ensures apart { IfSome result (λ _. command_in (map string_bytes words.now) ≡ None) }
     ensures no_log { IfSome result (λ _. wanted_of (map string_bytes words.now) ≡ None) }

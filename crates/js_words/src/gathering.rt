@@ -17,7 +17,7 @@ use std::alloc::Global;
 
 /// What a replay comes to.
 #[derive(Drop)]
-pub enum Ending {
+pub(crate) enum Ending {
     /// All that it yields, in order.
     Yields(Items<Entry>),
     /// It is refused.
@@ -27,7 +27,7 @@ pub enum Ending {
 // How far a replay has come, and what it has yielded.
 #[derive(Drop)]
 pub(crate) struct Gathering<'s> {
-    course: IncrementalReplay<'s>,
+    replay: IncrementalReplay<'s>,
     entries: Items<Entry>,
 }
 
@@ -54,7 +54,7 @@ impl<'s> Gathering<'s> {
     fn open(alloc: Global, setup: &'s Setup) -> Result<Gathering<'s>, OutOfMemory>
         ensures { IfOk result (λ gathering. HasGathered (given setup.now) setup.now.start [] gathering) }
     {
-        let course = IncrementalReplay::open(
+        let replay = IncrementalReplay::open(
             alloc,
             &setup.settings,
             &setup.setup,
@@ -62,10 +62,10 @@ impl<'s> Gathering<'s> {
             setup.start,
         )?;
         let mut entries = Items::new(alloc);
-        match add_yields(&mut entries, course.outputs()) {
-            Ok(()) => Ok(Gathering { course, entries }),
+        match add_yields(&mut entries, replay.outputs()) {
+            Ok(()) => Ok(Gathering { replay, entries }),
             Err(OutOfMemory) => {
-                drop(course);
+                drop(replay);
                 Err(OutOfMemory)
             }
         }
@@ -74,10 +74,10 @@ impl<'s> Gathering<'s> {
     fn pass(&mut self, alloc: Global, event: &Event) -> Result<(), OutOfMemory>
         ensures passed { (g : ReplayInput) → (start : ℕ) → (es : List events.Event) → HasGathered g start es self.old
             → OnOk result (HasGathered g start (es ++ event.now ∷ []) self.new) }
-        ensures counted { OnOk result (self.new.course.count ≡ self.old.course.count + 1) }
+        ensures counted { OnOk result (self.new.replay.count ≡ self.old.replay.count + 1) }
     {
-        self.course.advance(alloc, event)?;
-        add_yields(&mut self.entries, self.course.outputs())?;
+        self.replay.advance(alloc, event)?;
+        add_yields(&mut self.entries, self.replay.outputs())?;
         Ok(())
     }
 
@@ -85,9 +85,9 @@ impl<'s> Gathering<'s> {
         ensures { (g : ReplayInput) → (start : ℕ) → (es : List events.Event) → HasGathered g start es self.entry
             → result ≡ ending_of g start es }
     {
-        let Gathering { course, entries } = self;
-        let ended = course.end();
-        drop(course);
+        let Gathering { replay, entries } = self;
+        let ended = replay.end();
+        drop(replay);
         match ended {
             Ok(_) => Ending::Yields(entries),
             Err(refusal) => {
@@ -104,11 +104,11 @@ fn pass_line(
     gathering: &mut Gathering<'_>,
     line: &[u8],
 ) -> Result<(), Unread>
-    requires { gathering.old.course.count ≤ 67_108_864 }
+    requires { gathering.old.replay.count ≤ 67_108_864 }
     ensures lines { PassesLines gathering.old (line.now ∷ []) gathering.new result }
-    ensures counted { OnOk result (gathering.new.course.count ≡ gathering.old.course.count + 1) }
+    ensures counted { OnOk result (gathering.new.replay.count ≡ gathering.old.replay.count + 1) }
 {
-    let number = gathering.course.count() + 2;
+    let number = gathering.replay.count() + 2;
     let event = next_line(alloc, payloads, number, line)?;
     let passed = gathering.pass(alloc, &event);
     drop(event);
@@ -119,7 +119,7 @@ fn pass_line(
 }
 
 fn pass_lines(alloc: Global, gathering: &mut Gathering<'_>, lines: &mut Lines) -> Result<(), Unread>
-    requires { gathering.old.course.count + length lines.old.left ≤ 67_108_864 }
+    requires { gathering.old.replay.count + length lines.old.left ≤ 67_108_864 }
     ensures { PassesLines gathering.old lines.old.left gathering.new result }
 {
     let mut payloads = Payloads::new(alloc);

@@ -13,11 +13,5 @@ mod sessions;
 mod telling;
 mod transcript;
 
-pub use command::{LogCommand, bookmark_of, log_command_of};
-pub use gathering::Ending;
-pub use js_tool::{
-    Failed, MemorySink, MemorySource, PlainSink, PlainSource, ReadSource, Sink, Source, Status,
-    WriteSink,
-};
+pub use js_tool::{PlainSource, ReadSource, Status, WriteSink};
 pub use program::{run, run_plain};
-pub use report::Report;

@@ -22,7 +22,7 @@ use std::alloc::{AllocError, Global};
 
 /// What a transcript calls for.
 #[derive(Drop)]
-pub enum Report {
+pub(crate) enum Report {
     /// This text.
     Done(Items<u8>),
     /// It is refused, and this line says why.

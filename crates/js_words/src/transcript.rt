@@ -1,6 +1,6 @@
 //! The transcript of a consumer that is sent a mirror's messages.
 
-ghost use Rattle.std.specs.Prelude.{◌≡◌, ◌<◌, ◌^◌, ◌++◌, codes, decimal, string_bytes, IfOk, OnOk, IsTrue};
+ghost use Rattle.std.specs.Prelude.{◌≡◌, ◌<◌, ◌^◌, ◌++◌, codes, decimal, IfOk, OnOk, IsTrue};
 ghost use Rattle.json.specs.Print.{quoted};
 ghost use Rattle.serde_json.specs.Data.{Data};
 ghost use Rattle.js_codes.specs.Names.{is_name};
@@ -14,6 +14,7 @@ ghost use Rattle.js_words.specs.ReadsBack.{AreTexts, ReadsAs, ReplaysTo, StaysHo
 
 use itoa::Buffer;
 use js_base::{Entry, Text};
+use js_logs::ack_subject;
 use js_mirror::Mirror;
 use js_table::OrderedSetup;
 use js_tool::push_quoted;
@@ -136,19 +137,6 @@ fn push_setup(out: &mut Vec<u8>, stream: &str, name: &str, config: &[u8]) -> Res
     Ok(())
 }
 
-/// The acknowledgement subject of the message with this sequence and number.
-fn reply(
-    alloc: Global,
-    stream: &str,
-    name: &str,
-    sequence: u64,
-    number: u64,
-) -> Result<String, AllocError>
-    ensures { IfOk result (λ text. string_bytes text ≡ relayed.reply stream.now name.now sequence number) }
-{
-    format!(in alloc; "$JS.ACK.{stream}.{name}.1.{sequence}.{number}.0.0")
-}
-
 fn push_arrival(
     alloc: Global,
     out: &mut Vec<u8>,
@@ -160,7 +148,7 @@ fn push_arrival(
     ensures text { OnOk result (out.new.items ≡ out.old.items ++ texts.value_line (texts.arrival_data stream.now name.now number entry.now)) }
     ensures fits { entry.now.sequence < 2 ^ 64 }
 {
-    let reply = reply(alloc, stream, name, entry.sequence, number)?;
+    let reply = ack_subject(alloc, stream, name, entry.sequence, number)?;
     push_plain(out, b"{\"arrival\":{\"inbox\":0,\"payload\":")?;
     push_quoted(out, entry.payload.as_slice())?;
     push_plain(out, b",\"reply\":")?;

@@ -7,21 +7,8 @@ ghost use Rattle.js_words.specs.SessionTexts.{refusal_text, replay_refusal_text}
 
 use js_bookmark::SessionsError;
 use js_ordered::{Field, ReplayError};
-use js_tool::{Cell, push_line};
+use js_tool::{Cell, field_text, push_line};
 use std::alloc::{AllocError, Global};
-
-fn field_text(field: Field) -> &'static [u8]
-    ensures { result.now ≡ field_name field }
-{
-    match field {
-        Field::StreamName => b"stream_name",
-        Field::Name => b"name",
-        Field::ApiPrefix => b"api_prefix",
-        Field::InboxPrefix => b"inbox_prefix",
-        Field::FilterSubject => b"filter_subject",
-        Field::DeliverSubject => b"deliver_subject",
-    }
-}
 
 fn push_named(out: &mut Vec<u8>, name: &[u8], session: u64) -> Result<(), AllocError>
     ensures { OnOk result (out.new.items ≡ out.old.items ++ line_text (string (codes "refused") ∷ string name.now ∷ count session ∷ [])) }

@@ -17,7 +17,7 @@ use std::alloc::{AllocError, Global};
 /// How far a session has come, and the text of it and of all before it.
 #[derive(Drop)]
 pub(crate) struct SessionText<'s> {
-    pub(crate) course: SessionReplay<'s>,
+    pub(crate) replay: SessionReplay<'s>,
     pub(crate) text: Vec<u8>,
 }
 
@@ -58,14 +58,14 @@ impl<'s> SessionText<'s> {
             &setup.first,
             setup.start,
         );
-        let course = match begun {
-            Ok(course) => course,
+        let replay = match begun {
+            Ok(replay) => replay,
             Err(refusal) => return Err(refusal),
         };
-        match push_outputs(&mut text, 0, course.outputs()) {
-            Ok(()) => Ok(SessionText { course, text }),
+        match push_outputs(&mut text, 0, replay.outputs()) {
+            Ok(()) => Ok(SessionText { replay, text }),
             Err(AllocError) => {
-                drop(course);
+                drop(replay);
                 Err(SessionsError::OutOfMemory)
             }
         }
@@ -77,12 +77,12 @@ impl<'s> SessionText<'s> {
     {
         match line {
             Line::Event(event) => {
-                self.course.advance(alloc, event)?;
-                push_outputs(&mut self.text, self.course.count(), self.course.outputs())?;
+                self.replay.advance(alloc, event)?;
+                push_outputs(&mut self.text, self.replay.count(), self.replay.outputs())?;
                 Ok(())
             }
             Line::Save => {
-                self.course.save();
+                self.replay.save();
                 Ok(())
             }
         }
@@ -117,13 +117,13 @@ impl<'s> SessionText<'s> {
     pub(crate) fn end(self) -> Result<EndedText, SessionsError>
         ensures { Ends self.entry result }
     {
-        let SessionText { course, mut text } = self;
-        let count = course.count();
+        let SessionText { replay, mut text } = self;
+        let count = replay.count();
         let SessionEnd {
             sessions,
             ended,
             committed,
-        } = match course.end() {
+        } = match replay.end() {
             Ok(end) => end,
             Err(refusal) => return Err(refusal),
         };

@@ -14,15 +14,15 @@ returns c = λ next done have.
     let s = c.args.session.now in
     let begun = c.in-Ok.ensures next done have.ended in
     let (opened, steps) = c.in-Ok-told.ensures next done s begun in
-    let course = c.opening_and_steps-told.new.course in
-    let stepped : HasStepped next done s course c.in-Ok-told.told.1 =
-    subst (λ (lines : List Line). HasStepped next done (with_lines s lines) course c.in-Ok-told.told.1) c.as_slice.ensures steps in
+    let replay = c.opening_and_steps-told.new.replay in
+    let stepped : HasStepped next done s replay c.in-Ok-told.told.1 =
+    subst (λ (lines : List Line). HasStepped next done (with_lines s lines) replay c.in-Ok-told.told.1) c.as_slice.ensures steps in
     let ended = c.in-Ok-end.ensures.ended next done s stepped.come in
     let values = c.in_ok-sessions.ensures.values in
     record {
       ended = IfOk-at_ok (λ (sessions : Sessions). HaveEnded next (done ++ s ∷ []) sessions) values.0 ended.sessions;
       so_far =
           runs_more next done s c.args.runs.now c.push-pushed.new.self _ have.so_far
-          (run_is next done s c.in-Ok.course c.in-Ok-end.end c.in-Ok-told.told.0 c.in-Ok-told.told.1 c.in-Ok-told.told.0.outputs c.next-next.result begun opened refl stepped.so_far ended c.next-next.ensures)
+          (run_is next done s c.in-Ok.replay c.in-Ok-end.end c.in-Ok-told.told.0 c.in-Ok-told.told.1 c.in-Ok-told.told.0.outputs c.next-next.result begun opened refl stepped.so_far ended c.next-next.ensures)
           (rw values.1 at c.push-pushed.ensures.ok);
     }

@@ -11,5 +11,5 @@ pub loop-line-preserved : goal.loop-line-preserved
 loop-line-preserved c = λ next done s come.
     let i = c.loop-line.line-index in
     let lines = c.args.lines.now in
-    subst (λ (some : List Line). HasStepped next done (with_lines s some) c.pass_line.new.course c.pass_line.new.steps) (front_more lines i c.line-item.result (omega arith) c.line-item.is)
+    subst (λ (some : List Line). HasStepped next done (with_lines s some) c.pass_line.new.replay c.pass_line.new.steps) (front_more lines i c.line-item.result (omega arith) c.line-item.is)
     (c.in_ok-pass_line.ensures next done (with_lines s (take i lines)) (c.loop-line.invariant next done s come))

@@ -4,4 +4,4 @@ use Rattle.js_bookmark.specs.Progress.{HasComeTo, HasStepped, with_lines}
 use Rattle.js_bookmark.proofs.runs.steps_of.Given as goal
 
 abbrev pub invariant-loop-line : goal.invariant-loop-line
-invariant-loop-line l = (next : ℕ) (done : List Session) (s : Session) → HasComeTo next done (with_lines s []) l.fn.course → HasStepped next done (with_lines s (take l.line-index l.lines)) l.course l.steps
+invariant-loop-line l = (next : ℕ) (done : List Session) (s : Session) → HasComeTo next done (with_lines s []) l.fn.replay → HasStepped next done (with_lines s (take l.line-index l.lines)) l.replay l.steps

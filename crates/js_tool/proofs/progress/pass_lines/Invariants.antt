@@ -6,7 +6,7 @@ use Rattle.js_tool.proofs.progress.pass_lines.Given as goal
 abbrev pub invariant-loop-rest : goal.invariant-loop-rest
 invariant-loop-rest l = record {
   passes : PassesTo l.initial.progress (lines_of l.bytes) l.progress (lines_of l.rest);
-  counted : l.progress.course.value.count + length l.rest ≤ l.initial.progress.course.value.count + length l.bytes;
+  counted : l.progress.replay.value.count + length l.rest ≤ l.initial.progress.replay.value.count + length l.bytes;
 }
 
 abbrev pub decreases-loop-rest : goal.decreases-loop-rest

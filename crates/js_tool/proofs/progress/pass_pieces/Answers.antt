@@ -15,7 +15,7 @@ loop-piece-preserved c =
     let all = lines_of c.args.piece.now ++ lines_of c.args.bytes.now in
     let before : PassesTo c.args.progress.now all c.loop-piece.progress (lines_of c.deref.result.now ++ left) =
     subst (λ (lines : List (List ℕ)). PassesTo c.args.progress.now all c.loop-piece.progress lines) cut c.loop-piece.invariant.passes in
-    let next : c.pass_lines-passed.new.progress.course.value.count ≤ c.loop-piece.progress.course.value.count + length c.deref.result.now = c.in-Ok-passed.ensures.counted in
+    let next : c.pass_lines-passed.new.progress.replay.value.count ≤ c.loop-piece.progress.replay.value.count + length c.deref.result.now = c.in-Ok-passed.ensures.counted in
     let whole : length c.loop-piece.bytes ≡ length c.in-Some.piece.items + length c.next_piece.new.bytes = c.in-Some.ensures.length in
     let same : length c.deref.result.now ≡ length c.in-Some.piece.items = ap length c.deref.ensures.value in record {
       passes = passes_more c.args.progress.now c.loop-piece.progress c.pass_lines-passed.new.progress all (lines_of c.deref.result.now) left before c.in-Ok-passed.ensures.lines;

@@ -6,7 +6,7 @@ use Rattle.js_tool.proofs.progress.pass_pieces.Given as goal
 abbrev pub invariant-loop-piece : goal.invariant-loop-piece
 invariant-loop-piece l = record {
   passes : PassesTo l.fn.progress (lines_of l.fn.piece ++ lines_of l.fn.bytes) l.progress (lines_of l.bytes);
-  counted : l.progress.course.value.count + length l.bytes ≤ 67_108_864;
+  counted : l.progress.replay.value.count + length l.bytes ≤ 67_108_864;
 }
 
 abbrev pub decreases-loop-piece : goal.decreases-loop-piece

@@ -10,6 +10,6 @@ use Rattle.js_bookmark.proofs.session_replay.SessionReplay.advance.Goals as goal
 pub returns-clause-passed : goal.returns-clause-passed
 returns-clause-passed c = λ next done s come.
     comes_event next done s c.args.event.now c.args.self.now _ come refl refl refl
-    (c.in_ok-advance.ensures.passed (given_of s) s.start (events_of s.lines) come.course)
+    (c.in_ok-advance.ensures.passed (given_of s) s.start (events_of s.lines) come.replay)
     (λ at entries is. c.in_ok-self.ensures at entries is ∙ ap (λ (outputs : List Output). mark_of at (entries ++ yields outputs)) c.outputs.ensures)
     refl refl

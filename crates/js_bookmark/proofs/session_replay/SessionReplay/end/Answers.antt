@@ -10,15 +10,15 @@ use Rattle.js_bookmark.proofs.session_replay.SessionReplay.end.Goals as goal
 pub returns-in-Err-clause-ended : goal.returns-in-Err-clause-ended
 returns-in-Err-clause-ended c = λ next done s come.
     subst (λ (e : SessionsError). IsRefusal next (done ++ s ∷ []) e) (sym c.replay_refusal.ensures)
-    (ends_refused next done s c.args.self c.in-Err.error come (c.in-Err.ensures.ended (given_of s) s.start (events_of s.lines) come.course))
+    (ends_refused next done s c.args.self c.in-Err.error come (c.in-Err.ensures.ended (given_of s) s.start (events_of s.lines) come.replay))
 
 pub returns-in_default-clause-ended : goal.returns-in_default-clause-ended
 returns-in_default-clause-ended c = λ next done s come.
-    ends_last next done s c.args.self come (c.in-Ok.ensures.ended (given_of s) s.start (events_of s.lines) come.course).0 c.in_default.is
+    ends_last next done s c.args.self come (c.in-Ok.ensures.ended (given_of s) s.start (events_of s.lines) come.replay).0 c.in_default.is
 
 pub returns-clause-ended : goal.returns-clause-ended
 returns-clause-ended c = λ next done s come.
-    let ended = c.in-Ok.ensures.ended (given_of s) s.start (events_of s.lines) come.course in
+    let ended = c.in-Ok.ensures.ended (given_of s) s.start (events_of s.lines) come.replay in
     let values = c.in_ok-scope.ensures.values in
     let kept : c.in_ok-scope.scope ≡ c.args.self.scope = IfOk-at_ok (λ (scope : Scope). scope ≡ c.args.self.scope) values.0 refl in
     let sum : c.in_ok-scope.committed ≡ c.args.self.before + c.args.self.saved.count =

@@ -28,6 +28,6 @@ returns c = λ next done ended.
     begun next done _ c.args.self _ c.in-Some.scope ended refl c.in-Ok.ensures
     (ap (is_at c.args.self.next) (sym c.configured_start.ensures) ∙ sym c.is_at.ensures ∙ c.if-not-is_at.false)
     (sym c.in_ok-scope.ensures ∙ c.in-Some.is)
-    refl refl c.in_ok-course.ensures c.at-saved.ensures
+    refl refl c.in_ok-replay.ensures c.at-saved.ensures
     (c.in-Ok-after.ensures c.args.self.next [] c.at-saved.ensures ∙ ap (λ (outputs : List Output). mark_of c.args.self.next (yields outputs)) c.outputs.ensures)
     refl

@@ -1,9 +1,9 @@
-use Rattle.std.proofs.Common.{length, nat_lt, arith, rules}
+use Rattle.std.proofs.Common.{length, nat_lt, arith}
 use Rattle.js_io.specs.declared.whole.Stop.{Stop}
 use Rattle.js_follow.specs.Standing.{answered}
 use Rattle.js_follow.proofs.Coming.{keeps_more, next_cut, next_last, none_came, searched_all, held_more}
 use Rattle.js_follow.proofs.Going.{read_twice}
-use Rattle.js_follow.proofs.Punctually.{is_punctual, read_on, cut_on, heard_last}
+use Rattle.js_follow.proofs.Punctually.{read_on, cut_on, heard_last}
 use Rattle.js_follow.proofs.incoming.IncomingLines.read.Goals as goal
 
 pub returns-in-Some-clause-line : goal.returns-in-Some-clause-line

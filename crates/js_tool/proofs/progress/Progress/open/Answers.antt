@@ -6,11 +6,11 @@ use Rattle.js_tool.proofs.progress.Progress.open.Goals as goal
 
 pub returns : goal.returns
 returns c =
-    let course = c.in_ok-course.course.value in
-    let same : course ≡ c.in_ok-opened.opened = search rules in
-    let come : HasCome (given c.args.setup.now) c.args.setup.now.start [] course = rw same c.in_ok-opened.ensures in
-    let put : c.outputs.result.now ≡ course.outputs = search rules in
+    let replay = c.in_ok-replay.replay.value in
+    let same : replay ≡ c.in_ok-opened.opened = search rules in
+    let come : HasCome (given c.args.setup.now) c.args.setup.now.start [] replay = rw same c.in_ok-opened.ensures in
+    let put : c.outputs.result.now ≡ replay.outputs = search rules in
     record {
-      course = come;
-      text = text_opens _ _ 0 course c.outputs.result.now _ come refl put (rw c.new-text.ensures.items at c.in_ok-push_outputs.ensures);
+      replay = come;
+      text = text_opens _ _ 0 replay c.outputs.result.now _ come refl put (rw c.new-text.ensures.items at c.in_ok-push_outputs.ensures);
     }
