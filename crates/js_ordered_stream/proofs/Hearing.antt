@@ -44,7 +44,7 @@ use Rattle.js_table.specs.State.{Matter, Passed, at_phase, output_of}
 use Rattle.js_turns.specs.Polling.{yielded}
 use Rattle.js_turns.specs.Turns.{handed}
 use Rattle.js_turns.specs.Wishes.{arrival_of}
-use Rattle.js_ordered_stream.proofs.Meeting.{arrives, looked_as, none_sent}
+use Rattle.js_ordered_stream.proofs.Meeting.{arrives, if_error, looked_as, none_sent}
 
 -- ---- what is handed out of a message
 
@@ -123,6 +123,7 @@ read_passes g now one r s c d met step taken seen done v u meets is_open steps t
         looked = refl;
         seen = any;
         message = looked_as (message_in seen) (message_of met) took;
+        errors = if_error taken.handed (message_in seen ≡ message_of met) took;
       },
     )
 

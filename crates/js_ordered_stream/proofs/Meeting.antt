@@ -11,7 +11,9 @@ use Rattle.js_table.specs.declared.passing.task.Inbox.{Inbox}
 use Rattle.js_table.specs.Tasks.{at_moment, opening_to, requested, requesting, subscribed}
 use Rattle.js_link.specs.declared.link.Watch.{Watch}
 use Rattle.js_link.specs.declared.link.Watch.TheVariants as watch
-use Rattle.js_ordered_stream.specs.Rows.{answer_in, has_message, inbox_in, message_in, seen_met}
+use Rattle.js_ordered_stream.specs.declared.rows.Handed.{Handed}
+use Rattle.js_ordered_stream.specs.declared.rows.Handed.TheVariants as hands
+use Rattle.js_ordered_stream.specs.Rows.{IfError, answer_in, has_message, inbox_in, message_in, seen_met}
 use Rattle.js_pull.specs.Asking.{GoesAs, is_shut, reply_met, watch_met}
 use Rattle.js_pull.specs.Steps.{brought}
 use Rattle.js_pull.specs.Reader as pull
@@ -110,6 +112,10 @@ reply_seen request (Took message) = refl
 reply_seen request (Got reply) = refl
 reply_seen request Gone = refl
 reply_seen request met = refl
+
+pub if_error : (hand : Handed) (P : Type 0) → P → IfError hand P
+if_error (hands.Error kind) P holds = holds
+if_error hand P holds = tt
 
 pub looked_as : (message other : Option Message) → message ≡ other → IfSome message (λ x. other ≡ Some x)
 looked_as None other is = tt

@@ -52,7 +52,7 @@ use Rattle.js_turns.specs.Polling.{poll_wish_at}
 use Rattle.js_turns.specs.Turns.{handed}
 use Rattle.js_turns.proofs.Walking.{eqb_same}
 use Rattle.js_turns.specs.Wishes.{awaited, change_of, create_wish, dropped, matter_of, opened_dropped, succeed_wish}
-use Rattle.js_ordered_stream.proofs.Meeting.{IsUntaken, answer_seen, any_seen, looked_as, message_seen, untaken, opened_other, dropped_other, awaited_other, moment_met, requesting_met, opening_met, no_request, no_inbox}
+use Rattle.js_ordered_stream.proofs.Meeting.{IsUntaken, answer_seen, any_seen, if_error, looked_as, message_seen, untaken, opened_other, dropped_other, awaited_other, moment_met, requesting_met, opening_met, no_request, no_inbox}
 
 abbrev done_by : Handed → NextTasks → Stepped
 done_by handed rest = record { handed = handed; looked = false; next = rest }
@@ -75,6 +75,7 @@ row_passes g now row c d met passed outputs hand rest done v u meets none sees i
         looked = refl;
         seen = ap (λ (o : Option Message). is_some o) (sym (sees ∙ none.message));
         message = tt;
+        errors = if_error hand (None ≡ seen_by row met) (sym (sees ∙ none.message));
       },
     )
 
@@ -248,6 +249,7 @@ await_passes g now r c d met request replied_is rest seen done v u meets there n
         looked = refl;
         seen = ap has_message looks ∙ any_seen request met;
         message = looked_as (message_in seen) (message_of met) (ap message_in looks ∙ message_seen request met);
+        errors = tt;
       },
     )
 

@@ -21,7 +21,7 @@ use Rattle.js_ordered_stream.specs.declared.rows.Handed.TheVariants as hands
 use Rattle.js_ordered_stream.specs.declared.rows.Stepped.{Stepped}
 use Rattle.js_ordered_stream.specs.declared.rows.Stop.{Stop}
 use Rattle.js_ordered_stream.specs.declared.rows.Stop.TheVariants as stop
-use Rattle.js_ordered_stream.specs.Rows.{AnswersBeat, Looked, LooksInto, PassesRow, PassesRows, arrival_in, handed_by_heard, handed_list, has_message, kept_if, message_in, met_row, read_by, read_in, unheard_on}
+use Rattle.js_ordered_stream.specs.Rows.{AnswersBeat, IfError, Looked, LooksInto, PassesRow, PassesRows, arrival_in, handed_by_heard, handed_list, has_message, kept_if, message_in, met_row, read_by, read_in, unheard_on}
 use Rattle.js_table.specs.declared.consumer.Consumer.{Consumer}
 use Rattle.js_table.specs.declared.consumer.Phase.{Phase}
 use Rattle.js_table.specs.declared.consumer.Phase.TheVariants.{Pulls, Pushes, Recreates, Idle, Ended, Exhausted}
@@ -39,7 +39,7 @@ use Rattle.js_turns.specs.Polling.{poll_wish_at}
 use Rattle.js_turns.specs.Turns.{handed}
 use Rattle.js_turns.specs.Wishes.{beat_wish, matter_of}
 use Rattle.js_ordered_stream.proofs.Hearing.{yields_handed}
-use Rattle.js_ordered_stream.proofs.Meeting.{IsOther, moment_met, untaken}
+use Rattle.js_ordered_stream.proofs.Meeting.{IsOther, if_error, moment_met, untaken}
 use Rattle.js_turns.proofs.Walking.{arrives_here, eqb_same}
 use Rattle.js_ordered_stream.proofs.Passing.{row_passes, row_tells}
 
@@ -95,6 +95,7 @@ looks_at g now inbox timer c v u kept result is looks =
             looked = l.looked;
             seen = ap has_message l.seen ∙ some_unheard inbox (message_of met);
             message = subst (λ (o : Option Message). IfSome o (λ x. message_of met ≡ Some x)) (sym none) tt;
+            errors = subst (λ (h : Handed). IfError h (message_in kept ≡ message_of met)) (sym l.handed) tt;
           },
         )
 
@@ -205,6 +206,7 @@ hear_passes g now arrival heard c d hand rest v u here is steps hands (met, meet
         looked = refl;
         seen = refl;
         message = refl;
+        errors = if_error hand (Some message ≡ Some message) refl;
       },
     )
 

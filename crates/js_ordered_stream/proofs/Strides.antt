@@ -1,6 +1,6 @@
 -- Row after row: what a poll has walked, and what it answers then.
 use Rattle.std.proofs.Common.{◌≡◌, ℕ, Bool, true, false, List, [], ◌∷◌, ◌++◌, ◌⊎◌, inl, inr, Option, Some, None, refl, sym, ap, ◌∙◌, subst}
-use Rattle.std.specs.Prelude.{◌≢◌, ◌↔◌, not, ◌&&◌, ◌||◌, is_some, option_map, Result}
+use Rattle.std.specs.Prelude.{◌≢◌, ◌↔◌, not, ◌&&◌, ◌||◌, is_some, option_map, Result, Err}
 use Rattle.js_base.specs.declared.message.Message.{Message}
 use Rattle.js_link.specs.LinkView.{LinkView}
 use Rattle.js_link.specs.Meets.{Meets}
@@ -23,7 +23,9 @@ use Rattle.js_ordered_stream.specs.declared.ordered.Turned.{Turned}
 use Rattle.js_ordered_stream.specs.declared.ordered.Turned.TheVariants as turns
 use Rattle.js_base.specs.declared.error.Error.{Error}
 use Rattle.js_base.specs.declared.turn.Next.{Next}
-use Rattle.js_ordered_stream.specs.Stream.{PassesNext, TurnsTo, error_kind, handing, poll_answer, told_of, is_spent, step_met, stride_met, stirring}
+use Rattle.js_base.specs.declared.turn.Next.TheVariants as next
+use Rattle.js_base.specs.Errors.{kind_of, source_of}
+use Rattle.js_ordered_stream.specs.Stream.{PassesNext, PollsWithSource, TurnsTo, error_kind, handing, is_given, told_of, is_spent, source_by, step_met, stride_met, stirring}
 use Rattle.js_turns.specs.Polling.{Answer, Yields, Tells, HandsEnd, Waits, Ends, Lacks, IsPoll, IsMet, IsQuietRow, AreQuiet, IsQuietTurn, IsTaken, StopsAtFirst, last_arrival, looked_at, poll_wish, closed_at, handed_by}
 use Rattle.js_turns.specs.Turns.{Position, Stride, IsStride, step, walk, handed, first_row}
 use Rattle.js_turns.specs.Wishes.{arrival_of, matter_of}
@@ -250,6 +252,9 @@ yields_end x e = cc
 yields_waits : (x : Message) → Yields x ≡ Waits → ⊥
 yields_waits x e = cc
 
+yields_lacks : (x : Message) → Yields x ≡ Lacks → ⊥
+yields_lacks x e = cc
+
 tells_ends : (k : ItemKind) → Tells k ≡ Ends → ⊥
 tells_ends k e = cc
 
@@ -259,11 +264,17 @@ tells_end k e = cc
 tells_waits : (k : ItemKind) → Tells k ≡ Waits → ⊥
 tells_waits k e = cc
 
+tells_lacks : (k : ItemKind) → Tells k ≡ Lacks → ⊥
+tells_lacks k e = cc
+
 end_ends : HandsEnd ≡ Ends → ⊥
 end_ends e = cc
 
 end_waits : HandsEnd ≡ Waits → ⊥
 end_waits e = cc
+
+end_lacks : HandsEnd ≡ Lacks → ⊥
+end_lacks e = cc
 
 ends_end : Ends ≡ HandsEnd → ⊥
 ends_end e = cc
@@ -271,11 +282,17 @@ ends_end e = cc
 ends_waits : Ends ≡ Waits → ⊥
 ends_waits e = cc
 
+ends_lacks : Ends ≡ Lacks → ⊥
+ends_lacks e = cc
+
 waits_end : Waits ≡ HandsEnd → ⊥
 waits_end e = cc
 
 waits_ends : Waits ≡ Ends → ⊥
 waits_ends e = cc
+
+waits_lacks : Waits ≡ Lacks → ⊥
+waits_lacks e = cc
 
 lacks_end : Lacks ≡ HandsEnd → ⊥
 lacks_end e = cc
@@ -315,6 +332,7 @@ poll_waits g now quiet old at v u walked is none = record {
   exhausted = λ e. absurd (waits_end e);
   ended = unended Waits old.consumer.phase waits_ends walked.alive;
   alive = λ _. unspent at.consumer.phase walked.spent;
+  unspent = λ e. absurd (waits_lacks e);
   waits = λ _. quiet_turn g walked.strides old at (walked.turn is) walked.leads none;
   gapless = λ s whole kept honest. poll_gapless g walked.strides false old at Waits walked.leads walked.silent s whole kept honest;
 }
@@ -334,6 +352,7 @@ poll_lacks g now quiet old at new v u w walked same view = record {
   exhausted = λ e. absurd (lacks_end e);
   ended = unended Lacks old.consumer.phase lacks_ends walked.alive;
   alive = λ e. absurd (lacks_waits e);
+  unspent = λ _. unspent new.consumer.phase (ap (λ (x : Position). is_spent x.consumer.phase) same ∙ walked.spent);
   waits = λ e. absurd (lacks_waits e);
   gapless = λ s whole kept honest. poll_gapless g walked.strides false old new Lacks (same ∙ walked.leads) walked.silent s whole kept honest;
 }
@@ -355,6 +374,7 @@ poll_closes g now quiet old at new v u w walked leads closing =
       exhausted = λ e. absurd (ends_end e);
       ended = ((λ _. inl refl), (λ _. refl));
       alive = λ e. absurd (ends_waits e);
+      unspent = λ e. absurd (ends_lacks e);
       waits = λ e. absurd (ends_waits e);
       gapless = λ s whole kept honest. poll_gapless g walked.strides true old new Ends to walked.silent s whole kept honest;
     }
@@ -374,6 +394,7 @@ poll_over g now old v over = record {
   exhausted = λ e. absurd (ends_end e);
   ended = ((λ _. inr over), (λ _. refl));
   alive = λ e. absurd (ends_waits e);
+  unspent = λ e. absurd (ends_lacks e);
   waits = λ e. absurd (ends_waits e);
   gapless = λ s whole kept honest. poll_gapless g [] false old old Ends refl refl s whole kept honest;
 }
@@ -387,24 +408,20 @@ last_more g [] s at = refl
 last_more g (x ∷ []) s at = refl
 last_more g (x ∷ y ∷ strides) s at = last_more g (y ∷ strides) s (step g x at).position
 
-none_some : (message : Message) → None ≡ Some message → ⊥
-none_some message e = cc
+took_same : (wish : Wish) (met : Met) (v u : LinkView) → Meets wish met v u → option_map (λ (arrival : Arrival). arrival.message) (arrival_of wish met) ≡ message_of met
+took_same (Reads inbox) (Took message) v u m = refl
+took_same Nothing (Took message) v u m = absurd m
+took_same Opens_inbox (Took message) v u m = absurd m
+took_same Watches (Took message) v u m = absurd m
+took_same (Publishes subject reply payload) (Took message) v u m = absurd m
+took_same (Requests subject payload) (Took message) v u m = absurd m
+took_same (Drops inbox) (Took message) v u m = absurd m
+took_same (Awaits request) (Took message) v u m = absurd m
+took_same wish met v u m = refl
 
-took_from : (wish : Wish) (met : Met) (message : Message) (v u : LinkView) → Meets wish met v u → message_of met ≡ Some message → option_map (λ (arrival : Arrival). arrival.message) (arrival_of wish met) ≡ Some message
-took_from (Reads inbox) (Took taken) message v u m e = e
-took_from Nothing (Took taken) message v u m e = absurd m
-took_from Opens_inbox (Took taken) message v u m e = absurd m
-took_from Watches (Took taken) message v u m e = absurd m
-took_from (Publishes subject reply payload) (Took taken) message v u m e = absurd m
-took_from (Requests subject payload) (Took taken) message v u m e = absurd m
-took_from (Drops inbox) (Took taken) message v u m e = absurd m
-took_from (Awaits request) (Took taken) message v u m e = absurd m
-took_from wish met message v u m e = absurd (none_some message e)
-
-looked_from : (row : Row) (now : ℕ) (wish : Wish) (met : Met) (message : Message) (v u : LinkView) → Meets wish met v u → seen_by row met ≡ Some message
-    → looked_at row (record { passing = passing_of now met; matter = matter_of wish met }) ≡ Some message
-looked_from (Hear arrival) now wish met message v u m e = e
-looked_from row now wish met message v u m e = took_from wish met message v u m e
+looked_same : (row : Row) (now : ℕ) (wish : Wish) (met : Met) (v u : LinkView) → Meets wish met v u → looked_at row (record { passing = passing_of now met; matter = matter_of wish met }) ≡ seen_by row met
+looked_same (Hear arrival) now wish met v u m = refl
+looked_same row now wish met v u m = took_same wish met v u m
 
 -- the last row of a poll
 pub record Last (g : ReplayInput) (now : ℕ) (old new : Position) (before after : LinkView) (outputs : List Output) (message : Option Message) : Type 0 where
@@ -430,39 +447,46 @@ last_row g now quiet met old at new v u w outputs walked passes hands =
       stops = stops_more g walked.strides s old walked.silent;
     }
 
+-- a poll that answers so, the last row of which looked at this message
+abbrev PollsAt : ReplayInput → ℕ → Position → Position → LinkView → LinkView → Answer → Option Message → Type 0
+PollsAt g now old new before after answer message = (poll : Polls g now old new before after answer) × (last_arrival g poll.strides old ≡ message)
+
 -- it hands something out
 poll_hands : (g : ReplayInput) (now : ℕ) (quiet : Bool) (met : Met) (old at new : Position) (v u w : LinkView) (answer : Answer) → Walked g now quiet old at v u → PassesNext g now met at new u w
-    → handed (step_met g now met at).outputs ≡ handed_by answer → (answer ≡ Ends → ⊥) → (answer ≡ Waits → ⊥) → (answer ≡ HandsEnd → ⊥)
-    → ((strides : List Stride) → last_arrival g strides old ≡ message_at g now met at → IsTaken g answer strides old) → Polls g now old new v w answer
-poll_hands g now quiet met old at new v u w answer walked passes hands no_end no_wait no_spent taken =
-    let last : Last g now old new v w (handed_by answer) (message_at g now met at) = last_row g now quiet met old at new v u w (handed_by answer) walked passes hands in
-    record {
-      strides = last.strides;
-      closed = false;
-      leads = last.leads;
-      between = w;
-      met = last.met;
-      closing = refl;
-      out = last.out;
-      taken = taken last.strides last.arrival;
-      stops = last.stops;
-      exhausted = λ e. absurd (no_spent e);
-      ended = unended answer old.consumer.phase no_end walked.alive;
-      alive = λ e. absurd (no_wait e);
-      waits = λ e. absurd (no_wait e);
-      gapless = λ s whole kept honest. poll_gapless g last.strides false old new answer last.leads last.out s whole kept honest;
-    }
+    → handed (step_met g now met at).outputs ≡ handed_by answer → (answer ≡ Ends → ⊥) → (answer ≡ Waits → ⊥) → (answer ≡ HandsEnd → ⊥) → (answer ≡ Lacks → ⊥)
+    → ((strides : List Stride) → last_arrival g strides old ≡ message_at g now met at → IsTaken g answer strides old) → PollsAt g now old new v w answer (message_at g now met at)
+poll_hands g now quiet met old at new v u w answer walked passes hands no_end no_wait no_spent no_lack taken =
+    let last : Last g now old new v w (handed_by answer) (message_at g now met at) = last_row g now quiet met old at new v u w (handed_by answer) walked passes hands in (
+      record {
+        strides = last.strides;
+        closed = false;
+        leads = last.leads;
+        between = w;
+        met = last.met;
+        closing = refl;
+        out = last.out;
+        taken = taken last.strides last.arrival;
+        stops = last.stops;
+        exhausted = λ e. absurd (no_spent e);
+        ended = unended answer old.consumer.phase no_end walked.alive;
+        alive = λ e. absurd (no_wait e);
+        unspent = λ e. absurd (no_lack e);
+        waits = λ e. absurd (no_wait e);
+        gapless = λ s whole kept honest. poll_gapless g last.strides false old new answer last.leads last.out s whole kept honest;
+      },
+      last.arrival,
+    )
 
 pub poll_yields : (g : ReplayInput) (now : ℕ) (quiet : Bool) (met : Met) (old at new : Position) (v u w : LinkView) (message : Message) → Walked g now quiet old at v u → PassesNext g now met at new u w
     → handed (step_met g now met at).outputs ≡ handed_by (Yields message) → seen_by (first_row at.todo) met ≡ Some message → Polls g now old new v w (Yields message)
 poll_yields g now quiet met old at new v u w message walked passes hands took =
-    poll_hands g now quiet met old at new v u w (Yields message) walked passes hands (λ e. yields_ends message e) (λ e. yields_waits message e) (λ e. yields_end message e)
-    (λ strides last. last ∙ looked_from (first_row at.todo) now (poll_wish g at) met message u w passes.meets took)
+    (poll_hands g now quiet met old at new v u w (Yields message) walked passes hands (λ e. yields_ends message e) (λ e. yields_waits message e) (λ e. yields_end message e) (λ e. yields_lacks message e)
+    (λ strides last. last ∙ looked_same (first_row at.todo) now (poll_wish g at) met u w passes.meets ∙ took)).0
 
 poll_tells : (g : ReplayInput) (now : ℕ) (quiet : Bool) (met : Met) (old at new : Position) (v u w : LinkView) (kind : ItemKind) → Walked g now quiet old at v u → PassesNext g now met at new u w
-    → handed (step_met g now met at).outputs ≡ handed_by (Tells kind) → Polls g now old new v w (Tells kind)
+    → handed (step_met g now met at).outputs ≡ handed_by (Tells kind) → PollsAt g now old new v w (Tells kind) (message_at g now met at)
 poll_tells g now quiet met old at new v u w kind walked passes hands =
-    poll_hands g now quiet met old at new v u w (Tells kind) walked passes hands (λ e. tells_ends kind e) (λ e. tells_waits kind e) (λ e. tells_end kind e) (λ strides last. tt)
+    poll_hands g now quiet met old at new v u w (Tells kind) walked passes hands (λ e. tells_ends kind e) (λ e. tells_waits kind e) (λ e. tells_end kind e) (λ e. tells_lacks kind e) (λ strides last. tt)
 
 error_tells : (kind : ItemKind) → told_of (error_kind kind) ≡ Tells kind
 error_tells item.MissingHeartbeat = refl
@@ -472,11 +496,25 @@ error_tells item.Pull = refl
 error_tells item.Recreate = refl
 error_tells item.Other = refl
 
+-- it is of a kind that is given
+pub error_given : (kind : ItemKind) → is_given (error_kind kind) ≡ true
+error_given item.MissingHeartbeat = refl
+error_given item.RequestLimitExceeded = refl
+error_given item.PushBasedConsumer = refl
+error_given item.Pull = refl
+error_given item.Recreate = refl
+error_given item.Other = refl
+
 -- an error of the table
-pub poll_errs : (g : ReplayInput) (now : ℕ) (quiet : Bool) (met : Met) (old at new : Position) (v u w : LinkView) (kind : ItemKind) (told : OrderedErrorKind) → told ≡ error_kind kind → Walked g now quiet old at v u → PassesNext g now met at new u w
-    → handed (step_met g now met at).outputs ≡ handed_by (Tells kind) → Polls g now old new v w (told_of told)
-poll_errs g now quiet met old at new v u w kind told is walked passes hands =
-    subst (λ (a : Answer). Polls g now old new v w a) (sym (ap told_of is ∙ error_tells kind)) (poll_tells g now quiet met old at new v u w kind walked passes hands)
+poll_errs : (g : ReplayInput) (now : ℕ) (quiet : Bool) (met : Met) (old at new : Position) (v u w : LinkView) (kind : ItemKind) (kept : Option Message) (e : Error OrderedErrorKind) → kind_of e ≡ error_kind kind
+    → source_of e ≡ source_by (error_kind kind) kept → kept ≡ seen_by (first_row at.todo) met → Walked g now quiet old at v u → PassesNext g now met at new u w
+    → handed (step_met g now met at).outputs ≡ handed_by (Tells kind) → PollsWithSource g now old new v w (next.Item (Err e))
+poll_errs g now quiet met old at new v u w kind kept e is comes lies walked passes hands =
+    let told : PollsAt g now old new v w (told_of (kind_of e)) (message_at g now met at) =
+    subst (λ (a : Answer). PollsAt g now old new v w a (message_at g now met at)) (sym (ap told_of is ∙ error_tells kind)) (poll_tells g now quiet met old at new v u w kind walked passes hands) in
+    let looked : kept ≡ last_arrival g told.0.strides old =
+    lies ∙ sym (looked_same (first_row at.todo) now (poll_wish g at) met u w passes.meets) ∙ sym told.1 in
+    (told.0, comes ∙ ap (λ (k : OrderedErrorKind). source_by k kept) (sym is) ∙ ap (λ (o : Option Message). source_by (kind_of e) o) looked)
 
 -- there is no sequence to go on from
 pub poll_exhausts : (g : ReplayInput) (now : ℕ) (quiet : Bool) (met : Met) (old at new : Position) (v u w : LinkView) → Walked g now quiet old at v u → PassesNext g now met at new u w
@@ -496,6 +534,7 @@ poll_exhausts g now quiet met old at new v u w walked passes hands spent =
       exhausted = λ _. (unspent old.consumer.phase (over_spent old.consumer.phase walked.alive), is_exhausted new.consumer.phase spent);
       ended = unended HandsEnd old.consumer.phase end_ends walked.alive;
       alive = λ e. absurd (end_waits e);
+      unspent = λ e. absurd (end_lacks e);
       waits = λ e. absurd (end_waits e);
       gapless = λ s whole kept honest. poll_gapless g last.strides false old new HandsEnd last.leads last.out s whole kept honest;
     }
@@ -513,24 +552,27 @@ on_silent g h now quiet begins stirs old at new v u w same walked rests turned =
 
 -- the message that was kept is handed out, which changes nothing else
 pub on_hands : (g h : ReplayInput) (now : ℕ) (quiet : Bool) (kept : Option Message) (result : Next (Result Message (Error OrderedErrorKind))) (old at new end : Position) (v u w : LinkView) → h ≡ g → Walked g now quiet old at v u
-    → TurnsTo turns.Hands kept h now at new u w → end ≡ new → result ≡ handing kept → Polls g now old end v w (poll_answer result)
+    → TurnsTo turns.Hands kept h now at new u w → end ≡ new → result ≡ handing kept → PollsWithSource g now old end v w result
 on_hands g h now quiet kept result old at new end v u w same walked turned stays is =
     let t : TurnsTo turns.Hands kept g now at new u w = known turns.Hands kept g h now at new u w same turned in
-    subst (λ (answer : Answer). Polls g now old end v w answer) (sym (ap poll_answer (is ∙ ap handing t.1)))
-    (subst (λ (x : Position). Polls g now old x v w (Yields t.0)) (sym stays)
-    (poll_yields g now quiet t.2 old at new v u w t.0 walked t.3 t.4 t.5))
+    subst (λ (r : Next (Result Message (Error OrderedErrorKind))). PollsWithSource g now old end v w r) (sym (is ∙ ap handing t.1)) (
+      subst (λ (x : Position). Polls g now old x v w (Yields t.0)) (sym stays) (poll_yields g now quiet t.2 old at new v u w t.0 walked t.3 t.4 t.5),
+      tt,
+    )
 
-pub on_tells : (g h : ReplayInput) (now : ℕ) (quiet : Bool) (kind : ItemKind) (told : OrderedErrorKind) (old at new : Position) (v u w : LinkView) → h ≡ g → Walked g now quiet old at v u
-    → told ≡ error_kind kind → TurnsTo (turns.Tells kind) None h now at new u w → Polls g now old new v w (told_of told)
-on_tells g h now quiet kind told old at new v u w same walked is turned =
-    let t : TurnsTo (turns.Tells kind) None g now at new u w = known (turns.Tells kind) None g h now at new u w same turned in
-    poll_errs g now quiet t.0 old at new v u w kind told is walked t.1 t.2
+pub on_tells : (g h : ReplayInput) (now : ℕ) (quiet : Bool) (kind : ItemKind) (kept : Option Message) (e : Error OrderedErrorKind) (old at new end : Position) (v u w : LinkView) → h ≡ g → Walked g now quiet old at v u
+    → kind_of e ≡ error_kind kind → source_of e ≡ source_by (error_kind kind) kept → TurnsTo (turns.Tells kind) kept h now at new u w → end ≡ new → PollsWithSource g now old end v w (next.Item (Err e))
+on_tells g h now quiet kind kept e old at new end v u w same walked is comes turned stays =
+    let t : TurnsTo (turns.Tells kind) kept g now at new u w = known (turns.Tells kind) kept g h now at new u w same turned in
+    subst (λ (x : Position). PollsWithSource g now old x v w (next.Item (Err e))) (sym stays) (poll_errs g now quiet t.0 old at new v u w kind kept e is comes t.3 walked t.1 t.2)
 
-pub on_exhausted : (g h : ReplayInput) (now : ℕ) (quiet : Bool) (told : OrderedErrorKind) (old at new : Position) (v u w : LinkView) → h ≡ g → Walked g now quiet old at v u
-    → told ≡ error.SequenceEnd → TurnsTo turns.Exhausted None h now at new u w → Polls g now old new v w (told_of told)
-on_exhausted g h now quiet told old at new v u w same walked is turned =
+pub on_exhausted : (g h : ReplayInput) (now : ℕ) (quiet : Bool) (e : Error OrderedErrorKind) (old at new : Position) (v u w : LinkView) → h ≡ g → Walked g now quiet old at v u
+    → kind_of e ≡ error.SequenceEnd → source_of e ≡ None → TurnsTo turns.Exhausted None h now at new u w → PollsWithSource g now old new v w (next.Item (Err e))
+on_exhausted g h now quiet e old at new v u w same walked is comes turned =
     let t : TurnsTo turns.Exhausted None g now at new u w = known turns.Exhausted None g h now at new u w same turned in
-    subst (λ (k : OrderedErrorKind). Polls g now old new v w (told_of k)) (sym is) (poll_exhausts g now quiet t.0 old at new v u w walked t.1 t.2 t.3)
+    let poll : Polls g now old new v w (told_of (kind_of e)) =
+    subst (λ (k : OrderedErrorKind). Polls g now old new v w (told_of k)) (sym is) (poll_exhausts g now quiet t.0 old at new v u w walked t.1 t.2 t.3) in
+    (poll, comes ∙ ap (λ (k : OrderedErrorKind). source_by k (last_arrival g poll.strides old)) (sym is))
 
 pub on_closed : (g h : ReplayInput) (now : ℕ) (quiet : Bool) (old at new : Position) (v u w : LinkView) → h ≡ g → Walked g now quiet old at v u
     → TurnsTo turns.Closed None h now at new u w → Polls g now old new v w Ends

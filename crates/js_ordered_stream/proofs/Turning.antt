@@ -23,7 +23,7 @@ use Rattle.js_ordered_stream.specs.declared.rows.Handed.TheVariants as hands
 use Rattle.js_ordered_stream.specs.declared.rows.Stepped.{Stepped}
 use Rattle.js_ordered_stream.specs.declared.rows.Stop.{Stop}
 use Rattle.js_ordered_stream.specs.declared.rows.Stop.TheVariants as stop
-use Rattle.js_ordered_stream.specs.Rows.{Fits, IfAlone, IsPlain, ReadsNone, PassesRow, PassesRows, Steps, handed_list, has_message, is_rested, later_of, left_rows, message_in, met_row, read_in, seen_after, seen_by, todo_rows}
+use Rattle.js_ordered_stream.specs.Rows.{Fits, IfAlone, IfError, IsPlain, ReadsNone, PassesRow, PassesRows, Steps, handed_list, has_message, is_rested, later_of, left_rows, message_in, met_row, read_in, seen_after, seen_by, todo_rows}
 use Rattle.js_ordered_stream.specs.Stream.{IsNext, PassesFirst, PassesNext, TurnsTo, is_spent, step_met, stirring, turned_by, silent_by}
 use Rattle.js_table.specs.declared.consumer.Consumer.{Consumer}
 use Rattle.js_table.specs.declared.consumer.ReplayInput.{ReplayInput}
@@ -134,12 +134,12 @@ turned_silent g now met old new v u kept stirs true passes shows stirred is = (m
 turned_silent g now met old new v u kept stirs false passes shows stirred is = (met, passes, shows, stirred, sym is)
 
 turned_to : (g : ReplayInput) (now : ℕ) (met : Met) (old new : Position) (v u : LinkView) (hand : Handed) (message : Option Message) (stirs spent : Bool) → PassesNext g now met old new v u
-    → IfSome message (λ x. seen_by (first_row old.todo) met ≡ Some x) → handed (step_met g now met old).outputs ≡ handed_list hand message
+    → IfSome message (λ x. seen_by (first_row old.todo) met ≡ Some x) → IfError hand (message ≡ seen_by (first_row old.todo) met) → handed (step_met g now met old).outputs ≡ handed_list hand message
     → stirs ≡ stirring (first_row old.todo) met old.consumer.phase new.consumer.phase → spent ≡ is_spent new.consumer.phase → TurnsTo (turned_by hand message stirs spent) message g now old new v u
-turned_to g now met old new v u hands.Nothing message stirs spent passes took shows stirred is = turned_silent g now met old new v u message stirs spent passes shows stirred is
-turned_to g now met old new v u hands.Message None stirs spent passes took shows stirred is = turned_silent g now met old new v u None stirs spent passes shows stirred is
-turned_to g now met old new v u hands.Message (Some message) stirs spent passes took shows stirred is = (message, refl, met, passes, shows, took)
-turned_to g now met old new v u (hands.Error kind) message stirs spent passes took shows stirred is = (met, passes, shows)
+turned_to g now met old new v u hands.Nothing message stirs spent passes took errors shows stirred is = turned_silent g now met old new v u message stirs spent passes shows stirred is
+turned_to g now met old new v u hands.Message None stirs spent passes took errors shows stirred is = turned_silent g now met old new v u None stirs spent passes shows stirred is
+turned_to g now met old new v u hands.Message (Some message) stirs spent passes took errors shows stirred is = (message, refl, met, passes, shows, took)
+turned_to g now met old new v u (hands.Error kind) message stirs spent passes took errors shows stirred is = (met, passes, shows, errors)
 
 -- the next row was passed
 pub next_passed : (g : ReplayInput) (now : ℕ) (left after : Left) (c d e : Consumer) (kept : Seen) (done : Stepped) (was_reading : Bool) (turned : Turned) (v u : LinkView) → PassesFirst g now left c d v u kept (Ok done) → e ≡ d
@@ -165,7 +165,7 @@ next_passed g now left after c d e kept done was_reading turned v u (fits, (one,
     subst (λ (x : Consumer). TurnsTo turned (message_in after.seen) g now old (place x (left_rows after)) v u) (sym stays)
     (subst (λ (s : Seen). TurnsTo turned (message_in s) g now old new v u) (sym lies)
     (subst (λ (t : Turned). TurnsTo t (message_in kept) g now old new v u) (sym to)
-    (turned_to g now met old new v u done.handed (message_in kept) (has_message kept || (not was_reading && is_reading d.phase)) (is_spent d.phase) passes known.message
+    (turned_to g now met old new v u done.handed (message_in kept) (has_message kept || (not was_reading && is_reading d.phase)) (is_spent d.phase) passes known.message known.errors
     known.shown stirred refl)))
 
 -- its inbox is closed

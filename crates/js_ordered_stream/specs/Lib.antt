@@ -1,3 +1,4 @@
 pub mod Rows
 pub mod Stream
 pub mod Opening
+pub mod Inbox

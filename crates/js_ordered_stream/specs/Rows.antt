@@ -170,6 +170,11 @@ seen_by row met = message_of met
 abbrev pub met_row : ReplayInput → ℕ → Row → Met → Consumer → Passed
 met_row g now row met c = pass g (passing_of now met) (matter_of (poll_wish_at g row c.phase) met) row c
 
+-- a row that tells an error
+abbrev pub IfError : Handed → Type 0 → Type 0
+IfError (hands.Error kind) holds = holds
+IfError handed holds = ⊤
+
 -- the consumer after it, what it hands out, the rows that follow at once, and what it looked at; a message is kept for the row that hears it, or let go
 pub record Steps (g : ReplayInput) (now : ℕ) (row : Row) (met : Met) (old new : Consumer) (kept : Seen) (done : Stepped) : Type 0 where
   pub consumer : new ≡ (met_row g now row met old).consumer
@@ -178,6 +183,7 @@ pub record Steps (g : ReplayInput) (now : ℕ) (row : Row) (met : Met) (old new 
   pub looked : done.looked ≡ is_something kept
   pub seen : has_message kept ≡ is_some (seen_by row met)
   pub message : IfSome (message_in kept) (λ message. seen_by row met ≡ Some message)
+  pub errors : IfError done.handed (message_in kept ≡ seen_by row met)
 
 -- a row was passed with what it met, and looked at this; or its inbox is closed, or there was no memory, and it was not passed
 abbrev pub PassesRow : ReplayInput → ℕ → Row → Consumer → Consumer → LinkView → LinkView → Seen → Result Stepped Stop → Type 0

@@ -1,7 +1,9 @@
 -- Where an ordered stream stands, and what its polls answer.
-use Rattle.std.specs.Prelude.{◌≡◌, ℕ, Bool, true, false, ◌||◌, List, [], Option, Some, None, Result, Ok, Err, codes, is_some}
+use Rattle.std.specs.Prelude.{◌≡◌, ℕ, Bool, true, false, ◌||◌, List, [], Option, Some, None, Result, Ok, Err, codes, is_some, option_map, ⊤}
 use Rattle.js_base.specs.declared.error.Error.{Error}
-use Rattle.js_base.specs.Errors.{kind_of}
+use Rattle.js_base.specs.declared.error.Source.{Source}
+use Rattle.js_base.specs.declared.error.Source.TheVariants as source
+use Rattle.js_base.specs.Errors.{kind_of, source_of}
 use Rattle.js_base.specs.declared.message.Message.{Message}
 use Rattle.js_base.specs.declared.message.State.TheVariants.{Connected}
 use Rattle.js_base.specs.declared.turn.Next.{Next}
@@ -25,6 +27,7 @@ use Rattle.js_ordered_stream.specs.Rows.{Fits, PassesRow, later_of, left_rows, s
 use Rattle.js_table.specs.OrderedCore.{new_core}
 use Rattle.js_table.specs.State.{Matter}
 use Rattle.js_pull.specs.Asking.{is_shut}
+use Rattle.js_pull_stream.specs.Stream.{description_of}
 use Rattle.js_table.specs.declared.consumer.Consumer.{Consumer}
 use Rattle.js_table.specs.declared.consumer.ReplayInput.{ReplayInput}
 use Rattle.js_table.specs.declared.consumer.Phase.{Phase}
@@ -33,7 +36,7 @@ use Rattle.js_table.specs.declared.row.Row.{Row}
 use Rattle.js_table.specs.declared.run.ItemKind.{ItemKind}
 use Rattle.js_table.specs.declared.run.ItemKind.TheVariants as item
 use Rattle.js_table.specs.declared.setup.Settings.{Settings}
-use Rattle.js_turns.specs.Polling.{Answer, Yields, Tells, HandsEnd, Waits, Ends, Lacks, poll_wish, has_started, closed_at, handed_by}
+use Rattle.js_turns.specs.Polling.{Answer, Yields, Tells, HandsEnd, Waits, Ends, Lacks, IsPoll, last_arrival, poll_wish, has_started, closed_at, handed_by}
 use Rattle.js_turns.specs.Turns.{Position, Stride, Moved, step, first_row, later_rows, handed}
 use Rattle.js_turns.specs.Wishes.{matter_of}
 
@@ -48,6 +51,11 @@ error_kind item.Pull = error.Pull
 error_kind item.Recreate = error.Recreate
 error_kind item.Other = error.Other
 
+-- what it comes from: a limit is told with the server's description, where it sent one
+abbrev pub source_by : OrderedErrorKind → Option Message → Option Source
+source_by error.RequestLimitExceeded message = option_map (λ text. source.Text text) (description_of message)
+source_by kind message = None
+
 -- how it is printed
 abbrev pub kind_text : OrderedErrorKind → List ℕ
 kind_text error.MissingHeartbeat = codes "missed idle heartbeat"
@@ -57,8 +65,18 @@ kind_text error.Recreate = codes "consumer recreation failed"
 kind_text error.RequestLimitExceeded = codes "pull request exceeded consumer limits"
 kind_text error.PushBasedConsumer = codes "cannot use with push consumer"
 kind_text error.SequenceEnd = codes "sequence end"
+kind_text error.ConsumerDeleted = codes "consumer deleted"
+kind_text error.NoResponders = codes "no responders"
+kind_text error.PullBasedConsumer = codes "cannot use with push consumer"
 
--- what an error answers
+-- an error of this kind may come
+abbrev pub is_given : OrderedErrorKind → Bool
+is_given error.ConsumerDeleted = false
+is_given error.NoResponders = false
+is_given error.PullBasedConsumer = false
+is_given kind = true
+
+-- what an error answers. One of a kind that is never given would be any other error
 abbrev pub told_of : OrderedErrorKind → Answer
 told_of error.MissingHeartbeat = Tells item.MissingHeartbeat
 told_of error.Pull = Tells item.Pull
@@ -67,6 +85,9 @@ told_of error.Recreate = Tells item.Recreate
 told_of error.RequestLimitExceeded = Tells item.RequestLimitExceeded
 told_of error.PushBasedConsumer = Tells item.PushBasedConsumer
 told_of error.SequenceEnd = HandsEnd
+told_of error.ConsumerDeleted = Tells item.Other
+told_of error.NoResponders = Tells item.Other
+told_of error.PullBasedConsumer = Tells item.Other
 
 -- what a poll answers
 abbrev pub poll_answer : Next (Result Message (Error OrderedErrorKind)) → Answer
@@ -76,10 +97,25 @@ poll_answer next.Pending = Waits
 poll_answer next.End = Ends
 poll_answer next.OutOfMemory = Lacks
 
+-- an error that a poll answers is of a kind that is given
+abbrev pub IsGivenKind : Next (Result Message (Error OrderedErrorKind)) → Type 0
+IsGivenKind (next.Item (Err e)) = is_given (kind_of e) ≡ true
+IsGivenKind answer = ⊤
+
 -- the message that was kept is handed out
 abbrev pub handing : Option Message → Next (Result Message (Error OrderedErrorKind))
 handing (Some message) = next.Item (Ok message)
 handing None = next.OutOfMemory
+
+-- an error is told with the source that it has where this is the message that the last row looked at
+abbrev pub HasSource : Next (Result Message (Error OrderedErrorKind)) → Option Message → Type 0
+HasSource (next.Item (Err e)) message = source_of e ≡ source_by (kind_of e) message
+HasSource answer message = ⊤
+
+-- a poll, and the source of the error that it answers
+abbrev pub PollsWithSource : ReplayInput → ℕ → Position → Position → LinkView → LinkView → Next (Result Message (Error OrderedErrorKind)) → Type 0
+PollsWithSource g now old new before after result =
+    (poll : IsPoll g Meets now old new before after (poll_answer result)) × HasSource result (last_arrival g poll.strides old)
 
 -- ---- where a stream stands
 
@@ -122,7 +158,7 @@ pub record PassesNext (g : ReplayInput) (now : ℕ) (met : Met) (old new : Posit
 abbrev pub hands_out : ReplayInput → ℕ → Met → Position → Answer → Type 0
 hands_out g now met at answer = handed (step_met g now met at).outputs ≡ handed_by answer
 
--- the next row of a position was passed, which has kept this message to be handed out, or its inbox is closed, or there was no memory for it
+-- the next row of a position was passed, which has kept this message to be handed out, or looked at it and tells an error, or its inbox is closed, or there was no memory for it
 abbrev pub TurnsTo : Turned → Option Message → ReplayInput → ℕ → Position → Position → LinkView → LinkView → Type 0
 TurnsTo (turns.Silent stirs) kept g now old new before after =
     (met : Met) × PassesNext g now met old new before after × (handed (step_met g now met old).outputs ≡ [])
@@ -130,7 +166,7 @@ TurnsTo (turns.Silent stirs) kept g now old new before after =
 TurnsTo turns.Hands kept g now old new before after =
     (message : Message) × (kept ≡ Some message) × (met : Met) × PassesNext g now met old new before after × hands_out g now met old (Yields message) × (seen_by (first_row old.todo) met ≡ Some message)
 TurnsTo (turns.Tells kind) kept g now old new before after =
-    (met : Met) × PassesNext g now met old new before after × hands_out g now met old (Tells kind)
+    (met : Met) × PassesNext g now met old new before after × hands_out g now met old (Tells kind) × (kept ≡ seen_by (first_row old.todo) met)
 TurnsTo turns.Exhausted kept g now old new before after =
     (met : Met) × PassesNext g now met old new before after × (handed (step_met g now met old).outputs ≡ [])
     × (is_spent new.consumer.phase ≡ true)

@@ -1,9 +1,10 @@
 //! What an ordered stream tells of in place of a message.
-ghost use Rattle.std.specs.Prelude.{◌≡◌, Some};
-ghost use Rattle.js_base.specs.Errors.{kind_of};
-ghost use Rattle.js_ordered_stream.specs.Stream.{error_kind, kind_text};
+ghost use Rattle.std.specs.Prelude.{◌≡◌, None, Some};
+ghost use Rattle.js_base.specs.Errors.{kind_of, source_of};
+ghost use Rattle.js_ordered_stream.specs.Stream.{error_kind, kind_text, source_by};
+ghost use Rattle.js_pull_stream.specs.Stream.{description_of};
 
-use js_base::Error;
+use js_base::{Error, Message, Source, Text};
 use js_table::ItemKind;
 use std::{error, fmt};
 
@@ -18,12 +19,18 @@ pub enum OrderedErrorKind {
     Other,
     /// The consumer could not be made anew, as often as it was tried. The next poll tries again.
     Recreate,
-    /// The server refuses requests of this size, twice without a message between. The stream has ended.
+    /// The server refuses requests of this size, twice without a message between. The stream has ended. Its source is the server's description, where it sent one.
     RequestLimitExceeded,
     /// The consumer is a push consumer. The stream has ended.
     PushBasedConsumer,
     /// A recreation is due after the last of all sequences. The stream has ended.
     SequenceEnd,
+    /// Never given: a consumer that is deleted is made anew.
+    ConsumerDeleted,
+    /// Never given: where nobody answers a pull request, the consumer is made anew.
+    NoResponders,
+    /// Never given: a stream of a consumer that delivers to no subject is not opened.
+    PullBasedConsumer,
 }
 
 impl fmt::Display for OrderedErrorKind {
@@ -38,6 +45,9 @@ impl fmt::Display for OrderedErrorKind {
             OrderedErrorKind::RequestLimitExceeded => "pull request exceeded consumer limits",
             OrderedErrorKind::PushBasedConsumer => "cannot use with push consumer",
             OrderedErrorKind::SequenceEnd => "sequence end",
+            OrderedErrorKind::ConsumerDeleted => "consumer deleted",
+            OrderedErrorKind::NoResponders => "no responders",
+            OrderedErrorKind::PullBasedConsumer => "cannot use with push consumer",
         })
     }
 }
@@ -61,16 +71,45 @@ fn kind_of_item(kind: ItemKind) -> OrderedErrorKind
     }
 }
 
-/// The error that an item of the table is.
+/// The error that an item of the table is, without a source.
 pub(crate) fn error_of(kind: ItemKind) -> OrderedError
-    ensures { kind_of result ≡ error_kind kind }
+    ensures tells { kind_of result ≡ error_kind kind }
+    ensures source { source_of result ≡ None }
 {
     Error::new(kind_of_item(kind))
 }
 
+/// What the server says of it.
+fn description_of(message: Option<Message>) -> Option<Text>
+    ensures { result ≡ description_of message }
+{
+    match message {
+        None => None,
+        Some(mut message) => {
+            let description = message.description.take();
+            drop(message);
+            description
+        }
+    }
+}
+
+/// The error of a limit that this message told of.
+pub(crate) fn limit_error(message: Option<Message>) -> OrderedError
+    ensures tells { kind_of result ≡ OrderedErrorKind.RequestLimitExceeded }
+    ensures source { source_of result ≡ source_by OrderedErrorKind.RequestLimitExceeded message }
+{
+    match description_of(message) {
+        None => Error::new(OrderedErrorKind::RequestLimitExceeded),
+        Some(text) => {
+            Error::with_source(OrderedErrorKind::RequestLimitExceeded, Source::Text(text))
+        }
+    }
+}
+
 /// There is no sequence to go on from.
 pub(crate) fn sequence_end() -> OrderedError
-    ensures { kind_of result ≡ OrderedErrorKind.SequenceEnd }
+    ensures tells { kind_of result ≡ OrderedErrorKind.SequenceEnd }
+    ensures source { source_of result ≡ None }
 {
     Error::new(OrderedErrorKind::SequenceEnd)
 }

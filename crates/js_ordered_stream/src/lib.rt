@@ -3,6 +3,7 @@
 
 mod answer;
 mod error;
+mod inbox;
 mod left;
 mod listening;
 mod ordered;

@@ -2,21 +2,24 @@
 ghost use Rattle.std.specs.Prelude.{◌≡◌, ◌<◌, ◌^◌, ◌||◌, ◌&&◌, ◌++◌, IfOk, OnErr, false, not, true, ℕ};
 ghost use Rattle.js_link.specs.Meets.{Meets};
 ghost use Rattle.js_table.specs.Tasks.{next_rows};
+ghost use Rattle.js_ordered_stream.specs.Inbox.{ClosesInbox, inbox_of};
 ghost use Rattle.js_ordered_stream.specs.Rows.{Fits, has_message, kept_if, later_of, left_rows, message_in, read_in, seen_after};
-ghost use Rattle.js_ordered_stream.specs.Stream.{PassesFirst, TurnsTo, first_at, given_to, handing, is_spent as has_no_sequence, poll_answer, position_of, silent_by, turned_by, with_retries};
+ghost use Rattle.js_ordered_stream.specs.Stream.{IsGivenKind, PassesFirst, PollsWithSource, TurnsTo, error_kind, first_at, given_to, handing, is_spent as has_no_sequence, poll_answer, position_of, silent_by, source_by, turned_by, with_retries};
 ghost use Rattle.js_base.specs.Clock.{has_come};
+ghost use Rattle.js_base.specs.Errors.{kind_of, source_of};
 ghost use Rattle.js_table.specs.Fold.{is_over as has_ended};
 ghost use Rattle.js_table.specs.Passes.{given_of};
 ghost use Rattle.js_turns.specs.Polling.{IsPoll, closed_at, is_reading as reads_inbox};
 ghost use Rattle.js_turns.specs.Wakes.{phase_due};
 
-use crate::error::{OrderedError, error_of, sequence_end};
+use crate::error::{OrderedError, error_of, limit_error, sequence_end};
+use crate::inbox::{close_inbox, inbox_of};
 use crate::left::{First, Left, Seen, Todo, put};
 use crate::rows::{Handed, Stepped, Stop, begin, pass};
 use crate::wakes::phase_end;
 use js_base::{Boxed, Message, Moment, Next, OutOfMemory, State, Text};
 use js_json::consumer::Info;
-use js_link::Link;
+use js_link::{InboxId, Link};
 use js_table::passing::event::is_over;
 use js_table::{
     Consumer, EventContext, EventKind, ItemKind, OrderedCore, OrderedSetup, Phase, ReplayInput,
@@ -189,6 +192,8 @@ impl Ordered {
     ) -> Next<Result<Message, OrderedError>>
         ensures given { given_to self.new ≡ given_to self.old }
         ensures polls { IsPoll (given_to self.old) Meets now (position_of self.old) (position_of self.new) (L.view link.old) (L.view link.new) (poll_answer result) }
+        ensures sources { PollsWithSource (given_to self.old) now (position_of self.old) (position_of self.new) (L.view link.old) (L.view link.new) result }
+        ensures kinds { IsGivenKind result }
     {
         if is_over(&self.consumer.phase) {
             return Next::End;
@@ -203,6 +208,22 @@ impl Ordered {
         phase_end(&self.consumer.phase)
     }
 
+    /// The inbox that is open for it.
+    pub(crate) fn inbox(&self) -> Option<InboxId>
+        ensures { result ≡ inbox_of (position_of self.now).consumer.phase }
+    {
+        inbox_of(&self.consumer.phase)
+    }
+
+    /// Lets go of it, and closes its inbox.
+    pub(crate) fn leave<L: Link>(self, link: &mut L)
+        ensures { ClosesInbox (inbox_of (position_of self).consumer.phase) (L.view link.old) (L.view link.new) }
+    {
+        let inbox = self.inbox();
+        drop(self);
+        close_inbox(link, inbox);
+    }
+
     /// Passes row after row, up to the first that hands something out.
     ///
     /// A poll has fewer rows than a `u64` counts: memory ends long before.
@@ -214,7 +235,8 @@ impl Ordered {
     ) -> Next<Result<Message, OrderedError>>
         requires { has_ended self.old.consumer.phase ≡ false }
         ensures given { given_to self.new ≡ given_to self.old }
-        ensures polls { IsPoll (given_to self.old) Meets now (position_of self.old) (position_of self.new) (L.view link.old) (L.view link.new) (poll_answer result) }
+        ensures sources { PollsWithSource (given_to self.old) now (position_of self.old) (position_of self.new) (L.view link.old) (L.view link.new) result }
+        ensures kinds { IsGivenKind result }
     {
         let mut quiet = false;
         'rows: for _ in 0..u64::MAX {
@@ -225,7 +247,7 @@ impl Ordered {
             match self.pass_next(alloc, link, now) {
                 Turned::Silent { stirs } => quiet = is_quiet(quiet, begins, stirs),
                 Turned::Hands => return self.hand_out(),
-                Turned::Tells(kind) => return Next::Item(Err(error_of(kind))),
+                Turned::Tells(kind) => return Next::Item(Err(self.tell(kind))),
                 Turned::Exhausted => return Next::Item(Err(sequence_end())),
                 Turned::Closed => return Next::End,
                 Turned::OutOfMemory => return Next::OutOfMemory,
@@ -239,11 +261,29 @@ impl Ordered {
         ensures given { given_to self.new ≡ given_to self.old }
         ensures place { position_of self.new ≡ position_of self.old }
         ensures answer { result ≡ handing (message_in self.old.left.seen) }
+        ensures kinds { IsGivenKind result }
     {
         match self.left.take_message() {
             Some(message) => Next::Item(Ok(message)),
             // None is handed out that was not taken.
             None => Next::OutOfMemory,
+        }
+    }
+
+    /// The error that the last row told of. The message that told of a limit lies in its place still.
+    fn tell(&mut self, kind: ItemKind) -> OrderedError
+        ensures given { given_to self.new ≡ given_to self.old }
+        ensures place { position_of self.new ≡ position_of self.old }
+        ensures tells { kind_of result ≡ error_kind kind }
+        ensures source { source_of result ≡ source_by (error_kind kind) (message_in self.old.left.seen) }
+    {
+        match kind {
+            ItemKind::RequestLimitExceeded => limit_error(self.left.take_message()),
+            ItemKind::MissingHeartbeat
+            | ItemKind::PushBasedConsumer
+            | ItemKind::Pull
+            | ItemKind::Recreate
+            | ItemKind::Other => error_of(kind),
         }
     }
 

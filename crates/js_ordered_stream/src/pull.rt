@@ -1,8 +1,9 @@
 //! The stream of an ordered pull consumer.
 ghost use Rattle.std.specs.Prelude.{◌≡◌, ◌<◌, ◌^◌, ℕ, [], IfOk};
 ghost use Rattle.js_link.specs.Meets.{Meets};
+ghost use Rattle.js_ordered_stream.specs.Inbox.{ClosesInbox, inbox_of};
 ghost use Rattle.js_ordered_stream.specs.Opening.{IsGaplessPull, OpensConsumer, OpensOrdered, given_of_pull, position_of_pull};
-ghost use Rattle.js_ordered_stream.specs.Stream.{poll_answer};
+ghost use Rattle.js_ordered_stream.specs.Stream.{IsGivenKind, PollsWithSource, poll_answer};
 ghost use Rattle.js_base.specs.Clock.{has_come};
 ghost use Rattle.js_pull.specs.Reader.{new_reader};
 ghost use Rattle.js_table.specs.Texts.{source_of};
@@ -15,7 +16,7 @@ use crate::ordered;
 use js_base::{Message, Moment, Next, OutOfMemory, Subject, TryClone};
 use js_json::consumer::Info;
 use js_json::pull::OrderedConfig;
-use js_link::{Link, LinkError};
+use js_link::{InboxId, Link, LinkError};
 use js_pull::{Reader, Source};
 use js_table::{
     Consumer, EventContext, EventKind, OrderedSetup, Phase, ReplayInput, Settings, texts,
@@ -117,6 +118,8 @@ impl Ordered {
 
     /// Reads the next message or error. It waits after a turn in which nothing came.
     ///
+    /// The source of an error of kind `RequestLimitExceeded` is the server's description, where it sent one. No other error has a source.
+    ///
     /// After `Pending` it may be left alone until something comes for it or `wakes_at` has come: a poll before that does nothing.
     /// What comes is a message in its inbox, the end of its inbox, an answer that it waits for, and a change of the connection.
     pub fn poll_next<L: Link>(
@@ -127,6 +130,8 @@ impl Ordered {
     ) -> Next<Result<Message, OrderedError>>
         ensures given { given_of_pull self.new ≡ given_of_pull self.old }
         ensures polls { IsPoll (given_of_pull self.old) Meets now (position_of_pull self.old) (position_of_pull self.new) (L.view link.old) (L.view link.new) (poll_answer result) }
+        ensures sources { PollsWithSource (given_of_pull self.old) now (position_of_pull self.old) (position_of_pull self.new) (L.view link.old) (L.view link.new) result }
+        ensures kinds { IsGivenKind result }
         ensures sleeps { SleepsIfLeftAlone (given_of_pull self.old) now (position_of_pull self.old) (position_of_pull self.new) (L.view link.old) (L.view link.new) (poll_answer result) }
     {
         self.polled.poll_next(alloc, link, now)
@@ -139,5 +144,23 @@ impl Ordered {
         ensures { (now : ℕ) → now < 2 ^ 64 → has_come result now ≡ phase_due now (position_of_pull self.now).consumer.phase }
     {
         self.polled.wakes_at()
+    }
+
+    /// The inbox that is open for it: the one that it reads, or the one of the consumer that is being made. None in between, and at its end.
+    ///
+    /// One that ends with `RequestLimitExceeded` or `PushBasedConsumer` leaves its inbox open at the link, and names it no more: what asks
+    /// before the poll can close it.
+    pub fn inbox(&self) -> Option<InboxId>
+        ensures { result ≡ inbox_of (position_of_pull self.now).consumer.phase }
+    {
+        self.polled.inbox()
+    }
+
+    /// Lets go of it, and closes its inbox, where it has one: what lies in it is lost. One that is let go without this leaves its inbox
+    /// open. The server's consumer is not deleted; it goes when nobody has asked for messages for its inactive threshold.
+    pub fn close<L: Link>(self, link: &mut L)
+        ensures { ClosesInbox (inbox_of (position_of_pull self).consumer.phase) (L.view link.old) (L.view link.new) }
+    {
+        self.polled.leave(link);
     }
 }

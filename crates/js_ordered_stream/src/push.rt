@@ -1,8 +1,9 @@
 //! The stream of an ordered push consumer.
 ghost use Rattle.std.specs.Prelude.{◌≡◌, ◌<◌, ◌^◌, IfOk, Some, ℕ};
 ghost use Rattle.js_link.specs.Meets.{Meets};
+ghost use Rattle.js_ordered_stream.specs.Inbox.{ClosesInbox, inbox_of};
 ghost use Rattle.js_ordered_stream.specs.Opening.{IsGaplessPush, ListensFirst, OpensPushed, Subscribes, given_of_push, open_text, position_of_push};
-ghost use Rattle.js_ordered_stream.specs.Stream.{poll_answer};
+ghost use Rattle.js_ordered_stream.specs.Stream.{IsGivenKind, PollsWithSource, poll_answer};
 ghost use Rattle.js_base.specs.Clock.{has_come};
 ghost use Rattle.js_turns.specs.Polling.{IsPoll};
 ghost use Rattle.js_turns.specs.Wakes.{SleepsIfLeftAlone, phase_due};
@@ -13,7 +14,7 @@ use crate::ordered;
 use js_base::{Message, Moment, Next, OutOfMemory, TryClone};
 use js_json::consumer::Info;
 use js_json::push::OrderedConfig;
-use js_link::{Link, LinkError};
+use js_link::{InboxId, Link, LinkError};
 use js_table::passing::listening::listen;
 use js_table::{Consumer, EventContext, EventKind, OrderedSetup, Phase, ReplayInput, Settings};
 use std::alloc::Global;
@@ -157,6 +158,8 @@ impl Ordered {
     ) -> Next<Result<Message, OrderedError>>
         ensures given { given_of_push self.new ≡ given_of_push self.old }
         ensures polls { IsPoll (given_of_push self.old) Meets now (position_of_push self.old) (position_of_push self.new) (L.view link.old) (L.view link.new) (poll_answer result) }
+        ensures sources { PollsWithSource (given_of_push self.old) now (position_of_push self.old) (position_of_push self.new) (L.view link.old) (L.view link.new) result }
+        ensures kinds { IsGivenKind result }
         ensures sleeps { SleepsIfLeftAlone (given_of_push self.old) now (position_of_push self.old) (position_of_push self.new) (L.view link.old) (L.view link.new) (poll_answer result) }
     {
         self.polled.poll_next(alloc, link, now)
@@ -169,5 +172,22 @@ impl Ordered {
         ensures { (now : ℕ) → now < 2 ^ 64 → has_come result now ≡ phase_due now (position_of_push self.now).consumer.phase }
     {
         self.polled.wakes_at()
+    }
+
+    /// The inbox that is open for it: the one that it reads, or the one of the consumer that is being made. None in between, and at its end.
+    ///
+    /// One that ends with the connection's watcher leaves its inbox open at the link, and names it no more: what asks before the poll can close it.
+    pub fn inbox(&self) -> Option<InboxId>
+        ensures { result ≡ inbox_of (position_of_push self.now).consumer.phase }
+    {
+        self.polled.inbox()
+    }
+
+    /// Lets go of it, and closes its inbox, where it has one: what lies in it is lost. One that is let go without this leaves its inbox
+    /// open. The server's consumer is not deleted; it goes when nobody has listened to it for its inactive threshold.
+    pub fn close<L: Link>(self, link: &mut L)
+        ensures { ClosesInbox (inbox_of (position_of_push self).consumer.phase) (L.view link.old) (L.view link.new) }
+    {
+        self.polled.leave(link);
     }
 }

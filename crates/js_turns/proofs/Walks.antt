@@ -1,5 +1,5 @@
 -- A walk keeps what is known of its consumer, and its yields join. A replay's event is such a walk.
-use Rattle.std.proofs.Common.{ℕ, List, [], ◌∷◌, ◌++◌, refl, subst}
+use Rattle.std.proofs.Common.{ℕ, List, [], ◌∷◌, refl}
 use Rattle.std.specs.List.{AllByRecursion}
 use Rattle.js_table.specs.declared.row.Row.{Row}
 use Rattle.js_table.specs.declared.consumer.ReplayInput.{ReplayInput}

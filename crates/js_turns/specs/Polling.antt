@@ -7,7 +7,6 @@ use Rattle.js_pull.specs.Asking.{is_shut}
 use Rattle.js_table.specs.declared.consumer.ReplayInput.{ReplayInput}
 use Rattle.js_table.specs.declared.consumer.Phase.{Phase}
 use Rattle.js_table.specs.declared.consumer.Phase.TheVariants.{Pulls, Pushes, Ended, Exhausted}
-use Rattle.js_table.specs.declared.row.Arrival.{Arrival}
 use Rattle.js_table.specs.declared.row.Row.{Row}
 use Rattle.js_table.specs.declared.row.Row.TheVariants.{Hold, Hear}
 use Rattle.js_table.specs.declared.run.ItemKind.{ItemKind}
@@ -152,4 +151,6 @@ pub record IsPoll {V : Type 0} (g : ReplayInput) (meets : Wish → Met → V →
   -- it waits only after a quiet turn, and where it can go on
   pub alive : answer ≡ Waits → new.consumer.phase ≢ Exhausted
   pub waits : answer ≡ Waits → (first : List Stride) × (last : List Stride) × (strides ≡ first ++ last) × IsQuietTurn g last (walk g first old).position
+  -- a poll that lacks memory has not come to the end that is told once
+  pub unspent : answer ≡ Lacks → new.consumer.phase ≢ Exhausted
   pub gapless : (s : Server) → HasWholeLists g.setup s → IsKeptPosition g.setup s old → IsHonestWalk g s strides old → KeepsPoll g.setup s old.consumer.core.stream_sequence new answer

@@ -74,7 +74,7 @@ fn is_yield(message: &Message, output: Option<&Output>) -> bool {
     }
 }
 
-/// The kind of item that a kind of error is. That there is no sequence to go on from is told by the end of a run.
+/// The kind of item that a kind of error is. That there is no sequence to go on from is told by the end of a run, and three kinds never come.
 fn item_kind(kind: OrderedErrorKind) -> Option<ItemKind> {
     match kind {
         OrderedErrorKind::MissingHeartbeat => Some(ItemKind::MissingHeartbeat),
@@ -83,7 +83,10 @@ fn item_kind(kind: OrderedErrorKind) -> Option<ItemKind> {
         OrderedErrorKind::Recreate => Some(ItemKind::Recreate),
         OrderedErrorKind::RequestLimitExceeded => Some(ItemKind::RequestLimitExceeded),
         OrderedErrorKind::PushBasedConsumer => Some(ItemKind::PushBasedConsumer),
-        OrderedErrorKind::SequenceEnd => None,
+        OrderedErrorKind::SequenceEnd
+        | OrderedErrorKind::ConsumerDeleted
+        | OrderedErrorKind::NoResponders
+        | OrderedErrorKind::PullBasedConsumer => None,
     }
 }
 

@@ -1,4 +1,4 @@
-use Rattle.std.proofs.Common.{Some, None, true, false, refl, sym, ap, subst}
+use Rattle.std.proofs.Common.{None, true, false, refl, sym, ap, subst}
 use Rattle.std.specs.Prelude.{Ok, Err}
 use Rattle.js_link.specs.Met.{Empty, Took}
 use Rattle.js_ordered_stream.specs.declared.left.Seen.{Seen}

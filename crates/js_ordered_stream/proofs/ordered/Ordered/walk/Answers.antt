@@ -1,19 +1,20 @@
-use Rattle.std.proofs.Common.{Bool, refl, sym, subst, ◌∙◌}
+use Rattle.std.proofs.Common.{Bool, refl, sym, ap, subst, ◌∙◌}
 use Rattle.js_ordered_stream.specs.Rows.{message_in}
-use Rattle.js_ordered_stream.specs.Stream.{given_to, position_of}
-use Rattle.js_ordered_stream.proofs.Strides.{Walked, walked_none, on_waits, on_silent, on_hands, on_tells, on_exhausted, on_closed, on_lacks, poll_lacks}
+use Rattle.js_ordered_stream.specs.Stream.{given_to, is_given, position_of}
+use Rattle.js_ordered_stream.proofs.Strides.{Walked, walked_none, error_given, on_waits, on_silent, on_hands, on_tells, on_exhausted, on_closed, on_lacks, poll_lacks}
 use Rattle.js_ordered_stream.proofs.Turning.{rested}
-use Rattle.js_base.specs.Errors.{kind_of}
 use Rattle.js_ordered_stream.proofs.ordered.Ordered.walk.Goals as goal
 
 pub rows-init : goal.rows-init
 rows-init g c = record { given = refl; walked = walked_none (given_to c.args.self.now) c.args.now (position_of c.args.self.now) (g.L.Link.view c.args.link.now) c.requires }
 
-pub returns-then-both-clause-polls : goal.returns-then-both-clause-polls
-returns-then-both-clause-polls g c =
-    let view = g.L.Link.view in
-    on_waits (given_to c.args.self.now) c.args.now c.rows.quiet c.is_empty-begins.result c.both.result (position_of c.args.self.now) (position_of c.rows.self) (view c.args.link.now) (view c.rows.link) c.rows.invariant.walked
-    (rested c.rows.self.left c.is_empty-begins.result c.is_empty-begins.ensures) c.both.ensures c.if-both.true
+pub returns-then-both-clause-sources : goal.returns-then-both-clause-sources
+returns-then-both-clause-sources g c =
+    let view = g.L.Link.view in (
+      on_waits (given_to c.args.self.now) c.args.now c.rows.quiet c.is_empty-begins.result c.both.result (position_of c.args.self.now) (position_of c.rows.self) (view c.args.link.now) (view c.rows.link) c.rows.invariant.walked
+          (rested c.rows.self.left c.is_empty-begins.result c.is_empty-begins.ensures) c.both.ensures c.if-both.true,
+      tt,
+    )
 
 pub rows-preserved : goal.rows-preserved
 rows-preserved g c =
@@ -25,37 +26,47 @@ rows-preserved g c =
           c.rows.invariant.given c.rows.invariant.walked (rested c.rows.self.left c.is_empty-begins.result c.is_empty-begins.ensures) c.in-Silent.ensures.turns);
     }
 
-pub returns-in-Hands-clause-polls : goal.returns-in-Hands-clause-polls
-returns-in-Hands-clause-polls g c =
+pub returns-in-Hands-clause-sources : goal.returns-in-Hands-clause-sources
+returns-in-Hands-clause-sources g c =
     let view = g.L.Link.view in
     on_hands (given_to c.args.self.now) (given_to c.rows.self) c.args.now c.rows.quiet (message_in c.pass_next.new.self.left.seen) c.hand_out.result (position_of c.args.self.now) (position_of c.rows.self) (position_of c.pass_next.new.self) (position_of c.hand_out.new.self) (view c.args.link.now) (view c.rows.link) (view c.pass_next.new.link)
     c.rows.invariant.given c.rows.invariant.walked c.in-Hands.ensures.turns c.hand_out.ensures.place c.hand_out.ensures.answer
 
-pub returns-in-Tells-clause-polls : goal.returns-in-Tells-clause-polls
-returns-in-Tells-clause-polls g c =
+pub returns-in-Tells-clause-sources : goal.returns-in-Tells-clause-sources
+returns-in-Tells-clause-sources g c =
     let view = g.L.Link.view in
-    on_tells (given_to c.args.self.now) (given_to c.rows.self) c.args.now c.rows.quiet c.in-Tells.kind (kind_of c.error_of.result) (position_of c.args.self.now) (position_of c.rows.self) (position_of c.pass_next.new.self) (view c.args.link.now) (view c.rows.link) (view c.pass_next.new.link)
-    c.rows.invariant.given c.rows.invariant.walked c.error_of.ensures c.in-Tells.ensures.turns
+    on_tells (given_to c.args.self.now) (given_to c.rows.self) c.args.now c.rows.quiet c.in-Tells.kind (message_in c.pass_next.new.self.left.seen) c.tell.result (position_of c.args.self.now) (position_of c.rows.self) (position_of c.pass_next.new.self) (position_of c.tell.new.self) (view c.args.link.now) (view c.rows.link) (view c.pass_next.new.link)
+    c.rows.invariant.given c.rows.invariant.walked c.tell.ensures.tells c.tell.ensures.source c.in-Tells.ensures.turns c.tell.ensures.place
 
-pub returns-in-Exhausted-clause-polls : goal.returns-in-Exhausted-clause-polls
-returns-in-Exhausted-clause-polls g c =
+pub returns-in-Exhausted-clause-sources : goal.returns-in-Exhausted-clause-sources
+returns-in-Exhausted-clause-sources g c =
     let view = g.L.Link.view in
-    on_exhausted (given_to c.args.self.now) (given_to c.rows.self) c.args.now c.rows.quiet (kind_of c.sequence_end.result) (position_of c.args.self.now) (position_of c.rows.self) (position_of c.pass_next.new.self) (view c.args.link.now) (view c.rows.link) (view c.pass_next.new.link)
-    c.rows.invariant.given c.rows.invariant.walked c.sequence_end.ensures c.in-Exhausted.ensures.turns
+    on_exhausted (given_to c.args.self.now) (given_to c.rows.self) c.args.now c.rows.quiet c.sequence_end.result (position_of c.args.self.now) (position_of c.rows.self) (position_of c.pass_next.new.self) (view c.args.link.now) (view c.rows.link) (view c.pass_next.new.link)
+    c.rows.invariant.given c.rows.invariant.walked c.sequence_end.ensures.tells c.sequence_end.ensures.source c.in-Exhausted.ensures.turns
 
-pub returns-in-Closed-clause-polls : goal.returns-in-Closed-clause-polls
-returns-in-Closed-clause-polls g c =
-    let view = g.L.Link.view in
-    on_closed (given_to c.args.self.now) (given_to c.rows.self) c.args.now c.rows.quiet (position_of c.args.self.now) (position_of c.rows.self) (position_of c.pass_next.new.self) (view c.args.link.now) (view c.rows.link) (view c.pass_next.new.link)
-    c.rows.invariant.given c.rows.invariant.walked c.in-Closed.ensures.turns
+pub returns-in-Closed-clause-sources : goal.returns-in-Closed-clause-sources
+returns-in-Closed-clause-sources g c =
+    let view = g.L.Link.view in (
+      on_closed (given_to c.args.self.now) (given_to c.rows.self) c.args.now c.rows.quiet (position_of c.args.self.now) (position_of c.rows.self) (position_of c.pass_next.new.self) (view c.args.link.now) (view c.rows.link) (view c.pass_next.new.link)
+          c.rows.invariant.given c.rows.invariant.walked c.in-Closed.ensures.turns,
+      tt,
+    )
 
-pub returns-in-OutOfMemory-clause-polls : goal.returns-in-OutOfMemory-clause-polls
-returns-in-OutOfMemory-clause-polls g c =
-    let view = g.L.Link.view in
-    on_lacks (given_to c.args.self.now) (given_to c.rows.self) c.args.now c.rows.quiet (position_of c.args.self.now) (position_of c.rows.self) (position_of c.pass_next.new.self) (view c.args.link.now) (view c.rows.link) (view c.pass_next.new.link)
-    c.rows.invariant.given c.rows.invariant.walked c.in-OutOfMemory.ensures.turns
+pub returns-in-OutOfMemory-clause-sources : goal.returns-in-OutOfMemory-clause-sources
+returns-in-OutOfMemory-clause-sources g c =
+    let view = g.L.Link.view in (
+      on_lacks (given_to c.args.self.now) (given_to c.rows.self) c.args.now c.rows.quiet (position_of c.args.self.now) (position_of c.rows.self) (position_of c.pass_next.new.self) (view c.args.link.now) (view c.rows.link) (view c.pass_next.new.link)
+          c.rows.invariant.given c.rows.invariant.walked c.in-OutOfMemory.ensures.turns,
+      tt,
+    )
 
-pub returns-clause-polls : goal.returns-clause-polls
-returns-clause-polls g c =
+pub returns-clause-sources : goal.returns-clause-sources
+returns-clause-sources g c =
     let view = g.L.Link.view in
-    poll_lacks (given_to c.args.self.now) c.args.now c.rows.quiet (position_of c.args.self.now) (position_of c.rows.self) (position_of c.rows.self) (view c.args.link.now) (view c.rows.link) (view c.rows.link) c.rows.invariant.walked refl refl
+    (poll_lacks (given_to c.args.self.now) c.args.now c.rows.quiet (position_of c.args.self.now) (position_of c.rows.self) (position_of c.rows.self) (view c.args.link.now) (view c.rows.link) (view c.rows.link) c.rows.invariant.walked refl refl, tt)
+
+pub returns-in-Tells-clause-kinds : goal.returns-in-Tells-clause-kinds
+returns-in-Tells-clause-kinds g c = ap is_given c.tell.ensures.tells ∙ error_given c.in-Tells.kind
+
+pub returns-in-Exhausted-clause-kinds : goal.returns-in-Exhausted-clause-kinds
+returns-in-Exhausted-clause-kinds g c = ap is_given c.sequence_end.ensures.tells
