@@ -1,8 +1,6 @@
 //! Sources and sinks that fail, that take little at a time, or that give too much.
 
-use crate::steps::{
-    ARRIVALS, ARRIVALS_TEXT, Faults, NO_FAULTS, Told, arrivals_told, told, words_of,
-};
+use crate::steps::{Faults, GAP, GAP_TEXT, NO_FAULTS, Told, gap_told, told, words_of};
 use crate::tables::same;
 use js_tool::{PlainSink, PlainSource, Sink, Source, Status, run_plain};
 use std::alloc::{AllocError, Global};
@@ -10,18 +8,18 @@ use std::process::Abort;
 use std::sync::Wait;
 use std::thread::Threads;
 
-// Which read fails, how the replay of two arrivals ends then, and what it has written. The first read gives all, the second
+// Which read fails, how the replay of the gap ends then, and what it has written. The first read gives all, the second
 // tells the end, and there is no third.
 const READS: &[(u64, Status, &str)] = &[
     (1, Status::ReadFault, ""),
     (2, Status::ReadFault, ""),
-    (3, Status::Done, ARRIVALS_TEXT),
+    (3, Status::Done, GAP_TEXT),
 ];
 
 // The replay where this read fails.
 fn read_fails<R: Threads + Wait + Sync>(rt: &R, alloc: Global, read: u64, wanted: &str) -> Told {
     let faults = Faults { read, ..NO_FAULTS };
-    arrivals_told(rt, alloc, "replay", faults, wanted.as_bytes())
+    gap_told(rt, alloc, "replay", faults, wanted.as_bytes())
 }
 
 #[test]
@@ -34,7 +32,7 @@ fn a_read_that_fails_is_told(rt: HostRuntime) {
 
 // Words, what is written for them, and how they end where a write fails.
 const WRITES: &[(&str, &str, Status)] = &[
-    ("replay", ARRIVALS_TEXT, Status::WriteFault),
+    ("replay", GAP_TEXT, Status::WriteFault),
     (
         "generate 0 12",
         "[\"summary\",12,8,0,1,2,2,1,8]\n",
@@ -65,7 +63,7 @@ fn leaves_front<R: Threads + Wait + Sync>(rt: &R, alloc: Global, line: &str, fro
         write,
         most: 1,
     };
-    arrivals_told(rt, alloc, line, faults, front)
+    gap_told(rt, alloc, line, faults, front)
 }
 
 fn leaves_each_front<R: Threads + Wait + Sync + Abort>(
@@ -88,17 +86,17 @@ fn a_write_that_fails_leaves_a_front(rt: HostRuntime) {
     }
 }
 
-// How many bytes a write takes at most, how the replay of two arrivals ends, and what it has written.
+// How many bytes a write takes at most, how the replay of the gap ends, and what it has written.
 const SMALL: &[(u64, Status, &str)] = &[
     (0, Status::WriteFault, ""),
-    (1, Status::Done, ARRIVALS_TEXT),
-    (7, Status::Done, ARRIVALS_TEXT),
+    (1, Status::Done, GAP_TEXT),
+    (7, Status::Done, GAP_TEXT),
 ];
 
 // The replay where a write takes so little.
 fn writes<R: Threads + Wait + Sync>(rt: &R, alloc: Global, most: u64, wanted: &str) -> Told {
     let faults = Faults { most, ..NO_FAULTS };
-    arrivals_told(rt, alloc, "replay", faults, wanted.as_bytes())
+    gap_told(rt, alloc, "replay", faults, wanted.as_bytes())
 }
 
 #[test]
@@ -144,9 +142,9 @@ fn plain_into<S: Source>(
     Ok((status, output.taken() == wanted.as_bytes()))
 }
 
-// How `run_plain` ends for the words of a line over two arrivals, and whether it writes just what is wanted.
+// How `run_plain` ends for the words of a line over the gap, and whether it writes just what is wanted.
 fn plain_told(alloc: Global, line: &str, wanted: &str) -> Told {
-    let bytes = Vec::from_slice(alloc, ARRIVALS.as_bytes())?;
+    let bytes = Vec::from_slice(alloc, GAP.as_bytes())?;
     let mut input = PlainSource::new(bytes);
     plain_into(alloc, line, &mut input, &mut PlainSink::new(alloc), wanted)
 }
@@ -154,7 +152,7 @@ fn plain_told(alloc: Global, line: &str, wanted: &str) -> Told {
 // Words, how they end without threads, and what is written. There is no window; all else is as with them.
 const PLAIN: &[(&str, Status, &str)] = &[
     ("window 1 1 3", Status::Usage, ""),
-    ("replay", Status::Done, ARRIVALS_TEXT),
+    ("replay", Status::Done, GAP_TEXT),
 ];
 
 #[test]

@@ -6,11 +6,15 @@
 mod ends;
 mod faults;
 #[cfg(test)]
+mod follow;
+#[cfg(test)]
 mod lines;
 #[cfg(test)]
 mod mirrors;
 #[cfg(test)]
 mod ordered;
+#[cfg(test)]
+mod polled;
 #[cfg(test)]
 mod pull;
 #[cfg(test)]
@@ -19,7 +23,5 @@ mod steps;
 mod tables;
 #[cfg(test)]
 mod threads;
-#[cfg(test)]
-mod polled;
 
 pub use faults::failing;

@@ -7,9 +7,9 @@ mod rows;
 mod shown;
 mod transcript;
 
-use crate::tables::same;
-use crate::polled::transcript::{Replayed, drawn, read};
 use crate::polled::rows::{ROWS, Row};
+use crate::polled::transcript::{Replayed, drawn, read};
+use crate::tables::same;
 use js_ordered::Run;
 use std::alloc::Global;
 use std::fmt::Debug;

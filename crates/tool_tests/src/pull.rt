@@ -1,13 +1,15 @@
-//! What the calls of a pull reader do that take memory, with enough of it.
+//! What the calls of a pull reader, and those of the stream over it, do that take memory, with enough of it.
 
 use crate::tables::same;
 use bytes::Bytes;
-use js_base::{HeaderMap, Message, OutOfMemory, StatusCode, Subject, Text, all_4, both};
+use js_base::{HeaderMap, Message, Moment, OutOfMemory, StatusCode, Subject, Text, all_4, both};
 use js_fields::ReadError;
 use js_json::consumer::Info;
 use js_json::pull::BatchConfig;
 use js_json::{Response, response_as};
+use js_link::{InboxId, MemoryLink};
 use js_pull::{Reader, Source, info_of_reply, ordered_batch_config};
+use js_pull_stream::{Advance, Consumer, Stream};
 use std::alloc::Global;
 use std::process::Abort;
 
@@ -189,4 +191,75 @@ fn an_arrival_may_name_a_pin(rt: HostRuntime) {
     same(&rt, "noted", note(rt.alloc(), &mut reader), Ok(()));
     says_body(&rt, reader.pull_body(rt.alloc()), PINNED_BODY);
     drop(reader);
+}
+
+// A stream of the messages of that consumer, which reads the first inbox of the link.
+fn opened(alloc: Global, link: &mut MemoryLink) -> Result<Stream, ReadError> {
+    let config = told_of(info(alloc))?;
+    let asked = Consumer {
+        api: "$JS.API",
+        stream: "events",
+        name: "c1",
+        info_timeout: None,
+    };
+    match Stream::open(alloc, link, &asked, config, false) {
+        Ok(stream) => Ok(stream),
+        Err(_) => Err(ReadError::OutOfMemory),
+    }
+}
+
+// Delivers a message of this payload, where there is one.
+fn bring(alloc: Global, link: &mut MemoryLink, payload: Option<&str>) -> Result<(), OutOfMemory> {
+    match payload {
+        Some(payload) => link.deliver(InboxId(0), message(alloc, payload, None, None)?),
+        None => Ok(()),
+    }
+}
+
+fn part_word(part: &Advance) -> &'static str {
+    match part {
+        Advance::Item(_) => "item",
+        Advance::Message(_) => "message",
+        Advance::Closed => "closed",
+        Advance::Done => "done",
+        Advance::OutOfMemory => "out of memory",
+    }
+}
+
+// What the next part of an event comes to, before which this was delivered.
+fn advanced(
+    alloc: Global,
+    stream: &mut Stream,
+    link: &mut MemoryLink,
+    now: Moment,
+    payload: Option<&str>,
+) -> Result<&'static str, OutOfMemory> {
+    bring(alloc, link, payload)?;
+    let part = stream.advance(alloc, link, now, None);
+    let word = part_word(&part);
+    drop(part);
+    Ok(word)
+}
+
+// The moment of a part of an event, what is delivered before, and what the part comes to: the first one is the opening.
+const PARTS: &[(Moment, Option<&str>, &str)] = &[
+    (0, None, "done"),
+    (1, Some("a"), "message"),
+    (1, None, "done"),
+];
+
+fn says_parts(rt: &impl Abort, alloc: Global, stream: &mut Stream, link: &mut MemoryLink) {
+    for &(now, payload, wanted) in PARTS {
+        let found = advanced(alloc, stream, link, now, payload);
+        same(rt, wanted, found, Ok(wanted));
+    }
+}
+
+#[test]
+fn a_stream_goes_on_part_by_part(rt: HostRuntime) {
+    let mut link = MemoryLink::new(rt.alloc(), "_INBOX.t").expect(&rt, "memory");
+    let mut stream = opened(rt.alloc(), &mut link).expect(&rt, "memory");
+    says_parts(&rt, rt.alloc(), &mut stream, &mut link);
+    drop(stream);
+    drop(link);
 }

@@ -6,19 +6,27 @@ use std::alloc::{AllocError, Global};
 use std::sync::Wait;
 use std::thread::Threads;
 
-/// A transcript of two arrivals in order.
-pub(crate) const ARRIVALS: &str =
+/// A transcript in which a message is missing, and its consumer is deleted and created anew.
+pub(crate) const GAP: &str =
     r#"{"mode":"pull","start":0,"settings":{},"config":{"deliver_policy":"all"},"info":{"stream_name":"events","name":"c1","created":"2026-01-01T00:00:00Z","config":{"deliver_policy":"all"},"delivered":{"consumer_seq":0,"stream_seq":0},"ack_floor":{"consumer_seq":0,"stream_seq":0},"num_ack_pending":0,"num_redelivered":0,"num_waiting":0,"num_pending":0}}
 {"at":1,"arrival":{"inbox":0,"reply":"$JS.ACK.events.c1.1.1.1.1790230470084404000.0","payload":"a"}}
 {"at":2,"arrival":{"inbox":0,"reply":"$JS.ACK.events.c1.1.2.2.1790230470084404000.0","payload":"b"}}
+{"at":3,"arrival":{"inbox":0,"reply":"$JS.ACK.events.c1.1.4.4.1790230470084404000.0","payload":"d"}}
+{"at":4,"answer":{"request":1,"payload":{"success":true}}}
+{"at":5,"answer":{"request":2,"payload":{"stream_name":"events","name":"c1_1","created":"2026-01-01T00:00:00Z","config":{"deliver_policy":"all"},"delivered":{"consumer_seq":0,"stream_seq":0},"ack_floor":{"consumer_seq":0,"stream_seq":0},"num_ack_pending":0,"num_redelivered":0,"num_waiting":0,"num_pending":0}}}
 "#;
 
 /// What `replay` writes for it.
-pub(crate) const ARRIVALS_TEXT: &str =
+pub(crate) const GAP_TEXT: &str =
     r#"[0,"publish","$JS.API.CONSUMER.MSG.NEXT.events.c1","_INBOX.t.0","{\"batch\":500,\"expires\":30000000000,\"group\":null,\"idle_heartbeat\":15000000000,\"max_bytes\":0,\"min_ack_pending\":null,\"min_pending\":null,\"priority\":null}"]
 [1,"yield",1,1,"a"]
 [2,"yield",2,2,"b"]
-["end",false,2]
+[3,"recreate",1,3]
+[3,"request",1,"$JS.API.CONSUMER.DELETE.events.c1","{}"]
+[4,"request",2,"$JS.API.CONSUMER.CREATE.events.c1_1","{\"action\":\"\",\"config\":{\"ack_policy\":\"none\",\"deliver_policy\":\"by_start_sequence\",\"inactive_threshold\":30000000000,\"max_deliver\":1,\"mem_storage\":true,\"name\":\"c1_1\",\"num_replicas\":1,\"opt_start_seq\":3,\"replay_policy\":\"instant\"},\"stream_name\":\"events\"}"]
+[5,"subscribe",1,"_INBOX.t.1"]
+[5,"publish","$JS.API.CONSUMER.MSG.NEXT.events.c1_1","_INBOX.t.1","{\"batch\":500,\"expires\":30000000000,\"group\":null,\"idle_heartbeat\":15000000000,\"max_bytes\":0,\"min_ack_pending\":null,\"min_pending\":null,\"priority\":null}"]
+["end",false,5]
 "#;
 
 /// Which read fails and which write, the first being 1, and how many bytes a write takes at most. With 0 none fails.
@@ -121,14 +129,14 @@ pub(crate) fn told<R: Threads + Wait + Sync>(
     )
 }
 
-/// The same for the words of a line over these two arrivals.
-pub(crate) fn arrivals_told<R: Threads + Wait + Sync>(
+/// The same for the words of a line over the transcript with the gap.
+pub(crate) fn gap_told<R: Threads + Wait + Sync>(
     rt: &R,
     alloc: Global,
     line: &str,
     faults: Faults,
     wanted: &[u8],
 ) -> Told {
-    let bytes = Vec::from_slice(alloc, ARRIVALS.as_bytes())?;
+    let bytes = Vec::from_slice(alloc, GAP.as_bytes())?;
     told(rt, alloc, line, bytes, faults, wanted)
 }

@@ -2,10 +2,13 @@
 
 use crate::polled::event::happen;
 use crate::polled::shown::{is_handed, is_sent};
-use js_base::{Message, Moment, Next, both};
+use js_base::{Moment, Next, both};
+use js_call::ApiScope;
+use js_consumer_calls::Consumer;
 use js_link::{MemoryLink, Sent};
-use js_ordered::{Event, OrderedSetup, Output, Run, Step};
-use js_ordered_stream::{OrderedError, pull, push};
+use js_message::Message;
+use js_ordered::{Event, OrderedSetup, Output, Run, Settings, Step};
+use js_reader_calls::ordered::{OrderedError, OrderedPullCalls, OrderedPushCalls, pull, push};
 use js_tool::Setup;
 use std::alloc::Global;
 use std::slice::Iter;
@@ -18,7 +21,25 @@ enum Reader {
     Push(push::Ordered),
 }
 
+/// The scope of a consumer of these settings. What waits as long as the connection says is the link's, which is told that.
+fn scope_of(link: &mut MemoryLink, settings: Settings) -> ApiScope {
+    let Settings {
+        api_prefix,
+        inbox_prefix,
+        context_timeout,
+        request_timeout,
+        retries: _,
+    } = settings;
+    drop(inbox_prefix);
+    link.set_limits(u64::MAX, request_timeout);
+    ApiScope {
+        prefix: api_prefix,
+        timeout: context_timeout,
+    }
+}
+
 impl Reader {
+    /// Opens it by the call on its consumer.
     fn open(alloc: Global, link: &mut MemoryLink, setup: Setup) -> Result<Reader, Fail> {
         let Setup {
             settings,
@@ -26,13 +47,16 @@ impl Reader {
             first,
             start: _,
         } = setup;
+        let scope = scope_of(link, settings);
         match setup {
-            OrderedSetup::Pull(config) => Ok(Reader::Pull(pull::Ordered::open(
-                alloc, link, settings, config, first,
-            )?)),
-            OrderedSetup::Push(config) => Ok(Reader::Push(push::Ordered::open(
-                alloc, link, settings, config, first,
-            )?)),
+            OrderedSetup::Pull(config) => {
+                let consumer = Consumer::new(config, first, scope);
+                Ok(Reader::Pull(consumer.messages(alloc, link)?))
+            }
+            OrderedSetup::Push(config) => {
+                let consumer = Consumer::new(config, first, scope);
+                Ok(Reader::Push(consumer.messages(alloc, link)?))
+            }
         }
     }
 
@@ -69,11 +93,12 @@ fn has_sent(sent: &[Sent], before: usize, outputs: &mut Iter<'_, Output>) -> boo
 
 /// Whether what a poll hands out is what is put out next, or none where it is and another poll follows.
 fn agreement(
+    alloc: Global,
     next: &Next<Result<Message, OrderedError>>,
     outputs: &mut Iter<'_, Output>,
 ) -> Option<bool> {
     match next {
-        Next::Item(item) if is_handed(item, next_shown(outputs)) => None,
+        Next::Item(item) if is_handed(alloc, item, next_shown(outputs)) => None,
         Next::Item(_) | Next::OutOfMemory => Some(false),
         _ => Some(next_shown(outputs).is_none()),
     }
@@ -125,7 +150,7 @@ impl PolledConsumer {
     ) -> Option<bool> {
         let before = self.link.sent().len();
         let next = self.reader.poll(alloc, &mut self.link, now);
-        let agrees = self.compared(&next, before, outputs);
+        let agrees = self.compared(alloc, &next, before, outputs);
         drop(next);
         agrees
     }
@@ -133,6 +158,7 @@ impl PolledConsumer {
     /// The same of what was sent since so much was, and of what a poll hands out.
     fn compared(
         &mut self,
+        alloc: Global,
         next: &Next<Result<Message, OrderedError>>,
         before: usize,
         outputs: &mut Iter<'_, Output>,
@@ -141,7 +167,7 @@ impl PolledConsumer {
             return Some(false);
         }
         self.ended = matches!(next, Next::End);
-        agreement(next, outputs)
+        agreement(alloc, next, outputs)
     }
 
     /// Whether it does what the replay puts out for an event.

@@ -1,9 +1,11 @@
 //! What a polled consumer shows of what the replay puts out.
+use crate::polled::rows::LIMIT;
 use js_base::Message;
 use js_link::Sent;
 use js_ordered::{ItemKind, Output};
-use js_ordered_stream::{OrderedError, OrderedErrorKind};
+use js_reader_calls::ordered::{OrderedError, OrderedErrorKind};
 use js_table::place_of;
+use std::alloc::Global;
 
 /// Whether that is what was sent.
 pub(crate) fn is_sent(sent: &Sent, output: Option<&Output>) -> bool {
@@ -90,11 +92,28 @@ fn item_kind(kind: OrderedErrorKind) -> Option<ItemKind> {
     }
 }
 
+/// Whether a limit is told with what the server says of it. No other error has that to tell.
+fn is_explained(alloc: Global, error: &OrderedError) -> bool {
+    if *error.kind() != OrderedErrorKind::RequestLimitExceeded {
+        return true;
+    }
+    match error.to_string(alloc) {
+        Ok(text) => text.as_str() == LIMIT,
+        Err(_) => false,
+    }
+}
+
 /// Whether that is what was handed out.
-pub(crate) fn is_handed(item: &Result<Message, OrderedError>, output: Option<&Output>) -> bool {
+pub(crate) fn is_handed(
+    alloc: Global,
+    item: &Result<js_message::Message, OrderedError>,
+    output: Option<&Output>,
+) -> bool {
     match (item, output) {
-        (Ok(message), _) => is_yield(message, output),
-        (Err(error), Some(Output::Item { kind })) => item_kind(*error.kind()) == Some(*kind),
+        (Ok(message), _) => is_yield(&message.message, output),
+        (Err(error), Some(Output::Item { kind })) => {
+            item_kind(*error.kind()) == Some(*kind) && is_explained(alloc, error)
+        }
         _ => false,
     }
 }

@@ -46,10 +46,13 @@ impl Replayed for Transcript {
     }
 }
 
+/// What the lines behind the first one say.
 fn read_lines(alloc: Global, payloads: &mut Payloads, text: &str) -> Result<Vec<Event>, Unread> {
     let mut events = Vec::new(alloc);
+    let mut number: u64 = 2;
     for line in text.lines() {
-        events.push(next_line(alloc, payloads, 2, line.as_bytes())?)?;
+        events.push(next_line(alloc, payloads, number, line.as_bytes())?)?;
+        number = number.saturating_add(1);
     }
     Ok(events)
 }
