@@ -122,19 +122,20 @@ fn headers(alloc: Global) -> Result<HeaderMap, OutOfMemory> {
     Ok(headers)
 }
 
-/// A message with one header of 24 bytes, and a payload so long.
-fn sized(alloc: Global, len: usize) -> Result<PublishMessage, OutOfMemory> {
+/// A message to `events.new` with one header of 24 bytes, and a payload so long.
+fn sized(alloc: Global, len: usize) -> Result<OutboundMessage, OutOfMemory> {
     let payload = Bytes::from_vec(vec![in alloc; b'x'; len]?)?;
-    PublishMessage::build()
+    let sized = PublishMessage::build()
         .payload(payload)
-        .header(alloc, "Key", "Value")
+        .header(alloc, "Key", "Value")?;
+    sized.outbound_message(alloc, "events.new")
 }
 
-fn named(alloc: Global) -> Result<OutboundMessage, OutOfMemory> {
-    let named = PublishMessage::build().message_id(alloc, "b")?;
-    named.outbound_message(alloc, "b")
+fn named(alloc: Global) -> Result<PublishMessage, OutOfMemory> {
+    PublishMessage::build().message_id(alloc, "b")
 }
 
+/// Publishes a message of that size, which has its subject.
 pub(crate) fn published_sized<R: Wait, L: Link>(
     rt: &R,
     alloc: Global,
@@ -143,7 +144,7 @@ pub(crate) fn published_sized<R: Wait, L: Link>(
     len: usize,
 ) -> Words {
     let message = sized(alloc, len)?;
-    let sending = context.send_publish(alloc, "events.new", message)?;
+    let sending = context.publish_message(message)?;
     polled(rt, alloc, context, link, sending)
 }
 
@@ -158,6 +159,7 @@ pub(crate) fn published_with_headers<R: Wait, L: Link>(
     polled(rt, alloc, context, link, sending)
 }
 
+/// Publishes a message with a name to a subject.
 pub(crate) fn published_named<R: Wait, L: Link>(
     rt: &R,
     alloc: Global,
@@ -165,7 +167,7 @@ pub(crate) fn published_named<R: Wait, L: Link>(
     link: &mut L,
 ) -> Words {
     let message = named(alloc)?;
-    let sending = context.publish_message(message)?;
+    let sending = context.send_publish(alloc, "b", message)?;
     polled(rt, alloc, context, link, sending)
 }
 

@@ -20,9 +20,10 @@ enum Step {
     Publish(&'static str),
     /// So often.
     Often(u64),
-    /// With one header of 24 bytes and so many bytes more.
+    /// By `publish_message`, with one header of 24 bytes and so many bytes more.
     Sized(usize),
     WithHeaders,
+    /// By `send_publish`, with a name.
     Named,
     /// The answer to a request, or none for ever.
     Answer(u64, Option<Reply>),
