@@ -154,33 +154,37 @@ fn kinds_at_once(alloc: Global, given: &ReplayInput, events: &[Event]) -> Kinds 
 // The kinds of what events put out one by one, the opening's first.
 fn passed_kinds(
     alloc: Global,
-    course: &mut IncrementalReplay<'_>,
+    replay: &mut IncrementalReplay<'_>,
     events: &[Event],
 ) -> Result<Vec<u8>, OutOfMemory> {
     let mut kinds = Vec::new(alloc);
-    add_kinds(&mut kinds, course.outputs())?;
+    add_kinds(&mut kinds, replay.outputs())?;
     for event in events {
-        course.advance(alloc, event)?;
-        add_kinds(&mut kinds, course.outputs())?;
+        replay.advance(alloc, event)?;
+        add_kinds(&mut kinds, replay.outputs())?;
     }
     Ok(kinds)
 }
 
 // What is generic over a replay or its input does not open how so large a value is let go.
-trait Course: Drop {
+trait PassesEvents: Drop {
     fn passes(&mut self, alloc: Global, events: &[Event]) -> Kinds;
 }
 
-impl<'a> Course for IncrementalReplay<'a> {
+impl<'a> PassesEvents for IncrementalReplay<'a> {
     fn passes(&mut self, alloc: Global, events: &[Event]) -> Kinds {
         let kinds = passed_kinds(alloc, self, events)?;
         Ok((kinds, self.end()))
     }
 }
 
-fn opened<C: Course>(alloc: Global, course: Result<C, OutOfMemory>, events: &[Event]) -> Kinds {
-    match course {
-        Ok(mut course) => course.passes(alloc, events),
+fn opened<P: PassesEvents>(
+    alloc: Global,
+    replay: Result<P, OutOfMemory>,
+    events: &[Event],
+) -> Kinds {
+    match replay {
+        Ok(mut replay) => replay.passes(alloc, events),
         Err(OutOfMemory) => Err(ReadError::OutOfMemory),
     }
 }
@@ -188,8 +192,8 @@ fn opened<C: Course>(alloc: Global, course: Result<C, OutOfMemory>, events: &[Ev
 // The same of events one by one.
 fn kinds_one_by_one(alloc: Global, given: &ReplayInput, events: &[Event]) -> Kinds {
     let (settings, setup) = (&given.settings, &given.setup);
-    let course = IncrementalReplay::open(alloc, settings, setup, &given.first, 0);
-    opened(alloc, course, events)
+    let replay = IncrementalReplay::open(alloc, settings, setup, &given.first, 0);
+    opened(alloc, replay, events)
 }
 
 // Asserts the kinds, and that the consumer has not ended.
