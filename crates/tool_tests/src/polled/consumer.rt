@@ -21,7 +21,7 @@ enum Reader {
     Push(push::Ordered),
 }
 
-/// The scope of a consumer of these settings. What waits as long as the connection says is the link's, which is told that.
+/// The scope of a consumer with these settings. The link is told how long a request waits where the scope leaves that to it.
 fn scope_of(link: &mut MemoryLink, settings: Settings) -> ApiScope {
     let Settings {
         api_prefix,

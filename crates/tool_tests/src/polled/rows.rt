@@ -16,7 +16,7 @@ const PULL: &str =
 const PUSH: &str =
     r#"{"mode":"push","start":0,"settings":{},"config":{"deliver_policy":"all","deliver_subject":"d.in"},"info":{"stream_name":"events","name":"c1","created":"2026-01-01T00:00:00Z","config":{"deliver_policy":"all","deliver_subject":"d.in"},"delivered":{"consumer_seq":0,"stream_seq":0},"ack_floor":{"consumer_seq":0,"stream_seq":0},"num_ack_pending":0,"num_redelivered":0,"num_waiting":0,"num_pending":0}}"#;
 
-/// How the limit of the rows is told.
+/// What is printed of the limit that the server tells of in the rows: its description stands at the end.
 pub(crate) const LIMIT: &str =
     "pull request exceeded consumer limits: Exceeded MaxRequestBatch of 100";
 
