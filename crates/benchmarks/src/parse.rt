@@ -1,7 +1,7 @@
 //! An acknowledgement subject that is read over and over.
 
 ghost use Rattle.std.specs.Prelude.{◌≡◌, is_ok};
-ghost use Rattle.js_message.specs.Ack.{ack};
+ghost use Rattle.js_message.specs.AckSubject.{ack};
 
 use js_message::parse_info;
 use std::test::Fail;

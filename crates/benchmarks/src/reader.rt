@@ -6,7 +6,7 @@ use js_json::consumer::Info;
 use js_json::{pull as pull_json, push as push_json};
 use js_link::MemoryLink;
 use js_ordered_stream::{OrderedError, pull, push};
-use js_table::Settings;
+use js_ordered_table::Settings;
 use std::alloc::Global;
 
 /// How messages come.

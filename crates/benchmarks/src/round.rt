@@ -4,7 +4,7 @@ use crate::reader::{Kind, Reads, open};
 use crate::server::Server;
 use js_base::{Message, Moment, Next, OutOfMemory};
 use js_link::MemoryLink;
-use js_table::place_of;
+use js_ordered_table::place_of;
 use std::alloc::Global;
 use std::cmp;
 

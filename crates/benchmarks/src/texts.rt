@@ -5,7 +5,7 @@ use bytes::Bytes;
 use js_base::{HeaderMap, Message, OutOfMemory, StatusCode, Subject, Text, all_3, both};
 use js_json::consumer::Info;
 use js_json::{Response, response_as};
-use js_table::Settings;
+use js_ordered_table::Settings;
 use std::alloc::Global;
 
 /// The settings of every reader.

@@ -1,8 +1,8 @@
 //! Acks of published messages.
 
 ghost use Rattle.std.specs.Prelude.{IfSome};
-ghost use Rattle.js_context.specs.Acks.{IsAwaitedBy};
-ghost use Rattle.js_context.specs.Contexts.{ContextView};
+ghost use Rattle.js_context.specs.AckFuture.{IsAwaitedBy};
+ghost use Rattle.js_context.specs.Context.{ContextView};
 
 use crate::publishes::{SECOND, STORED, answer_of, number, opened, published};
 use crate::server::{Answered, NOBODY, Reply, Words, found_word, message, word};

@@ -6,14 +6,14 @@ use crate::server::{
 use crate::tables::{numbered, says};
 use js_base::{OutOfMemory, Text};
 use js_call::ApiScope;
-use js_consumer_calls::{
+use js_call_consumers::{
     Consumer, CreateConsumerOnStream, CreateConsumerStrictOnStream, GetConsumerFromStream,
     UpdateConsumerOnStream, create_consumer_on_stream, create_consumer_strict_on_stream,
     delete_consumer_from_stream, get_consumer_from_stream, update_consumer_on_stream,
 };
-use js_fields::instant_of;
 use js_json::consumer::{DeliverPolicy, Info};
 use js_json::{pull, push};
+use js_json_members::instant_of;
 use js_link::{Link, ScriptedServer};
 use std::alloc::Global;
 

@@ -6,12 +6,12 @@ use crate::server::{Answered, Words, polled, word};
 use crate::stream_calls::{self, config};
 use js_base::{OutOfMemory, Text, TryClone, both};
 use js_call::{ApiScope, RawCall, RawRequest};
+use js_call_streams::{ListItem, Listing, StreamHandle, UpdateStream};
 use js_context::{Context, Requester};
-use js_fields::{FromValue, ReadError, value_of};
 use js_json::pull;
+use js_json_members::{FromValue, ReadError, value_of};
+use js_json_streams::stream;
 use js_link::Link;
-use js_stream_calls::{Listed, Listing, StreamHandle, UpdateStream};
-use js_stream_json::stream;
 use serde_json::Value;
 use std::alloc::Global;
 
@@ -53,7 +53,7 @@ fn raw<C: Requester>(context: &C, alloc: Global) -> Result<RawCall, OutOfMemory>
 }
 
 /// What the first poll of a list comes to.
-fn listed<T: Listed + Answered, L: Link>(
+fn listed<T: ListItem + Answered, L: Link>(
     alloc: Global,
     link: &mut L,
     list: Result<Listing<T>, OutOfMemory>,

@@ -1,12 +1,12 @@
 //! The server's error, where a kind of errors holds it.
 
 use crate::tables::same;
-use js_codes::{ErrorCode, errors};
-use js_consumer_calls::{
+use js_call_consumers::{
     ConsumerCreateStrictErrorKind, ConsumerErrorKind, ConsumerInfoErrorKind,
     ConsumerUpdateErrorKind,
 };
-use js_stream_calls::{CreateStreamErrorKind, GetStreamErrorKind};
+use js_call_streams::{CreateStreamErrorKind, GetStreamErrorKind};
+use js_codes::{ErrorCode, errors};
 
 /// What a server answers that does not know the stream.
 fn unknown() -> errors::Error {

@@ -1,5 +1,5 @@
-//! Tests of the calls over a link: requests, the calls on streams and consumers, lists, contexts that ask and publish, buckets, and the work
-//! of a queue.
+//! Tests of the calls over a link: requests, the calls on streams and consumers, lists, contexts that ask and publish, buckets, and
+//! the work of a queue.
 #![tactic(auto)]
 
 #[cfg(test)]

@@ -6,8 +6,8 @@ use crate::server::{
 use crate::tables::{add_line, says};
 use js_base::{Next, OutOfMemory};
 use js_call::ApiScope;
+use js_call_streams::{ListItem, Listing, StreamsError, stream_by_subject, stream_names, streams};
 use js_link::{Link, ScriptedServer};
-use js_stream_calls::{Listed, Listing, StreamsError, stream_by_subject, stream_names, streams};
 use std::alloc::Global;
 
 /// A page of the names of all streams, from the first, the second or the third on.
@@ -46,7 +46,7 @@ fn next_word<T: Answered>(alloc: Global, next: &Next<Result<T, StreamsError>>) -
 }
 
 /// What the next poll of a list hands out.
-pub(crate) fn next<T: Listed + Answered, L: Link>(
+pub(crate) fn next<T: ListItem + Answered, L: Link>(
     alloc: Global,
     list: &mut Listing<T>,
     link: &mut L,
@@ -58,7 +58,7 @@ pub(crate) fn next<T: Listed + Answered, L: Link>(
 }
 
 /// Adds what the next poll hands out to the words before it, as a line.
-fn add_next<T: Listed + Answered, L: Link>(
+fn add_next<T: ListItem + Answered, L: Link>(
     alloc: Global,
     list: &mut Listing<T>,
     link: &mut L,
@@ -69,7 +69,7 @@ fn add_next<T: Listed + Answered, L: Link>(
 }
 
 /// What a list hands out in so many polls, each word with a line's end.
-fn handed_out<T: Listed + Answered, L: Link>(
+fn handed_out<T: ListItem + Answered, L: Link>(
     alloc: Global,
     list: &mut Listing<T>,
     link: &mut L,
@@ -82,7 +82,7 @@ fn handed_out<T: Listed + Answered, L: Link>(
     Ok(words)
 }
 
-fn listed<T: Listed + Answered, L: Link>(
+fn listed<T: ListItem + Answered, L: Link>(
     alloc: Global,
     list: Result<Listing<T>, OutOfMemory>,
     link: &mut L,

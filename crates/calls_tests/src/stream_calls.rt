@@ -1,17 +1,16 @@
 //! Calls on streams, as they are made and polled once.
 
 use crate::server::{Followed, Words, call_again, found_word, polled, scope};
-use js_base::{Items, OutOfMemory, Text, TryClone, all_3};
+use js_base::{Items, OutOfMemory, Text, TryClone, all_3, replace_with};
 use js_call::ApiScope;
-use js_link::Link;
-use js_stream_calls::{
+use js_call_streams::{
     CreateStream, StreamHandle, UpdateStream, create_or_update_stream, create_stream,
     delete_stream, domain_prefix, get_or_create_stream, get_stream, get_stream_no_info,
     update_stream, update_stream_keeping,
 };
-use js_stream_json::stream::{Config, External, Info, Source};
+use js_json_streams::stream::{Config, External, Info, Source};
+use js_link::Link;
 use std::alloc::Global;
-use std::mem;
 
 pub(crate) const PREFIX: &str = "$JS.API";
 
@@ -179,9 +178,9 @@ fn hubs(alloc: Global, has_external: bool) -> Result<Items<Source>, OutOfMemory>
 /// The configuration of the stream that copies these.
 fn copy_of(alloc: Global, name: Text, mirror: Source, sources: Items<Source>) -> Config {
     let mut config = Config::new(alloc);
-    drop(mem::replace(&mut config.name, name));
-    drop(mem::replace(&mut config.mirror, Some(mirror)));
-    drop(mem::replace(&mut config.sources, Some(sources)));
+    replace_with(&mut config.name, name);
+    replace_with(&mut config.mirror, Some(mirror));
+    replace_with(&mut config.sources, Some(sources));
     config
 }
 

@@ -7,8 +7,8 @@ use crate::stream_calls::{
 };
 use crate::tables::says;
 use js_call::ApiScope;
+use js_call_streams::get_stream;
 use js_link::{Link, MemoryLink, RequestId, ScriptedServer};
-use js_stream_calls::get_stream;
 use std::alloc::Global;
 use std::process::Abort;
 

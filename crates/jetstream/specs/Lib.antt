@@ -1,3 +1,3 @@
-pub mod Received
-pub mod Configs
-pub mod Drives
+pub mod Link
+pub mod Stream
+pub mod Driver

@@ -6,20 +6,18 @@ mod from;
 
 use js_base::OutOfMemory;
 use js_call::{RequestError, SendError};
-use js_consumer_calls::{
+use js_call_consumers::{
     ConsumerCreateStrictError, ConsumerError, ConsumerInfoError, ConsumerUpdateError,
 };
+use js_call_streams::{AccountError, CreateStreamError, GetStreamByNameError, GetStreamError};
 use js_context::{BuildError, PublishError};
-use js_fields::ReadError;
 use js_json::consumer::ConfigError;
+use js_json_members::ReadError;
 use js_link::LinkError;
 use js_message::{AckError, InfoError, MessageInfoError, StreamMessageError};
-use js_reader_calls::ordered::OrderedError;
-use js_reader_calls::pull::{
-    BatchError, BatchItemError, BatchRequestError, MessagesError, StreamError,
-};
+use js_readers::ordered::OrderedError;
+use js_readers::pull::{BatchError, BatchItemError, BatchRequestError, MessagesError, StreamError};
 use js_store::{CreateKeyValueError, KeyValueError, ObjectStoreError, UpdateKeyValueError};
-use js_stream_calls::{AccountError, CreateStreamError, GetStreamByNameError, GetStreamError};
 use std::alloc::{AllocError, AllocFailed};
 use std::{error, fmt, io};
 
@@ -49,7 +47,7 @@ pub enum AnyError {
     /// A batch told of something in place of a message.
     BatchItem(BatchItemError),
     /// The messages of a push consumer told of something in place of a message.
-    PushMessages(js_reader_calls::push::MessagesError),
+    PushMessages(js_readers::push::MessagesError),
     /// An ordered consumer told of something in place of a message.
     Ordered(OrderedError),
     /// The account was not told.

@@ -2,7 +2,7 @@
 pub mod pull;
 pub mod push;
 
-pub use js_consumer_calls::{
+pub use js_call_consumers::{
     Consumer, ConsumerCalls, ConsumerCreateStrictError, ConsumerCreateStrictErrorKind,
     ConsumerError, ConsumerErrorKind, ConsumerInfoError, ConsumerInfoErrorKind, ConsumerResetError,
     ConsumerUpdateError, ConsumerUpdateErrorKind, CreateConsumerOnStream,
@@ -15,4 +15,4 @@ pub use js_json::consumer::{
     FromConsumer, Info, IntoConsumerConfig, PriorityGroupState, PriorityPolicy, ReplayPolicy,
     SequenceInfo,
 };
-pub use js_reader_calls::pull::{StreamError, StreamErrorKind};
+pub use js_readers::pull::{StreamError, StreamErrorKind};

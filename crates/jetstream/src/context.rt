@@ -9,7 +9,13 @@ pub use js_call::{
     ApiRequest, ApiScope, OpenRequest, RawCall, RawRequest, RequestError, RequestErrorKind,
     SendError,
 };
-pub use js_consumer_calls::{ConsumerInfoError, ConsumerInfoErrorKind};
+pub use js_call_consumers::{ConsumerInfoError, ConsumerInfoErrorKind};
+pub use js_call_streams::{
+    AccountError, AccountErrorKind, CreateStreamError, CreateStreamErrorKind, DeleteStreamError,
+    DeleteStreamErrorKind, GetStreamByNameError, GetStreamByNameErrorKind, GetStreamError,
+    GetStreamErrorKind, SearchingStream, StreamBySubject, StreamNames, Streams, StreamsError,
+    StreamsErrorKind, UpdateStreamError, UpdateStreamErrorKind,
+};
 pub use js_context::{
     BuildError, Context, ContextBuilder, No, PublishAckFuture, PublishError, PublishErrorKind,
     ToAssign, Yes,
@@ -19,11 +25,5 @@ pub use js_store::{
     CreateObjectStoreErrorKind, DeleteObjectStore, DeleteObjectStoreKind, KeyValueError,
     KeyValueErrorKind, ObjectStoreError, ObjectStoreErrorKind, StoreCalls, UpdateKeyValueError,
     UpdateKeyValueErrorKind,
-};
-pub use js_stream_calls::{
-    AccountError, AccountErrorKind, CreateStreamError, CreateStreamErrorKind, DeleteStreamError,
-    DeleteStreamErrorKind, GetStreamByNameError, GetStreamByNameErrorKind, GetStreamError,
-    GetStreamErrorKind, SearchingStream, StreamBySubject, StreamNames, Streams, StreamsError,
-    StreamsErrorKind, UpdateStreamError, UpdateStreamErrorKind,
 };
 pub use traits::{ClientProvider, Publisher, RequestSender, Requester, TimeoutProvider};

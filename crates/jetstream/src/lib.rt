@@ -84,7 +84,7 @@ pub mod account;
 mod any_error;
 pub mod consumer;
 pub mod context;
-mod driving;
+mod driver;
 pub mod error;
 pub mod errors;
 pub mod kv;
@@ -97,7 +97,7 @@ pub mod stream;
 
 pub use any_error::AnyError;
 pub use bytes::Bytes;
-pub use driving::drive;
+pub use driver::drive;
 pub use errors::{Error, ErrorCode};
 pub use jiff::Timestamp;
 pub use js_base::{
@@ -107,6 +107,6 @@ pub use js_base::{
 pub use js_call::State;
 pub use js_codes::is_valid_name;
 pub use js_context::{Context, ContextBuilder};
+pub use js_context_queue::PublishQueue;
 pub use js_message::{AckKind, Message};
-pub use js_publish_queue::PublishQueue;
 pub use serde_json::Value;

@@ -1,6 +1,6 @@
 //! Connections: the trait `Link`, the end for programs, and two in memory for tests.
 ghost use Rattle.std.specs.Prelude.{◌≡◌, IfOk, None};
-ghost use Rattle.jetstream.specs.Received.{received};
+ghost use Rattle.jetstream.specs.Link.{received};
 
 use bytes::Bytes;
 use js_base::{Message, OutOfMemory, Subject};
@@ -8,10 +8,11 @@ pub use js_base::{Message as PlainMessage, State as ConnectionState, StatusCode}
 pub use js_link::{
     Answer, InboxId, Link, LinkError, MemoryLink, RequestId, ScriptedServer, Sent, Taken, Watch,
 };
-pub use js_outbox::{Delivery, OutboxLink, Outgoing};
+pub use js_link_outbox::{Delivery, OutboxLink, Outgoing};
 use std::alloc::Global;
 
-/// A message that came with these bytes, without a reply subject, headers or a status. Its length is that of subject and payload.
+/// A message that came with these bytes, without a reply subject, headers or a status. Its length is that of subject and
+/// payload. The one refusal is want of memory.
 pub fn received(alloc: Global, subject: &str, payload: &[u8]) -> Result<Message, OutOfMemory>
     ensures { IfOk result (λ message. message ≡ received subject.now payload.now) }
 {

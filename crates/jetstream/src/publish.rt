@@ -1,7 +1,7 @@
 //! Messages that are published, one by one or many, and their acks.
 pub use js_context::{PublishAckFuture, PublishError, PublishErrorKind, Sending};
-pub use js_json::PublishAck;
-pub use js_message::{OutboundMessage, PublishMessage};
-pub use js_publish_queue::{
+pub use js_context_queue::{
     Closed, Confirming, PublishCalls, PublishQueue, Published, Tag, Unsent,
 };
+pub use js_json::PublishAck;
+pub use js_message::{OutboundMessage, PublishMessage};

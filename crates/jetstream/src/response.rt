@@ -2,5 +2,5 @@
 //!
 //! [`Context::raw_request`](crate::Context::raw_request) answers the reply as it came; [`response_as`] reads it, as
 //! `response_as::<DeleteStatus>(alloc, reply.payload.as_slice())` does the reply to a purge.
-pub use js_fields::{FromValue, ReadError, ToValue};
 pub use js_json::{Response, response_as, response_from};
+pub use js_json_members::{FromValue, ReadError, ToValue};

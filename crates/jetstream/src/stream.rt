@@ -1,16 +1,16 @@
 //! Streams: what they are configured with, what the server knows of them, and the calls on them.
 ghost use Rattle.std.specs.Prelude.{◌≡◌, IfOk};
-ghost use Rattle.jetstream.specs.Configs.{named};
+ghost use Rattle.jetstream.specs.Stream.{named};
 
 use js_base::{Items, OutOfMemory, Text};
-pub use js_stream_calls::{
+pub use js_call_streams::{
     CreateOrUpdateStream, CreateStream, CreateStreamError, CreateStreamErrorKind, DeleteStream,
     DeleteStreamError, DeleteStreamErrorKind, FindingStream, GetOrCreateStream, GetStream,
     GetStreamError, GetStreamErrorKind, Kept, KeptInfo, StreamHandle, UpdateStream,
     UpdateStreamError, UpdateStreamErrorKind,
 };
-pub use js_stream_json::DeleteStatus;
-pub use js_stream_json::stream::{
+pub use js_json_streams::DeleteStatus;
+pub use js_json_streams::stream::{
     Compression, Config, DiscardPolicy, External, Info, Placement, Republish, RetentionPolicy,
     Source, State, StorageType,
 };

@@ -5,7 +5,7 @@ use Rattle.std.proofs.lemmas.Str.Pattern.{IsSplitOnceResult, split_once_first, s
 use Rattle.std.proofs.lemmas.List.Splits.{slice_split_first, slice_split_none, length-slice_split}
 use Rattle.std.proofs.lemmas.Grind.{get_or_default_zero}
 use Rattle.std.specs.Option.{is_some, option_copied}
-use Rattle.js_base.specs.Match.{tokens, tokens_left}
+use Rattle.js_base.specs.Subject.{tokens, tokens_left}
 
 pub tokens_cut : (text : List ℕ) (x : Bor (List ℕ) × Bor (List ℕ)) → IsSplitOnceResult 46 text (Some x) → tokens text ≡ x.0.now ∷ tokens x.1.now
 tokens_cut text x h =

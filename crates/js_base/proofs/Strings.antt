@@ -8,7 +8,7 @@ use Rattle.std.specs.List.Sorted.{IsStrictlySortedBy}
 use Rattle.std.specs.Map.{keys_of}
 use Rattle.std.specs.Ordering.{match_ordering}
 use Rattle.std.specs.BTreeMap.{insert_entry}
-use Rattle.js_base.specs.Texts.{bytes_of}
+use Rattle.js_base.specs.TextMap.{bytes_of}
 
 abbrev pub Strings : Type 0
 Strings = List (String Global × String Global)

@@ -1,7 +1,7 @@
 -- Worked examples, which the definitions compute.
 use Rattle.std.specs.Prelude.{◌≡◌, ℕ, pos, neg_ℤ, refl, true, false, Bool, List, [], ◌∷◌, Some, None, Ok, Err, codes}
 use Rattle.js_base.specs.Headers.{is_sendable}
-use Rattle.js_base.specs.Numbers.{unsigned_of, signed_of}
+use Rattle.js_base.specs.Numeral.{unsigned_of, signed_of}
 use Rattle.js_base.specs.Results.{both, all_3}
 
 abbrev sends : List ℕ → List ℕ → Bool

@@ -1,8 +1,9 @@
 pub mod Clock
 pub mod Headers
-pub mod Match
-pub mod Errors
-pub mod Statuses
-pub mod Numbers
-pub mod Texts
+pub mod Subject
+pub mod Error
+pub mod Message
+pub mod Numeral
+pub mod TextMap
 pub mod Results
+pub mod ApiSubject

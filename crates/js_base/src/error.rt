@@ -2,7 +2,7 @@
 
 ghost use Rattle.std.specs.Prelude.{◌≡◌, Some, option_map};
 ghost use Rattle.std.specs.Option.{option_copied};
-ghost use Rattle.js_base.specs.Errors.{plain, caused, kind_of, source_of, sent_by_api, parts_of, described, api_text, source_text, printed};
+ghost use Rattle.js_base.specs.Error.{plain, caused, kind_of, source_of, sent_by_api, parts_of, described, api_text, source_text, printed};
 
 use crate::text::Text;
 use std::{error, fmt};
@@ -24,7 +24,7 @@ pub enum Source {
 }
 
 impl Source {
-    /// The server's error, where it is the source.
+    // The server's error, where it is the source.
     fn api_error(&self) -> Option<ApiError<'_>>
         ensures { option_map parts_of result ≡ sent_by_api (Some self.now) }
     {
@@ -91,7 +91,7 @@ impl fmt::Display for ApiError<'_> {
 
 impl error::Error for ApiError<'_> {}
 
-/// The description, where there is one.
+// The description, where there is one.
 fn or_unknown(description: Option<&Text>) -> &str
     ensures { result.now ≡ described (option_copied description.entry) }
 {

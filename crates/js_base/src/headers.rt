@@ -25,7 +25,7 @@ pub struct Header {
 impl Header {
     ghost use Rattle.js_base.specs.Headers.{line_len};
 
-    /// A copy of a name and of its value.
+    // A copy of a name and of its value.
     fn new(alloc: Global, name: &str, value: &str) -> Result<Header, OutOfMemory>
         ensures { IfOk result (λ header. header ≡ record { name = name.now; value = value.now }) }
     {
@@ -35,7 +35,7 @@ impl Header {
         })
     }
 
-    /// The bytes of one line, up to the type's end.
+    // The bytes of one line, up to the type's end.
     fn wire_len(&self) -> u64
         ensures { result ≡ min (line_len self.now) (2 ^ 64 - 1) }
     {
@@ -44,7 +44,7 @@ impl Header {
         name.saturating_add(value).saturating_add(4)
     }
 
-    /// Whether it arrives as the one header that it is.
+    // Whether it arrives as the one header that it is.
     fn is_sendable(&self) -> bool
         ensures { result ≡ is_sendable_header self.now }
     {

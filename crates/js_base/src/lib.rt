@@ -1,30 +1,36 @@
-//! Subjects, messages, headers and time: what every layer of the client speaks of.
+//! The values that every layer of the client speaks of: texts, lists, headers, subjects, messages, time, and what a poll answers.
+//!
+//! Contracts see a text as its bytes, a list as its elements, and a boxed value as the value. What takes memory leaves its object as it was
+//! where there is none. [`subject_matches`] and [`is_valid_subject`] are the definitions of the same names. [`both`] and [`all_3`] to
+//! [`all_7`] make of several results all values, or the first error, so that one `?` hands them on.
 #![tactic(auto)]
 
+mod api_subject;
 mod boxed;
 mod clock;
 mod error;
-mod gather;
 mod headers;
 mod items;
 mod memory;
 mod message;
+mod results;
 mod subject;
 mod text;
 mod text_map;
 mod tokens;
 mod turn;
 
+pub use api_subject::{consumer_api_subject, named_subject, with_word};
 pub use boxed::Boxed;
 pub use clock::{Moment, Nanos, Timer, any_ends_at, due, earlier, end_of, is_any_due};
 pub use error::{ApiError, Error, Source};
-pub use gather::{all_3, all_4, all_5, all_6, all_7, both, each_copied};
 pub use headers::{Header, HeaderIter, HeaderMap};
 pub use items::Items;
-pub use memory::{OutOfMemory, TryClone};
+pub use memory::{OutOfMemory, TryClone, replace_with};
 pub use message::{Entry, Message, State, StatusCode};
+pub use results::{all_3, all_4, all_5, all_6, all_7, both, each_copied};
 pub use subject::{Subject, is_valid_subject, subject_matches};
 pub use text::Text;
 pub use text_map::{ByName, TextMap};
-pub use tokens::{Tokens, token_count};
+pub use tokens::Tokens;
 pub use turn::{Next, Turn};

@@ -1,11 +1,11 @@
 //! Messages as the link delivers them, their statuses, and the entries of a log.
 
 ghost use Rattle.std.specs.Prelude.{Some};
-ghost use Rattle.js_base.specs.Statuses.{state_text, three_digits};
+ghost use Rattle.js_base.specs.Message.{state_text, three_digits};
 
-use crate::gather::all_5;
 use crate::headers::HeaderMap;
 use crate::memory::{OutOfMemory, TryClone};
+use crate::results::all_5;
 use crate::subject::Subject;
 use crate::text::Text;
 use bytes::Bytes;

@@ -6,7 +6,7 @@ ghost use Rattle.std.specs.Cmp.{partial_equiv_from_equiv};
 ghost use Rattle.std.specs.List.{list_all};
 ghost use Rattle.std.specs.Str.{bytes_eq};
 ghost use Rattle.std.specs.Char.{is_ascii_whitespace};
-ghost use Rattle.js_base.specs.Match.{is_valid_subject, token_matches, subject_matches};
+ghost use Rattle.js_base.specs.Subject.{is_valid_subject, token_matches, subject_matches};
 
 use crate::memory::{OutOfMemory, TryClone};
 use crate::tokens::Tokens;
@@ -110,7 +110,7 @@ fn token_matches(filter: &str, token: &str) -> bool
     filter == "*" || filter == token
 }
 
-fn is_rest(filter: &str) -> bool
+fn is_full_wildcard(filter: &str) -> bool
     ensures { result ≡ bytes_eq filter.now (62 ∷ []) }
 {
     filter == ">"
@@ -127,7 +127,7 @@ pub fn subject_matches(filter: &str, subject: &str) -> bool
         let Some(token) = tokens.next() else {
             return false;
         };
-        if filters.is_empty() && is_rest(filter) {
+        if filters.is_empty() && is_full_wildcard(filter) {
             return true;
         }
         if !token_matches(filter, token) {

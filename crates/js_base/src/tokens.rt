@@ -1,8 +1,8 @@
 //! The tokens of a subject, which stand between its dots.
 
-ghost use Rattle.std.specs.Prelude.{◌≡◌, ◌<◌, ◌∷◌, ◌==◌, length, [], MatchOption, count_by};
+ghost use Rattle.std.specs.Prelude.{◌≡◌, ◌<◌, ◌∷◌, ◌==◌, length, [], MatchOption};
 ghost use Rattle.std.specs.Option.{option_copied};
-ghost use Rattle.js_base.specs.Match.{tokens, tokens_left};
+ghost use Rattle.js_base.specs.Subject.{tokens, tokens_left};
 
 use std::marker::Model;
 
@@ -15,7 +15,7 @@ pub struct Tokens<'a> {
 impl<'a> Model for Tokens<'a> {
     ghost use Rattle.std.specs.Prelude.{ℕ, List};
     ghost use Rattle.std.specs.Option.{option_copied};
-    ghost use Rattle.js_base.specs.Match.{tokens_left};
+    ghost use Rattle.js_base.specs.Subject.{tokens_left};
 
     ghost Value = { List (List ℕ) };
 
@@ -60,7 +60,7 @@ impl<'a> Tokens<'a> {
     }
 }
 
-/// The first token, and what follows its dot.
+// The first token, and what follows its dot.
 fn cut(text: &str) -> (&str, Option<&str>)
     ensures { tokens text.now ≡ result.0.now ∷ tokens_left (option_copied result.1) }
 {
@@ -68,17 +68,4 @@ fn cut(text: &str) -> (&str, Option<&str>)
         Some((token, rest)) => (token, Some(rest)),
         None => (text, None),
     }
-}
-
-fn dot_count(text: &str) -> usize
-    ensures { result ≡ count_by (λ byte. byte == 46) text.now }
-{
-    text.bytes().filter(|byte| *byte == b'.').count()
-}
-
-/// How many tokens a text has.
-pub fn token_count(text: &str) -> u64
-    ensures { result ≡ length (tokens text.now) }
-{
-    dot_count(text) as u64 + 1
 }

@@ -2,6 +2,7 @@
 
 /// What a poll of a call answers. A state that is not at its end is handed back.
 #[derive(Debug, PartialEq, Eq, Drop)]
+#[must_use = "a call that is not polled to its end never answers"]
 pub enum Turn<S, T> {
     /// Nothing more can be done yet: poll the state again.
     Pending(S),
@@ -13,6 +14,7 @@ pub enum Turn<S, T> {
 
 /// What a poll of a reader answers.
 #[derive(Debug, PartialEq, Eq, Drop)]
+#[must_use = "what a poll hands out is handed out once"]
 pub enum Next<T> {
     /// Nothing has come yet.
     Pending,

@@ -1,1 +1,1 @@
-pub mod Sleeping
+pub mod Sleeps

@@ -1,10 +1,10 @@
 pub mod Texts
-pub mod Failures
-pub mod Raw
-pub mod Scopes
+pub mod Failure
+pub mod RawCall
+pub mod Scope
 pub mod Table
-pub mod Calls
-pub mod ApiRequests
-pub mod Sending
-pub mod Thens
+pub mod Call
+pub mod ApiRequest
+pub mod SendRequest
+pub mod Then
 pub mod Wakes

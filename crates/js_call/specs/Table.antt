@@ -1,7 +1,7 @@
 -- The rows of the table of calls.
 use Rattle.std.specs.Prelude.{ℕ, List, Option, Some, None, Result, Err}
-use Rattle.js_fields.specs.Reading.{Gives}
-use Rattle.js_fields.specs.declared.error.ReadError.{ReadError}
+use Rattle.js_json_members.specs.Member.{Gives}
+use Rattle.js_json_members.specs.declared.error.ReadError.{ReadError}
 use Rattle.js_base.specs.declared.error.Source.{Source}
 use Rattle.js_call.specs.declared.failure.Failure.{Failure}
 

@@ -11,7 +11,7 @@ use Rattle.js_call.specs.declared.call.Stage.TheVariants.{Asking, Answered, Fail
 use Rattle.js_call.specs.declared.open_request.OpenRequest.{OpenRequest}
 use Rattle.js_call.specs.declared.then.Then.{Then}
 use Rattle.js_call.specs.declared.then.Then.TheVariants.{First, Second}
-use Rattle.js_call.specs.Raw.{times_out}
+use Rattle.js_call.specs.RawCall.{times_out}
 use Rattle.js_call.specs.Table.{Table}
 
 -- the request itself, without its clock

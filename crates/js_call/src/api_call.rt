@@ -4,7 +4,7 @@ ghost use Rattle.js_call.specs.Table.{Table};
 
 use crate::failure::Failure;
 use js_base::Source;
-use js_fields::ReadError;
+use js_json_members::ReadError;
 use std::alloc::Global;
 
 /// A call of the API, as a row of the table of calls: what its arguments are refused with, and what it answers.

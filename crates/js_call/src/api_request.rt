@@ -1,7 +1,7 @@
 //! A request of the API whose reply is any JSON value.
 ghost use Rattle.std.specs.Prelude.{◌≡◌, IfOk};
 ghost use Rattle.serde_json.specs.View.{view};
-ghost use Rattle.js_call.specs.ApiRequests.{value_row, request_error, AskingFor};
+ghost use Rattle.js_call.specs.ApiRequest.{value_row, request_error, AskingFor};
 
 use crate::api_call::ApiCall;
 use crate::call::Call;
@@ -10,7 +10,7 @@ use crate::failure::Failure;
 use crate::raw_call::RawCall;
 use crate::scope::{ApiScope, body_text};
 use js_base::{Error, OutOfMemory, Source};
-use js_fields::{ReadError, value_of};
+use js_json_members::{ReadError, value_of};
 use serde_json::Value;
 use std::alloc::Global;
 
@@ -21,7 +21,7 @@ pub struct AskingValue;
 /// A request of the API under way. Its answer is the JSON value that the reply's body is, in which no float may stand.
 pub type ApiRequest = Call<AskingValue>;
 
-/// The error of the request itself; a reply that does not read is another error, with the read error's text.
+// The error of the request itself; a reply that does not read is another error, with the read error's text.
 fn request_error(failure: Failure, source: Source) -> RequestError
     ensures { result ≡ request_error failure source }
 {

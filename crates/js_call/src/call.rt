@@ -2,7 +2,7 @@
 ghost use Rattle.std.specs.Prelude.{◌≡◌, Result};
 ghost use Rattle.js_base.specs.declared.error.Error.{Error};
 ghost use Rattle.js_base.specs.declared.turn.Turn.{Turn};
-ghost use Rattle.js_call.specs.Calls.{calling, Fails, Polled, Reads, Turns};
+ghost use Rattle.js_call.specs.Call.{calling, Fails, Polled, Reads, Turns};
 ghost use Rattle.js_call.specs.Wakes.{call_waits_for, stage_waits_for};
 
 use crate::api_call::ApiCall;
@@ -12,7 +12,7 @@ use crate::open_request::OpenRequest;
 use crate::raw_call::RawCall;
 use crate::state::State;
 use js_base::{Message, Moment, OutOfMemory, Turn};
-use js_fields::ReadError;
+use js_json_members::ReadError;
 use js_link::Link;
 use std::alloc::Global;
 
@@ -21,6 +21,7 @@ use std::alloc::Global;
 /// Refused arguments are answered before anything is sent. A reply for which no memory is left is kept, and read at the next
 /// poll; so is a failure for whose text none is left.
 #[derive(Drop)]
+#[must_use = "a call is sent by its first poll"]
 pub struct Call<M> {
     pub(crate) api_call: M,
     pub(crate) stage: Stage,
@@ -37,7 +38,7 @@ pub(crate) enum Stage {
 }
 
 impl Stage {
-    /// The request whose answer it waits for.
+    // The request whose answer it waits for.
     fn waits_for(&self) -> Option<OpenRequest>
         ensures { result ≡ stage_waits_for self.now }
     {
@@ -61,7 +62,7 @@ impl<M: ApiCall> Call<M> {
     }
 }
 
-/// Tells a failure, which is kept where memory runs out.
+// Tells a failure, which is kept where memory runs out.
 fn fail<M: ApiCall>(alloc: Global, api_call: M, failure: Failure) -> Turn<Call<M>, M::Answer>
     ensures { Fails M.table api_call failure result }
 {
@@ -74,7 +75,7 @@ fn fail<M: ApiCall>(alloc: Global, api_call: M, failure: Failure) -> Turn<Call<M
     }
 }
 
-/// Reads a reply, which is kept where memory runs out.
+// Reads a reply, which is kept where memory runs out.
 fn read<M: ApiCall>(alloc: Global, api_call: M, message: Message) -> Turn<Call<M>, M::Answer>
     ensures { Reads M.table api_call message result }
 {
@@ -94,7 +95,7 @@ fn read<M: ApiCall>(alloc: Global, api_call: M, message: Message) -> Turn<Call<M
     }
 }
 
-/// What the call answers to what its request does.
+// What the call answers to what its request does.
 fn turn<M: ApiCall>(
     alloc: Global,
     api_call: M,

@@ -1,10 +1,10 @@
 //! Why a call has no answer of the API, and how an error tells it.
 ghost use Rattle.std.specs.Prelude.{◌≡◌, Some, IfOk, string_bytes};
-ghost use Rattle.js_call.specs.Failures.{failure_text, request_kind, told_by};
+ghost use Rattle.js_call.specs.Failure.{failure_text, request_kind, failure_source};
 
 use crate::error::RequestErrorKind;
 use js_base::{OutOfMemory, Source, Text};
-use js_fields::ReadError;
+use js_json_members::ReadError;
 use std::alloc::{AllocError, Global};
 use std::fmt;
 
@@ -36,7 +36,7 @@ impl Failure {
 
     /// Its text as the source of an error. The one refusal is want of memory.
     pub fn to_source(self, alloc: Global) -> Result<Source, OutOfMemory>
-        ensures { IfOk result (λ source. source ≡ told_by self) }
+        ensures { IfOk result (λ source. source ≡ failure_source self) }
     {
         Ok(Source::Text(Text::from(self.text(alloc)?)))
     }

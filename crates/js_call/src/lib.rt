@@ -14,7 +14,7 @@ mod open_request;
 mod raw_call;
 mod raw_request;
 mod scope;
-mod send;
+mod send_request;
 mod state;
 mod then;
 

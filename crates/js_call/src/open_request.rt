@@ -1,7 +1,7 @@
 //! A request that was sent, and what a look at it shows.
 ghost use Rattle.std.specs.Prelude.{◌≡◌, ◌<◌, ◌^◌, ℕ};
 ghost use Rattle.js_link.specs.LinkView.{LinkView};
-ghost use Rattle.js_call.specs.Raw.{Shows, times_out};
+ghost use Rattle.js_call.specs.RawCall.{Shows, times_out};
 ghost use Rattle.js_base.specs.Clock.{has_come};
 
 use js_base::{Message, Moment, Nanos, due, end_of};

@@ -2,7 +2,7 @@
 ghost use Rattle.std.specs.Prelude.{◌≡◌, Result};
 ghost use Rattle.js_link.specs.LinkView.{LinkView};
 ghost use Rattle.js_link.specs.Calls.{RefusedSend};
-ghost use Rattle.js_call.specs.Raw.{Meets, RawPolled, SendsOf, bar_of, has_no_responders, reply_of, met_turn};
+ghost use Rattle.js_call.specs.RawCall.{Progresses, RawPolled, SendsRawCallOf, refusal_of, has_no_responders, reply_of, progress_turn};
 
 use crate::error::{RequestError, RequestErrorKind};
 use crate::open_request::{OpenRequest, Shown};
@@ -20,6 +20,7 @@ use std::alloc::Global;
 /// by `ApiScope::call` tests neither: the poll that sends it is pending, and it looks at the answer and the clock from the next
 /// poll on.
 #[derive(Drop)]
+#[must_use = "a call is sent by its first poll"]
 pub struct RawCall {
     pub(crate) subject: Subject,
     pub(crate) headers: Option<HeaderMap>,
@@ -54,7 +55,7 @@ pub fn has_no_responders(status: Option<StatusCode>) -> bool
     }
 }
 
-/// The reply, unless it says that nobody answers.
+// The reply, unless it says that nobody answers.
 fn reply_of(message: Message) -> Result<Message, RequestError>
     ensures { result ≡ reply_of message }
 {
@@ -66,7 +67,7 @@ fn reply_of(message: Message) -> Result<Message, RequestError>
     }
 }
 
-/// The last turn of a state, which is let go.
+// The last turn of a state, which is let go.
 fn ready<S: Drop, A: Drop>(state: S, answer: A) -> Turn<S, A>
     ensures { result ≡ Turn.Ready answer }
 {
@@ -81,7 +82,7 @@ impl RawCall {
         link: &mut L,
         now: Moment,
     ) -> Result<OpenRequest, LinkError>
-        ensures { SendsOf result self.now now (L.view link.old) (L.view link.new) }
+        ensures { SendsRawCallOf result self.now now (L.view link.old) (L.view link.new) }
     {
         let timeout = match self.timeout {
             Some(own) => own,
@@ -100,9 +101,9 @@ impl RawCall {
         })
     }
 
-    /// What keeps it from being sent.
-    fn bar<L: Link>(&self, link: &L) -> Option<RequestErrorKind>
-        ensures { result ≡ bar_of self.now (L.view link.now) }
+    // What keeps it from being sent.
+    fn refusal_before_send<L: Link>(&self, link: &L) -> Option<RequestErrorKind>
+        ensures { result ≡ refusal_of self.now (L.view link.now) }
     {
         if !is_valid_subject(self.subject.as_str()) {
             Some(RequestErrorKind::InvalidSubject)
@@ -113,9 +114,9 @@ impl RawCall {
         }
     }
 
-    /// Sends it where it was not sent, and looks at it, as far as one poll goes.
-    fn pass<L: Link>(&self, alloc: Global, link: &mut L, now: Moment) -> RequestProgress
-        ensures { Meets self.now.sent self.now now result (L.view link.old) (L.view link.new) }
+    // Sends it where it was not sent, and looks at it, as far as one poll goes.
+    fn progress<L: Link>(&self, alloc: Global, link: &mut L, now: Moment) -> RequestProgress
+        ensures { Progresses self.now.sent self.now now result (L.view link.old) (L.view link.new) }
     {
         if let Some(sent) = self.sent {
             let shown = sent.look(link, now);
@@ -128,7 +129,7 @@ impl RawCall {
                 Err(LinkError::OutOfMemory) => RequestProgress::OutOfMemory,
             };
         }
-        if let Some(kind) = self.bar(link) {
+        if let Some(kind) = self.refusal_before_send(link) {
             return RequestProgress::Barred(kind);
         }
         match self.send(alloc, link, now) {
@@ -141,7 +142,7 @@ impl RawCall {
         }
     }
 
-    /// The same, sent.
+    // The same, sent.
     fn sent_as(self, sent: OpenRequest) -> RawCall
         ensures { result ≡ record self { sent = Some sent } }
     {
@@ -151,9 +152,9 @@ impl RawCall {
         }
     }
 
-    /// What it answers to what it met.
+    // What it answers to what it met.
     fn turn(self, met: RequestProgress) -> Turn<RawCall, Result<Message, RequestError>>
-        ensures { result ≡ met_turn self met }
+        ensures { result ≡ progress_turn self met }
     {
         match met {
             RequestProgress::Barred(kind) => ready(self, Err(Error::new(kind))),
@@ -182,7 +183,7 @@ impl State for RawCall {
     }
 
     fn poll<L: Link>(self, alloc: Global, link: &mut L, now: Moment) -> Turn<Self, Self::Answer> {
-        let met = self.pass(alloc, link, now);
+        let met = self.progress(alloc, link, now);
         self.turn(met)
     }
 }

@@ -1,6 +1,6 @@
 //! What a request carries besides its subject.
 ghost use Rattle.std.specs.Prelude.{◌≡◌};
-ghost use Rattle.js_call.specs.Scopes.{body_of};
+ghost use Rattle.js_call.specs.Scope.{body_of};
 
 use bytes::Bytes;
 use js_base::{HeaderMap, Nanos, Subject};
@@ -18,7 +18,7 @@ pub struct RawRequest {
     pub inbox: Option<Subject>,
 }
 
-/// The body, which may be empty.
+// The body, which may be empty.
 pub(crate) fn body_of(payload: Option<Bytes>) -> Bytes
     ensures { result ≡ body_of payload }
 {

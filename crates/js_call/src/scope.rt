@@ -1,7 +1,7 @@
 //! Where requests of the API go, and how long they are waited for.
 ghost use Rattle.std.specs.Prelude.{◌≡◌, false, IfOk, string_bytes};
 ghost use Rattle.serde_json.specs.View.{view};
-ghost use Rattle.js_call.specs.Scopes.{under, own_timeout, applied, recovery_timeout, asking, raw_asking, Calling, IsTextOf};
+ghost use Rattle.js_call.specs.Scope.{under, own_timeout, applied, recovery_timeout, asking, raw_asking, Calling, IsTextOf};
 
 use crate::raw_call::RawCall;
 use crate::raw_request::{RawRequest, body_of};
@@ -34,7 +34,7 @@ fn text_under(alloc: Global, prefix: &str, subject: &str) -> Result<String, Allo
     format!(in alloc; "{prefix}.{subject}")
 }
 
-/// The compact text of a value, as a body.
+// The compact text of a value, as a body.
 pub(crate) fn body_text(alloc: Global, value: &Value) -> Result<Bytes, OutOfMemory>
     ensures { IfOk result (λ body. IsTextOf (view value.now) body) }
 {
@@ -142,7 +142,7 @@ impl ApiScope {
         })
     }
 
-    /// A subject under the prefix.
+    // A subject under the prefix.
     pub(crate) fn subject(&self, alloc: Global, subject: &str) -> Result<Subject, OutOfMemory>
         ensures { IfOk result (λ whole. whole ≡ under self.now.prefix subject.now) }
     {
@@ -150,7 +150,7 @@ impl ApiScope {
         Ok(Subject::from(text))
     }
 
-    /// The context's timeout as one of a request's own.
+    // The context's timeout as one of a request's own.
     fn own_timeout(&self) -> Option<Option<Nanos>>
         ensures { result ≡ own_timeout self.now }
     {

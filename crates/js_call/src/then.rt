@@ -2,7 +2,7 @@
 ghost use Rattle.std.specs.Prelude.{◌≡◌, Option};
 ghost use Rattle.js_link.specs.LinkView.{LinkView};
 ghost use Rattle.js_base.specs.declared.turn.Turn.{Turn};
-ghost use Rattle.js_call.specs.Thens.{ThenPolled, SecondPolled, unless_absent};
+ghost use Rattle.js_call.specs.Then.{ThenPolled, SecondPolled, unless_absent};
 ghost use Rattle.js_call.specs.Wakes.{then_waits_for, PendsOn, Sleeps};
 ghost use Rattle.js_call.specs.declared.then.Then.TheVariants.{Second};
 
@@ -39,6 +39,7 @@ impl<T: Drop, E: Drop> Decision<Result<Option<T>, E>, Result<T, E>> for IfAbsent
 
 /// A call, and another one that follows in the same poll where the first answer asks for it.
 #[derive(Drop)]
+#[must_use = "a call is sent by its first poll"]
 pub enum Then<A, B, D> {
     First { first: A, second: B, decision: D },
     Second(B),

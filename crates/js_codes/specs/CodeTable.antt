@@ -1,7 +1,7 @@
 -- The error codes in the order of their numbers.
 use Rattle.std.specs.Prelude.{◌≡◌, ℕ, zero, suc, ◌+◌, List, [], ◌∷◌, map}
-use Rattle.js_codes.specs.declared.code.ErrorCode.{ErrorCode}
-use Rattle.js_codes.specs.declared.code.TheConstants.ErrorCode as code
+use Rattle.js_codes.specs.declared.error_code.ErrorCode.{ErrorCode}
+use Rattle.js_codes.specs.declared.error_code.TheConstants.ErrorCode as code
 
 -- the table
 abbrev pub in_order : List ErrorCode
@@ -230,10 +230,10 @@ in_order =
     code.MESSAGE_SCHEDULES_TIME_ZONE_INVALID ∷ []
 
 -- n numbers from the first on
-abbrev pub counted : ℕ → ℕ → List ℕ
-counted first zero = []
-counted first (suc n) = first ∷ counted (first + 1) n
+abbrev pub consecutive : ℕ → ℕ → List ℕ
+consecutive first zero = []
+consecutive first (suc n) = first ∷ consecutive (first + 1) n
 
 -- The codes of the table have the 222 numbers from 10002 on.
 abbrev pub HasNoHole : Type 0
-HasNoHole = map (λ c. c.0) in_order ≡ counted 10002 222
+HasNoHole = map (λ c. c.0) in_order ≡ consecutive 10002 222

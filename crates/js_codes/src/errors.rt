@@ -1,11 +1,11 @@
 //! The error in an answer of the API.
 
 ghost use Rattle.std.specs.Prelude.{◌≡◌};
-ghost use Rattle.js_codes.specs.Error.{api_source, error_fields, error_value};
+ghost use Rattle.js_codes.specs.Errors.{api_source, error_fields, error_value};
 
-pub use crate::code::ErrorCode;
+pub use crate::error_code::ErrorCode;
 use js_base::{ApiError, OutOfMemory, Source, Text, TryClone};
-use js_fields::{FromValue, Key, Object, ReadError, ToValue, defaulted, optional, required};
+use js_json_members::{FromValue, Key, Object, ReadError, ToValue, defaulted, optional, required};
 use serde_json::Value;
 use std::alloc::Global;
 use std::{error, fmt};
@@ -58,7 +58,7 @@ impl Error {
 
 impl fmt::Display for Error {
     ghost use Rattle.std.specs.Prelude.{Some};
-    ghost use Rattle.js_codes.specs.Error.{error_text};
+    ghost use Rattle.js_codes.specs.Errors.{error_text};
 
     ghost output = { λ e. Some (error_text e) };
 
@@ -87,7 +87,7 @@ impl TryClone for Error {
 impl FromValue for Error {
     ghost fields = { error_fields };
 
-    #[tactic(auto, unfolding(crate::specs::Error::error_fields))]
+    #[tactic(auto, unfolding(crate::specs::Errors::error_fields))]
     fn from_fields(alloc: Global, object: &Value) -> Result<Error, ReadError> {
         Ok(Error {
             code: required(alloc, object, Key::Code)?,
@@ -100,7 +100,7 @@ impl FromValue for Error {
 impl ToValue for Error {
     ghost written = { error_value };
 
-    #[tactic(auto, unfolding(crate::specs::Error::error_value))]
+    #[tactic(auto, unfolding(crate::specs::Errors::error_value))]
     fn to_value(&self, alloc: Global) -> Result<Value, ReadError> {
         Object::new(alloc)
             .always(alloc, Key::Code, &self.code)

@@ -1,6 +1,6 @@
-pub mod Looking
+pub mod AckLooks
 pub mod Ring
-pub mod Crossing
-pub mod Waiting
-pub mod Sleeping
+pub mod OtherThread
+pub mod AckWait
+pub mod Sleep
 pub mod Permits

@@ -1,7 +1,7 @@
 -- A caller that holds all permits of its window gets none.
 use Rattle.std.proofs.Common.{◌≡◌, ℕ, zero, suc, ◌+◌, ◌≤◌, ◌<◌, Bool, true, false, List, [], ◌∷◌, ◌++◌, refl, sym, ap, ◌∙◌, subst, arith}
 use Rattle.js_link.specs.LinkView.{LinkView}
-use Rattle.js_message.specs.declared.publish.OutboundMessage.{OutboundMessage}
+use Rattle.js_message.specs.declared.publish_message.OutboundMessage.{OutboundMessage}
 use Rattle.js_window.specs.Caller.{Caller, Makes, WindowId, held}
 use Rattle.js_window.specs.History.{IsLegal, calls_by, entry, given_in, got_in, out_after}
 use Rattle.js_window.specs.declared.history.Call.TheVariants.{Give, Got}
@@ -12,8 +12,8 @@ use Rattle.js_context.specs.declared.publish_error.PublishErrorKind.TheVariants 
 use Rattle.js_context.specs.declared.sending.Attempt.{Attempt}
 use Rattle.js_context.specs.declared.sending.Attempt.TheVariants.{Barred, NoRoom, Full, Unsent, Went}
 use Rattle.js_context.specs.declared.sending.Sending.{Sending}
-use Rattle.js_context.specs.Contexts.{ContextView}
-use Rattle.js_context.specs.Sendings.{Attempts, GetsNone, GetsNoneIfFull, IsBarred, IsSendable, LacksPermit, SendTurn, answer_to}
+use Rattle.js_context.specs.Context.{ContextView}
+use Rattle.js_context.specs.Sending.{Attempts, GetsNone, GetsNoneIfFull, IsBarred, IsSendable, LacksPermit, SendTurn, answer_to}
 
 -- a caller holds no more than are out: it could give all of them back
 held_within : (out capacity n : ℕ) (h : List Entry) → IsLegal capacity h → out_after (calls_by n h) ≡ out → out ≤ out_after h

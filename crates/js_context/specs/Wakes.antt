@@ -7,7 +7,7 @@ use Rattle.js_call.specs.declared.open_request.OpenRequest.{OpenRequest}
 use Rattle.js_context.specs.declared.ack_future.Clock.{Clock}
 use Rattle.js_context.specs.declared.ack_future.PublishAckFuture.{PublishAckFuture}
 use Rattle.js_context.specs.declared.context.Detached.{Detached}
-use Rattle.js_context.specs.Clocks.{timed}
+use Rattle.js_context.specs.AckClock.{timed}
 
 -- a request whose clock has begun, where no reply to it was kept
 abbrev pub unless_kept : Option Message → Option Clock → RequestId → Option OpenRequest

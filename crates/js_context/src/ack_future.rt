@@ -1,25 +1,24 @@
 //! The ack of a message that was sent.
 ghost use Rattle.std.specs.Prelude.{◌≡◌, ◌+◌, ◌<◌, ◌^◌, ◌++◌, ◌∷◌, [], ℕ, IfOk, Some, None};
 ghost use Rattle.js_link.specs.LinkView.{LinkView};
-ghost use Rattle.js_base.specs.Errors.{plain};
-ghost use Rattle.js_fields.specs.Reading.{Gives};
+ghost use Rattle.js_base.specs.Error.{plain};
+ghost use Rattle.js_json_members.specs.Member.{Gives};
 ghost use Rattle.js_base.specs.Clock.{has_come};
 ghost use Rattle.js_call.specs.Wakes.{Sleeps, is_due, request_of};
-ghost use Rattle.js_context.specs.Contexts.{ContextView, GivesBack};
-ghost use Rattle.js_context.specs.Clocks.{started};
-ghost use Rattle.js_context.specs.Acks.{ack_in, ack_of, meaning_of, meaning_read, unreadable, AckPolled, AckReads, AckTurns, Ends, IsAwaitedBy, PermitAfter};
+ghost use Rattle.js_context.specs.Context.{ContextView, GivesBack};
+ghost use Rattle.js_context.specs.AckClock.{started};
+ghost use Rattle.js_context.specs.AckFuture.{ack_in, ack_of, meaning_of, meaning_read, unreadable, AckPolled, AckReads, AckTurns, Ends, IsAwaitedBy, PermitAfter};
 ghost use Rattle.js_context.specs.Wakes.{ack_waits_for};
 
 use crate::context::{Context, Detached};
 use crate::publish_error::{PublishError, PublishErrorKind, refusal_by};
-use js_base::{Error, Message, Moment, Nanos, OutOfMemory, Turn};
+use js_base::{Error, Message, Moment, Nanos, OutOfMemory, Turn, replace_with};
 use js_call::{Failure, OpenRequest, Shown, has_no_responders};
-use js_fields::ReadError;
 use js_json::{PublishAck, Response, response_as};
+use js_json_members::ReadError;
 use js_link::{Link, RequestId};
 use js_window::{Permit, Window};
 use std::alloc::Global;
-use std::mem;
 use std::snapshot::Snapshot;
 use std::sync::Wait;
 
@@ -34,6 +33,7 @@ pub(crate) struct Clock {
 /// message: no other can poll or detach it.
 ///
 /// It is spent: polled until it is ready, or given to `detach`.
+#[must_use = "it bears a permit: poll it until it is ready, or detach it"]
 pub struct PublishAckFuture {
     pub(crate) request: RequestId,
     pub(crate) permit: Permit,
@@ -54,7 +54,7 @@ fn read_ack(alloc: Global, payload: &[u8]) -> Result<Response<PublishAck>, ReadE
     response_as(alloc, payload)
 }
 
-/// What the server's answer means.
+// What the server's answer means.
 fn meaning_of(response: Response<PublishAck>) -> Result<PublishAck, PublishError>
     ensures { result ≡ meaning_of response }
 {
@@ -64,7 +64,7 @@ fn meaning_of(response: Response<PublishAck>) -> Result<PublishAck, PublishError
     }
 }
 
-/// Why the body of a reply says nothing of the message.
+// Why the body of a reply says nothing of the message.
 fn unreadable(alloc: Global, fault: ReadError) -> Result<PublishError, OutOfMemory>
     ensures { IfOk result (λ error. error ≡ unreadable fault) }
 {
@@ -72,7 +72,7 @@ fn unreadable(alloc: Global, fault: ReadError) -> Result<PublishError, OutOfMemo
     Ok(Error::with_source(PublishErrorKind::Other, source))
 }
 
-/// What a reply means that does not say that nobody answers.
+// What a reply means that does not say that nobody answers.
 fn answer_in(alloc: Global, payload: &[u8]) -> Result<Result<PublishAck, PublishError>, OutOfMemory>
     ensures { IfOk result (λ answer. answer ≡ meaning_read (ack_in payload.now)) }
 {
@@ -83,7 +83,7 @@ fn answer_in(alloc: Global, payload: &[u8]) -> Result<Result<PublishAck, Publish
     }
 }
 
-/// What a reply means.
+// What a reply means.
 fn ack_of(alloc: Global, message: &Message) -> Result<Result<PublishAck, PublishError>, OutOfMemory>
     ensures { IfOk result (λ answer. answer ≡ ack_of message.now) }
 {
@@ -142,7 +142,7 @@ impl PublishAckFuture {
         context.detach(self.into_detached());
     }
 
-    /// Itself without its reply and its clock: `reap` begins another one.
+    // Itself without its reply and its clock: `reap` begins another one.
     fn into_detached(self) -> Detached
         ensures { result ≡ record { request = self.request; permit = self.permit; window = self.window; since = None } }
     {
@@ -184,7 +184,7 @@ impl PublishAckFuture {
         }
     }
 
-    /// The request whose answer it waits for, by its clock.
+    // The request whose answer it waits for, by its clock.
     fn waits_for(&self) -> Option<OpenRequest>
         ensures { result ≡ ack_waits_for self.now }
     {
@@ -198,14 +198,14 @@ impl PublishAckFuture {
         }
     }
 
-    /// Its clock, which begins now and runs for that wait where it has not begun.
+    // Its clock, which begins now and runs for that wait where it has not begun.
     fn started(&self, now: Moment, wait: Nanos) -> Clock
         ensures { result ≡ started self.now.clock now wait }
     {
         self.clock.unwrap_or(Clock { since: now, wait })
     }
 
-    /// What is made of what the request shows.
+    // What is made of what the request shows.
     fn turn<R: Wait>(self, rt: &R, alloc: Global, context: &mut Context, shown: Shown) -> Polled
         requires { IsAwaitedBy self context.old }
         ensures turns { AckTurns self shown result context.old context.new }
@@ -219,7 +219,7 @@ impl PublishAckFuture {
         }
     }
 
-    /// Reads a reply that has come. Where memory runs out it is kept.
+    // Reads a reply that has come. Where memory runs out it is kept.
     fn read<R: Wait>(self, rt: &R, alloc: Global, context: &mut Context, message: Message) -> Polled
         requires { IsAwaitedBy self context.old }
         ensures reads { AckReads self message result context.old context.new }
@@ -234,7 +234,7 @@ impl PublishAckFuture {
         }
     }
 
-    /// Ends with that kind of error.
+    // Ends with that kind of error.
     fn fail<R: Wait>(self, rt: &R, context: &mut Context, kind: PublishErrorKind) -> Polled
         requires { IsAwaitedBy self context.old }
         ensures { Ends (Err (plain kind)) result context.old context.new }
@@ -242,7 +242,7 @@ impl PublishAckFuture {
         self.end(rt, context, Err(Error::new(kind)))
     }
 
-    /// Ends with that answer, and gives the permit back.
+    // Ends with that answer, and gives the permit back.
     fn end<R: Wait>(
         self,
         rt: &R,
@@ -256,7 +256,7 @@ impl PublishAckFuture {
         Turn::Ready(answer)
     }
 
-    /// Gives the permit back.
+    // Gives the permit back.
     fn give_back<R: Wait>(self, rt: &R, context: &mut Context)
         requires { IsAwaitedBy self context.old }
         ensures { GivesBack context.old context.new }
@@ -265,11 +265,11 @@ impl PublishAckFuture {
         context.give(rt, ack.permit);
     }
 
-    /// Keeps the reply for a later poll.
+    // Keeps the reply for a later poll.
     fn keep(mut self, message: Message) -> PublishAckFuture
         ensures { result ≡ record self { reply = Some message } }
     {
-        drop(mem::replace(&mut self.reply, Some(message)));
+        replace_with(&mut self.reply, Some(message));
         self
     }
 }

@@ -1,6 +1,6 @@
 //! Why a context was not built.
 ghost use Rattle.std.specs.Prelude.{◌≡◌, Some};
-ghost use Rattle.js_context.specs.Builders.{build_text};
+ghost use Rattle.js_context.specs.Builder.{build_text};
 ghost use Rattle.js_context.specs.declared.build_error.BuildError.TheVariants.{OutOfMemory as memory};
 
 use js_base::OutOfMemory;

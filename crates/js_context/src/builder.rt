@@ -1,14 +1,14 @@
 //! How a context is built.
 ghost use Rattle.std.specs.Prelude.{◌≡◌, IfOk, Some, codes};
-ghost use Rattle.js_stream_calls.specs.Places.{domain_prefix as domain_prefix_in};
-ghost use Rattle.js_context.specs.Builders.{Builds, IsBuilder, capacity_of, refusal_of, scope_of, settings_of};
-ghost use Rattle.js_context.specs.Contexts.{usual_scope, usual_settings};
+ghost use Rattle.js_call_streams.specs.Places.{domain_prefix as domain_prefix_in};
+ghost use Rattle.js_context.specs.Builder.{Builds, IsBuilder, capacity_of, refusal_of, scope_of, settings_of};
+ghost use Rattle.js_context.specs.Context.{usual_scope, usual_settings};
 
 use crate::build_error::BuildError;
 use crate::context::{Context, Settings};
 use js_base::{Nanos, OutOfMemory, Text};
 use js_call::ApiScope;
-use js_stream_calls::domain_prefix;
+use js_call_streams::domain_prefix;
 use std::alloc::Global;
 use std::sync::Wait;
 
@@ -89,7 +89,7 @@ impl ContextBuilder<Yes> {
     }
 }
 
-/// A builder of what is to be built with these.
+// A builder of what is to be built with these.
 fn to_build(scope: ApiScope, capacity: u64, settings: Settings) -> ContextBuilder<Yes>
     ensures { IsBuilder result scope capacity settings }
 {
@@ -155,7 +155,7 @@ impl<P: ToAssign> ContextBuilder<P> {
     }
 
     /// The context, with a window of its own. `ZeroCapacity` comes where there would be no permit, then `CapacityTooLarge` where there
-    /// would be more than `u32::MAX`.
+    /// would be more than `u32::MAX`, and `OutOfMemory` where memory runs out.
     pub fn build<R: Wait>(self, rt: &R, alloc: Global) -> Result<Context, BuildError>
         ensures { Builds (refusal_of (capacity_of self)) result (scope_of self) (capacity_of self) (settings_of self) }
     {

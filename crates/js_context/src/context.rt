@@ -3,11 +3,11 @@ ghost use Rattle.std.specs.Prelude.{◌≡◌, ◌+◌, ◌<◌, ◌≤◌, ◌^
 ghost use Rattle.std.specs.Arc.{arc_value};
 ghost use Rattle.js_window.specs.Caller.{Makes, held};
 ghost use Rattle.js_window.specs.declared.history.Call.TheVariants.{AllFree, Give};
-ghost use Rattle.js_stream_calls.specs.Places.{domain_prefix};
+ghost use Rattle.js_call_streams.specs.Places.{domain_prefix};
 ghost use Rattle.js_base.specs.Clock.{has_come};
-ghost use Rattle.js_context.specs.Contexts.{GivesBack, IsNew, IsUsual, SplitsOff, Takes, timeout_of};
-ghost use Rattle.js_context.specs.Reaps.{GivesIf, clocked_ack, stays};
-ghost use Rattle.js_context.specs.Waits.{Settles};
+ghost use Rattle.js_context.specs.Context.{GivesBack, IsNew, IsUsual, SplitsOff, Takes, timeout_of};
+ghost use Rattle.js_context.specs.Reap.{GivesIf, clocked_ack, stays};
+ghost use Rattle.js_context.specs.AckWait.{Settles};
 ghost use Rattle.js_context.specs.Wakes.{is_one_due};
 ghost use Rattle.js_context.specs.declared.context.Detached.{Detached};
 
@@ -63,7 +63,7 @@ pub struct Context {
 }
 
 impl Model for Context {
-    ghost use Rattle.js_context.specs.Contexts.{ContextView, IsContext};
+    ghost use Rattle.js_context.specs.Context.{ContextView, IsContext};
 
     ghost Value = { ContextView };
 
@@ -72,7 +72,7 @@ impl Model for Context {
     ghost invariant = { λ c. IsContext c.window c.pass c.awaited c.detached };
 }
 
-/// What a build came to whose capacity was good.
+// What a build came to whose capacity was good.
 fn unless_memory(built: Result<Context, BuildError>) -> Result<Context, OutOfMemory>
     ensures { IfOk result (λ context. built ≡ Ok context) }
 {
@@ -82,7 +82,7 @@ fn unless_memory(built: Result<Context, BuildError>) -> Result<Context, OutOfMem
     }
 }
 
-/// A window of so many permits, all free, that contexts may share, with its first pass.
+// A window of so many permits, all free, that contexts may share, with its first pass.
 fn shared_window<R: Wait>(
     rt: &R,
     alloc: Global,
@@ -326,7 +326,7 @@ impl Context {
         })
     }
 
-    /// The clock of the first detached ack has begun. It goes behind the others.
+    // The clock of the first detached ack has begun. It goes behind the others.
     fn keep_first(&mut self, since: Moment)
         ensures pass { self.new.pass ≡ self.old.pass }
         ensures list { (ack : Detached) (after : List Detached) → self.old.detached ≡ ack ∷ after → self.new ≡ record self.old { detached = after ++ record ack { since = Some since } ∷ [] } }
@@ -337,7 +337,7 @@ impl Context {
         }
     }
 
-    /// The first detached ack is no more, and its permit is given back.
+    // The first detached ack is no more, and its permit is given back.
     fn settle_first<R: Wait>(&mut self, rt: &R)
         requires { 0 < length self.old.detached }
         ensures makes { Makes Give self.old.pass self.new.pass }

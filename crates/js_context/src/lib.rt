@@ -4,8 +4,9 @@
 //! link and a moment until it is ready.
 //!
 //! It publishes under a window of permits, which the contexts share that [`Context::split`] gives. A message takes a permit when it
-//! is sent, and its ack gives it back. Each permit that a context took is held by a [`PublishAckFuture`], stands in the list of its
-//! detached acks, or was given back.
+//! is sent ([`Sending`]), and its ack gives it back. Each permit that a context took is held by a [`PublishAckFuture`], stands in
+//! the list of its detached acks, for which there is always room, or was given back: this is the context's invariant, and each poll
+//! says what it does to the permits.
 #![tactic(auto)]
 
 mod account;

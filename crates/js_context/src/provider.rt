@@ -1,10 +1,10 @@
 //! What a context offers to code that takes any context.
 ghost use Rattle.std.specs.Prelude.{◌≡◌, IfOk, Ok, ℕ};
-ghost use Rattle.js_call.specs.Scopes.{raw_asking};
-ghost use Rattle.js_call.specs.Sending.{SendsRequest};
+ghost use Rattle.js_call.specs.Scope.{raw_asking};
+ghost use Rattle.js_call.specs.SendRequest.{SendsRequest};
 ghost use Rattle.js_call.specs.declared.scope.ApiScope.{ApiScope};
-ghost use Rattle.js_context.specs.Contexts.{scope_in, timeout_in};
-ghost use Rattle.js_context.specs.Messages.{sending};
+ghost use Rattle.js_context.specs.Context.{scope_in, timeout_in};
+ghost use Rattle.js_context.specs.Publish.{sending};
 
 use crate::context::Context;
 use crate::sending::Sending;
@@ -19,7 +19,8 @@ pub trait Requester {
     /// Where its requests go, and how long they are waited for.
     ghost asks_by: { Self → ApiScope };
 
-    /// A request on that subject, which stands for itself, without a prefix. The one refusal here is want of memory.
+    /// A request on that subject, which stands for itself, without a prefix. The one refusal here is want of memory; the errors of a request come from
+    /// its polls.
     fn raw_request(
         &self,
         alloc: Global,
@@ -36,7 +37,7 @@ pub trait RequestSender {
 
     /// Publishes the request under the prefix. Its answer goes to the request's inbox, or else to a fresh subject of the link.
     ///
-    /// `LinkFailed` comes only where the link failed in this call; nothing was sent then.
+    /// `LinkFailed` comes only where the link failed in this call, and `OutOfMemory` where memory ran out; nothing was sent then.
     fn send_request<L: Link>(
         &self,
         alloc: Global,
@@ -58,7 +59,7 @@ pub trait Publisher {
 
 /// What has a scope.
 pub trait ClientProvider {
-    /// Its scope.
+    /// Where its requests go, and how long they are waited for, in contracts.
     ghost has_scope: { Self → ApiScope };
 
     /// Where its requests go, and how long they are waited for.

@@ -1,7 +1,7 @@
 //! The calls that publish. Each gives a message that is to be sent, and sends nothing itself.
 ghost use Rattle.std.specs.Prelude.{◌≡◌, IfOk, None, Some};
-ghost use Rattle.js_message.specs.Publishing.{outbound, outgoing};
-ghost use Rattle.js_context.specs.Messages.{sending};
+ghost use Rattle.js_message.specs.PublishMessage.{outbound, outgoing};
+ghost use Rattle.js_context.specs.Publish.{sending};
 
 use crate::context::Context;
 use crate::sending::Sending;
@@ -11,7 +11,8 @@ use js_message::{OutboundMessage, PublishMessage};
 use std::alloc::Global;
 
 impl Context {
-    /// Publishes a payload to a subject. The one refusal here is want of memory; others come from the first poll.
+    /// Publishes a payload to a subject. The one refusal here is want of memory; others come from the polls of
+    /// the [`Sending`], and then of its ack.
     pub fn publish(
         &mut self,
         alloc: Global,
@@ -38,7 +39,7 @@ impl Context {
         self.publish_all(alloc, subject, payload, Some(headers))
     }
 
-    /// Publishes a payload to a subject, with the headers where there are any. The refusals are those of `publish`.
+    // Publishes a payload to a subject, with the headers where there are any. The refusals are those of `publish`.
     fn publish_all(
         &mut self,
         alloc: Global,

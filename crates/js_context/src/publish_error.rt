@@ -1,6 +1,6 @@
 //! Why a message was not sent, or not stored.
 ghost use Rattle.std.specs.Prelude.{◌≡◌, Some};
-ghost use Rattle.js_context.specs.Errors.{kind_of, publish_text, refusal_by};
+ghost use Rattle.js_context.specs.PublishError.{kind_of, publish_text, refusal_by};
 
 use js_base::Error;
 use js_codes::{ErrorCode, errors};

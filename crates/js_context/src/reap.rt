@@ -1,8 +1,8 @@
 //! Looking after the acks that nobody awaits.
 ghost use Rattle.std.specs.Prelude.{◌≡◌, ◌<◌, ◌≤◌, length};
 ghost use Rattle.js_link.specs.LinkView.{LinkView};
-ghost use Rattle.js_context.specs.Contexts.{ContextView};
-ghost use Rattle.js_context.specs.Reaps.{GoesRound, LooksFirst, Reaps, is_settled, looked_at};
+ghost use Rattle.js_context.specs.Context.{ContextView};
+ghost use Rattle.js_context.specs.Reap.{GoesRound, LooksFirst, Reaps, is_settled, looked_at};
 
 use crate::context::Context;
 use js_base::Moment;
@@ -10,7 +10,7 @@ use js_call::Shown;
 use js_link::Link;
 use std::sync::Wait;
 
-/// Whether an ack is settled whose request shows this.
+// Whether an ack is settled whose request shows this.
 fn is_settled(shown: Shown) -> bool
     ensures { result ≡ is_settled shown }
 {
@@ -39,7 +39,7 @@ impl Context {
         settled
     }
 
-    /// Looks at so many of the first detached acks. Those that stay go behind the others, in their order.
+    // Looks at so many of the first detached acks. Those that stay go behind the others, in their order.
     fn reap_first<R: Wait, L: Link>(
         &mut self,
         rt: &R,
@@ -59,7 +59,7 @@ impl Context {
         settled
     }
 
-    /// Looks at the first detached ack, which goes behind the others where it stays. Whether it was settled.
+    // Looks at the first detached ack, which goes behind the others where it stays. Whether it was settled.
     fn reap_one<R: Wait, L: Link>(&mut self, rt: &R, link: &mut L, now: Moment) -> bool
         requires { 0 < length self.old.detached }
         ensures { LooksFirst now result self.old self.new (L.view link.old) (L.view link.new) }
@@ -73,7 +73,7 @@ impl Context {
         settled
     }
 
-    /// How many detached acks are looked at.
+    // How many detached acks are looked at.
     fn reaped_len(&self) -> usize
         ensures { result ≡ looked_at self.now.settings.concurrency_limit (length self.now.detached) }
     {

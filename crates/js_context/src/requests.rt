@@ -1,9 +1,9 @@
 //! Requests that a context makes.
 ghost use Rattle.std.specs.Prelude.{◌≡◌, IfOk};
 ghost use Rattle.serde_json.specs.View.{view};
-ghost use Rattle.js_call.specs.ApiRequests.{AskingFor};
-ghost use Rattle.js_call.specs.Scopes.{raw_asking};
-ghost use Rattle.js_call.specs.Sending.{SendsRequest};
+ghost use Rattle.js_call.specs.ApiRequest.{AskingFor};
+ghost use Rattle.js_call.specs.Scope.{raw_asking};
+ghost use Rattle.js_call.specs.SendRequest.{SendsRequest};
 
 use crate::context::Context;
 use js_base::OutOfMemory;
@@ -13,7 +13,9 @@ use serde_json::Value;
 use std::alloc::Global;
 
 impl Context {
-    /// A request under the prefix with that body, whose answer is a JSON value. The one refusal here is want of memory.
+    /// A request under the prefix with that body, whose answer is a JSON value. The one refusal here is want of memory; others come
+    /// from the polls: `InvalidSubject` where the whole subject is none, and nothing is sent, `NoResponders` where nobody answers, `TimedOut` where the
+    /// timeout is due, and `Other` where the link failed, the body is longer than it sends, or the replier is gone, or the reply does not read.
     pub fn request(
         &self,
         alloc: Global,
@@ -25,7 +27,7 @@ impl Context {
         self.scope().request(alloc, subject, payload)
     }
 
-    /// A request on that subject, which stands for itself, without the prefix. The one refusal here is want of memory.
+    /// A request on that subject, which stands for itself, without the prefix. The refusals are those of `request`, but that its reply is not read.
     pub fn raw_request(
         &self,
         alloc: Global,
@@ -39,7 +41,7 @@ impl Context {
 
     /// Publishes the request under the prefix. Its answer goes to the request's inbox, or else to a fresh subject of the link.
     ///
-    /// `LinkFailed` comes only where the link failed in this call; nothing was sent then.
+    /// `LinkFailed` comes only where the link failed in this call, and `OutOfMemory` where memory ran out; nothing was sent then.
     pub fn send_request<L: Link>(
         &self,
         alloc: Global,

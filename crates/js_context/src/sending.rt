@@ -1,11 +1,11 @@
 //! A message that is to be sent.
 ghost use Rattle.std.specs.Prelude.{◌≡◌, ◌<◌, IsTrue, ◌↔◌, Err};
-ghost use Rattle.js_base.specs.Errors.{plain};
+ghost use Rattle.js_base.specs.Error.{plain};
 ghost use Rattle.js_base.specs.declared.turn.Turn.TheVariants.{Ready};
 ghost use Rattle.js_link.specs.LinkView.{LinkView};
-ghost use Rattle.js_context.specs.Messages.{sending, size};
-ghost use Rattle.js_context.specs.Contexts.{ContextView};
-ghost use Rattle.js_context.specs.Sendings.{Attempts, GetsNoneIfFull, HoldsAfter, HoldsAfterTry, SendPolled, answer_to};
+ghost use Rattle.js_context.specs.Publish.{sending, size};
+ghost use Rattle.js_context.specs.Context.{ContextView};
+ghost use Rattle.js_context.specs.Sending.{Attempts, GetsNoneIfFull, HoldsAfter, HoldsAfterTry, SendPolled, answer_to};
 
 use crate::ack_future::PublishAckFuture;
 use crate::context::Context;
@@ -18,6 +18,7 @@ use std::sync::Wait;
 
 /// A message that is to be sent, at a poll that finds a permit free.
 #[derive(Drop)]
+#[must_use = "a message is sent by a poll"]
 pub struct Sending {
     pub(crate) message: OutboundMessage,
 }
@@ -36,7 +37,7 @@ pub enum Attempt {
     Went(PublishAckFuture),
 }
 
-/// Whether payload and headers are longer than this.
+// Whether payload and headers are longer than this.
 fn is_longer(message: &OutboundMessage, limit: u64) -> bool
     ensures { IsTrue result ↔ (limit < size message.now) }
 {
@@ -128,7 +129,7 @@ impl Sending {
         self.answer_to(backpressure, met)
     }
 
-    /// What it answers to what the try came to.
+    // What it answers to what the try came to.
     fn answer_to(
         self,
         backpressure: bool,
@@ -150,7 +151,7 @@ impl Sending {
         }
     }
 
-    /// It ends with that kind of error.
+    // It ends with that kind of error.
     fn refused(
         self,
         kind: PublishErrorKind,

@@ -1,9 +1,9 @@
 -- An account.
 use Rattle.std.specs.Prelude.{[], pos, None, false, Result, Ok}
 use Rattle.serde_json.specs.Data.{Data}
-use Rattle.js_fields.specs.declared.key.Key.TheVariants as key
-use Rattle.js_fields.specs.declared.error.ReadError.{ReadError}
-use Rattle.js_fields.specs.Reading.{◌>>=◌, required, optional, defaulted, text, natural, by_name, nested}
+use Rattle.js_json_members.specs.declared.key.Key.TheVariants as key
+use Rattle.js_json_members.specs.declared.error.ReadError.{ReadError}
+use Rattle.js_json_members.specs.Member.{◌>>=◌, required, optional, defaulted, text, natural, by_name, nested}
 use Rattle.js_json.specs.declared.account.Account.{Account}
 use Rattle.js_json.specs.declared.account.Used.{Used}
 use Rattle.js_json.specs.Limits.{limits_fields}

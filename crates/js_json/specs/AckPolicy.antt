@@ -1,8 +1,8 @@
 -- How messages are acknowledged.
 use Rattle.std.specs.Prelude.{ℕ, List, [], ◌∷◌, Option, Ok, codes}
 use Rattle.serde_json.specs.Data.{string}
-use Rattle.js_fields.specs.Reading.{value_of}
-use Rattle.js_fields.specs.Rows.{Writes}
+use Rattle.js_json_members.specs.Member.{value_of}
+use Rattle.js_json_members.specs.Rows.{Writes}
 use Rattle.js_json.specs.declared.consumer.policies.AckPolicy.{AckPolicy}
 use Rattle.js_json.specs.declared.consumer.policies.AckPolicy.TheVariants as ack_policy
 

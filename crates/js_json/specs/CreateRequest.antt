@@ -1,9 +1,9 @@
 -- The request that makes a consumer.
 use Rattle.std.specs.Prelude.{List, [], ◌∷◌, Result, Ok, codes}
 use Rattle.serde_json.specs.Data.{Data, string, no_members}
-use Rattle.js_fields.specs.declared.key.Key.TheVariants as key
-use Rattle.js_fields.specs.declared.error.ReadError.{ReadError}
-use Rattle.js_fields.specs.Rows.{Writes, Row, row, with_rows, object_of, always, text_data}
+use Rattle.js_json_members.specs.declared.key.Key.TheVariants as key
+use Rattle.js_json_members.specs.declared.error.ReadError.{ReadError}
+use Rattle.js_json_members.specs.Rows.{Writes, Row, row, with_rows, object_of, always, text_data}
 use Rattle.js_json.specs.declared.consumer.create_request.Action.{Action}
 use Rattle.js_json.specs.declared.consumer.create_request.Action.TheVariants as action
 use Rattle.js_json.specs.declared.consumer.create_request.CreateRequest.{CreateRequest}

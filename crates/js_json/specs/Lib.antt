@@ -10,7 +10,7 @@ pub mod ConsumerInfo
 pub mod CreateRequest
 pub mod PullConfig
 pub mod PushConfig
-pub mod Conversions
+pub mod Conversion
 pub mod Batch
 pub mod Limits
 pub mod Requests

@@ -1,9 +1,9 @@
 -- What an account may use.
 use Rattle.std.specs.Prelude.{ℤ, pos, int_lt, Option, Some, None, Result, Ok, if◌then◌else◌}
 use Rattle.serde_json.specs.Data.{Data}
-use Rattle.js_fields.specs.declared.key.Key.TheVariants as key
-use Rattle.js_fields.specs.declared.error.ReadError.{ReadError}
-use Rattle.js_fields.specs.Reading.{◌>>=◌, Reads, required, optional, truth, integer}
+use Rattle.js_json_members.specs.declared.key.Key.TheVariants as key
+use Rattle.js_json_members.specs.declared.error.ReadError.{ReadError}
+use Rattle.js_json_members.specs.Member.{◌>>=◌, Reads, required, optional, truth, integer}
 use Rattle.js_json.specs.declared.account.Limits.{Limits}
 
 -- a limit, of which a negative number says that there is none

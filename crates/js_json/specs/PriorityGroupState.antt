@@ -5,11 +5,11 @@ use Rattle.std.specs.Str.{bytes_eq}
 use Rattle.jiff.specs.Types.{Timestamp}
 use Rattle.serde_json.specs.Data.{Data}
 use Rattle.serde_json.specs.Find.{get, as_str}
-use Rattle.js_fields.specs.declared.key.Key.TheVariants as key
-use Rattle.js_fields.specs.declared.error.ReadError.{ReadError}
-use Rattle.js_fields.specs.Keys.{key_name}
-use Rattle.js_fields.specs.Reading.{◌>>=◌, Reads, required, optional, text}
-use Rattle.js_fields.specs.Instants.{instant}
+use Rattle.js_json_members.specs.declared.key.Key.TheVariants as key
+use Rattle.js_json_members.specs.declared.error.ReadError.{ReadError}
+use Rattle.js_json_members.specs.Key.{key_name}
+use Rattle.js_json_members.specs.Member.{◌>>=◌, Reads, required, optional, text}
+use Rattle.js_json_members.specs.Instant.{instant}
 use Rattle.js_json.specs.declared.consumer.info.PriorityGroupState.{PriorityGroupState}
 
 -- the text that a server writes where no reader is pinned

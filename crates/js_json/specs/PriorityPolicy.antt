@@ -1,8 +1,8 @@
 -- Which reader of a priority group is served.
 use Rattle.std.specs.Prelude.{ℕ, List, [], ◌∷◌, Option, Bool, true, false, Ok, codes}
 use Rattle.serde_json.specs.Data.{string}
-use Rattle.js_fields.specs.Reading.{value_of}
-use Rattle.js_fields.specs.Rows.{Writes}
+use Rattle.js_json_members.specs.Member.{value_of}
+use Rattle.js_json_members.specs.Rows.{Writes}
 use Rattle.js_json.specs.declared.consumer.policies.PriorityPolicy.{PriorityPolicy}
 use Rattle.js_json.specs.declared.consumer.policies.PriorityPolicy.TheVariants as priority_policy
 

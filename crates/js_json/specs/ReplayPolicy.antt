@@ -1,8 +1,8 @@
 -- How fast the messages that are there already are sent.
 use Rattle.std.specs.Prelude.{ℕ, List, [], ◌∷◌, Option, Ok, codes}
 use Rattle.serde_json.specs.Data.{string}
-use Rattle.js_fields.specs.Reading.{value_of}
-use Rattle.js_fields.specs.Rows.{Writes}
+use Rattle.js_json_members.specs.Member.{value_of}
+use Rattle.js_json_members.specs.Rows.{Writes}
 use Rattle.js_json.specs.declared.consumer.policies.ReplayPolicy.{ReplayPolicy}
 use Rattle.js_json.specs.declared.consumer.policies.ReplayPolicy.TheVariants as replay_policy
 

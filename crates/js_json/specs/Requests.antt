@@ -1,10 +1,10 @@
 -- How many requests an account made.
 use Rattle.std.specs.Prelude.{List, [], ◌∷◌, Result, Ok}
 use Rattle.serde_json.specs.Data.{Data, no_members}
-use Rattle.js_fields.specs.declared.key.Key.TheVariants as key
-use Rattle.js_fields.specs.declared.error.ReadError.{ReadError}
-use Rattle.js_fields.specs.Reading.{◌>>=◌, required, defaulted, natural}
-use Rattle.js_fields.specs.Rows.{Row, row, with_rows, object_of, always, natural_data}
+use Rattle.js_json_members.specs.declared.key.Key.TheVariants as key
+use Rattle.js_json_members.specs.declared.error.ReadError.{ReadError}
+use Rattle.js_json_members.specs.Member.{◌>>=◌, required, defaulted, natural}
+use Rattle.js_json_members.specs.Rows.{Row, row, with_rows, object_of, always, natural_data}
 use Rattle.js_json.specs.declared.account.Requests.{Requests}
 
 -- the counts from their members

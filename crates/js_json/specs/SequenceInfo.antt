@@ -1,10 +1,10 @@
 -- How far a consumer is.
 use Rattle.std.specs.Prelude.{Result, Ok}
 use Rattle.serde_json.specs.Data.{Data}
-use Rattle.js_fields.specs.declared.key.Key.TheVariants as key
-use Rattle.js_fields.specs.declared.error.ReadError.{ReadError}
-use Rattle.js_fields.specs.Reading.{◌>>=◌, required, optional, natural}
-use Rattle.js_fields.specs.Instants.{instant}
+use Rattle.js_json_members.specs.declared.key.Key.TheVariants as key
+use Rattle.js_json_members.specs.declared.error.ReadError.{ReadError}
+use Rattle.js_json_members.specs.Member.{◌>>=◌, required, optional, natural}
+use Rattle.js_json_members.specs.Instant.{instant}
 use Rattle.js_json.specs.declared.consumer.info.SequenceInfo.{SequenceInfo}
 
 -- the numbers from their members

@@ -1,9 +1,9 @@
 -- What an account uses and may use of streams with one number of replicas.
 use Rattle.std.specs.Prelude.{Result, Ok}
 use Rattle.serde_json.specs.Data.{Data}
-use Rattle.js_fields.specs.declared.key.Key.TheVariants as key
-use Rattle.js_fields.specs.declared.error.ReadError.{ReadError}
-use Rattle.js_fields.specs.Reading.{◌>>=◌, required, natural, nested}
+use Rattle.js_json_members.specs.declared.key.Key.TheVariants as key
+use Rattle.js_json_members.specs.declared.error.ReadError.{ReadError}
+use Rattle.js_json_members.specs.Member.{◌>>=◌, required, natural, nested}
 use Rattle.js_json.specs.declared.account.Tier.{Tier}
 use Rattle.js_json.specs.Limits.{limits_fields}
 

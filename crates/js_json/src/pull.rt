@@ -2,10 +2,10 @@
 
 ghost use Rattle.std.specs.Prelude.{◌≡◌, refl};
 ghost use Rattle.js_json.specs.PullConfig.{new_pull_config, new_ordered_pull_config};
-ghost use Rattle.js_json.specs.Conversions.{pull_config, as_pull_config, ordered_pull_config, as_ordered_pull_config};
+ghost use Rattle.js_json.specs.Conversion.{pull_config, as_pull_config, ordered_pull_config, as_ordered_pull_config};
 
 mod batch;
-mod plain;
+mod conversion;
 
 use crate::consumer::{
     self, AckPolicy, ConfigError, DeliverPolicy, FromConsumer, IntoConsumerConfig,

@@ -2,7 +2,7 @@
 
 ghost use Rattle.std.specs.Prelude.{◌≡◌, refl};
 ghost use Rattle.js_json.specs.PushConfig.{new_push_config, new_ordered_push_config};
-ghost use Rattle.js_json.specs.Conversions.{push_config, as_push_config, ordered_push_config, as_ordered_push_config};
+ghost use Rattle.js_json.specs.Conversion.{push_config, as_push_config, ordered_push_config, as_ordered_push_config};
 
 use crate::consumer::{
     self, AckPolicy, ConfigError, DeliverPolicy, FromConsumer, IntoConsumerConfig,

@@ -1,8 +1,7 @@
 -- What a function reads of a list at every place, once one place was set or one more was pushed.
 use mathlib.Core.Path.{fun_ext}
 use Rattle.std.proofs.Math.Dec.{eqb-suc-zero, eqb-zero-suc, eqb-suc-suc}
-use Rattle.std.proofs.Common.{◌≡◌, ℕ, zero, suc, ◌<◌, ◌≤◌, List, [], ◌∷◌, ◌++◌, Option, Some, None, length, refl, sym, ap, arith, ⊎_elim}
-use Rattle.std.proofs.lemmas.Bool.Decides.{eqb_tells}
+use Rattle.std.proofs.Common.{◌≡◌, ℕ, zero, suc, ◌<◌, ◌≤◌, List, [], ◌∷◌, ◌++◌, Option, Some, None, length, refl, sym, ap, arith}
 use Rattle.std.specs.Prelude.{slice_get, slice_set}
 use Rattle.js_link.specs.LinkView.{put}
 
@@ -16,13 +15,6 @@ set_at f (x ∷ xs) (suc i) v l (suc k) = rw (eqb-suc-suc k i) (set_at f xs i v 
 
 pub reads_set : {A B : Type 0} (f : Option A → B) (xs : List A) (i : ℕ) (v : A) → i < length xs → (λ n. f (slice_get (slice_set xs i v) n)) ≡ put (λ n. f (slice_get xs n)) i (f (Some v))
 reads_set f xs i v l = fun_ext (set_at f xs i v l)
-
--- a value that is put where it stands changes nothing
-put_same_at : {B : Type 0} (f : ℕ → B) (i k : ℕ) → put f i (f i) k ≡ f k
-put_same_at f i k = ⊎_elim (λ h. rw h.0 (ap f (sym h.1))) (λ h. rw h.0 refl) (eqb_tells k i)
-
-pub put_same : {B : Type 0} (f : ℕ → B) (i : ℕ) (b : B) → b ≡ f i → put f i b ≡ f
-put_same f i b e = rw e (fun_ext (put_same_at f i))
 
 -- what f reads at each place after one more is pushed
 push_at : {A B : Type 0} (f : Option A → B) (xs : List A) (v : A) (k : ℕ) → f (slice_get (xs ++ v ∷ []) k) ≡ put (λ n. f (slice_get xs n)) (length xs) (f (Some v)) k

@@ -1,13 +1,11 @@
 -- Taking a reply from a script.
-use mathlib.Core.Path.{fun_ext}
-use Rattle.std.proofs.Common.{◌≡◌, ℕ, ◌+◌, ◌<◌, ◌≤◌, Bool, true, false, List, ◌++◌, Option, Some, None, take, drop, length, append-nil, refl, sym, ◌∙◌, ap, subst, arith, ⊎_elim}
+use Rattle.std.proofs.Common.{◌≡◌, ℕ, ◌+◌, ◌<◌, ◌≤◌, Bool, true, false, List, ◌++◌, Option, Some, None, take, drop, length, append-nil, refl, sym, ◌∙◌, ap, subst, arith}
 use Rattle.std.proofs.lemmas.List.{take_all, drop_all}
 use Rattle.std.proofs.lemmas.Bool.{ltb-false, ltb-true}
 use Rattle.std.proofs.lemmas.Option.{slice_get-get_or}
-use Rattle.std.proofs.lemmas.Bool.Decides.{eqb_tells}
 use Rattle.std.proofs.lemmas.List.Folds.{find_at}
 use Rattle.std.proofs.Math.Numerals.{suc-eq-add-one}
-use Rattle.std.specs.Prelude.{◌==◌, slice_get, get_or, cond}
+use Rattle.std.specs.Prelude.{slice_get, get_or, cond}
 use Rattle.std.specs.List.{position, position_or_len, remove}
 use Rattle.std.specs.Option.{option_map}
 use Rattle.js_base.specs.declared.message.Message.{Message}
@@ -17,8 +15,9 @@ use Rattle.js_link.specs.declared.server.Scripted.{Scripted}
 use Rattle.js_link.specs.LinkView.{LinkView, Numbers, Status, Waits, Answered, put}
 use Rattle.js_link.specs.Calls.{Asks}
 use Rattle.js_link.specs.Memory.{HasReply, Responds, RespondsAs}
-use Rattle.js_link.specs.Script.{UsesReply, is_for}
+use Rattle.js_link.specs.Server.{UsesReply, is_for}
 use Rattle.js_link.proofs.Places.{get_past}
+use Rattle.js_link.proofs.Updates.{put_here, put_put}
 
 none_is_false : (b : Bool) (i : ℕ) → cond b (Some i) None ≡ None → b ≡ false
 none_is_false true i e = cc
@@ -47,26 +46,15 @@ uses_at subject script i line left e at removed =
       rest = rw (removed, found.1) (ap (λ n. take i script ++ drop n script) (suc-eq-add-one i));
     }
 
-twice : {B : Type 0} (c : Bool) (x y z : B) → cond c x (cond c y z) ≡ cond c x z
-twice true x y z = refl
-twice false x y z = refl
-
--- a value that is put over another
-put_over : {B : Type 0} (f : ℕ → B) (i : ℕ) (a b : B) → put (put f i a) i b ≡ put f i b
-put_over f i a b = fun_ext (λ k. twice (k == i) b a (f k))
-
-put_at : {B : Type 0} (f : ℕ → B) (i : ℕ) (b : B) → put f i b i ≡ b
-put_at f i b = ⊎_elim (λ h. rw h.0 refl) (λ h. absurd (h.1 refl)) (eqb_tells i i)
-
 over : (old made : LinkView) (number : ℕ) (k : Option Numbers) (s t : Status) (p q : Option Message) (sent : Option (List Sent)) → made ≡ record old { numbers = k; status = put old.status number s; reply = put old.reply number p; sent = sent } → record made { status = put made.status number t; reply = put made.reply number q } ≡ record old { numbers = k; status = put old.status number t; reply = put old.reply number q; sent = sent }
-over old made number k s t p q sent e = rw e (λ j. record old { numbers = k; status = put_over old.status number s t j; reply = put_over old.reply number p q j; sent = sent })
+over old made number k s t p q sent e = rw e (λ j. record old { numbers = k; status = put_put old.status number s t j; reply = put_put old.reply number p q j; sent = sent })
 
 -- a request that was made and waits, and then has its reply
 pub made_and_answered : (number : ℕ) (subject : List ℕ) (headers : Option (List Header)) (payload : List ℕ) (reply : Message) (old made new : LinkView) → Asks number subject headers payload old made → made.status number ≡ Waits → Responds number (Some reply) made new → Asks number subject headers payload old new × HasReply number (Some reply) new
 made_and_answered number subject headers payload reply old made new asks waits responds =
     let answered : new ≡ record made { status = put made.status number Answered; reply = put made.reply number (Some reply) } = subst (λ (s : Status). RespondsAs s number (Some reply) made new) waits responds in
-    let status : new.status number ≡ Answered = ap (λ (v : LinkView). v.status number) answered ∙ put_at made.status number Answered in
-    let told : new.reply number ≡ Some reply = ap (λ (v : LinkView). v.reply number) answered ∙ put_at made.reply number (Some reply) in (
+    let status : new.status number ≡ Answered = ap (λ (v : LinkView). v.status number) answered ∙ put_here made.status number Answered in
+    let told : new.reply number ≡ Some reply = ap (λ (v : LinkView). v.reply number) answered ∙ put_here made.reply number (Some reply) in (
       record {
         not_down = asks.not_down;
         unused = asks.unused;

@@ -17,7 +17,8 @@ use Rattle.js_link.specs.declared.link.Taken.TheVariants as taken
 use Rattle.js_link.specs.LinkView.{LinkView, Numbers, Status, Waits, put}
 use Rattle.js_link.specs.Calls.{Takes, TakesOf, Closes, Opens, Asks, Answers}
 use Rattle.js_link.specs.Memory.{Queue, is_open_at, messages_at, request_at, status_of, reply_of, request_after, answered_by, memory_numbers, memory_view, Delivers, DeliversAs, Responds, RespondsAs}
-use Rattle.js_link.proofs.Places.{reads_set, reads_push, put_same, get_set, get_past, get_push, set_back}
+use Rattle.js_link.proofs.Places.{reads_set, reads_push, get_set, get_past, get_push, set_back}
+use Rattle.js_link.proofs.Updates.{put_same}
 
 -- a link that is up is not down
 pub not_down : (up : Bool) → up ≡ true → Some up ≢ Some false

@@ -12,7 +12,7 @@ use Rattle.js_link.specs.declared.link.Taken.{Taken}
 use Rattle.js_link.specs.declared.link.Taken.TheVariants as taken
 use Rattle.js_link.specs.declared.link.Answer.{Answer}
 use Rattle.js_link.specs.declared.link.Answer.TheVariants as answer
-use Rattle.js_link.specs.LinkView.{LinkView, Waits, Answered, Ended, put, after, front, past_inbox, past_request, past_fresh, HasRisen}
+use Rattle.js_link.specs.LinkView.{LinkView, Waits, Answered, Ended, put, after, with_first, past_inbox, past_request, past_fresh, HasRisen}
 
 -- a call failed: a fault was counted, and nothing else has changed
 pub record Fails (old new : LinkView) : Type 0 where
@@ -88,7 +88,7 @@ pub record Closes (inbox : ℕ) (old new : LinkView) : Type 0 where
 pub record Takes (inbox : ℕ) (message : Message) (old new : LinkView) : Type 0 where
   pub was_open : old.is_open inbox ≡ true
   pub one_less : old.count inbox ≡ new.count inbox + 1
-  pub first : old.buffer inbox ≡ front message (new.buffer inbox)
+  pub first : old.buffer inbox ≡ with_first message (new.buffer inbox)
   pub same : new ≡ record old {
     count = put old.count inbox (new.count inbox);
     buffer = put old.buffer inbox (new.buffer inbox);

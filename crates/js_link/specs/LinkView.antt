@@ -41,9 +41,9 @@ after None more = None
 after (Some sent) more = Some (sent ++ more)
 
 -- a told list with one more in front
-abbrev pub front : Message → Option (List Message) → Option (List Message)
-front message None = None
-front message (Some rest) = Some (message ∷ rest)
+abbrev pub with_first : Message → Option (List Message) → Option (List Message)
+with_first message None = None
+with_first message (Some rest) = Some (message ∷ rest)
 
 -- the numbers once an inbox was made
 abbrev pub past_inbox : Option Numbers → Option Numbers

@@ -104,14 +104,14 @@ HasReply number None view = (view.status number ≡ Waits) × (view.reply number
 HasReply number (Some reply) view = (view.status number ≡ Answered) × (view.reply number ≡ Some reply)
 
 -- a told list with one more at its end
-abbrev pub back : Message → Option (List Message) → Option (List Message)
-back message None = None
-back message (Some messages) = Some (messages ++ message ∷ [])
+abbrev pub with_last : Message → Option (List Message) → Option (List Message)
+with_last message None = None
+with_last message (Some messages) = Some (messages ++ message ∷ [])
 
 -- an open inbox has one message more, and a message for another one is passed over
 abbrev pub DeliversAs : Bool → ℕ → Message → LinkView → LinkView → Type 0
 DeliversAs true inbox message old new =
-    new ≡ record old { count = put old.count inbox (old.count inbox + 1); buffer = put old.buffer inbox (back message (old.buffer inbox)) }
+    new ≡ record old { count = put old.count inbox (old.count inbox + 1); buffer = put old.buffer inbox (with_last message (old.buffer inbox)) }
 DeliversAs false inbox message old new = new ≡ old
 
 -- a message was put into an inbox
@@ -155,5 +155,5 @@ pub closed_is_empty : (m : MemoryLink) (inbox : ℕ) → (memory_view m).is_open
 closed_is_empty m inbox closed = no_messages (slice_get m.inboxes.items inbox) closed
 
 -- a buffer has as many messages as are counted
-pub counted : (m : MemoryLink) (inbox : ℕ) → IfSome ((memory_view m).buffer inbox) (λ messages. length messages ≡ (memory_view m).count inbox)
-counted m inbox = refl
+pub counts_buffer : (m : MemoryLink) (inbox : ℕ) → IfSome ((memory_view m).buffer inbox) (λ messages. length messages ≡ (memory_view m).count inbox)
+counts_buffer m inbox = refl

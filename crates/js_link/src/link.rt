@@ -151,5 +151,5 @@ pub trait Link {
     ghost closed_is_empty: { (link : Self) (inbox : ℕ) → (view link).is_open inbox ≡ false → (view link).count inbox ≡ 0 };
 
     /// A told buffer has as many messages as the link counts.
-    ghost counted: { (link : Self) (inbox : ℕ) → IfSome ((view link).buffer inbox) (λ messages. length messages ≡ (view link).count inbox) };
+    ghost counts_buffer: { (link : Self) (inbox : ℕ) → IfSome ((view link).buffer inbox) (λ messages. length messages ≡ (view link).count inbox) };
 }

@@ -3,7 +3,7 @@ ghost use Rattle.std.specs.Prelude.{◌≡◌, ◌≢◌, IfOk, OnOk, OnErr, Mat
 ghost use Rattle.std.specs.Option.{option_copied};
 ghost use Rattle.js_link.specs.Calls.{Fails, AsksOf};
 ghost use Rattle.js_link.specs.LinkView.{Waits};
-ghost use Rattle.js_link.specs.Memory.{memory_view, new_view, inbox_subject, fresh_subject, request_after, closed_is_empty, counted, HasReply, Delivers, Responds, WaitsAt};
+ghost use Rattle.js_link.specs.Memory.{memory_view, new_view, inbox_subject, fresh_subject, request_after, closed_is_empty, counts_buffer, HasReply, Delivers, Responds, WaitsAt};
 
 use crate::link::{Answer, Link, LinkError, Taken, Watch};
 use crate::sent::{InboxId, RequestId, Sent};
@@ -83,7 +83,7 @@ impl MemoryLink {
         })
     }
 
-    /// Counts a fault.
+    // Counts a fault.
     fn fail(&mut self) -> LinkError
         ensures failed { Fails (memory_view self.old) (memory_view self.new) }
         ensures kind { result ≡ LinkError.Failed }
@@ -131,7 +131,7 @@ impl MemoryLink {
         Ok(())
     }
 
-    /// The same, which takes no memory.
+    // The same, which takes no memory.
     pub(crate) fn settle(&mut self, request: RequestId, reply: Option<Message>)
         ensures { Responds request.0 reply (memory_view self.old) (memory_view self.new) }
     {
@@ -141,7 +141,7 @@ impl MemoryLink {
         }
     }
 
-    /// The place of a request that waits.
+    // The place of a request that waits.
     fn waiting(&self, request: RequestId) -> Option<usize>
         ensures { MatchOption result ((memory_view self.now).status request.0 ≢ Waits) (WaitsAt request.0 self.now) }
     {
@@ -184,7 +184,7 @@ impl Link for MemoryLink {
 
     ghost closed_is_empty = { closed_is_empty };
 
-    ghost counted = { counted };
+    ghost counts_buffer = { counts_buffer };
 
     fn subscribe(
         &mut self,

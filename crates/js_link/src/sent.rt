@@ -3,8 +3,9 @@ ghost use Rattle.std.specs.Prelude.{◌≡◌, IfOk};
 ghost use Rattle.std.specs.Option.{option_copied};
 ghost use Rattle.js_link.specs.declared.sent.Sent.TheVariants as sents;
 
+use crate::copies::{copy_headers, copy_payload, copy_subject, copy_text};
 use bytes::Bytes;
-use js_base::{HeaderMap, OutOfMemory, Subject, Text, TryClone, all_3, all_4, both};
+use js_base::{HeaderMap, OutOfMemory, Subject, Text, all_3, all_4, both};
 use std::alloc::Global;
 
 /// Names an inbox of a link.
@@ -40,41 +41,8 @@ pub enum Sent {
     },
 }
 
-fn copy_headers(headers: Option<&HeaderMap>) -> Result<Option<HeaderMap>, OutOfMemory>
-    ensures { IfOk result (λ copy. copy ≡ option_copied headers.entry) }
-{
-    match headers {
-        Some(headers) => Ok(Some(headers.try_clone()?)),
-        None => Ok(None),
-    }
-}
-
-fn copy_subject(alloc: Global, text: Option<&str>) -> Result<Option<Subject>, OutOfMemory>
-    ensures { IfOk result (λ copy. copy ≡ option_copied text.entry) }
-{
-    match text {
-        Some(text) => Ok(Some(Subject::new(alloc, text)?)),
-        None => Ok(None),
-    }
-}
-
-fn copy_text(alloc: Global, text: Option<&str>) -> Result<Option<Text>, OutOfMemory>
-    ensures { IfOk result (λ copy. copy ≡ option_copied text.entry) }
-{
-    match text {
-        Some(text) => Ok(Some(Text::from_str(alloc, text)?)),
-        None => Ok(None),
-    }
-}
-
-fn copy_payload(alloc: Global, payload: &[u8]) -> Result<Bytes, OutOfMemory>
-    ensures { IfOk result (λ copy. copy ≡ payload.now) }
-{
-    Ok(Bytes::copy_from_slice(alloc, payload)?)
-}
-
 impl Sent {
-    /// What stands for a new inbox, with copies of its texts.
+    // What stands for a new inbox, with copies of its texts.
     pub(crate) fn subscribe(
         alloc: Global,
         inbox: u64,
@@ -91,7 +59,7 @@ impl Sent {
         })
     }
 
-    /// What stands for a message, with copies of what it is made of.
+    // What stands for a message, with copies of what it is made of.
     pub(crate) fn publish(
         alloc: Global,
         subject: &str,
@@ -115,7 +83,7 @@ impl Sent {
         })
     }
 
-    /// What stands for a request, with copies of what it is made of.
+    // What stands for a request, with copies of what it is made of.
     pub(crate) fn request(
         alloc: Global,
         number: u64,

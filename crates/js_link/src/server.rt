@@ -4,8 +4,8 @@ ghost use Rattle.std.specs.List.{position};
 ghost use Rattle.std.specs.Borrow.{sem};
 ghost use Rattle.std.specs.Option.{option_copied};
 ghost use Rattle.js_link.specs.Calls.{Closes, NamesOf, SubscribesOf, OpensOf, PublishesOf, TakesOf, AnswersOf};
-ghost use Rattle.js_link.specs.Memory.{closed_is_empty, counted};
-ghost use Rattle.js_link.specs.Script.{AsksServerOf, LendsLink, UsesReply, is_for, link_of, script_of, server_view};
+ghost use Rattle.js_link.specs.Memory.{closed_is_empty, counts_buffer};
+ghost use Rattle.js_link.specs.Server.{AsksServerOf, LendsLink, UsesReply, is_for, link_of, script_of, server_view};
 
 use crate::link::{Answer, Link, LinkError, Taken, Watch};
 use crate::memory::MemoryLink;
@@ -72,7 +72,7 @@ impl ScriptedServer {
             .position(|line| line.subject.as_str() == subject)
     }
 
-    /// The first reply for a subject, which is used up.
+    // The first reply for a subject, which is used up.
     fn next_reply(&mut self, subject: &str) -> Option<Message>
         ensures reply { UsesReply subject.now result (script_of self.old) (script_of self.new) }
         ensures link { link_of self.new ≡ link_of self.old }
@@ -90,7 +90,7 @@ impl Link for ScriptedServer {
 
     ghost closed_is_empty = { λ s. closed_is_empty (link_of s) };
 
-    ghost counted = { λ s. counted (link_of s) };
+    ghost counts_buffer = { λ s. counts_buffer (link_of s) };
 
     fn subscribe(
         &mut self,

@@ -1,13 +1,13 @@
 -- The tokens of a text lie between its dots.
-use Rattle.std.proofs.Common.{add-zero, ◌⊎◌, inl, inr, set, ◌≡◌, ℕ, zero, suc, ◌+◌, ◌-◌, ◌<◌, ◌≤◌, Bool, true, false, cond, eqb, List, [], ◌∷◌, ◌++◌, length, get_or, take, drop, refl, sym, ap, ◌∙◌, arith, add-one}
-use Rattle.std.proofs.lemmas.Bool.{cases_eq, eqb-true, eq-eqb, ne_eqb}
+use Rattle.std.proofs.Common.{add-zero, ◌≡◌, ℕ, zero, suc, ◌+◌, ◌-◌, ◌<◌, ◌≤◌, Bool, true, false, cond, eqb, List, [], ◌∷◌, ◌++◌, length, get_or, take, drop, refl, ap, ◌∙◌, arith}
+use Rattle.std.proofs.lemmas.Bool.{eqb-true, eq-eqb, ne_eqb}
 use Rattle.std.proofs.Math.Nat.{sub_self}
-use Rattle.std.proofs.lemmas.List.{take_more, append-nil, length-take-le, get_or-set_same, get_or-set_other, get_or_push, get_or_append_left}
+use Rattle.std.proofs.lemmas.List.{take_more, append-nil, length-take-le}
 use Rattle.std.proofs.lemmas.Str.{IsCharBoundary-start, IsCharBoundary-end, IsCharBoundary-before_ascii, IsCharBoundary-after_ascii}
 use Rattle.std.specs.Str.{IsUtf8, IsCharBoundary}
 use Rattle.std.specs.List.{onto_first, slice_range}
-use Rattle.js_base.specs.Match.{tokens}
-use Rattle.js_message.specs.Ack.{token_at}
+use Rattle.js_base.specs.Subject.{tokens}
+use Rattle.js_message.specs.AckSubject.{token_at}
 use Rattle.js_message.specs.Dots.{dots_from, dots_of, token_start, token_end}
 
 -- one byte more
@@ -168,13 +168,3 @@ end_boundary text k =
 pub later_start : (places : List ℕ) (k : ℕ) → 0 < k → token_start places k ≡ get_or places (k - 1) 0 + 1
 later_start places zero h = absurd (omega arith)
 later_start places (suc k) h = let e : suc k - 1 ≡ k = omega arith in rw e refl
-
--- one place more
-kept_case : (ps xs : List ℕ) (place n k : ℕ) → n ≡ length ps → n < length xs → (k < n → get_or xs k 0 ≡ get_or ps k 0) → k < n + 1 → (k ≡ n) ⊎ (k ≡ n → ⊥) → get_or (set xs n place) k 0 ≡ get_or (ps ++ place ∷ []) k 0
-kept_case ps xs place n k e l old h (inl same) = rw same (get_or-set_same xs n place 0 l ∙ sym (get_or_push ps place 0 n (sym e)))
-kept_case ps xs place n k e l old h (inr other) =
-    let below : k < n = omega (arith, other) in
-    get_or-set_other xs n k place 0 other ∙ old below ∙ sym (get_or_append_left ps (place ∷ []) 0 k (omega arith))
-
-pub kept_place : (ps xs : List ℕ) (place n k : ℕ) → n ≡ length ps → n < length xs → (k < n → get_or xs k 0 ≡ get_or ps k 0) → k < n + 1 → get_or (set xs n place) k 0 ≡ get_or (ps ++ place ∷ []) k 0
-kept_place ps xs place n k e l old h = kept_case ps xs place n k e l old h (cases_eq k n)

@@ -7,9 +7,9 @@ use Rattle.std.proofs.lemmas.Str.Parse.{digit_at, without_leading_plus_none}
 use Rattle.std.specs.Str.Parse.{AllDigits, IsNumeral, digits_value, signed_digits_value, without_leading_plus, without_leading_sign}
 use mir.Syntax.{Width}
 use mir.Val.{SFits, hbits}
-use Rattle.js_base.specs.Numbers.{signed_of}
-use Rattle.js_base.proofs.Numbers.{unsigned_of-parse, signed_of-parse}
-use Rattle.js_message.specs.Number.{IsDigits, u64_of}
+use Rattle.js_base.specs.Numeral.{signed_of}
+use Rattle.js_base.proofs.Numeral.{unsigned_of-parse, signed_of-parse}
+use Rattle.js_message.specs.Numbers.{IsDigits, u64_of}
 
 -- what few digits write is below ten to the number of them
 pub below : (ds : List ℕ) (most : ℕ) → AllDigits 10 ds → length ds ≤ most → digits_value 10 ds < 10 ^ most

@@ -1,7 +1,7 @@
 -- The two forms of an acknowledgement subject, by the number of its tokens.
 use Rattle.std.proofs.Common.{◌≡◌, ℕ, ◌<◌, ◌≤◌, List, [], ◌∷◌, length, Some, None, Err, ap, refl, arith}
 use Rattle.js_message.specs.declared.info_error.InfoError.TheVariants.{TokenCount}
-use Rattle.js_message.specs.Ack.{of_tokens, seven_at, domain_of, token_at}
+use Rattle.js_message.specs.AckSubject.{of_tokens, seven_at, domain_of, token_at}
 
 -- seven tokens are the short form
 pub short_form : (tokens : List (List ℕ)) → length tokens ≡ 7 → seven_at 0 None None tokens ≡ of_tokens tokens

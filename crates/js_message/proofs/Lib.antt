@@ -3,5 +3,6 @@ pub mod HeldInstants
 pub mod Cuts
 pub mod Digits
 pub mod Forms
-pub mod Refusing
+pub mod Refusals
+pub mod DecimalTokens
 mod Worked

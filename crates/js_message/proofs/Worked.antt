@@ -1,9 +1,9 @@
 -- Worked examples, which the definitions compute.
 use Rattle.std.specs.Prelude.{◌≡◌, refl, [], ◌∷◌, Err, codes}
-use Rattle.js_base.specs.Match.{tokens}
-use Rattle.js_message.specs.Ack.{token_at}
+use Rattle.js_base.specs.Subject.{tokens}
+use Rattle.js_message.specs.AckSubject.{token_at}
 use Rattle.js_message.specs.Dots.{dots_of, token_start, token_end}
-use Rattle.js_message.specs.StreamMessage.{is_missing, is_unreadable, told_in}
+use Rattle.js_message.specs.StreamMessage.{is_missing, is_unreadable, fields_in}
 use Rattle.js_message.specs.declared.stream_message.StreamHeader.TheVariants.{Sequence, TimeStamp}
 use Rattle.js_message.specs.declared.info_error.InfoError.TheVariants.{Prefix}
 use Rattle.js_message.specs.declared.message.MessageInfoError.TheVariants.{Unreadable}
@@ -23,13 +23,13 @@ second_token : token_at 1 (tokens (codes "a.bc..")) ≡ codes "bc"
 second_token = refl
 
 -- headers that lack the first, and some whose first is no number
-no_headers : told_in [] ≡ Err (is_missing Sequence)
+no_headers : fields_in [] ≡ Err (is_missing Sequence)
 no_headers = refl
 
-bad_sequence : told_in (record { name = codes "Nats-Sequence"; value = codes "x" } ∷ []) ≡ Err (is_unreadable Sequence)
+bad_sequence : fields_in (record { name = codes "Nats-Sequence"; value = codes "x" } ∷ []) ≡ Err (is_unreadable Sequence)
 bad_sequence = refl
 
-no_time : told_in (record { name = codes "Nats-Sequence"; value = codes "7" } ∷ []) ≡ Err (is_missing TimeStamp)
+no_time : fields_in (record { name = codes "Nats-Sequence"; value = codes "7" } ∷ []) ≡ Err (is_missing TimeStamp)
 no_time = refl
 
 other_prefix : message_info_text (Unreadable Prefix) ≡ codes "no acknowledgement subject: the subject does not begin with $JS.ACK."

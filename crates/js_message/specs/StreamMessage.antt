@@ -6,9 +6,9 @@ use Rattle.js_base.specs.declared.error.Error.{Error}
 use Rattle.js_base.specs.declared.error.Source.TheVariants as source
 use Rattle.js_base.specs.declared.headers.Header.{Header}
 use Rattle.js_base.specs.declared.message.Message.{Message}
-use Rattle.js_base.specs.Errors.{plain, caused}
+use Rattle.js_base.specs.Error.{plain, caused}
 use Rattle.js_base.specs.Headers.{last_value}
-use Rattle.js_message.specs.Number.{u64_of}
+use Rattle.js_message.specs.Numbers.{u64_of}
 use Rattle.js_message.specs.declared.stream_message.StreamMessage.{StreamMessage}
 use Rattle.js_message.specs.declared.stream_message.StreamMessageErrorKind.{StreamMessageErrorKind}
 use Rattle.js_message.specs.declared.stream_message.StreamMessageErrorKind.TheVariants.{MissingHeader, ParseError, OutOfMemory}
@@ -53,8 +53,8 @@ or_fault None fault next = Err fault
 or_fault (Some value) fault next = next value
 
 -- what the headers say, read in this order
-abbrev pub told_in : List Header → Result MessageFields HeaderFault
-told_in headers =
+abbrev pub fields_in : List Header → Result MessageFields HeaderFault
+fields_in headers =
     or_fault (last_value (name_of Sequence) headers) (is_missing Sequence) (λ sequence_text.
     or_fault (u64_of sequence_text) (is_unreadable Sequence) (λ sequence.
     or_fault (last_value (name_of TimeStamp) headers) (is_missing TimeStamp) (λ time_text.
@@ -63,12 +63,12 @@ told_in headers =
     Ok (record { subject = subject; sequence = sequence; time = time }))))))
 
 -- what was read, as plain values
-abbrev pub told_by : Result declared.MessageFields HeaderFault → Result MessageFields HeaderFault
-told_by result = result_map_both (λ t. record { subject = t.subject.now; sequence = t.sequence; time = t.time.nanosecond }) (λ fault. fault) result
+abbrev pub plain_fields : Result declared.MessageFields HeaderFault → Result MessageFields HeaderFault
+plain_fields result = result_map_both (λ t. record { subject = t.subject.now; sequence = t.sequence; time = t.time.nanosecond }) (λ fault. fault) result
 
 -- the message that was read says what the headers say, and has them and the body
 pub record IsStreamMessage (headers : List Header) (payload : List ℕ) (s : StreamMessage) : Type 0 where
-  pub told : told_in headers ≡ Ok (record { subject = s.subject; sequence = s.sequence; time = s.time.nanosecond })
+  pub told : fields_in headers ≡ Ok (record { subject = s.subject; sequence = s.sequence; time = s.time.nanosecond })
   pub headers_stay : s.headers ≡ headers
   pub payload_stays : s.payload ≡ payload
 
@@ -85,9 +85,9 @@ RefusesAs (Ok told) error = error ≡ plain OutOfMemory
 -- that has none is refused as one whose headers are empty.
 abbrev pub Reads : Option (List Header) → List ℕ → Result StreamMessage (Error StreamMessageErrorKind) → Type 0
 Reads None payload (Ok s) = ⊥
-Reads None payload (Err error) = RefusesAs (told_in []) error
+Reads None payload (Err error) = RefusesAs (fields_in []) error
 Reads (Some headers) payload (Ok s) = IsStreamMessage headers payload s
-Reads (Some headers) payload (Err error) = RefusesAs (told_in headers) error
+Reads (Some headers) payload (Err error) = RefusesAs (fields_in headers) error
 
 -- reading the message
 abbrev pub ReadsMessage : Message → Result StreamMessage (Error StreamMessageErrorKind) → Type 0

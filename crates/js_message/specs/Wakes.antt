@@ -7,7 +7,7 @@ use Rattle.js_message.specs.declared.double_ack.DoubleAck.{DoubleAck}
 use Rattle.js_message.specs.declared.double_ack.Outgoing.{Outgoing}
 use Rattle.js_message.specs.declared.double_ack.Stage.{Stage}
 use Rattle.js_message.specs.declared.double_ack.Stage.TheVariants.{Unsent, Opened, Waiting}
-use Rattle.js_message.specs.Acking.{FindsNone, Polled}
+use Rattle.js_message.specs.Acknowledgement.{FindsNone, Polled}
 
 -- it was sent, and its timeout is over
 abbrev pub stage_due : Option Outgoing → Stage → ℕ → Bool

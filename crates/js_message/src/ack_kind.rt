@@ -1,7 +1,7 @@
 //! What a consumer says of a message, and the bodies that say so.
 ghost use Rattle.std.specs.Prelude.{◌≡◌, ◌++◌, codes, IfOk, string_bytes};
 ghost use Rattle.std.specs.Fmt.{decimal};
-ghost use Rattle.js_message.specs.Acking.{ack_body, delay_body};
+ghost use Rattle.js_message.specs.Acknowledgement.{ack_body, delay_body};
 
 use bytes::Bytes;
 use js_base::{Nanos, OutOfMemory};

@@ -1,7 +1,7 @@
 //! Acknowledgements: one message to the reply subject of what was received.
 ghost use Rattle.std.specs.Prelude.{◌≡◌, [], IfOk};
 ghost use Rattle.std.specs.Option.{option_copied};
-ghost use Rattle.js_message.specs.Acking.{Acks, ack_body, unsent};
+ghost use Rattle.js_message.specs.Acknowledgement.{Acks, ack_body, unsent};
 
 use crate::ack_kind::AckKind;
 use crate::double_ack::{DoubleAck, double_acknowledge};
@@ -44,7 +44,7 @@ impl fmt::Display for AckError {
 
 impl error::Error for AckError {}
 
-/// Sends a body to a reply subject.
+// Sends a body to a reply subject.
 pub(crate) fn acknowledge<L: Link>(
     alloc: Global,
     link: &mut L,
@@ -63,7 +63,7 @@ pub(crate) fn acknowledge<L: Link>(
     }
 }
 
-/// Sends the body of a kind to a reply subject.
+// Sends the body of a kind to a reply subject.
 pub(crate) fn acknowledge_with<L: Link>(
     alloc: Global,
     link: &mut L,

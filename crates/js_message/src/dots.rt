@@ -1,8 +1,8 @@
 //! One pass over the bytes of a text: where its dots stand, and the tokens between them.
 ghost use Rattle.std.specs.Prelude.{◌≡◌, ℕ, ◌+◌, ◌-◌, ◌<◌, ◌≤◌, ◌^◌, ◌++◌, ◌∷◌, [], List, length, slice_get, slice_index};
 ghost use Rattle.std.specs.Option.{option_copied};
-ghost use Rattle.js_base.specs.Match.{tokens};
-ghost use Rattle.js_message.specs.Ack.{token_at};
+ghost use Rattle.js_base.specs.Subject.{tokens};
+ghost use Rattle.js_message.specs.AckSubject.{token_at};
 ghost use Rattle.js_message.specs.Dots.{IsScanned, Keeps, dots_of, token_end, token_start};
 
 /// The dots of a text: the places of the first ten, which cut all tokens that are read, and how many there are.
@@ -13,7 +13,7 @@ pub(crate) struct Dots {
 }
 
 impl Dots {
-    /// The dots of a text.
+    // The dots of a text.
     pub(crate) fn of(text: &str) -> Dots
         ensures { IsScanned text.now result }
     {
@@ -29,7 +29,7 @@ impl Dots {
         dots
     }
 
-    /// Counts one more dot, and keeps its place while there is room.
+    // Counts one more dot, and keeps its place while there is room.
     fn add(&mut self, place: usize)
         requires { self.old.count < 2 ^ 63 }
         ensures { (places : List ℕ) → Keeps places self.old → Keeps (places ++ place ∷ []) self.new }
@@ -41,14 +41,14 @@ impl Dots {
         }
     }
 
-    /// How many dots the text has.
+    // How many dots the text has.
     pub(crate) fn count(&self) -> usize
         ensures { result ≡ self.now.count }
     {
         self.count
     }
 
-    /// Where a token begins.
+    // Where a token begins.
     #[tactic(auto, using(crate::proofs::Cuts::later_start))]
     fn start(&self, k: usize) -> usize
         requires kept { k < 10 }
@@ -58,7 +58,7 @@ impl Dots {
         if k == 0 { 0 } else { self.places[k - 1] + 1 }
     }
 
-    /// Where a token ends.
+    // Where a token ends.
     fn end(&self, text: &str, k: usize) -> usize
         requires kept { k < 10 }
         ensures { (places : List ℕ) → Keeps places self.now → result ≡ token_end places (length text.now) k }
@@ -70,7 +70,7 @@ impl Dots {
         }
     }
 
-    /// The token of a number, counted from 0, of the text whose dots these are.
+    // The token of a number, counted from 0, of the text whose dots these are.
     pub(crate) fn token<'a>(&self, text: &'a str, k: usize) -> &'a str
         requires dots { IsScanned text.now self.now }
         requires within { k ≤ self.now.count }
@@ -82,7 +82,7 @@ impl Dots {
         &text[start..end]
     }
 
-    /// The same, where the text has so many.
+    // The same, where the text has so many.
     pub(crate) fn get<'a>(&self, text: &'a str, k: usize) -> Option<&'a str>
         requires dots { IsScanned text.now self.now }
         requires kept { k < 10 }

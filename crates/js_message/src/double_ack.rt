@@ -1,7 +1,7 @@
 //! Acknowledgements whose answer is waited for, as a state with a poll.
 ghost use Rattle.std.specs.Prelude.{◌≡◌, ◌<◌, ◌^◌, ℕ, IfOk};
 ghost use Rattle.std.specs.Option.{option_copied};
-ghost use Rattle.js_message.specs.Acking.{ack_body, unsent, opened, waiting, PollsOf, OpensAndSends, FailsToOpen, Sends, FindsNone, Looks};
+ghost use Rattle.js_message.specs.Acknowledgement.{ack_body, unsent, opened, waiting, PollsOf, OpensAndSends, FailsToOpen, SendsAck, FindsNone, Looks};
 ghost use Rattle.js_base.specs.Clock.{has_come};
 ghost use Rattle.js_message.specs.Wakes.{Sleeps, times_out};
 
@@ -35,6 +35,7 @@ pub(crate) enum Stage {
 /// One that is dropped before its end leaves its inbox open. Whatever comes on that inbox is the answer: the next message of
 /// the consumer after `AckKind::Next`, which is given up, and a message of status 503 where the consumer was deleted.
 #[derive(Debug, PartialEq, Eq, Drop)]
+#[must_use = "its answer comes by polls"]
 pub struct DoubleAck {
     outgoing: Option<Outgoing>,
     stage: Stage,
@@ -43,7 +44,7 @@ pub struct DoubleAck {
 /// What one poll answers.
 type Polled = Turn<DoubleAck, Result<(), AckError>>;
 
-/// A double ack that has not begun.
+// A double ack that has not begun.
 pub(crate) fn double_acknowledge(
     alloc: Global,
     timeout: Nanos,
@@ -110,7 +111,7 @@ impl DoubleAck {
 impl Outgoing {
     ghost use Rattle.std.specs.Prelude.{◌⊎◌, Some};
 
-    /// The double ack that has come this far.
+    // The double ack that has come this far.
     fn at(self, stage: Stage) -> DoubleAck
         ensures { result ≡ record { outgoing = Some self; stage = stage } }
     {
@@ -120,7 +121,7 @@ impl Outgoing {
         }
     }
 
-    /// Opens an inbox, and goes on.
+    // Opens an inbox, and goes on.
     fn open<L: Link>(self, alloc: Global, link: &mut L, now: Moment) -> Polled
         ensures { FailsToOpen self result (L.view link.old) (L.view link.new) ⊎ OpensAndSends self now result (L.view link.old) (L.view link.new) }
     {
@@ -134,7 +135,7 @@ impl Outgoing {
         }
     }
 
-    /// Sends the body, and goes on.
+    // Sends the body, and goes on.
     fn send<L: Link>(
         self,
         alloc: Global,
@@ -143,7 +144,7 @@ impl Outgoing {
         inbox: InboxId,
         subject: Subject,
     ) -> Polled
-        ensures { Sends self inbox.0 subject now result (L.view link.old) (L.view link.new) }
+        ensures { SendsAck self inbox.0 subject now result (L.view link.old) (L.view link.new) }
     {
         let reply = Some(subject.as_str());
         match link.publish(alloc, self.to.as_str(), reply, None, self.body.as_slice()) {
@@ -162,7 +163,7 @@ impl Outgoing {
         }
     }
 
-    /// Looks for the answer, and then at the clock.
+    // Looks for the answer, and then at the clock.
     fn look<L: Link>(self, link: &mut L, now: Moment, inbox: InboxId, since: Moment) -> Polled
         ensures { Looks self inbox.0 since now result (L.view link.old) (L.view link.new) }
     {
@@ -180,7 +181,7 @@ impl Outgoing {
         }
     }
 
-    /// Ends where the timeout is over, and else goes on waiting.
+    // Ends where the timeout is over, and else goes on waiting.
     fn look_at_clock<L: Link>(
         self,
         link: &mut L,

@@ -1,13 +1,13 @@
 //! Messages as a consumer delivers them: where they stand in their stream, and their acknowledgement.
 ghost use Rattle.std.specs.Prelude.{◌≡◌, [], IfOk};
-ghost use Rattle.js_message.specs.Acking.{Acks, ack_body, unsent};
+ghost use Rattle.js_message.specs.Acknowledgement.{Acks, ack_body, unsent};
 
 use crate::ack_kind::AckKind;
+use crate::ack_subject::parse_info;
 use crate::acker::{AckError, Acker, acknowledge, acknowledge_with};
 use crate::double_ack::{DoubleAck, double_acknowledge};
 use crate::info::Info;
 use crate::info_error::InfoError;
-use crate::parse::parse_info;
 use js_base::{Nanos, OutOfMemory};
 use js_link::Link;
 use std::alloc::Global;

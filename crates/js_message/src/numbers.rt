@@ -1,9 +1,9 @@
 //! Numbers in a text.
 ghost use Rattle.std.specs.Prelude.{◌≡◌, IfSome};
-ghost use Rattle.js_message.specs.Number.{IsDigits, u64_of};
-ghost use Rattle.js_message.specs.Ack.{i64_of, i128_of};
+ghost use Rattle.js_message.specs.Numbers.{IsDigits, u64_of};
+ghost use Rattle.js_message.specs.AckSubject.{i64_of, i128_of};
 
-/// The number that a text of digits alone is, where they are at most nineteen: then no step can leave a `u64`.
+// The number that a text of digits alone is, where they are at most nineteen: then no step can leave a `u64`.
 fn read_digits(text: &str) -> Option<u64>
     ensures { IfSome result (λ number. IsDigits text.now number) }
 {
@@ -32,7 +32,7 @@ pub fn read_u64(text: &str) -> Option<u64>
     }
 }
 
-/// The text as an `i64`.
+// The text as an `i64`.
 pub(crate) fn read_i64(text: &str) -> Option<i64>
     ensures { result ≡ i64_of text.now }
 {
@@ -42,7 +42,7 @@ pub(crate) fn read_i64(text: &str) -> Option<i64>
     }
 }
 
-/// The text as an `i128`.
+// The text as an `i128`.
 pub(crate) fn read_i128(text: &str) -> Option<i128>
     ensures { result ≡ i128_of text.now }
 {

@@ -1,7 +1,7 @@
 //! Messages as they lie in their stream: what their headers say of that.
 ghost use Rattle.std.specs.Prelude.{◌≡◌, MatchResult, Ok};
 ghost use Rattle.std.specs.Option.{option_map};
-ghost use Rattle.js_message.specs.StreamMessage.{IsRefusal, RefusesAs, is_missing, is_unreadable, time_of, told_by, told_in};
+ghost use Rattle.js_message.specs.StreamMessage.{IsRefusal, RefusesAs, is_missing, is_unreadable, time_of, plain_fields, fields_in};
 
 use crate::numbers::read_u64;
 use bytes::Bytes;
@@ -115,7 +115,7 @@ fn unreadable(header: StreamHeader) -> HeaderFault
 }
 
 fn read_headers(headers: &HeaderMap) -> Result<MessageFields<'_>, HeaderFault>
-    ensures { told_by result ≡ told_in headers.now }
+    ensures { plain_fields result ≡ fields_in headers.now }
 {
     let sequence = headers
         .get_last(StreamHeader::Sequence.name())
@@ -135,7 +135,7 @@ fn read_headers(headers: &HeaderMap) -> Result<MessageFields<'_>, HeaderFault>
     })
 }
 
-/// The error that tells of a header.
+// The error that tells of a header.
 fn refusal(alloc: Global, fault: HeaderFault) -> StreamMessageError
     ensures { IsRefusal fault result }
 {
@@ -145,12 +145,12 @@ fn refusal(alloc: Global, fault: HeaderFault) -> StreamMessageError
     }
 }
 
-/// What the headers say of a message: its subject, copied, its sequence and its time; or the error that tells why not.
+// What the headers say of a message: its subject, copied, its sequence and its time; or the error that tells why not.
 fn read_copied(
     alloc: Global,
     headers: &HeaderMap,
 ) -> Result<(Subject, u64, Timestamp), StreamMessageError>
-    ensures { MatchResult result (λ told. told_in headers.now ≡ Ok (record { subject = told.0; sequence = told.1; time = told.2.nanosecond })) (RefusesAs (told_in headers.now)) }
+    ensures { MatchResult result (λ told. fields_in headers.now ≡ Ok (record { subject = told.0; sequence = told.1; time = told.2.nanosecond })) (RefusesAs (fields_in headers.now)) }
 {
     let told = match read_headers(headers) {
         Ok(told) => told,

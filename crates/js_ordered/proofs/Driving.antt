@@ -1,44 +1,44 @@
 -- A replay passes row after row, each with what its event gives: so it comes to what the fold comes to.
 use Rattle.std.proofs.Common.{◌≡◌, ℕ, ◌+◌, ◌<◌, Bool, true, false, List, [], ◌∷◌, ◌++◌, drop, length, Option, Some, None, refl, sym, ap, ◌∙◌, subst, arith, append_assoc, append-nil, count_by, get_or}
 use Rattle.std.proofs.lemmas.List.{drop_more, drop_all}
-use Rattle.std.specs.Prelude.{◌≤◌, option_map, Result, Ok, IfOk, OnOk}
+use Rattle.std.specs.Prelude.{◌≤◌, option_map, Result, Ok, IfOk}
 use Rattle.js_base.specs.declared.message.Message.{Message}
 use Rattle.js_json.specs.declared.consumer.info.Info.{Info}
-use Rattle.js_link.specs.Passing.{Passing}
-use Rattle.js_table.specs.declared.passing.task.Heard.{Heard}
-use Rattle.js_table.specs.declared.passing.task.Heard.TheVariants as hears
-use Rattle.js_table.specs.declared.passing.task.Inbox.{Inbox}
-use Rattle.js_table.specs.declared.passing.task.NextTasks.{NextTasks}
-use Rattle.js_table.specs.declared.passing.task.NextTasks.TheVariants as next
-use Rattle.js_table.specs.declared.passing.task.Task.{Task}
-use Rattle.js_table.specs.declared.passing.task.RowOutput.{RowOutput}
-use Rattle.js_table.specs.declared.passing.task.RowOutput.TheVariants as tells
+use Rattle.js_link.specs.RowInput.{RowInput}
+use Rattle.js_ordered_table.specs.declared.transitions.task.Heard.{Heard}
+use Rattle.js_ordered_table.specs.declared.transitions.task.Heard.TheVariants as hears
+use Rattle.js_ordered_table.specs.declared.transitions.task.Inbox.{Inbox}
+use Rattle.js_ordered_table.specs.declared.transitions.task.NextTasks.{NextTasks}
+use Rattle.js_ordered_table.specs.declared.transitions.task.NextTasks.TheVariants as next
+use Rattle.js_ordered_table.specs.declared.transitions.task.Task.{Task}
+use Rattle.js_ordered_table.specs.declared.transitions.task.RowOutput.{RowOutput}
+use Rattle.js_ordered_table.specs.declared.transitions.task.RowOutput.TheVariants as tells
 use Rattle.js_ordered.specs.Driven.{Leads, PassesTo, counted, heard_first, left_rows}
 use Rattle.js_ordered.specs.Giving.{IsInbox, IsNumber, Sends, Subscribes}
-use Rattle.js_table.specs.Tasks.{IsHeard, StepsTo, answered_rows, create_outputs, heard_outputs, heard_row, heard_rows, next_rows, opening_to, requested, requesting, rows_of, subscribed, told_outputs}
+use Rattle.js_ordered_table.specs.Tasks.{IsHeard, StepsTo, answered_rows, create_outputs, heard_outputs, heard_row, heard_rows, next_rows, opening_to, requested, requesting, rows_of, subscribed, told_outputs}
 use Rattle.js_pull.specs.Reader.{info_of_reply}
-use Rattle.js_table.specs.declared.consumer.Consumer.{Consumer}
-use Rattle.js_table.specs.declared.consumer.ReplayInput.{ReplayInput}
-use Rattle.js_table.specs.declared.consumer.Phase.{Phase}
-use Rattle.js_table.specs.declared.consumer.Phase.TheVariants.{Pulls, Pushes, Recreates, Idle, Ended, Exhausted}
-use Rattle.js_table.specs.declared.consumer.Recreation.{Recreation}
-use Rattle.js_table.specs.declared.row.Row.{Row}
-use Rattle.js_table.specs.declared.row.Row.TheVariants as row
-use Rattle.js_table.specs.declared.run.Output.{Output}
-use Rattle.js_table.specs.declared.setup.OrderedSetup.{OrderedSetup}
-use Rattle.js_table.specs.declared.setup.OrderedSetup.TheVariants.{Pull, Push}
-use Rattle.js_table.specs.declared.event_context.EventContext.{EventContext}
-use Rattle.js_table.specs.declared.replay_state.ReplayState.{ReplayState}
-use Rattle.js_table.specs.Fold.{Ran, after, and_then, is_over, is_request, is_subscribe, pass_each, passing, stays}
-use Rattle.js_table.specs.Kept.{IsPull, IsPush}
-use Rattle.js_table.specs.Passes.{at, from, heard, hearings, holding, listens_to, ran}
-use Rattle.js_table.specs.Reading.{armed, beat_answer, push_kind, told}
-use Rattle.js_table.specs.Recreation.{answered, create_row, start_row, succeed_pull, succeed_push, succeed_row}
-use Rattle.js_table.specs.State.{Matter, Passed, quietly, at_phase}
-use Rattle.js_table.specs.Texts.{inbox_subject}
-use Rattle.js_table.specs.Turn.{event_row, pass, row_at}
-use Rattle.js_ordered.proofs.Rans.{no_more, ran_from, from_rest}
-use Rattle.js_table.proofs.Stepping.{hears_as, hears_here, hears_nowhere}
+use Rattle.js_ordered_table.specs.declared.consumer.Consumer.{Consumer}
+use Rattle.js_ordered_table.specs.declared.consumer.ReplayInput.{ReplayInput}
+use Rattle.js_ordered_table.specs.declared.consumer.Phase.{Phase}
+use Rattle.js_ordered_table.specs.declared.consumer.Phase.TheVariants.{Pulls, Pushes, Recreates, Idle, Ended, Exhausted}
+use Rattle.js_ordered_table.specs.declared.consumer.Recreation.{Recreation}
+use Rattle.js_ordered_table.specs.declared.row.Row.{Row}
+use Rattle.js_ordered_table.specs.declared.row.Row.TheVariants as row
+use Rattle.js_ordered_table.specs.declared.run.Output.{Output}
+use Rattle.js_ordered_table.specs.declared.setup.OrderedSetup.{OrderedSetup}
+use Rattle.js_ordered_table.specs.declared.setup.OrderedSetup.TheVariants.{Pull, Push}
+use Rattle.js_ordered_table.specs.declared.event_context.EventContext.{EventContext}
+use Rattle.js_ordered_table.specs.declared.replay_state.ReplayState.{ReplayState}
+use Rattle.js_ordered_table.specs.Fold.{Ran, after, and_then, is_over, is_request, is_subscribe, pass_each, passing, stays}
+use Rattle.js_ordered_table.specs.Invariant.{IsPull, IsPush}
+use Rattle.js_ordered_table.specs.Passes.{at, from, heard, hearings, holding, listens_to, ran}
+use Rattle.js_ordered_table.specs.Arrivals.{armed, beat_answer, push_kind, told}
+use Rattle.js_ordered_table.specs.Recreation.{answered, create_row, start_row, succeed_pull, succeed_push, succeed_row}
+use Rattle.js_ordered_table.specs.Consumer.{Matter, Passed, silent_row, at_phase}
+use Rattle.js_ordered_table.specs.Texts.{inbox_subject}
+use Rattle.js_ordered_table.specs.Table.{event_row, pass, row_at}
+use Rattle.js_ordered.proofs.RowRuns.{no_more, ran_from, from_rest}
+use Rattle.js_ordered_table.proofs.PassedRows.{hears_as, hears_here, hears_nowhere}
 
 -- ---- one row
 
@@ -64,16 +64,13 @@ leads_by g now m one w u passed outputs earlier later d rest is steps put to =
     ∙ ap (λ (v : ReplayState). onto later (next_rows m rest) v) there
 
 -- where the phase is known
-pub leads_at : (g : ReplayInput) (now : ℕ) (m : Matter) (one : Row) (phase : Phase) (w u : ReplayState) (p : Passing) (outputs earlier later : List Output) (d : Consumer) (rest : NextTasks)
+pub leads_at : (g : ReplayInput) (now : ℕ) (m : Matter) (one : Row) (phase : Phase) (w u : ReplayState) (p : RowInput) (outputs earlier later : List Output) (d : Consumer) (rest : NextTasks)
     → passing g now w ≡ p → StepsTo m (row_at g p m one phase (at_phase phase w.consumer)) outputs d rest
     → later ≡ earlier ++ outputs → u ≡ record (counted outputs w) { consumer = d }
     → Leads g now m (one ∷ []) (at phase w) earlier (next_rows m rest) u later
 leads_at g now m one phase w u p outputs earlier later d rest is steps put to =
     leads_by g now m one (at phase w) u (row_at g p m one phase (at_phase phase w.consumer)) outputs earlier later d rest
-    (ap (λ (q : Passing). row_at g q m one phase (at_phase phase w.consumer)) is) steps put to
-
-with_numbers : ReplayState → Consumer → ℕ → ℕ → ReplayState
-with_numbers w c a b = record w { consumer = c; requests_sent = a; inboxes_opened = b }
+    (ap (λ (q : RowInput). row_at g q m one phase (at_phase phase w.consumer)) is) steps put to
 
 -- nothing is numbered
 pub unnumbered : (w : ReplayState) (d : Consumer) (outputs : List Output) → count_by is_request outputs ≡ 0 → count_by is_subscribe outputs ≡ 0
@@ -130,7 +127,7 @@ heard_unnumbered w d up message heard = unnumbered w d (heard_outputs up message
 
 -- ---- a send
 
-abbrev pub with_request : Passing → Bool → ℕ → Passing
+abbrev pub with_request : RowInput → Bool → ℕ → RowInput
 with_request p up request = record p { up = up; request = request }
 
 pub request_is : (g : ReplayInput) (now : ℕ) (w : ReplayState) (number : Option ℕ) → IsNumber w.link_up w.requests_sent number → passing g now w ≡ requesting now number (passing g now w)
@@ -169,10 +166,6 @@ pub leads_more : (g : ReplayInput) (now : ℕ) (m : Matter) (rows rest more : Li
     → Leads g now m rows w earlier rest u later → Leads g now m (rows ++ more) w earlier (rest ++ more) u later
 leads_more g now m rows rest more w u earlier later leads =
     after_rows (ran g now m) rows more w earlier ∙ ap (onward (ran g now m) more) leads ∙ sym (after_rows (ran g now m) rest more u later)
-
--- nothing is passed
-pub leads_nowhere : (g : ReplayInput) (now : ℕ) (m : Matter) (rows : List Row) (w : ReplayState) (outputs : List Output) → Leads g now m rows w outputs rows w outputs
-leads_nowhere g now m rows w outputs = refl
 
 -- the first task lies last
 pub left_first : (m : Matter) (tasks : List Task) (one : Task) → left_rows m (tasks ++ one ∷ []) ≡ rows_of m one ++ left_rows m tasks
@@ -223,10 +216,10 @@ held_first inbox messages place message below is =
     ap (heard_first inbox) (drop_more messages place message below) ∙ ap (λ (x : Message). row.Hear (record { inbox = inbox; message = x }) ∷ []) (sym is)
 
 pub idle_row : (g : ReplayInput) (now : ℕ) (m : Matter) (one : Row) (w u : ReplayState) (outputs : List Output) (phase : Phase) → w.consumer.phase ≡ phase → u ≡ at phase w
-    → row_at g (passing g now w) m one phase w.consumer ≡ quietly w.consumer [] → Leads g now m (one ∷ []) w outputs [] u outputs
+    → row_at g (passing g now w) m one phase w.consumer ≡ silent_row w.consumer [] → Leads g now m (one ∷ []) w outputs [] u outputs
 idle_row g now m one w u outputs phase is to none =
     let same : u ≡ w = to ∙ ap (λ (q : Phase). at q w) (sym is) in
-    leads_by g now m one w u (quietly w.consumer []) [] outputs outputs w.consumer next.Nothing
+    leads_by g now m one w u (silent_row w.consumer []) [] outputs outputs w.consumer next.Nothing
     (ap (λ (q : Phase). row_at g (passing g now w) m one q w.consumer) is ∙ none) (record { consumer = refl; outputs = refl; next = refl })
     (sym (append-nil outputs)) (same ∙ quiet_unnumbered w w.consumer)
 
@@ -235,9 +228,6 @@ idle_row g now m one w u outputs phase is to none =
 -- a call that went well
 pub ok_holds : {T E : Type 0} (P : T → Type 0) (result : Result T E) (value : T) → result ≡ Ok value → IfOk result P → P value
 ok_holds {T} {E} P result value is held = subst (λ (r : Result T E). IfOk r P) is held
-
-pub unit_holds : {T E P : Type 0} (result : Result T E) (value : T) → result ≡ Ok value → OnOk result P → P
-unit_holds {T} {E} {P} result value is held = subst (λ (r : Result T E). OnOk r P) is held
 
 -- a row that sends a request
 pub leads_sent : (g : ReplayInput) (now : ℕ) (m : Matter) (one : Row) (r : Recreation) (w u : ReplayState) (subject payload : List ℕ) (number : Option ℕ) (requests_sent' : ℕ) (earlier later : List Output) (d : Consumer) (rest : NextTasks)
@@ -301,19 +291,13 @@ told_here g now m one phase w u told earlier later d rest is steps put to =
 -- an answer that was read
 pub reply_read : (g : ReplayInput) (now : ℕ) (m : Matter) (reply : Option (Option Message)) (r : Recreation) (w u : ReplayState) (info : Option Info) (outputs : List Output) (d : Consumer) (rest : NextTasks)
     → option_map info_of_reply reply ≡ Some info
-    → StepsTo m (quietly (at_phase (Recreates r) w.consumer) (answered g.setup info ∷ [])) [] d rest → u ≡ record w { consumer = d }
+    → StepsTo m (silent_row (at_phase (Recreates r) w.consumer) (answered g.setup info ∷ [])) [] d rest → u ≡ record w { consumer = d }
     → Leads g now m (answered_rows reply) (at (Recreates r) w) outputs (next_rows m rest) u outputs
 reply_read g now m None r w u info outputs d rest is steps to = cc
 reply_read g now m (Some reply) r w u info outputs d rest is steps to =
     let told : info_of_reply reply ≡ info = cc in
     leads_quietly g now m (row.Answered reply) (Recreates r) w u outputs d rest
-    (subst (λ (i : Option Info). StepsTo m (quietly (at_phase (Recreates r) w.consumer) (answered g.setup i ∷ [])) [] d rest) (sym told) steps) to
-
--- an answer that is not there
-pub reply_missing : (g : ReplayInput) (now : ℕ) (m : Matter) (reply : Option (Option Message)) (w u : ReplayState) (outputs : List Output) → option_map info_of_reply reply ≡ None → u ≡ w
-    → Leads g now m (answered_rows reply) w outputs [] u outputs
-reply_missing g now m None w u outputs is to = ap (λ (v : ReplayState). and_then outputs (stays v)) (sym to)
-reply_missing g now m (Some reply) w u outputs is to = cc
+    (subst (λ (i : Option Info). StepsTo m (silent_row (at_phase (Recreates r) w.consumer) (answered g.setup i ∷ [])) [] d rest) (sym told) steps) to
 
 -- a message that was heard
 pub hears_on : (g : ReplayInput) (now : ℕ) (m : Matter) (inbox : ℕ) (message : Message) (heard : Heard) (w u : ReplayState) (earlier later : List Output) (d : Consumer) (rest : NextTasks)
@@ -330,17 +314,17 @@ hears_on g now m inbox message heard w u earlier later d rest here is steps put 
 pub heard_elsewhere : (g : ReplayInput) (now : ℕ) (m : Matter) (inbox : ℕ) (message : Message) (w : ReplayState) (outputs : List Output) → listens_to inbox w.consumer.phase ≡ false
     → Leads g now m (row.Hear (record { inbox = inbox; message = message }) ∷ []) w outputs [] w outputs
 heard_elsewhere g now m inbox message w outputs other =
-    leads_by g now m (row.Hear (record { inbox = inbox; message = message })) w w (quietly w.consumer []) [] outputs outputs w.consumer next.Nothing
+    leads_by g now m (row.Hear (record { inbox = inbox; message = message })) w w (silent_row w.consumer []) [] outputs outputs w.consumer next.Nothing
     (hears_nowhere g (passing g now w) m inbox message w.consumer.phase w.consumer other) (record { consumer = refl; outputs = refl; next = refl })
     (sym (append-nil outputs)) (quiet_unnumbered w w.consumer)
 
 -- an event of a consumer that has ended
 pub event_over : (g : ReplayInput) (now : ℕ) (m : Matter) (w : ReplayState) (outputs : List Output) → is_over w.consumer.phase ≡ true → Leads g now m (row.Event ∷ []) w outputs [] w outputs
 event_over g now m w outputs over =
-    leads_by g now m row.Event w w (quietly w.consumer []) [] outputs outputs w.consumer next.Nothing (none w.consumer.phase over) (record { consumer = refl; outputs = refl; next = refl })
+    leads_by g now m row.Event w w (silent_row w.consumer []) [] outputs outputs w.consumer next.Nothing (none w.consumer.phase over) (record { consumer = refl; outputs = refl; next = refl })
     (sym (append-nil outputs)) (quiet_unnumbered w w.consumer)
   where
-    none : (phase : Phase) → is_over phase ≡ true → event_row g (passing g now w) m phase w.consumer ≡ quietly w.consumer []
+    none : (phase : Phase) → is_over phase ≡ true → event_row g (passing g now w) m phase w.consumer ≡ silent_row w.consumer []
     none Ended e = refl
     none Exhausted e = refl
     none (Pulls reader) e = cc
@@ -364,7 +348,7 @@ pub starts : (g : ReplayInput) (now : ℕ) (m : Matter) (w u : ReplayState) (tol
 starts g now m w u told earlier later d rest steps put to =
     leads_by g now m row.Start w u (start_row g w.consumer) (told_outputs told) earlier later d rest refl steps put (to ∙ told_unnumbered w d told)
 
-holds : (g : ReplayInput) (p : Passing) (m : Matter) (phase : Phase) (c : Consumer) → row_at g p m row.Hold phase (at_phase phase c) ≡ quietly (at_phase (holding m.arrival phase) c) []
+holds : (g : ReplayInput) (p : RowInput) (m : Matter) (phase : Phase) (c : Consumer) → row_at g p m row.Hold phase (at_phase phase c) ≡ silent_row (at_phase (holding m.arrival phase) c) []
 holds g p m (Pulls reader) c = refl
 holds g p m (Pushes inbox heartbeat_timer) c = refl
 holds g p m (Recreates r) c = refl
@@ -374,7 +358,7 @@ holds g p m Exhausted c = refl
 
 hold_is : (g : ReplayInput) (now : ℕ) (m : Matter) (w : ReplayState) → ran g now m row.Hold w ≡ stays (at (holding m.arrival w.consumer.phase) w)
 hold_is g now m w =
-    ran_from g now m row.Hold w (quietly (at_phase (holding m.arrival w.consumer.phase) w.consumer) []) (holds g (passing g now w) m w.consumer.phase w.consumer)
+    ran_from g now m row.Hold w (silent_row (at_phase (holding m.arrival w.consumer.phase) w.consumer) []) (holds g (passing g now w) m w.consumer.phase w.consumer)
     ∙ from_rest g now m (at_phase (holding m.arrival w.consumer.phase) w.consumer) w
 
 -- what arrives is held
@@ -384,17 +368,17 @@ holds_on g now m w u outputs to =
 
 -- a row of push where it does not listen
 pub look_nowhere : (g : ReplayInput) (now : ℕ) (m : Matter) (one : Row) (w : ReplayState) (outputs : List Output) (phase : Phase) → w.consumer.phase ≡ phase
-    → row_at g (passing g now w) m one phase w.consumer ≡ quietly w.consumer [] → Leads g now m (one ∷ []) w outputs [] w outputs
+    → row_at g (passing g now w) m one phase w.consumer ≡ silent_row w.consumer [] → Leads g now m (one ∷ []) w outputs [] w outputs
 look_nowhere g now m one w outputs phase is none = idle_row g now m one w w outputs phase is (sym (ap (λ (q : Phase). at q w) (sym is))) none
 
 -- ---- by the mode
 
-create_of : (setup : OrderedSetup) (p : Passing) (r : Recreation) (c : Consumer) → IsPush setup → (m : Matter) (inbox : Option Inbox) (d : Consumer) (rest : NextTasks)
+create_of : (setup : OrderedSetup) (p : RowInput) (r : Recreation) (c : Consumer) → IsPush setup → (m : Matter) (inbox : Option Inbox) (d : Consumer) (rest : NextTasks)
     → StepsTo m (create_row setup p r c) (create_outputs setup inbox) d rest → StepsTo m (create_row setup p r c) (subscribed inbox) d rest
 create_of (Pull setup) p r c pushes m inbox d rest steps = absurd pushes
 create_of (Push setup) p r c pushes m inbox d rest steps = steps
 
-create_none : (setup : OrderedSetup) (p q : Passing) (r : Recreation) (c : Consumer) → IsPull setup → (m : Matter) (inbox : Option Inbox) (d : Consumer) (rest : NextTasks)
+create_none : (setup : OrderedSetup) (p q : RowInput) (r : Recreation) (c : Consumer) → IsPull setup → (m : Matter) (inbox : Option Inbox) (d : Consumer) (rest : NextTasks)
     → StepsTo m (create_row setup p r c) (create_outputs setup inbox) d rest → StepsTo m (create_row setup q r c) [] d rest
 create_none (Push setup) p q r c pulls m inbox d rest steps = absurd pulls
 create_none (Pull setup) p q r c pulls m inbox d rest steps = steps
@@ -418,12 +402,12 @@ creates_pull g now m r w u outputs d rest pulls steps to =
     leads_quietly g now m row.Create (Recreates r) w u outputs d rest
     (create_none g.setup (opening_to now None (passing g now w)) (passing g now w) r (at_phase (Recreates r) w.consumer) pulls m None d rest steps) to
 
-succeed_of_pull : (setup : OrderedSetup) (g : ReplayInput) (p : Passing) (info : Info) (r : Recreation) (c : Consumer) → IsPull setup → (m : Matter) (outputs : List Output) (d : Consumer) (rest : NextTasks)
+succeed_of_pull : (setup : OrderedSetup) (g : ReplayInput) (p : RowInput) (info : Info) (r : Recreation) (c : Consumer) → IsPull setup → (m : Matter) (outputs : List Output) (d : Consumer) (rest : NextTasks)
     → StepsTo m (succeed_pull g p info c) outputs d rest → StepsTo m (succeed_row setup g p info r c) outputs d rest
 succeed_of_pull (Pull setup) g p info r c pulls m outputs d rest steps = steps
 succeed_of_pull (Push setup) g p info r c pulls m outputs d rest steps = absurd pulls
 
-succeed_of_push : (setup : OrderedSetup) (g : ReplayInput) (p : Passing) (info : Info) (r : Recreation) (c : Consumer) → IsPush setup → (m : Matter) (outputs : List Output) (d : Consumer) (rest : NextTasks)
+succeed_of_push : (setup : OrderedSetup) (g : ReplayInput) (p : RowInput) (info : Info) (r : Recreation) (c : Consumer) → IsPush setup → (m : Matter) (outputs : List Output) (d : Consumer) (rest : NextTasks)
     → StepsTo m (succeed_push p r.opened c) outputs d rest → StepsTo m (succeed_row setup g p info r c) outputs d rest
 succeed_of_push (Pull setup) g p info r c pushes m outputs d rest steps = absurd pushes
 succeed_of_push (Push setup) g p info r c pushes m outputs d rest steps = steps

@@ -1,6 +1,6 @@
-pub mod Rans
-pub mod Replaying
-pub mod Coursing
+pub mod RowRuns
+pub mod ReplayRuns
+pub mod EventByEvent
 pub mod Driving
 pub mod ReadDriving
 pub mod Nowhere

@@ -3,29 +3,29 @@ use Rattle.std.proofs.Common.{◌≡◌, ℕ, List, [], ◌∷◌, Option, Some,
 use Rattle.std.specs.Prelude.{⊤, Result}
 use Rattle.js_base.specs.declared.message.Message.{Message}
 use Rattle.js_json.specs.declared.consumer.info.Info.{Info}
-use Rattle.js_link.specs.Passing.{Passing}
-use Rattle.js_table.specs.declared.passing.task.NextTasks.{NextTasks}
-use Rattle.js_table.specs.declared.passing.task.Task.{Task}
-use Rattle.js_table.specs.declared.passing.task.Task.TheVariants as task
+use Rattle.js_link.specs.RowInput.{RowInput}
+use Rattle.js_ordered_table.specs.declared.transitions.task.NextTasks.{NextTasks}
+use Rattle.js_ordered_table.specs.declared.transitions.task.Task.{Task}
+use Rattle.js_ordered_table.specs.declared.transitions.task.Task.TheVariants as task
 use Rattle.js_ordered.specs.Driven.{IsTry, Leads, PassesTo}
-use Rattle.js_table.specs.Tasks.{answered_rows, rows_of}
+use Rattle.js_ordered_table.specs.Tasks.{answered_rows, rows_of}
 use Rattle.js_pull.specs.declared.reader.Reader.{Reader}
 use Rattle.js_pull.specs.declared.reader.Row.{Row as PullRow}
 use Rattle.js_pull.specs.Reader.{reply_to}
-use Rattle.js_table.specs.declared.consumer.Consumer.{Consumer}
-use Rattle.js_table.specs.declared.consumer.ReplayInput.{ReplayInput}
-use Rattle.js_table.specs.declared.consumer.Phase.{Phase}
-use Rattle.js_table.specs.declared.consumer.Phase.TheVariants.{Pulls, Pushes, Recreates, Idle, Ended, Exhausted}
-use Rattle.js_table.specs.declared.consumer.Recreation.{Recreation}
-use Rattle.js_table.specs.declared.row.Row.{Row}
-use Rattle.js_table.specs.declared.row.Row.TheVariants as row
-use Rattle.js_table.specs.declared.run.Output.{Output}
-use Rattle.js_table.specs.declared.event_context.EventContext.{EventContext}
-use Rattle.js_table.specs.declared.replay_state.ReplayState.{ReplayState}
-use Rattle.js_table.specs.Fold.{after, and_then, passing, stays}
-use Rattle.js_table.specs.Passes.{at, matter_now}
-use Rattle.js_table.specs.State.{Matter, quietly}
-use Rattle.js_table.specs.Turn.{row_at}
+use Rattle.js_ordered_table.specs.declared.consumer.Consumer.{Consumer}
+use Rattle.js_ordered_table.specs.declared.consumer.ReplayInput.{ReplayInput}
+use Rattle.js_ordered_table.specs.declared.consumer.Phase.{Phase}
+use Rattle.js_ordered_table.specs.declared.consumer.Phase.TheVariants.{Pulls, Pushes, Recreates, Idle, Ended, Exhausted}
+use Rattle.js_ordered_table.specs.declared.consumer.Recreation.{Recreation}
+use Rattle.js_ordered_table.specs.declared.row.Row.{Row}
+use Rattle.js_ordered_table.specs.declared.row.Row.TheVariants as row
+use Rattle.js_ordered_table.specs.declared.run.Output.{Output}
+use Rattle.js_ordered_table.specs.declared.event_context.EventContext.{EventContext}
+use Rattle.js_ordered_table.specs.declared.replay_state.ReplayState.{ReplayState}
+use Rattle.js_ordered_table.specs.Fold.{after, and_then, passing, stays}
+use Rattle.js_ordered_table.specs.Passes.{at, matter_now}
+use Rattle.js_ordered_table.specs.Consumer.{Matter, silent_row}
+use Rattle.js_ordered_table.specs.Table.{row_at}
 use Rattle.js_ordered.proofs.Driving.{idle_row}
 
 -- ---- a row where it does not belong
@@ -35,7 +35,7 @@ abbrev pub IsClosed : Phase → Type 0
 IsClosed (Recreates r) = ⊥
 IsClosed phase = ⊤
 
-try_nowhere : (g : ReplayInput) (p : Passing) (m : Matter) (phase : Phase) (c : Consumer) → IsClosed phase → row_at g p m row.Try phase c ≡ quietly c []
+try_nowhere : (g : ReplayInput) (p : RowInput) (m : Matter) (phase : Phase) (c : Consumer) → IsClosed phase → row_at g p m row.Try phase c ≡ silent_row c []
 try_nowhere g p m (Pulls reader) c closed = refl
 try_nowhere g p m (Pushes inbox heartbeat_timer) c closed = refl
 try_nowhere g p m Idle c closed = refl
@@ -43,7 +43,7 @@ try_nowhere g p m Ended c closed = refl
 try_nowhere g p m Exhausted c closed = refl
 try_nowhere g p m (Recreates r) c closed = absurd closed
 
-create_nowhere : (g : ReplayInput) (p : Passing) (m : Matter) (phase : Phase) (c : Consumer) → IsClosed phase → row_at g p m row.Create phase c ≡ quietly c []
+create_nowhere : (g : ReplayInput) (p : RowInput) (m : Matter) (phase : Phase) (c : Consumer) → IsClosed phase → row_at g p m row.Create phase c ≡ silent_row c []
 create_nowhere g p m (Pulls reader) c closed = refl
 create_nowhere g p m (Pushes inbox heartbeat_timer) c closed = refl
 create_nowhere g p m Idle c closed = refl
@@ -51,7 +51,7 @@ create_nowhere g p m Ended c closed = refl
 create_nowhere g p m Exhausted c closed = refl
 create_nowhere g p m (Recreates r) c closed = absurd closed
 
-ask_nowhere : (g : ReplayInput) (p : Passing) (m : Matter) (phase : Phase) (c : Consumer) → IsClosed phase → row_at g p m row.Ask phase c ≡ quietly c []
+ask_nowhere : (g : ReplayInput) (p : RowInput) (m : Matter) (phase : Phase) (c : Consumer) → IsClosed phase → row_at g p m row.Ask phase c ≡ silent_row c []
 ask_nowhere g p m (Pulls reader) c closed = refl
 ask_nowhere g p m (Pushes inbox heartbeat_timer) c closed = refl
 ask_nowhere g p m Idle c closed = refl
@@ -59,7 +59,7 @@ ask_nowhere g p m Ended c closed = refl
 ask_nowhere g p m Exhausted c closed = refl
 ask_nowhere g p m (Recreates r) c closed = absurd closed
 
-await_nowhere : (g : ReplayInput) (p : Passing) (m : Matter) (phase : Phase) (c : Consumer) → IsClosed phase → row_at g p m row.Await phase c ≡ quietly c []
+await_nowhere : (g : ReplayInput) (p : RowInput) (m : Matter) (phase : Phase) (c : Consumer) → IsClosed phase → row_at g p m row.Await phase c ≡ silent_row c []
 await_nowhere g p m (Pulls reader) c closed = refl
 await_nowhere g p m (Pushes inbox heartbeat_timer) c closed = refl
 await_nowhere g p m Idle c closed = refl
@@ -67,7 +67,7 @@ await_nowhere g p m Ended c closed = refl
 await_nowhere g p m Exhausted c closed = refl
 await_nowhere g p m (Recreates r) c closed = absurd closed
 
-fail_nowhere : (g : ReplayInput) (p : Passing) (m : Matter) (phase : Phase) (c : Consumer) → IsClosed phase → row_at g p m row.Fail phase c ≡ quietly c []
+fail_nowhere : (g : ReplayInput) (p : RowInput) (m : Matter) (phase : Phase) (c : Consumer) → IsClosed phase → row_at g p m row.Fail phase c ≡ silent_row c []
 fail_nowhere g p m (Pulls reader) c closed = refl
 fail_nowhere g p m (Pushes inbox heartbeat_timer) c closed = refl
 fail_nowhere g p m Idle c closed = refl
@@ -75,7 +75,7 @@ fail_nowhere g p m Ended c closed = refl
 fail_nowhere g p m Exhausted c closed = refl
 fail_nowhere g p m (Recreates r) c closed = absurd closed
 
-answered_nowhere : (g : ReplayInput) (p : Passing) (m : Matter) (reply : Option Message) (phase : Phase) (c : Consumer) → IsClosed phase → row_at g p m (row.Answered reply) phase c ≡ quietly c []
+answered_nowhere : (g : ReplayInput) (p : RowInput) (m : Matter) (reply : Option Message) (phase : Phase) (c : Consumer) → IsClosed phase → row_at g p m (row.Answered reply) phase c ≡ silent_row c []
 answered_nowhere g p m reply (Pulls reader) c closed = refl
 answered_nowhere g p m reply (Pushes inbox heartbeat_timer) c closed = refl
 answered_nowhere g p m reply Idle c closed = refl
@@ -83,7 +83,7 @@ answered_nowhere g p m reply Ended c closed = refl
 answered_nowhere g p m reply Exhausted c closed = refl
 answered_nowhere g p m reply (Recreates r) c closed = absurd closed
 
-succeed_nowhere : (g : ReplayInput) (p : Passing) (m : Matter) (info : Info) (phase : Phase) (c : Consumer) → IsClosed phase → row_at g p m (row.Succeed info) phase c ≡ quietly c []
+succeed_nowhere : (g : ReplayInput) (p : RowInput) (m : Matter) (info : Info) (phase : Phase) (c : Consumer) → IsClosed phase → row_at g p m (row.Succeed info) phase c ≡ silent_row c []
 succeed_nowhere g p m info (Pulls reader) c closed = refl
 succeed_nowhere g p m info (Pushes inbox heartbeat_timer) c closed = refl
 succeed_nowhere g p m info Idle c closed = refl
@@ -140,7 +140,7 @@ tries_here context one r w u before after result is passes =
 
 -- ---- a reader's row
 
-reads_none : (g : ReplayInput) (p : Passing) (m : Matter) (one : PullRow) (phase : Phase) (c : Consumer) → ((r : Reader) → phase ≡ Pulls r → ⊥) → row_at g p m (row.Read one) phase c ≡ quietly c []
+reads_none : (g : ReplayInput) (p : RowInput) (m : Matter) (one : PullRow) (phase : Phase) (c : Consumer) → ((r : Reader) → phase ≡ Pulls r → ⊥) → row_at g p m (row.Read one) phase c ≡ silent_row c []
 reads_none g p m one (Pulls reader) c other = absurd (other reader refl)
 reads_none g p m one (Pushes inbox heartbeat_timer) c other = refl
 reads_none g p m one (Recreates r) c other = refl

@@ -2,14 +2,14 @@
 use Rattle.std.proofs.Common.{◌≡◌, ℕ, ◌+◌, Bool, true, false, List, [], ◌∷◌, ◌++◌, map, Option, Some, None, refl, sym, ap, ◌∙◌, subst, count_by}
 use Rattle.std.specs.Prelude.{◌≢◌, codes}
 use Rattle.js_base.specs.declared.message.Message.{Message}
-use Rattle.js_link.specs.Passing.{Passing}
-use Rattle.js_table.specs.declared.passing.task.Heard.{Heard}
-use Rattle.js_table.specs.declared.passing.task.NextTasks.{NextTasks}
-use Rattle.js_table.specs.declared.passing.task.NextTasks.TheVariants as next
-use Rattle.js_table.specs.declared.passing.task.Task.TheVariants as task
+use Rattle.js_link.specs.RowInput.{RowInput}
+use Rattle.js_ordered_table.specs.declared.transitions.task.Heard.{Heard}
+use Rattle.js_ordered_table.specs.declared.transitions.task.NextTasks.{NextTasks}
+use Rattle.js_ordered_table.specs.declared.transitions.task.NextTasks.TheVariants as next
+use Rattle.js_ordered_table.specs.declared.transitions.task.Task.TheVariants as task
 use Rattle.js_ordered.specs.Driven.{Finishes, Leads, counted}
 use Rattle.js_ordered.specs.Giving.{Sends}
-use Rattle.js_table.specs.Tasks.{IsHeardFrom, StepsTo, heard_outputs, heard_row, next_rows, reader_rows, requested, requesting, told_outputs}
+use Rattle.js_ordered_table.specs.Tasks.{IsHeardFrom, StepsTo, heard_outputs, heard_row, next_rows, reader_rows, requested, requesting, told_outputs}
 use Rattle.js_link.specs.declared.sent.Sent.{Sent}
 use Rattle.js_pull.specs.declared.rows.Due.TheVariants as due
 use Rattle.js_pull.specs.declared.rows.Notice.{Notice}
@@ -21,33 +21,33 @@ use Rattle.js_pull.specs.declared.reader.Row.TheVariants as read
 use Rattle.js_pull.specs.declared.reader.ReaderOutput.TheVariants as telling
 use Rattle.js_pull.specs.Kind.{pull_kind}
 use Rattle.js_pull.specs.Limits.{pull_body}
-use Rattle.js_table.specs.declared.run.Output.TheVariants as out
-use Rattle.js_pull.specs.declared.rows.Step.{Step as Read}
-use Rattle.js_pull.specs.Steps.{ReadsTo, brought}
-use Rattle.js_pull.specs.Steps.{told_shown}
+use Rattle.js_ordered_table.specs.declared.run.Output.TheVariants as out
+use Rattle.js_pull.specs.declared.rows.PassedRow.{PassedRow as Read}
+use Rattle.js_pull.specs.Rows.{ReadsTo, brought}
+use Rattle.js_pull.specs.Rows.{told_shown}
 use Rattle.js_pull.specs.declared.reader.Reader.{Reader}
 use Rattle.js_pull.specs.declared.reader.Row.{Row as PullRow}
 use Rattle.js_pull.specs.Reader as pull
 use Rattle.js_pull.specs.Reader.{info_of_reply, reply_to}
-use Rattle.js_table.specs.declared.consumer.Consumer.{Consumer}
-use Rattle.js_table.specs.declared.consumer.ReplayInput.{ReplayInput}
-use Rattle.js_table.specs.declared.consumer.Phase.TheVariants.{Pulls}
-use Rattle.js_table.specs.declared.row.Row.TheVariants as row
-use Rattle.js_table.specs.declared.run.Output.{Output}
-use Rattle.js_table.specs.declared.replay_state.ReplayState.{ReplayState}
-use Rattle.js_table.specs.Fold.{is_request, passing}
-use Rattle.js_table.specs.Passes.{at, heard}
-use Rattle.js_table.specs.Reading.{read_row, told, with_sent}
-use Rattle.js_table.specs.Recreation.{message_on}
-use Rattle.js_table.specs.State.{Matter, Passed, output_of, at_phase}
-use Rattle.js_table.proofs.ReaderSteps.{hear_sends, reads_row}
-use Rattle.js_table.proofs.Stepping.{from_stream}
+use Rattle.js_ordered_table.specs.declared.consumer.Consumer.{Consumer}
+use Rattle.js_ordered_table.specs.declared.consumer.ReplayInput.{ReplayInput}
+use Rattle.js_ordered_table.specs.declared.consumer.Phase.TheVariants.{Pulls}
+use Rattle.js_ordered_table.specs.declared.row.Row.TheVariants as row
+use Rattle.js_ordered_table.specs.declared.run.Output.{Output}
+use Rattle.js_ordered_table.specs.declared.replay_state.ReplayState.{ReplayState}
+use Rattle.js_ordered_table.specs.Fold.{is_request, passing}
+use Rattle.js_ordered_table.specs.Passes.{at, heard}
+use Rattle.js_ordered_table.specs.Arrivals.{read_row, told, with_sent}
+use Rattle.js_ordered_table.specs.Recreation.{message_on}
+use Rattle.js_ordered_table.specs.Consumer.{Matter, Passed, output_of, at_phase}
+use Rattle.js_ordered_table.proofs.ReaderSteps.{hear_sends, reads_row}
+use Rattle.js_ordered_table.proofs.PassedRows.{from_stream}
 use Rattle.js_ordered.proofs.Driving.{with_request, unnumbered, no_made, told_unnumbered, heard_unnumbered, leads_at, leads_quietly, request_is}
 
 -- ---- rows of a pull reader
 
 -- a row that was passed, with what the consumer makes of it
-pub leads_read : (g : ReplayInput) (now : ℕ) (m : Matter) (one : PullRow) (r s : Reader) (w u : ReplayState) (p : Passing) (message : Option Message) (step : Read) (passed : pull.Passed) (sent : List Sent) (outputs earlier later : List Output) (d : Consumer) (rest : NextTasks)
+pub leads_read : (g : ReplayInput) (now : ℕ) (m : Matter) (one : PullRow) (r s : Reader) (w u : ReplayState) (p : RowInput) (message : Option Message) (step : Read) (passed : pull.Passed) (sent : List Sent) (outputs earlier later : List Output) (d : Consumer) (rest : NextTasks)
     → passing g now w ≡ p → pull.row p m.answer (message_on r.source.inbox m.arrival) one r ≡ passed → ReadsTo (brought m.answer) message passed s step → passed.sent ≡ sent
     → StepsTo m (with_sent [] (reader_rows m step.next) (told (told_shown step.told message) (at_phase (Pulls s) w.consumer))) outputs d rest
     → later ≡ earlier ++ (map output_of sent ++ outputs) → u ≡ record (counted (map output_of sent ++ outputs) w) { consumer = d }
@@ -58,7 +58,7 @@ leads_read g now m one r s w u p message step passed sent outputs earlier later 
     (reads_row m message passed sent s step (at_phase (Pulls r) w.consumer) d outputs rest reads sends steps)) put to
 
 -- a row that sends nothing and hears no message
-pub leads_finish : (g : ReplayInput) (now : ℕ) (m : Matter) (one : PullRow) (r s : Reader) (w u : ReplayState) (p : Passing) (step : Read) (passed : pull.Passed) (earlier later : List Output) (rest : NextTasks)
+pub leads_finish : (g : ReplayInput) (now : ℕ) (m : Matter) (one : PullRow) (r s : Reader) (w u : ReplayState) (p : RowInput) (step : Read) (passed : pull.Passed) (earlier later : List Output) (rest : NextTasks)
     → passing g now w ≡ p → pull.row p m.answer (message_on r.source.inbox m.arrival) one r ≡ passed → ReadsTo (brought m.answer) None passed s step → passed.sent ≡ []
     → Finishes m (at (Pulls s) w) u step earlier later rest
     → Leads g now m (row.Read one ∷ []) (at (Pulls r) w) earlier (next_rows m rest) u later
@@ -81,7 +81,7 @@ leads_asked g now m reason r s w u output earlier later up reader is put to =
     (put ∙ ap (λ (o : Output). earlier ++ o ∷ []) is) (to ∙ unnumbered w (at_phase (Pulls s) w.consumer) sends refl refl)
 
 -- the info was asked for, or could not be
-inquired : (m : Matter) (now : ℕ) (p : Passing) (number : Option ℕ) (failures : ℕ) (r s : Reader) (c : Consumer) (rest : NextTasks) → s ≡ (pull.inquire (requesting now number p) failures r).reader
+inquired : (m : Matter) (now : ℕ) (p : RowInput) (number : Option ℕ) (failures : ℕ) (r s : Reader) (c : Consumer) (rest : NextTasks) → s ≡ (pull.inquire (requesting now number p) failures r).reader
     → next_rows m rest ≡ map row.Read (pull.inquire (requesting now number p) failures r).next
     → StepsTo m (read_row (pull.inquire (requesting now number p) failures r) c) (requested (pull.info_subject r.source) (codes "{}") number) (at_phase (Pulls s) c) rest
 inquired m now p None failures r s c rest reader rows = record { consumer = ap (λ (x : Reader). at_phase (Pulls x) c) reader; outputs = refl; next = rows }
@@ -108,7 +108,7 @@ pub leads_heard : (g : ReplayInput) (now : ℕ) (m : Matter) (message : Message)
     → later ≡ earlier ++ heard_outputs w.link_up message heard_is → u ≡ record w { consumer = d }
     → Leads g now m (row.Read read.CheckArrival ∷ []) (at (Pulls r) w) earlier (next_rows m rest) u later
 leads_heard g now m message heard_is r s w u earlier later d rest arrives kind is reader steps put to =
-    let p : Passing = passing g now w in
+    let p : RowInput = passing g now w in
     let c : Consumer = at_phase (Pulls r) w.consumer in
     let after : Consumer = record (at_phase (Pulls (pull.lowered 1 message.length (heard now message r))) w.consumer) { missed = false } in
     leads_at g now m (row.Read read.CheckArrival) (Pulls r) w u p (heard_outputs w.link_up message heard_is) earlier later d rest refl
@@ -143,7 +143,7 @@ pub leads_status : (g : ReplayInput) (now : ℕ) (m : Matter) (message : Message
     → Finishes m (at (Pulls s) w) u step earlier later rest
     → Leads g now m (row.Read read.CheckArrival ∷ []) (at (Pulls r) w) earlier (next_rows m rest) u later
 leads_status g now m message r h s w u step earlier later rest arrives other hears reads finishes =
-    let p : Passing = passing g now w in
+    let p : RowInput = passing g now w in
     leads_finish g now m read.CheckArrival r s w u p step (pull.hear message (pull_kind message) h) earlier later rest refl
     (ap (λ (o : Option Message). pull.check_arrival p o r) arrives ∙ ap (λ (x : Reader). pull.hear message (pull_kind message) x) (sym hears))
     (tells_alone message (pull_kind message) h (brought m.answer) s step other reads) (hear_sends message (pull_kind message) h) finishes
@@ -152,7 +152,7 @@ leads_status g now m message r h s w u step earlier later rest arrives other hea
 pub leads_silent : (g : ReplayInput) (now : ℕ) (m : Matter) (r : Reader) (w : ReplayState) (outputs : List Output) → None ≡ message_on r.source.inbox m.arrival
     → Leads g now m (row.Read read.CheckArrival ∷ []) (at (Pulls r) w) outputs (row.Read read.CheckSilence ∷ []) (at (Pulls r) w) outputs
 leads_silent g now m r w outputs none =
-    let p : Passing = passing g now w in
+    let p : RowInput = passing g now w in
     let c : Consumer = at_phase (Pulls r) w.consumer in
     leads_quietly g now m (row.Read read.CheckArrival) (Pulls r) w (at (Pulls r) w) outputs c (next.One (task.Read due.CheckSilence))
     (subst (λ (o : Option Message). StepsTo m (read_row (pull.check_arrival p o r) c) [] c (next.One (task.Read due.CheckSilence))) none (record { consumer = refl; outputs = refl; next = refl })) refl

@@ -1,19 +1,18 @@
 -- A task is taken, passed or put back.
-use Rattle.std.proofs.Common.{◌≡◌, ℕ, suc, true, false, List, [], ◌∷◌, ◌++◌, length, Option, Some, refl, sym, ap, ◌∙◌, subst, arith}
-use Rattle.std.proofs.lemmas.Bool.Decides.{nat_tests}
-use Rattle.std.specs.Prelude.{◌==◌, option_to_list, Result, Ok, Err}
-use Rattle.js_table.specs.declared.passing.task.NextTasks.{NextTasks}
-use Rattle.js_table.specs.declared.passing.task.Task.{Task}
+use Rattle.std.proofs.Common.{◌≡◌, ℕ, List, [], ◌∷◌, ◌++◌, Option, Some, sym, ap, ◌∙◌, subst}
+use Rattle.std.specs.Prelude.{option_to_list, Result, Ok, Err}
+use Rattle.js_ordered_table.specs.declared.transitions.task.NextTasks.{NextTasks}
+use Rattle.js_ordered_table.specs.declared.transitions.task.Task.{Task}
 use Rattle.js_ordered.specs.Driven.{IsLeft, Leads, LeadsOn, PassesTo, left_rows}
-use Rattle.js_table.specs.Tasks.{next_rows}
-use Rattle.js_table.specs.declared.consumer.ReplayInput.{ReplayInput}
-use Rattle.js_table.specs.declared.row.Row.{Row}
-use Rattle.js_table.specs.declared.run.Output.{Output}
-use Rattle.js_table.specs.declared.event_context.EventContext.{EventContext}
-use Rattle.js_table.specs.declared.replay_state.ReplayState.{ReplayState}
-use Rattle.js_table.specs.Fold.{after, and_then, pass_each}
-use Rattle.js_table.specs.Passes.{matter_now, ran}
-use Rattle.js_table.specs.State.{Matter}
+use Rattle.js_ordered_table.specs.Tasks.{next_rows}
+use Rattle.js_ordered_table.specs.declared.consumer.ReplayInput.{ReplayInput}
+use Rattle.js_ordered_table.specs.declared.row.Row.{Row}
+use Rattle.js_ordered_table.specs.declared.run.Output.{Output}
+use Rattle.js_ordered_table.specs.declared.event_context.EventContext.{EventContext}
+use Rattle.js_ordered_table.specs.declared.replay_state.ReplayState.{ReplayState}
+use Rattle.js_ordered_table.specs.Fold.{after, and_then, pass_each}
+use Rattle.js_ordered_table.specs.Passes.{matter_now, ran}
+use Rattle.js_ordered_table.specs.Consumer.{Matter}
 use Rattle.js_ordered.proofs.Driving.{}
 
 -- ---- a task that was taken
@@ -45,28 +44,8 @@ left_again tasks after one is = subst IsLeft (sym is) (more tasks one)
     more [] one = tt
     more (x ∷ tasks) one = tt
 
-pub left_still : (tasks after : List Task) → after ≡ tasks → IsLeft tasks → IsLeft after
-left_still tasks after is left = subst IsLeft (sym is) left
-
-pub left_some : (tasks : List Task) → (length tasks == 0) ≡ false → IsLeft tasks
-left_some [] is = cc
-left_some (x ∷ tasks) is = tt
-
-pub left_none : (tasks : List Task) → (length tasks == 0) ≡ true → tasks ≡ []
-left_none [] is = refl
-left_none (x ∷ tasks) is = absurd (never (suc_zero (length tasks)))
-  where
-    suc_zero : (n : ℕ) → (suc n == 0) ≡ false
-    suc_zero n = grind (arith, nat_tests)
-
-    never : (length (x ∷ tasks) == 0) ≡ false → ⊥
-    never e = cc
-
 pub took_some : (old room new : List Task) (taken : Option Task) (one : Task) → room ≡ old → room ≡ new ++ option_to_list taken → taken ≡ Some one → new ++ one ∷ [] ≡ old
 took_some old room new taken one same is some = sym (sym same ∙ is ∙ ap (λ (o : Option Task). new ++ option_to_list o) some)
-
-pub leads_same : (g : ReplayInput) (now : ℕ) (m : Matter) (tasks after : List Task) (w : ReplayState) (outputs : List Output) → after ≡ tasks → Leads g now m (left_rows m tasks) w outputs (left_rows m after) w outputs
-leads_same g now m tasks after w outputs is = ap (λ (ts : List Task). and_then outputs (pass_each (ran g now m) (left_rows m ts) w)) (sym is)
 
 -- a task was taken, and passed
 pub took_on : (g : ReplayInput) (now : ℕ) (m : Matter) (old room new : List Task) (taken : Option Task) (one : Task) (after : List Task) (w u : ReplayState) (before given later : List Output)

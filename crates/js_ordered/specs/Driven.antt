@@ -1,28 +1,28 @@
 -- What the code of a replay says that passes the rows of an event.
 use Rattle.std.specs.Prelude.{◌≡◌, ℕ, ◌+◌, List, [], ◌∷◌, ◌++◌, None, Some, Result, Ok, Err, count_by, drop, ⊤}
-use Rattle.js_table.specs.declared.passing.task.NextTasks.{NextTasks}
+use Rattle.js_ordered_table.specs.declared.transitions.task.NextTasks.{NextTasks}
 use Rattle.js_base.specs.declared.message.Message.{Message}
-use Rattle.js_table.specs.declared.passing.task.Held.{Held}
-use Rattle.js_pull.specs.declared.rows.Step.{Step as Read}
-use Rattle.js_table.specs.declared.passing.task.Task.{Task}
-use Rattle.js_table.specs.declared.passing.task.RowOutput.{RowOutput}
-use Rattle.js_table.specs.declared.passing.task.Task.TheVariants as task
-use Rattle.js_table.specs.Tasks.{StepsTo, next_rows, reader_rows, rows_of, told_outputs}
-use Rattle.js_table.specs.declared.consumer.ReplayInput.{ReplayInput}
-use Rattle.js_pull.specs.Steps.{told_shown}
-use Rattle.js_table.specs.declared.consumer.Consumer.{Consumer}
-use Rattle.js_table.specs.declared.consumer.Phase.{Phase}
-use Rattle.js_table.specs.declared.consumer.Phase.TheVariants.{Pulls}
-use Rattle.js_table.specs.Recreation.{message_on}
-use Rattle.js_table.specs.Reading.{told as told_by, with_sent}
-use Rattle.js_table.specs.declared.row.Row.{Row}
-use Rattle.js_table.specs.declared.row.Row.TheVariants.{Hear}
-use Rattle.js_table.specs.declared.run.Output.{Output}
-use Rattle.js_table.specs.declared.event_context.EventContext.{EventContext}
-use Rattle.js_table.specs.declared.replay_state.ReplayState.{ReplayState}
-use Rattle.js_table.specs.Fold.{and_then, is_request, is_subscribe, pass_each}
-use Rattle.js_table.specs.Passes.{given_of, matter_now, ran}
-use Rattle.js_table.specs.State.{Matter}
+use Rattle.js_ordered_table.specs.declared.transitions.task.Held.{Held}
+use Rattle.js_pull.specs.declared.rows.PassedRow.{PassedRow as Read}
+use Rattle.js_ordered_table.specs.declared.transitions.task.Task.{Task}
+use Rattle.js_ordered_table.specs.declared.transitions.task.RowOutput.{RowOutput}
+use Rattle.js_ordered_table.specs.declared.transitions.task.Task.TheVariants as task
+use Rattle.js_ordered_table.specs.Tasks.{StepsTo, next_rows, reader_rows, rows_of, told_outputs}
+use Rattle.js_ordered_table.specs.declared.consumer.ReplayInput.{ReplayInput}
+use Rattle.js_pull.specs.Rows.{told_shown}
+use Rattle.js_ordered_table.specs.declared.consumer.Consumer.{Consumer}
+use Rattle.js_ordered_table.specs.declared.consumer.Phase.{Phase}
+use Rattle.js_ordered_table.specs.declared.consumer.Phase.TheVariants.{Pulls}
+use Rattle.js_ordered_table.specs.Recreation.{message_on}
+use Rattle.js_ordered_table.specs.Arrivals.{told as told_by, with_sent}
+use Rattle.js_ordered_table.specs.declared.row.Row.{Row}
+use Rattle.js_ordered_table.specs.declared.row.Row.TheVariants.{Hear}
+use Rattle.js_ordered_table.specs.declared.run.Output.{Output}
+use Rattle.js_ordered_table.specs.declared.event_context.EventContext.{EventContext}
+use Rattle.js_ordered_table.specs.declared.replay_state.ReplayState.{ReplayState}
+use Rattle.js_ordered_table.specs.Fold.{and_then, is_request, is_subscribe, pass_each}
+use Rattle.js_ordered_table.specs.Passes.{input_of, matter_now, ran}
+use Rattle.js_ordered_table.specs.Consumer.{Matter}
 
 -- passing the rest, after what was put out so far, comes to what passing the whole would have come to
 abbrev pub Leads : ReplayInput → ℕ → Matter → List Row → ReplayState → List Output → List Row → ReplayState → List Output → Type 0
@@ -30,7 +30,7 @@ Leads g now m rows w earlier rest u later = and_then earlier (pass_each (ran g n
 
 -- the same in a turn
 abbrev pub LeadsOn : EventContext → List Row → ReplayState → List Output → List Row → ReplayState → List Output → Type 0
-LeadsOn context rows w earlier rest u later = Leads (given_of context) context.moment (matter_now context) rows w earlier rest u later
+LeadsOn context rows w earlier rest u later = Leads (input_of context) context.moment (matter_now context) rows w earlier rest u later
 
 -- rows were passed up to those that follow, or there was no memory and all is as it was
 abbrev pub PassesTo : {E : Type 0} → EventContext → List Row → ReplayState → ReplayState → List Output → List Output → Result NextTasks E → Type 0

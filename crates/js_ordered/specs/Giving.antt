@@ -2,14 +2,14 @@
 use Rattle.std.specs.Prelude.{◌≡◌, ℕ, ◌+◌, Bool, true, false, List, ◌++◌, Option, Some, None, count_by}
 use Rattle.js_ordered.specs.declared.drive.give.Opening.{Opening}
 use Rattle.js_ordered.specs.declared.drive.give.Sending.{Sending}
-use Rattle.js_table.specs.declared.passing.task.Inbox.{Inbox}
-use Rattle.js_table.specs.Tasks.{requested, subscribed}
+use Rattle.js_ordered_table.specs.declared.transitions.task.Inbox.{Inbox}
+use Rattle.js_ordered_table.specs.Tasks.{requested, subscribed}
 use Rattle.js_pull.specs.declared.reader.Reader.{Reader}
 use Rattle.js_pull.specs.Limits.{pull_body}
 use Rattle.js_pull.specs.Reader.{pull_subject}
-use Rattle.js_table.specs.declared.run.Output.{Output}
-use Rattle.js_table.specs.declared.run.Output.TheVariants as out
-use Rattle.js_table.specs.Fold.{is_request, is_subscribe}
+use Rattle.js_ordered_table.specs.declared.run.Output.{Output}
+use Rattle.js_ordered_table.specs.declared.run.Output.TheVariants as out
+use Rattle.js_ordered_table.specs.Fold.{is_request, is_subscribe}
 
 -- a request is ready, with the next number, where sends go through
 abbrev pub IsSending : Bool → ℕ → List ℕ → List ℕ → Option Sending → Type 0

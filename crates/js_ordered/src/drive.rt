@@ -4,11 +4,11 @@
 //! what the whole event comes to.
 ghost use Rattle.std.specs.Prelude.{◌≡◌, ◌+◌, ◌≤◌, ◌++◌, ◌∷◌, [], OnErr, OnOk, vec_capacity, vec_len};
 ghost use Rattle.js_ordered.specs.Driven.{IsLeft, IsTry, LeadsOn, PassesTo, first_held, first_rows, left_rows};
-ghost use Rattle.js_table.specs.Tasks.{heard_rows, hearings_of, next_rows, rows_of};
-ghost use Rattle.js_table.specs.Passes.{at, matter_now};
-ghost use Rattle.js_table.specs.Recreation.{message_on};
-ghost use Rattle.js_table.specs.State.{Matter};
-ghost use Rattle.js_table.specs.declared.row.Row.TheVariants as row;
+ghost use Rattle.js_ordered_table.specs.Tasks.{heard_rows, hearings_of, next_rows, rows_of};
+ghost use Rattle.js_ordered_table.specs.Passes.{at, matter_now};
+ghost use Rattle.js_ordered_table.specs.Recreation.{message_on};
+ghost use Rattle.js_ordered_table.specs.Consumer.{Matter};
+ghost use Rattle.js_ordered_table.specs.declared.row.Row.TheVariants as row;
 
 pub(crate) mod arrivals;
 pub(crate) mod give;
@@ -18,11 +18,11 @@ pub(crate) mod recreation;
 pub(crate) mod success;
 
 use crate::drive::give::tell;
-use crate::todo::Todo;
+use crate::task_stack::TaskStack;
 use js_base::OutOfMemory;
-use js_table::passing::event::{is_over, pass_event};
-use js_table::passing::{Held, NextTasks, Step, Task};
-use js_table::{EventContext, Output, Phase, Recreation, ReplayState, change_of};
+use js_ordered_table::transitions::event::{is_over, pass_event};
+use js_ordered_table::transitions::{Held, NextTasks, PassedTask, Task};
+use js_ordered_table::{EventContext, Output, Phase, Recreation, ReplayState, change_of};
 use std::alloc::Global;
 use std::mem;
 
@@ -85,7 +85,7 @@ fn pass_try(
             pass_recreating(alloc, context, state, recreation, task, outputs)
         }
         other => {
-            state.enter(other);
+            state.set_phase(other);
             Ok(NextTasks::Nothing)
         }
     }
@@ -106,7 +106,11 @@ fn event(
     if is_over(&state.consumer.phase) {
         return NextTasks::Nothing;
     }
-    let Step { told, next } = pass_event(context, &mut state.consumer, change_of(context.what));
+    let PassedTask { told, next } = pass_event(
+        context,
+        &mut state.consumer,
+        change_of(context.what),
+    );
     tell(told, outputs);
     next
 }
@@ -240,7 +244,7 @@ fn pass_taken(
     alloc: Global,
     context: &EventContext<'_>,
     state: &mut ReplayState,
-    todo: &mut Todo,
+    todo: &mut TaskStack,
     task: Task,
     outputs: &mut Vec<Output>,
 ) -> Result<(), OutOfMemory>
@@ -269,7 +273,7 @@ fn pass_next(
     alloc: Global,
     context: &EventContext<'_>,
     state: &mut ReplayState,
-    todo: &mut Todo,
+    todo: &mut TaskStack,
     outputs: &mut Vec<Output>,
 ) -> Result<(), OutOfMemory>
     requires left { IsLeft todo.old.tasks.items }
@@ -292,7 +296,7 @@ pub(crate) fn pass_left(
     alloc: Global,
     context: &EventContext<'_>,
     state: &mut ReplayState,
-    todo: &mut Todo,
+    todo: &mut TaskStack,
     outputs: &mut Vec<Output>,
 ) -> Result<(), OutOfMemory>
     ensures leads { LeadsOn context.now (left_rows (matter_now context.now) todo.old.tasks.items) state.old outputs.old.items

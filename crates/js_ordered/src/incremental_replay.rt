@@ -1,20 +1,20 @@
 //! A replay that is told its events one by one.
 ghost use Rattle.std.specs.Prelude.{◌≡◌, ◌+◌, ◌∷◌, ◌++◌, [], ℕ, List, Some, None, IfOk, OnOk, OnErr, Err, if◌then◌else◌};
-ghost use Rattle.js_ordered.specs.IncrementalReplay.{HasCome, IsEnd, IsWithin, course_given, course_rest};
+ghost use Rattle.js_ordered.specs.IncrementalReplay.{HasCome, IsEnd, IsWithin, replay_given, rest_of_replay};
 ghost use Rattle.js_ordered.specs.Driven.{IsLeft};
-ghost use Rattle.js_table.specs.Fold.{event as ran_by};
-ghost use Rattle.js_table.specs.Refusal.{first_of, refuse_input as refused_at};
-ghost use Rattle.js_table.specs.declared.consumer.ReplayInput.{ReplayInput};
-ghost use Rattle.js_table.specs.declared.event.Event as events;
+ghost use Rattle.js_ordered_table.specs.Fold.{event as ran_by};
+ghost use Rattle.js_ordered_table.specs.Refusal.{first_of, refuse_input as refused_at};
+ghost use Rattle.js_ordered_table.specs.declared.consumer.ReplayInput.{ReplayInput};
+ghost use Rattle.js_ordered_table.specs.declared.event.Event as events;
 
 use crate::drive::pass_left;
 use crate::replay::{is_exhausted, link_after, open};
-use crate::todo::Todo;
-use js_base::{Items, Moment, OutOfMemory};
+use crate::task_stack::TaskStack;
+use js_base::{Items, Moment, OutOfMemory, replace_with};
 use js_json::consumer::Info;
-use js_table::passing::Task;
-use js_table::passing::event::is_over;
-use js_table::{
+use js_ordered_table::transitions::Task;
+use js_ordered_table::transitions::event::is_over;
+use js_ordered_table::{
     Event, EventContext, EventKind, OrderedSetup, Output, ReplayError, ReplayState, Settings,
     next_number, refuse_input,
 };
@@ -36,10 +36,10 @@ pub struct IncrementalReplay<'a> {
     exhausted: Option<u64>,
     state: ReplayState,
     outputs: Items<Output>,
-    todo: Todo,
+    todo: TaskStack,
 }
 
-/// A place that was found before, or this one.
+// A place that was found before, or this one.
 fn first_place(found: Option<u64>, is_here: bool, place: u64) -> Option<u64>
     ensures { result ≡ first_of found (if is_here then Some place else None) }
 {
@@ -49,14 +49,14 @@ fn first_place(found: Option<u64>, is_here: bool, place: u64) -> Option<u64>
     }
 }
 
-/// These are the outputs from now on.
+// These are the outputs from now on.
 fn replace_outputs(outputs: &mut Items<Output>, made: Vec<Output>)
     ensures { outputs.new ≡ made.items }
 {
-    drop(mem::replace(outputs, Items::from(made)));
+    replace_with(outputs, Items::from(made));
 }
 
-/// No outputs, in the room of those that there were.
+// No outputs, in the room of those that there were.
 fn empty(alloc: Global, outputs: &mut Items<Output>)
     ensures { outputs.new ≡ [] }
 {
@@ -74,7 +74,7 @@ impl<'a> IncrementalReplay<'a> {
         first: &'a Info,
         start: Moment,
     ) -> Result<IncrementalReplay<'a>, OutOfMemory>
-        ensures { IfOk result (λ course. HasCome (record { settings = settings.now; setup = setup.now; first = first.now }) start [] course) }
+        ensures { IfOk result (λ replay. HasCome (record { settings = settings.now; setup = setup.now; first = first.now }) start [] replay) }
     {
         let tick = EventKind::Tick;
         let context = EventContext {
@@ -85,7 +85,7 @@ impl<'a> IncrementalReplay<'a> {
             what: &tick,
         };
         let mut outputs = Vec::new(alloc);
-        let mut todo = Todo::new(alloc);
+        let mut todo = TaskStack::new(alloc);
         match open(alloc, &context, &mut todo, &mut outputs) {
             Ok(state) => Ok(IncrementalReplay {
                 settings,
@@ -111,7 +111,7 @@ impl<'a> IncrementalReplay<'a> {
     fn begin(&mut self, alloc: Global, event: &Event) -> Result<(), OutOfMemory>
         requires rested { self.old.todo.tasks.items ≡ [] }
         ensures kept { record self.new { state = self.old.state; outputs = self.old.outputs; todo = self.old.todo } ≡ self.old }
-        ensures rest { course_rest event.now self.new ≡ course_rest event.now self.old }
+        ensures rest { rest_of_replay event.now self.new ≡ rest_of_replay event.now self.old }
         ensures left { OnOk result (IsLeft self.new.todo.tasks.items) }
     {
         self.todo.make_room()?;
@@ -124,7 +124,7 @@ impl<'a> IncrementalReplay<'a> {
     // An event begins where nothing of it was passed.
     fn make_ready(&mut self, alloc: Global, event: &Event) -> Result<(), OutOfMemory>
         ensures kept { record self.new { state = self.old.state; outputs = self.old.outputs; todo = self.old.todo } ≡ self.old }
-        ensures rest { course_rest event.now self.new ≡ course_rest event.now self.old }
+        ensures rest { rest_of_replay event.now self.new ≡ rest_of_replay event.now self.old }
         ensures left { OnOk result (IsLeft self.new.todo.tasks.items) }
     {
         if self.todo.is_empty() {
@@ -137,9 +137,9 @@ impl<'a> IncrementalReplay<'a> {
     fn go_on(&mut self, alloc: Global, event: &Event) -> Result<(), OutOfMemory>
         requires left { IsLeft self.old.todo.tasks.items }
         ensures kept { record self.new { state = self.old.state; outputs = self.old.outputs; todo = self.old.todo } ≡ self.old }
-        ensures passed { OnOk result (course_rest event.now self.old ≡ record { state = self.new.state; outputs = self.new.outputs }) }
+        ensures passed { OnOk result (rest_of_replay event.now self.old ≡ record { state = self.new.state; outputs = self.new.outputs }) }
         ensures rested { OnOk result (self.new.todo.tasks.items ≡ []) }
-        ensures refused { OnErr result (course_rest event.now self.new ≡ course_rest event.now self.old) }
+        ensures refused { OnErr result (rest_of_replay event.now self.new ≡ rest_of_replay event.now self.old) }
     {
         let context = EventContext {
             settings: self.settings,
@@ -163,9 +163,9 @@ impl<'a> IncrementalReplay<'a> {
     // An event is passed, from where it was refused before.
     fn pass(&mut self, alloc: Global, event: &Event) -> Result<(), OutOfMemory>
         ensures kept { record self.new { state = self.old.state; outputs = self.old.outputs; todo = self.old.todo } ≡ self.old }
-        ensures passed { OnOk result (course_rest event.now self.old ≡ record { state = self.new.state; outputs = self.new.outputs }) }
+        ensures passed { OnOk result (rest_of_replay event.now self.old ≡ record { state = self.new.state; outputs = self.new.outputs }) }
         ensures rested { OnOk result (self.new.todo.tasks.items ≡ []) }
-        ensures refused { OnErr result (course_rest event.now self.new ≡ course_rest event.now self.old) }
+        ensures refused { OnErr result (rest_of_replay event.now self.new ≡ rest_of_replay event.now self.old) }
     {
         self.make_ready(alloc, event)?;
         self.go_on(alloc, event)
@@ -175,7 +175,7 @@ impl<'a> IncrementalReplay<'a> {
     ///
     /// # Errors
     ///
-    /// Want of memory, also where the number of events would go past a `u64`. The course then stands within that event, and nothing of it is lost: it
+    /// Want of memory, also where the number of events would go past a `u64`. The replay then stands within that event, and nothing of it is lost: it
     /// goes on there when it is given the same event again. Another event in its place would be taken for the rest of it.
     pub fn advance(&mut self, alloc: Global, event: &Event) -> Result<(), OutOfMemory>
         ensures passed { (g : ReplayInput) → (start : ℕ) → (es : List events.Event) → HasCome g start es self.old
@@ -214,9 +214,9 @@ impl<'a> IncrementalReplay<'a> {
         self.count
     }
 
-    // What is wrong with what the course was opened with.
+    // What is wrong with what the replay was opened with.
     fn refuse_given(&self) -> Option<ReplayError>
-        ensures { result ≡ refused_at (course_given self.now) self.now.moment [] }
+        ensures { result ≡ refused_at (replay_given self.now) self.now.moment [] }
     {
         let tick = EventKind::Tick;
         let context = EventContext {

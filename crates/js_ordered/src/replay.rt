@@ -1,39 +1,39 @@
 //! The replay of an ordered consumer over a list of events.
 ghost use Rattle.std.specs.Prelude.{◌≡◌, ◌≢◌, [], map, IfOk, OnOk, IfErr, Some, None};
-ghost use Rattle.js_table.specs.Fold as fold;
-ghost use Rattle.js_table.specs.Kept.{IsPull};
-ghost use Rattle.js_table.specs.Passes.{at, first_reader_of, given_of};
-ghost use Rattle.js_table.specs.Refusal.{is_exhausted, refuse_end, refuse_input};
-ghost use Rattle.js_table.specs.Valid.{IsAnswer, IsFolded, IsValid};
-ghost use Rattle.js_table.specs.declared.event.EventKind.TheVariants.{Tick};
+ghost use Rattle.js_ordered_table.specs.Fold as fold;
+ghost use Rattle.js_ordered_table.specs.Invariant.{IsPull};
+ghost use Rattle.js_ordered_table.specs.Passes.{at, first_reader_of, input_of};
+ghost use Rattle.js_ordered_table.specs.Refusal.{is_exhausted, refuse_end, refuse_input};
+ghost use Rattle.js_ordered_table.specs.Replay.{IsAnswer, IsFolded, IsValid};
+ghost use Rattle.js_ordered_table.specs.declared.event.EventKind.TheVariants.{Tick};
 
 use crate::drive::pass_left;
-use crate::todo::Todo;
+use crate::task_stack::TaskStack;
 use js_base::{Items, Moment, OutOfMemory, State, TryClone};
 use js_json::consumer::Info;
-use js_pull::{Due, Reader};
-use js_table::passing::event::is_over;
-use js_table::passing::listening::listen;
-use js_table::passing::{NextTasks, Task};
-use js_table::{
+use js_ordered_table::transitions::event::is_over;
+use js_ordered_table::transitions::push::listen;
+use js_ordered_table::transitions::{NextTasks, Task};
+use js_ordered_table::{
     Consumer, Event, EventContext, EventKind, OrderedCore, OrderedSetup, Output, Phase,
     ReplayError, ReplayState, Run, Settings, Step, refuse_input, texts,
 };
+use js_pull::{Due, Reader};
 use std::alloc::Global;
 
 // ---- the opening
 
-/// The reader of the first inbox.
+// The reader of the first inbox.
 fn first_reader(alloc: Global, context: &EventContext<'_>) -> Result<Reader, OutOfMemory>
-    ensures { IfOk result (λ reader. reader ≡ first_reader_of (given_of context.now)) }
+    ensures { IfOk result (λ reader. reader ≡ first_reader_of (input_of context.now)) }
 {
     let subject = texts::inbox_subject(alloc, context, 0)?;
     Ok(Reader::new(texts::source_of(context, 0, 0, subject, context.first)?))
 }
 
-/// Nothing was asked or yielded yet, and no inbox is read.
+// Nothing was asked or yielded yet, and no inbox is read.
 fn first_state(context: &EventContext<'_>) -> Result<ReplayState, OutOfMemory>
-    ensures { IfOk result (λ state. state ≡ at Phase.Idle (fold.first_state (given_of context.now) context.now.moment)) }
+    ensures { IfOk result (λ state. state ≡ at Phase.Idle (fold.first_state (input_of context.now) context.now.moment)) }
 {
     let name = context.first.name.try_clone()?;
     Ok(ReplayState {
@@ -51,44 +51,44 @@ fn first_state(context: &EventContext<'_>) -> Result<ReplayState, OutOfMemory>
     })
 }
 
-/// The opening of pull, which asks at once and arms its heartbeat.
+// The opening of pull, which asks at once and arms its heartbeat.
 fn open_pull(
     alloc: Global,
     context: &EventContext<'_>,
     state: &mut ReplayState,
-    todo: &mut Todo,
+    todo: &mut TaskStack,
     outputs: &mut Vec<Output>,
 ) -> Result<(), OutOfMemory>
     requires pull { IsPull context.now.setup.now }
     requires rested { todo.old.tasks.items ≡ [] }
     requires empty { outputs.old.items ≡ [] }
-    requires first { state.old ≡ at Phase.Idle (fold.first_state (given_of context.now) context.now.moment) }
+    requires first { state.old ≡ at Phase.Idle (fold.first_state (input_of context.now) context.now.moment) }
     requires tick { context.now.what.now ≡ Tick }
-    ensures state { OnOk result (state.new ≡ (fold.opening (given_of context.now) context.now.moment).state) }
-    ensures outputs { OnOk result (outputs.new.items ≡ (fold.opening (given_of context.now) context.now.moment).outputs) }
+    ensures state { OnOk result (state.new ≡ (fold.opening (input_of context.now) context.now.moment).state) }
+    ensures outputs { OnOk result (outputs.new.items ≡ (fold.opening (input_of context.now) context.now.moment).outputs) }
     ensures rested { OnOk result (todo.new.tasks.items ≡ []) }
 {
     let reader = first_reader(alloc, context)?;
-    state.enter(Phase::Pulls(reader));
+    state.set_phase(Phase::Pulls(reader));
     todo.make_room()?;
     todo.put(NextTasks::Two(Task::Read(Due::Threshold), Task::Read(Due::Arm)));
     pass_left(alloc, context, state, todo, outputs)?;
     Ok(())
 }
 
-/// The opening, from the first state on: pull asks at once, and either arms its heartbeat.
-#[tactic(auto, using(std::proofs::lemmas::Grind::common_steps, crate::proofs::Replaying::opening_listens))]
+// The opening, from the first state on: pull asks at once, and either arms its heartbeat.
+#[tactic(auto, using(std::proofs::lemmas::Grind::common_steps, crate::proofs::ReplayRuns::opening_listens))]
 pub(crate) fn open(
     alloc: Global,
     context: &EventContext<'_>,
-    todo: &mut Todo,
+    todo: &mut TaskStack,
     outputs: &mut Vec<Output>,
 ) -> Result<ReplayState, OutOfMemory>
     requires tick { context.now.what.now ≡ Tick }
     requires rested { todo.old.tasks.items ≡ [] }
     requires empty { outputs.old.items ≡ [] }
-    ensures state { IfOk result (λ state. state ≡ (fold.opening (given_of context.now) context.now.moment).state) }
-    ensures outputs { OnOk result (outputs.new.items ≡ (fold.opening (given_of context.now) context.now.moment).outputs) }
+    ensures state { IfOk result (λ state. state ≡ (fold.opening (input_of context.now) context.now.moment).state) }
+    ensures outputs { OnOk result (outputs.new.items ≡ (fold.opening (input_of context.now) context.now.moment).outputs) }
     ensures rested { OnOk result (todo.new.tasks.items ≡ []) }
 {
     let mut state = first_state(context)?;
@@ -111,7 +111,7 @@ pub(crate) fn open(
 
 // ---- one event
 
-/// The link after an event.
+// The link after an event.
 pub(crate) fn link_after(what: &EventKind, was: bool) -> bool
     ensures { result ≡ fold.link_after what.now was }
 {
@@ -121,19 +121,19 @@ pub(crate) fn link_after(what: &EventKind, was: bool) -> bool
     }
 }
 
-/// One event is passed at its moment, with the link as it then stands.
+// One event is passed at its moment, with the link as it then stands.
 fn pass(
     alloc: Global,
     context: &EventContext<'_>,
     event: &Event,
     state: &mut ReplayState,
-    todo: &mut Todo,
+    todo: &mut TaskStack,
     outputs: &mut Vec<Output>,
 ) -> Result<(), OutOfMemory>
     requires rested { todo.old.tasks.items ≡ [] }
     requires empty { outputs.old.items ≡ [] }
-    ensures state { OnOk result (state.new ≡ (fold.event (given_of context.now) event.now state.old).state) }
-    ensures outputs { OnOk result (outputs.new.items ≡ (fold.event (given_of context.now) event.now state.old).outputs) }
+    ensures state { OnOk result (state.new ≡ (fold.event (input_of context.now) event.now state.old).state) }
+    ensures outputs { OnOk result (outputs.new.items ≡ (fold.event (input_of context.now) event.now state.old).outputs) }
     ensures rested { OnOk result (todo.new.tasks.items ≡ []) }
 {
     state.link_up = link_after(&event.what, state.link_up);
@@ -150,8 +150,8 @@ fn pass(
     Ok(())
 }
 
-/// The outputs so far become a step that takes no more memory than they need. What held them is empty and keeps its
-/// room for those of the next event.
+// The outputs so far become a step that takes no more memory than they need. What held them is empty and keeps its
+// room for those of the next event.
 fn take_step(outputs: &mut Vec<Output>) -> Result<Step, OutOfMemory>
     ensures step { IfOk result (λ step. step.outputs ≡ outputs.old.items) }
     ensures emptied { OnOk result (outputs.new.items ≡ []) }
@@ -162,19 +162,18 @@ fn take_step(outputs: &mut Vec<Output>) -> Result<Step, OutOfMemory>
     })
 }
 
-/// The step of one event.
 fn step(
     alloc: Global,
     context: &EventContext<'_>,
     event: &Event,
     state: &mut ReplayState,
-    todo: &mut Todo,
+    todo: &mut TaskStack,
     outputs: &mut Vec<Output>,
 ) -> Result<Step, OutOfMemory>
     requires rested { todo.old.tasks.items ≡ [] }
     requires empty { outputs.old.items ≡ [] }
-    ensures step { IfOk result (λ step. step ≡ fold.step_of (fold.event (given_of context.now) event.now state.old)) }
-    ensures state { OnOk result (state.new ≡ (fold.event (given_of context.now) event.now state.old).state) }
+    ensures step { IfOk result (λ step. step ≡ fold.step_of (fold.event (input_of context.now) event.now state.old)) }
+    ensures state { OnOk result (state.new ≡ (fold.event (input_of context.now) event.now state.old).state) }
     ensures emptied { OnOk result (outputs.new.items ≡ []) }
     ensures rested { OnOk result (todo.new.tasks.items ≡ []) }
 {
@@ -184,27 +183,27 @@ fn step(
 
 // ---- all events
 
-/// The consumer has no sequence to go on from.
+// The consumer has no sequence to go on from.
 pub(crate) fn is_exhausted(phase: &Phase) -> bool
     ensures { result ≡ is_exhausted phase.now }
 {
     matches!(phase, Phase::Exhausted)
 }
 
-/// No steps yet, with room for as many as there are events.
+// No steps yet, with room for as many as there are events.
 fn steps_for(alloc: Global, events: &[Event]) -> Result<Items<Step>, OutOfMemory>
     ensures { IfOk result (λ steps. steps ≡ []) }
 {
     Ok(Items::from(Vec::with_capacity(alloc, events.len())?))
 }
 
-/// The steps of a list of events, one for each, are put where there are none.
-#[tactic(auto, using(crate::proofs::Replaying::goes_first, crate::proofs::Replaying::goes_no_further, crate::proofs::Replaying::steps_all, crate::proofs::Replaying::state_last, crate::proofs::Replaying::none_refused))]
+// The steps of a list of events, one for each, are put where there are none.
+#[tactic(auto, using(crate::proofs::ReplayRuns::goes_first, crate::proofs::ReplayRuns::goes_no_further, crate::proofs::ReplayRuns::steps_all, crate::proofs::ReplayRuns::state_last, crate::proofs::ReplayRuns::none_refused))]
 fn put_steps(
     alloc: Global,
     context: &EventContext<'_>,
     state: &mut ReplayState,
-    todo: &mut Todo,
+    todo: &mut TaskStack,
     outputs: &mut Vec<Output>,
     events: &[Event],
     steps: &mut Items<Step>,
@@ -212,10 +211,10 @@ fn put_steps(
     requires rested { todo.old.tasks.items ≡ [] }
     requires empty { outputs.old.items ≡ [] }
     requires none { steps.old ≡ [] }
-    ensures steps { OnOk result (steps.new ≡ map fold.step_of (fold.run_events (given_of context.now) events.now state.old)) }
-    ensures state { OnOk result (state.new ≡ fold.last_state state.old (fold.run_events (given_of context.now) events.now state.old)) }
-    ensures accepted { OnOk result (refuse_end (fold.run_events (given_of context.now) events.now state.old) ≡ None) }
-    ensures refused { IfErr result (λ e. e ≢ ReplayError.OutOfMemory → refuse_end (fold.run_events (given_of context.now) events.now state.old) ≡ Some e) }
+    ensures steps { OnOk result (steps.new ≡ map fold.step_of (fold.run_events (input_of context.now) events.now state.old)) }
+    ensures state { OnOk result (state.new ≡ fold.last_state state.old (fold.run_events (input_of context.now) events.now state.old)) }
+    ensures accepted { OnOk result (refuse_end (fold.run_events (input_of context.now) events.now state.old) ≡ None) }
+    ensures refused { IfErr result (λ e. e ≢ ReplayError.OutOfMemory → refuse_end (fold.run_events (input_of context.now) events.now state.old) ≡ Some e) }
 {
     for (place, event) in events.iter().enumerate() {
         let Ok(step) = step(alloc, context, event, state, todo, outputs) else {
@@ -234,21 +233,21 @@ fn put_steps(
     Ok(())
 }
 
-/// The steps of a list of events, one for each.
+// The steps of a list of events, one for each.
 fn steps_of(
     alloc: Global,
     context: &EventContext<'_>,
     state: &mut ReplayState,
-    todo: &mut Todo,
+    todo: &mut TaskStack,
     outputs: &mut Vec<Output>,
     events: &[Event],
 ) -> Result<Items<Step>, ReplayError>
     requires rested { todo.old.tasks.items ≡ [] }
     requires empty { outputs.old.items ≡ [] }
-    ensures steps { IfOk result (λ steps. steps ≡ map fold.step_of (fold.run_events (given_of context.now) events.now state.old)) }
-    ensures state { OnOk result (state.new ≡ fold.last_state state.old (fold.run_events (given_of context.now) events.now state.old)) }
-    ensures accepted { OnOk result (refuse_end (fold.run_events (given_of context.now) events.now state.old) ≡ None) }
-    ensures refused { IfErr result (λ e. e ≢ ReplayError.OutOfMemory → refuse_end (fold.run_events (given_of context.now) events.now state.old) ≡ Some e) }
+    ensures steps { IfOk result (λ steps. steps ≡ map fold.step_of (fold.run_events (input_of context.now) events.now state.old)) }
+    ensures state { OnOk result (state.new ≡ fold.last_state state.old (fold.run_events (input_of context.now) events.now state.old)) }
+    ensures accepted { OnOk result (refuse_end (fold.run_events (input_of context.now) events.now state.old) ≡ None) }
+    ensures refused { IfErr result (λ e. e ≢ ReplayError.OutOfMemory → refuse_end (fold.run_events (input_of context.now) events.now state.old) ≡ Some e) }
 {
     let mut steps = steps_for(alloc, events)?;
     match put_steps(alloc, context, state, todo, outputs, events, &mut steps) {
@@ -262,21 +261,21 @@ fn steps_of(
 
 // ---- a replay
 
-/// The run of the events, from a state that was just opened on.
-#[tactic(auto, using(crate::proofs::Replaying::run_folded, crate::proofs::Replaying::end_folded))]
+// The run of the events, from a state that was just opened on.
+#[tactic(auto, using(crate::proofs::ReplayRuns::run_folded, crate::proofs::ReplayRuns::end_folded))]
 fn run_from(
     alloc: Global,
     context: &EventContext<'_>,
     state: &mut ReplayState,
-    todo: &mut Todo,
+    todo: &mut TaskStack,
     outputs: &mut Vec<Output>,
     events: &[Event],
 ) -> Result<Run, ReplayError>
-    requires accepted { refuse_input (given_of context.now) context.now.moment events.now ≡ None }
+    requires accepted { refuse_input (input_of context.now) context.now.moment events.now ≡ None }
     requires rested { todo.old.tasks.items ≡ [] }
-    requires first { state.old ≡ (fold.opening (given_of context.now) context.now.moment).state }
-    requires opened { outputs.old.items ≡ (fold.opening (given_of context.now) context.now.moment).outputs }
-    ensures { IsFolded (given_of context.now) context.now.moment events.now result }
+    requires first { state.old ≡ (fold.opening (input_of context.now) context.now.moment).state }
+    requires opened { outputs.old.items ≡ (fold.opening (input_of context.now) context.now.moment).outputs }
+    ensures { IsFolded (input_of context.now) context.now.moment events.now result }
 {
     let opening = take_step(outputs)?;
     match steps_of(alloc, context, state, todo, outputs, events) {
@@ -292,20 +291,20 @@ fn run_from(
     }
 }
 
-/// The run of the events of input that is not refused, from the opening on.
-#[tactic(auto, using(crate::proofs::Replaying::end_folded))]
+// The run of the events of input that is not refused, from the opening on.
+#[tactic(auto, using(crate::proofs::ReplayRuns::end_folded))]
 fn run_over(
     alloc: Global,
     context: &EventContext<'_>,
-    todo: &mut Todo,
+    todo: &mut TaskStack,
     outputs: &mut Vec<Output>,
     events: &[Event],
 ) -> Result<Run, ReplayError>
     requires tick { context.now.what.now ≡ Tick }
-    requires accepted { refuse_input (given_of context.now) context.now.moment events.now ≡ None }
+    requires accepted { refuse_input (input_of context.now) context.now.moment events.now ≡ None }
     requires rested { todo.old.tasks.items ≡ [] }
     requires empty { outputs.old.items ≡ [] }
-    ensures { IsFolded (given_of context.now) context.now.moment events.now result }
+    ensures { IsFolded (input_of context.now) context.now.moment events.now result }
 {
     let mut state = open(alloc, context, todo, outputs)?;
     let ran = run_from(alloc, context, &mut state, todo, outputs, events);
@@ -313,13 +312,13 @@ fn run_over(
     ran
 }
 
-/// The run of the events of input that is not refused.
+// The run of the events of input that is not refused.
 fn run(alloc: Global, context: &EventContext<'_>, events: &[Event]) -> Result<Run, ReplayError>
     requires tick { context.now.what.now ≡ Tick }
-    requires accepted { refuse_input (given_of context.now) context.now.moment events.now ≡ None }
-    ensures { IsFolded (given_of context.now) context.now.moment events.now result }
+    requires accepted { refuse_input (input_of context.now) context.now.moment events.now ≡ None }
+    ensures { IsFolded (input_of context.now) context.now.moment events.now result }
 {
-    let mut todo = Todo::new(alloc);
+    let mut todo = TaskStack::new(alloc);
     let mut outputs = Vec::new(alloc);
     let ran = run_over(alloc, context, &mut todo, &mut outputs, events);
     drop(outputs);
@@ -327,11 +326,11 @@ fn run(alloc: Global, context: &EventContext<'_>, events: &[Event]) -> Result<Ru
     ran
 }
 
-/// The run, or the refusal that applies.
-#[tactic(auto, using(crate::proofs::Replaying::input_folded))]
+// The run, or the refusal that applies.
+#[tactic(auto, using(crate::proofs::ReplayRuns::input_folded))]
 fn replay(alloc: Global, context: &EventContext<'_>, events: &[Event]) -> Result<Run, ReplayError>
     requires { context.now.what.now ≡ Tick }
-    ensures { IsFolded (given_of context.now) context.now.moment events.now result }
+    ensures { IsFolded (input_of context.now) context.now.moment events.now result }
 {
     if let Some(refusal) = refuse_input(context, events) {
         return Err(refusal);
@@ -364,7 +363,7 @@ fn replay(alloc: Global, context: &EventContext<'_>, events: &[Event]) -> Result
 ///   sequences was yielded.
 ///
 /// `OutOfMemory` may come in place of a run or of any of them.
-#[tactic(auto, using(js_table::proofs::Promises::folded_answers, js_table::proofs::Promises::folded_valid))]
+#[tactic(auto, using(js_ordered_table::proofs::Promises::folded_answers, js_ordered_table::proofs::Promises::folded_valid))]
 pub fn replay_ordered(
     alloc: Global,
     settings: &Settings,

@@ -1,8 +1,8 @@
-mod Meeting
-mod Passing
-mod Keeping
-mod Hearing
-mod Pushing
-mod Turning
+mod RowMet
+mod PassedRows
+mod KeptSeen
+mod ReaderRows
+mod PushRows
+mod NextRow
 mod Strides
 mod Opening

@@ -6,27 +6,27 @@ use Rattle.js_json.specs.declared.pull.OrderedConfig as pull_config
 use Rattle.js_json.specs.declared.push.OrderedConfig as push_config
 use Rattle.js_link.specs.LinkView.{LinkView}
 use Rattle.js_link.specs.Meets.{Meets}
-use Rattle.js_ordered_stream.specs.declared.left.Left.{Left}
+use Rattle.js_ordered_stream.specs.declared.remaining_rows.RemainingRows.{RemainingRows}
 use Rattle.js_ordered_stream.specs.declared.ordered.Ordered as polled
 use Rattle.js_ordered_stream.specs.declared.pull.Ordered as pulls
 use Rattle.js_ordered_stream.specs.declared.push.Ordered as pushes
-use Rattle.js_ordered_stream.specs.Opening.{ListensFirst, OpensConsumer, OpensDelivery, OpensOrdered, OpensPushed, IsGaplessPull, IsGaplessPush, given_of_pull, given_of_push, listens_first, opened_at, reads_first}
+use Rattle.js_ordered_stream.specs.Opening.{ListensFirst, OpensConsumer, OpensDelivery, OpensOrdered, OpensPushed, IsGaplessPull, IsGaplessPush, input_of_pull, input_of_push, listens_first, opened_at, reads_first}
 use Rattle.js_ordered_stream.specs.Rows.{left_rows}
-use Rattle.js_ordered_stream.specs.Stream.{with_retries}
+use Rattle.js_ordered_stream.specs.Ordered.{with_retries}
 use Rattle.js_pull.specs.Reader.{opening}
-use Rattle.js_table.specs.declared.consumer.Consumer.{Consumer}
-use Rattle.js_table.specs.declared.consumer.ReplayInput.{ReplayInput}
-use Rattle.js_table.specs.declared.row.Row.{Row}
-use Rattle.js_table.specs.declared.row.Row.TheVariants.{Arm, Read}
-use Rattle.js_table.specs.declared.setup.OrderedSetup.{OrderedSetup}
-use Rattle.js_table.specs.declared.setup.OrderedSetup.TheVariants.{Pull, Push}
-use Rattle.js_table.specs.declared.setup.Settings.{Settings}
-use Rattle.js_table.specs.Gapless.{Server}
-use Rattle.js_table.specs.Kept.{IsKeptOn}
-use Rattle.js_table.specs.Texts.{configured_start}
-use Rattle.js_turns.specs.Lifetime.{IsGaplessFrom}
-use Rattle.js_turns.specs.Turns.{Position}
-use Rattle.js_turns.proofs.Lifetime.{polls_gapless}
+use Rattle.js_ordered_table.specs.declared.consumer.Consumer.{Consumer}
+use Rattle.js_ordered_table.specs.declared.consumer.ReplayInput.{ReplayInput}
+use Rattle.js_ordered_table.specs.declared.row.Row.{Row}
+use Rattle.js_ordered_table.specs.declared.row.Row.TheVariants.{Arm, Read}
+use Rattle.js_ordered_table.specs.declared.setup.OrderedSetup.{OrderedSetup}
+use Rattle.js_ordered_table.specs.declared.setup.OrderedSetup.TheVariants.{Pull, Push}
+use Rattle.js_ordered_table.specs.declared.setup.Settings.{Settings}
+use Rattle.js_ordered_table.specs.Gapless.{Server}
+use Rattle.js_ordered_table.specs.Invariant.{IsKeptOn}
+use Rattle.js_ordered_table.specs.Texts.{configured_start}
+use Rattle.js_ordered_table.specs.Lifetime.{IsGaplessFrom}
+use Rattle.js_ordered_table.specs.Walk.{Position}
+use Rattle.js_ordered_table.proofs.Lifetime.{polls_gapless}
 
 abbrev position_at : Consumer → List Row → Position
 position_at c todo = record { consumer = c; todo = todo }
@@ -34,7 +34,7 @@ position_at c todo = record { consumer = c; todo = todo }
 -- ---- pull
 
 -- the rows of an opening are left
-pub opens_ordered : (g given : ReplayInput) (c : Consumer) (left : Left) (o : polled.Ordered) (settings : Settings) (config : pull_config.OrderedConfig) (first : Info) (old new : LinkView)
+pub opens_ordered : (g given : ReplayInput) (c : Consumer) (left : RemainingRows) (o : polled.Ordered) (settings : Settings) (config : pull_config.OrderedConfig) (first : Info) (old new : LinkView)
     → OpensConsumer (Ok c) g old new → g ≡ given → given ≡ record { settings = with_retries settings; setup = Pull config; first = first }
     → left_rows left ≡ map Read opening → o ≡ record { given = given; consumer = c; left = left }
     → OpensOrdered (Ok (record { polled = o })) settings config first old new
@@ -51,7 +51,7 @@ opens_ordered g given c left o settings config first old new (inbox, subject, op
 -- ---- push
 
 -- the first consumer arms its heartbeat next
-pub opens_pushed : (g given : ReplayInput) (c : Consumer) (left : Left) (o : polled.Ordered) (settings : Settings) (config : push_config.OrderedConfig) (first : Info) (old new : LinkView)
+pub opens_pushed : (g given : ReplayInput) (c : Consumer) (left : RemainingRows) (o : polled.Ordered) (settings : Settings) (config : push_config.OrderedConfig) (first : Info) (old new : LinkView)
     → ListensFirst (Ok c) g old new → g ≡ given → given ≡ record { settings = with_retries settings; setup = Push config; first = first }
     → left_rows left ≡ Arm ∷ [] → o ≡ record { given = given; consumer = c; left = left }
     → OpensPushed (Ok (record { polled = o })) settings config first old new
@@ -77,7 +77,7 @@ fresh_kept setup s inbox starts = record {
 pub pull_gapless : (o : pulls.Ordered) (settings : Settings) (config : pull_config.OrderedConfig) (first : Info) (old new : LinkView)
     → OpensOrdered (Ok o) settings config first old new → IsGaplessPull o
 pull_gapless o settings config first old new (inbox, subject, opens, given_is, at) =
-    subst (λ (p : Position). IsGaplessFrom (given_of_pull o) Meets p) (sym at)
+    subst (λ (p : Position). IsGaplessFrom (input_of_pull o) Meets p) (sym at)
     (subst (λ (g : ReplayInput). IsGaplessFrom g Meets (opened_at g inbox subject)) (sym given_is) from_there)
   where
     given : ReplayInput
@@ -91,7 +91,7 @@ pull_gapless o settings config first old new (inbox, subject, opens, given_is, a
 pub push_gapless : (o : pushes.Ordered) (settings : Settings) (config : push_config.OrderedConfig) (first : Info) (old new : LinkView)
     → OpensPushed (Ok o) settings config first old new → IsGaplessPush o
 push_gapless o settings config first old new (inbox, opens, given_is, at) =
-    subst (λ (p : Position). IsGaplessFrom (given_of_push o) Meets p) (sym at)
+    subst (λ (p : Position). IsGaplessFrom (input_of_push o) Meets p) (sym at)
     (subst (λ (g : ReplayInput). IsGaplessFrom g Meets (position_at (listens_first g inbox) (Arm ∷ []))) (sym given_is) from_there)
   where
     given : ReplayInput

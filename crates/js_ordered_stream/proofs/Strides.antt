@@ -4,33 +4,36 @@ use Rattle.std.specs.Prelude.{◌≢◌, ◌↔◌, not, ◌&&◌, ◌||◌, is_
 use Rattle.js_base.specs.declared.message.Message.{Message}
 use Rattle.js_link.specs.LinkView.{LinkView}
 use Rattle.js_link.specs.Meets.{Meets}
-use Rattle.js_link.specs.Met.{Wish, Met, passing_of, Nothing, Opens_inbox, Watches, Publishes, Requests, Drops, Reads, Awaits, Took, IsClosing, message_of}
-use Rattle.js_pull.specs.Asking.{is_shut}
-use Rattle.js_table.specs.declared.consumer.ReplayInput.{ReplayInput}
-use Rattle.js_table.specs.declared.consumer.Phase.{Phase}
-use Rattle.js_table.specs.declared.consumer.Phase.TheVariants.{Pulls, Pushes, Recreates, Idle, Ended, Exhausted}
-use Rattle.js_table.specs.declared.row.Arrival.{Arrival}
-use Rattle.js_table.specs.declared.row.Row.{Row}
-use Rattle.js_table.specs.declared.row.Row.TheVariants.{Hear}
+use Rattle.js_link.specs.Wish.{row_input, IsClosing, message_of, is_shut}
+use Rattle.js_link.specs.declared.wish.Wish.{Wish}
+use Rattle.js_link.specs.declared.wish.Wish.TheVariants.{Nothing, OpensInbox, Watches, Publishes, Requests, Drops, Reads, Awaits}
+use Rattle.js_link.specs.declared.wish.Met.{Met}
+use Rattle.js_link.specs.declared.wish.Met.TheVariants.{Took}
+use Rattle.js_ordered_table.specs.declared.consumer.ReplayInput.{ReplayInput}
+use Rattle.js_ordered_table.specs.declared.consumer.Phase.{Phase}
+use Rattle.js_ordered_table.specs.declared.consumer.Phase.TheVariants.{Pulls, Pushes, Recreates, Idle, Ended, Exhausted}
+use Rattle.js_ordered_table.specs.declared.row.Arrival.{Arrival}
+use Rattle.js_ordered_table.specs.declared.row.Row.{Row}
+use Rattle.js_ordered_table.specs.declared.row.Row.TheVariants.{Hear}
 use Rattle.js_ordered_stream.specs.Rows.{seen_by}
-use Rattle.js_table.specs.declared.run.ItemKind.{ItemKind}
-use Rattle.js_table.specs.declared.run.ItemKind.TheVariants as item
-use Rattle.js_table.specs.declared.run.Output.{Output}
-use Rattle.js_table.specs.Fold.{is_over}
+use Rattle.js_ordered_table.specs.declared.run.ItemKind.{ItemKind}
+use Rattle.js_ordered_table.specs.declared.run.ItemKind.TheVariants as item
+use Rattle.js_ordered_table.specs.declared.run.Output.{Output}
+use Rattle.js_ordered_table.specs.Fold.{is_over}
 use Rattle.js_ordered_stream.specs.declared.error.OrderedErrorKind.{OrderedErrorKind}
 use Rattle.js_ordered_stream.specs.declared.error.OrderedErrorKind.TheVariants as error
-use Rattle.js_ordered_stream.specs.declared.ordered.Turned.{Turned}
-use Rattle.js_ordered_stream.specs.declared.ordered.Turned.TheVariants as turns
+use Rattle.js_ordered_stream.specs.declared.ordered.RowOutcome.{RowOutcome}
+use Rattle.js_ordered_stream.specs.declared.ordered.RowOutcome.TheVariants as turns
 use Rattle.js_base.specs.declared.error.Error.{Error}
 use Rattle.js_base.specs.declared.turn.Next.{Next}
 use Rattle.js_base.specs.declared.turn.Next.TheVariants as next
-use Rattle.js_base.specs.Errors.{kind_of, source_of}
-use Rattle.js_ordered_stream.specs.Stream.{PassesNext, PollsWithSource, TurnsTo, error_kind, handing, is_given, told_of, is_spent, source_by, step_met, stride_met, stirring}
-use Rattle.js_turns.specs.Polling.{Answer, Yields, Tells, HandsEnd, Waits, Ends, Lacks, IsPoll, IsMet, IsQuietRow, AreQuiet, IsQuietTurn, IsTaken, StopsAtFirst, last_arrival, looked_at, poll_wish, closed_at, handed_by}
-use Rattle.js_turns.specs.Turns.{Position, Stride, IsStride, step, walk, handed, first_row}
-use Rattle.js_turns.specs.Wishes.{arrival_of, matter_of}
-use Rattle.js_turns.proofs.Polls.{poll_gapless}
-use Rattle.js_turns.proofs.Walking.{handed_append, walk_append}
+use Rattle.js_base.specs.Error.{kind_of, source_of}
+use Rattle.js_ordered_stream.specs.Ordered.{PassesNext, PollsWithSource, ComesTo, error_kind, handing, is_given, told_of, is_spent, source_by, step_met, stride_met, stirring}
+use Rattle.js_ordered_table.specs.Poll.{Answer, Yields, Tells, HandsEnd, Waits, Ends, Lacks, IsPoll, IsMet, IsQuietRow, AreQuiet, IsQuietTurn, IsTaken, StopsAtFirst, last_arrival, looked_at, poll_wish, closed_at, handed_by}
+use Rattle.js_ordered_table.specs.Walk.{Position, Stride, IsStride, step, walk, handed, first_row}
+use Rattle.js_ordered_table.specs.Wishes.{arrival_of, matter_of}
+use Rattle.js_ordered_table.proofs.Polls.{poll_gapless}
+use Rattle.js_ordered_table.proofs.Walk.{handed_append, walk_append}
 
 -- ---- lists of strides
 
@@ -411,7 +414,7 @@ last_more g (x ∷ y ∷ strides) s at = last_more g (y ∷ strides) s (step g x
 took_same : (wish : Wish) (met : Met) (v u : LinkView) → Meets wish met v u → option_map (λ (arrival : Arrival). arrival.message) (arrival_of wish met) ≡ message_of met
 took_same (Reads inbox) (Took message) v u m = refl
 took_same Nothing (Took message) v u m = absurd m
-took_same Opens_inbox (Took message) v u m = absurd m
+took_same OpensInbox (Took message) v u m = absurd m
 took_same Watches (Took message) v u m = absurd m
 took_same (Publishes subject reply payload) (Took message) v u m = absurd m
 took_same (Requests subject payload) (Took message) v u m = absurd m
@@ -419,7 +422,7 @@ took_same (Drops inbox) (Took message) v u m = absurd m
 took_same (Awaits request) (Took message) v u m = absurd m
 took_same wish met v u m = refl
 
-looked_same : (row : Row) (now : ℕ) (wish : Wish) (met : Met) (v u : LinkView) → Meets wish met v u → looked_at row (record { passing = passing_of now met; matter = matter_of wish met }) ≡ seen_by row met
+looked_same : (row : Row) (now : ℕ) (wish : Wish) (met : Met) (v u : LinkView) → Meets wish met v u → looked_at row (record { passing = row_input now met; matter = matter_of wish met }) ≡ seen_by row met
 looked_same (Hear arrival) now wish met v u m = refl
 looked_same row now wish met v u m = took_same wish met v u m
 
@@ -541,54 +544,54 @@ poll_exhausts g now quiet met old at new v u w walked passes hands spent =
 
 -- ---- what the next row came to, by what its code says
 
-known : (t : Turned) (kept : Option Message) (g h : ReplayInput) (now : ℕ) (old new : Position) (v u : LinkView) → h ≡ g → TurnsTo t kept h now old new v u → TurnsTo t kept g now old new v u
-known t kept g h now old new v u same turned = subst (λ (x : ReplayInput). TurnsTo t kept x now old new v u) same turned
+known : (t : RowOutcome) (kept : Option Message) (g h : ReplayInput) (now : ℕ) (old new : Position) (v u : LinkView) → h ≡ g → ComesTo t kept h now old new v u → ComesTo t kept g now old new v u
+known t kept g h now old new v u same turned = subst (λ (x : ReplayInput). ComesTo t kept x now old new v u) same turned
 
 pub on_silent : (g h : ReplayInput) (now : ℕ) (quiet begins stirs : Bool) (old at new : Position) (v u w : LinkView) → h ≡ g → Walked g now quiet old at v u → (begins ≡ true → at.todo ≡ [])
-    → TurnsTo (turns.Silent stirs) None h now at new u w → Walked g now ((begins || quiet) && not stirs) old new v w
+    → ComesTo (turns.Silent stirs) None h now at new u w → Walked g now ((begins || quiet) && not stirs) old new v w
 on_silent g h now quiet begins stirs old at new v u w same walked rests turned =
-    let t : TurnsTo (turns.Silent stirs) None g now at new u w = known (turns.Silent stirs) None g h now at new u w same turned in
+    let t : ComesTo (turns.Silent stirs) None g now at new u w = known (turns.Silent stirs) None g h now at new u w same turned in
     walked_more g now quiet begins stirs t.0 old at new v u w walked rests t.1 t.2 t.3 t.4
 
 -- the message that was kept is handed out, which changes nothing else
 pub on_hands : (g h : ReplayInput) (now : ℕ) (quiet : Bool) (kept : Option Message) (result : Next (Result Message (Error OrderedErrorKind))) (old at new end : Position) (v u w : LinkView) → h ≡ g → Walked g now quiet old at v u
-    → TurnsTo turns.Hands kept h now at new u w → end ≡ new → result ≡ handing kept → PollsWithSource g now old end v w result
+    → ComesTo turns.Hands kept h now at new u w → end ≡ new → result ≡ handing kept → PollsWithSource g now old end v w result
 on_hands g h now quiet kept result old at new end v u w same walked turned stays is =
-    let t : TurnsTo turns.Hands kept g now at new u w = known turns.Hands kept g h now at new u w same turned in
+    let t : ComesTo turns.Hands kept g now at new u w = known turns.Hands kept g h now at new u w same turned in
     subst (λ (r : Next (Result Message (Error OrderedErrorKind))). PollsWithSource g now old end v w r) (sym (is ∙ ap handing t.1)) (
       subst (λ (x : Position). Polls g now old x v w (Yields t.0)) (sym stays) (poll_yields g now quiet t.2 old at new v u w t.0 walked t.3 t.4 t.5),
       tt,
     )
 
 pub on_tells : (g h : ReplayInput) (now : ℕ) (quiet : Bool) (kind : ItemKind) (kept : Option Message) (e : Error OrderedErrorKind) (old at new end : Position) (v u w : LinkView) → h ≡ g → Walked g now quiet old at v u
-    → kind_of e ≡ error_kind kind → source_of e ≡ source_by (error_kind kind) kept → TurnsTo (turns.Tells kind) kept h now at new u w → end ≡ new → PollsWithSource g now old end v w (next.Item (Err e))
+    → kind_of e ≡ error_kind kind → source_of e ≡ source_by (error_kind kind) kept → ComesTo (turns.Tells kind) kept h now at new u w → end ≡ new → PollsWithSource g now old end v w (next.Item (Err e))
 on_tells g h now quiet kind kept e old at new end v u w same walked is comes turned stays =
-    let t : TurnsTo (turns.Tells kind) kept g now at new u w = known (turns.Tells kind) kept g h now at new u w same turned in
+    let t : ComesTo (turns.Tells kind) kept g now at new u w = known (turns.Tells kind) kept g h now at new u w same turned in
     subst (λ (x : Position). PollsWithSource g now old x v w (next.Item (Err e))) (sym stays) (poll_errs g now quiet t.0 old at new v u w kind kept e is comes t.3 walked t.1 t.2)
 
 pub on_exhausted : (g h : ReplayInput) (now : ℕ) (quiet : Bool) (e : Error OrderedErrorKind) (old at new : Position) (v u w : LinkView) → h ≡ g → Walked g now quiet old at v u
-    → kind_of e ≡ error.SequenceEnd → source_of e ≡ None → TurnsTo turns.Exhausted None h now at new u w → PollsWithSource g now old new v w (next.Item (Err e))
+    → kind_of e ≡ error.SequenceEnd → source_of e ≡ None → ComesTo turns.Exhausted None h now at new u w → PollsWithSource g now old new v w (next.Item (Err e))
 on_exhausted g h now quiet e old at new v u w same walked is comes turned =
-    let t : TurnsTo turns.Exhausted None g now at new u w = known turns.Exhausted None g h now at new u w same turned in
+    let t : ComesTo turns.Exhausted None g now at new u w = known turns.Exhausted None g h now at new u w same turned in
     let poll : Polls g now old new v w (told_of (kind_of e)) =
     subst (λ (k : OrderedErrorKind). Polls g now old new v w (told_of k)) (sym is) (poll_exhausts g now quiet t.0 old at new v u w walked t.1 t.2 t.3) in
     (poll, comes ∙ ap (λ (k : OrderedErrorKind). source_by k (last_arrival g poll.strides old)) (sym is))
 
 pub on_closed : (g h : ReplayInput) (now : ℕ) (quiet : Bool) (old at new : Position) (v u w : LinkView) → h ≡ g → Walked g now quiet old at v u
-    → TurnsTo turns.Closed None h now at new u w → Polls g now old new v w Ends
+    → ComesTo turns.Closed None h now at new u w → Polls g now old new v w Ends
 on_closed g h now quiet old at new v u w same walked turned =
-    let t : TurnsTo turns.Closed None g now at new u w = known turns.Closed None g h now at new u w same turned in
+    let t : ComesTo turns.Closed None g now at new u w = known turns.Closed None g h now at new u w same turned in
     poll_closes g now quiet old at new v u w walked t.0 t.1
 
 pub on_lacks : (g h : ReplayInput) (now : ℕ) (quiet : Bool) (old at new : Position) (v u w : LinkView) → h ≡ g → Walked g now quiet old at v u
-    → TurnsTo turns.OutOfMemory None h now at new u w → Polls g now old new v w Lacks
+    → ComesTo turns.OutOfMemory None h now at new u w → Polls g now old new v w Lacks
 on_lacks g h now quiet old at new v u w same walked turned =
-    let t : TurnsTo turns.OutOfMemory None g now at new u w = known turns.OutOfMemory None g h now at new u w same turned in
+    let t : ComesTo turns.OutOfMemory None g now at new u w = known turns.OutOfMemory None g h now at new u w same turned in
     poll_lacks g now quiet old at new v u w walked t.0 t.1
 
 -- it waits where nothing is left of a turn that was quiet
-pub on_waits : (g : ReplayInput) (now : ℕ) (quiet begins both : Bool) (old at : Position) (v u : LinkView) → Walked g now quiet old at v u → (begins ≡ true → at.todo ≡ [])
-    → both ≡ (begins && quiet) → both ≡ true → Polls g now old at v u Waits
-on_waits g now true true both old at v u walked rests is e = poll_waits g now true old at v u walked refl (rests refl)
-on_waits g now false true both old at v u walked rests is e = absurd (no (sym is ∙ e))
-on_waits g now quiet false both old at v u walked rests is e = absurd (no (sym is ∙ e))
+pub on_waits : (g : ReplayInput) (now : ℕ) (quiet begins may_wait : Bool) (old at : Position) (v u : LinkView) → Walked g now quiet old at v u → (begins ≡ true → at.todo ≡ [])
+    → may_wait ≡ (begins && quiet) → may_wait ≡ true → Polls g now old at v u Waits
+on_waits g now true true may_wait old at v u walked rests is e = poll_waits g now true old at v u walked refl (rests refl)
+on_waits g now false true may_wait old at v u walked rests is e = absurd (no (sym is ∙ e))
+on_waits g now quiet false may_wait old at v u walked rests is e = absurd (no (sym is ∙ e))

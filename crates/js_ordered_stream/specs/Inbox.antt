@@ -4,9 +4,9 @@ use Rattle.js_base.specs.declared.clock.Timer.{Timer}
 use Rattle.js_link.specs.Calls.{Closes}
 use Rattle.js_link.specs.LinkView.{LinkView}
 use Rattle.js_link.specs.declared.sent.InboxId.{InboxId}
-use Rattle.js_table.specs.declared.consumer.Opened.{Opened}
-use Rattle.js_table.specs.declared.consumer.Phase.{Phase}
-use Rattle.js_table.specs.declared.consumer.Phase.TheVariants.{Pulls, Pushes, Recreates, Ended}
+use Rattle.js_ordered_table.specs.declared.consumer.Opened.{Opened}
+use Rattle.js_ordered_table.specs.declared.consumer.Phase.{Phase}
+use Rattle.js_ordered_table.specs.declared.consumer.Phase.TheVariants.{Pulls, Pushes, Recreates, Ended}
 
 -- the one of the consumer that is being made
 abbrev pub opened_inbox : Option Opened → Option InboxId

@@ -1,4 +1,4 @@
 pub mod Rows
-pub mod Stream
+pub mod Ordered
 pub mod Opening
 pub mod Inbox

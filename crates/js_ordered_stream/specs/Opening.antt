@@ -11,24 +11,24 @@ use Rattle.js_ordered_stream.specs.declared.pull.Ordered as pulls
 use Rattle.js_ordered_stream.specs.declared.push.Ordered as pushes
 use Rattle.js_ordered_stream.specs.declared.push.OpenError.{OpenError}
 use Rattle.js_ordered_stream.specs.declared.push.OpenError.TheVariants as refusal
-use Rattle.js_ordered_stream.specs.Stream.{first_at, given_to, position_of, with_retries}
+use Rattle.js_ordered_stream.specs.Ordered.{first_at, given_to, position_of, with_retries}
 use Rattle.js_pull.specs.Reader.{new_reader, opening}
-use Rattle.js_table.specs.declared.consumer.Consumer.{Consumer}
-use Rattle.js_table.specs.declared.consumer.ReplayInput.{ReplayInput}
-use Rattle.js_table.specs.declared.consumer.Phase.TheVariants.{Pulls, Pushes}
-use Rattle.js_table.specs.declared.row.Row.TheVariants.{Arm, Read}
-use Rattle.js_table.specs.declared.setup.OrderedSetup.TheVariants.{Pull, Push}
-use Rattle.js_table.specs.declared.setup.Settings.{Settings}
-use Rattle.js_table.specs.Reading.{armed}
-use Rattle.js_table.specs.Texts.{configured_start, source_of}
-use Rattle.js_turns.specs.Lifetime.{IsGaplessFrom}
-use Rattle.js_turns.specs.Turns.{Position}
+use Rattle.js_ordered_table.specs.declared.consumer.Consumer.{Consumer}
+use Rattle.js_ordered_table.specs.declared.consumer.ReplayInput.{ReplayInput}
+use Rattle.js_ordered_table.specs.declared.consumer.Phase.TheVariants.{Pulls, Pushes}
+use Rattle.js_ordered_table.specs.declared.row.Row.TheVariants.{Arm, Read}
+use Rattle.js_ordered_table.specs.declared.setup.OrderedSetup.TheVariants.{Pull, Push}
+use Rattle.js_ordered_table.specs.declared.setup.Settings.{Settings}
+use Rattle.js_ordered_table.specs.Arrivals.{armed}
+use Rattle.js_ordered_table.specs.Texts.{configured_start, source_of}
+use Rattle.js_ordered_table.specs.Lifetime.{IsGaplessFrom}
+use Rattle.js_ordered_table.specs.Walk.{Position}
 
 -- ---- pull
 
 -- what it is made with
-abbrev pub given_of_pull : pulls.Ordered → ReplayInput
-given_of_pull o = given_to o.polled
+abbrev pub input_of_pull : pulls.Ordered → ReplayInput
+input_of_pull o = given_to o.polled
 
 -- where it stands
 abbrev pub position_of_pull : pulls.Ordered → Position
@@ -51,19 +51,19 @@ OpensConsumer (Err e) g old new = RefusedSend e old new
 abbrev pub OpensOrdered : Result pulls.Ordered LinkError → Settings → pull_config.OrderedConfig → Info → LinkView → LinkView → Type 0
 OpensOrdered (Ok o) settings config first old new =
     (inbox : ℕ) × (subject : List ℕ) × OpensOwn inbox subject old new
-    × (given_of_pull o ≡ record { settings = with_retries settings; setup = Pull config; first = first })
-    × (position_of_pull o ≡ opened_at (given_of_pull o) inbox subject)
+    × (input_of_pull o ≡ record { settings = with_retries settings; setup = Pull config; first = first })
+    × (position_of_pull o ≡ opened_at (input_of_pull o) inbox subject)
 OpensOrdered (Err e) settings config first old new = RefusedSend e old new
 
 -- however it is polled from here on, what it yields is gapless where the server is honest
 abbrev pub IsGaplessPull : pulls.Ordered → Type 0
-IsGaplessPull o = IsGaplessFrom (given_of_pull o) Meets (position_of_pull o)
+IsGaplessPull o = IsGaplessFrom (input_of_pull o) Meets (position_of_pull o)
 
 -- ---- push
 
 -- what it is made with
-abbrev pub given_of_push : pushes.Ordered → ReplayInput
-given_of_push o = given_to o.polled
+abbrev pub input_of_push : pushes.Ordered → ReplayInput
+input_of_push o = given_to o.polled
 
 -- where it stands
 abbrev pub position_of_push : pushes.Ordered → Position
@@ -102,10 +102,10 @@ ListensFirst (Err e) g old new = RefusesOpen e g.first old new
 abbrev pub OpensPushed : Result pushes.Ordered OpenError → Settings → push_config.OrderedConfig → Info → LinkView → LinkView → Type 0
 OpensPushed (Ok o) settings config first old new =
     (inbox : ℕ) × OpensDelivery inbox first old new
-    × (given_of_push o ≡ record { settings = with_retries settings; setup = Push config; first = first })
-    × (position_of_push o ≡ record { consumer = listens_first (given_of_push o) inbox; todo = Arm ∷ [] })
+    × (input_of_push o ≡ record { settings = with_retries settings; setup = Push config; first = first })
+    × (position_of_push o ≡ record { consumer = listens_first (input_of_push o) inbox; todo = Arm ∷ [] })
 OpensPushed (Err e) settings config first old new = RefusesOpen e first old new
 
 -- however it is polled from here on, what it yields is gapless where the server is honest
 abbrev pub IsGaplessPush : pushes.Ordered → Type 0
-IsGaplessPush o = IsGaplessFrom (given_of_push o) Meets (position_of_push o)
+IsGaplessPush o = IsGaplessFrom (input_of_push o) Meets (position_of_push o)

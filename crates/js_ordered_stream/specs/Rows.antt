@@ -3,52 +3,54 @@ use Rattle.std.specs.Prelude.{◌≡◌, ℕ, Bool, true, false, List, [], ◌�
 use Rattle.js_base.specs.declared.message.Message.{Message}
 use Rattle.js_link.specs.LinkView.{LinkView}
 use Rattle.js_link.specs.Meets.{Meets}
-use Rattle.js_link.specs.Met.{Met, Nothing, Opened, Reads, Shut, Took, Got, Gone, passing_of, message_of, IsClosing}
-use Rattle.js_message.specs.Ack.{readable_as}
-use Rattle.js_table.specs.declared.passing.task.Heard.{Heard}
-use Rattle.js_table.specs.declared.passing.task.Heard.TheVariants as hears
-use Rattle.js_table.specs.declared.passing.task.Inbox.{Inbox}
-use Rattle.js_table.specs.declared.passing.task.Task.{Task}
-use Rattle.js_table.specs.Tasks.{StepsTo, next_rows, rows_of}
-use Rattle.js_ordered_stream.specs.declared.left.First.{First}
-use Rattle.js_ordered_stream.specs.declared.left.First.TheVariants as first
-use Rattle.js_ordered_stream.specs.declared.left.Left.{Left}
-use Rattle.js_ordered_stream.specs.declared.left.Seen.{Seen}
-use Rattle.js_ordered_stream.specs.declared.left.Seen.TheVariants as sight
-use Rattle.js_ordered_stream.specs.declared.left.Todo.{Todo}
-use Rattle.js_ordered_stream.specs.declared.left.Todo.TheVariants as todo
+use Rattle.js_link.specs.Wish.{row_input, message_of, IsClosing, is_shut}
+use Rattle.js_link.specs.declared.wish.Wish.TheVariants.{Nothing, Reads}
+use Rattle.js_link.specs.declared.wish.Met.{Met}
+use Rattle.js_link.specs.declared.wish.Met.TheVariants.{Opened, Shut, Took, Got, Gone}
+use Rattle.js_message.specs.AckSubject.{readable_as}
+use Rattle.js_ordered_table.specs.declared.transitions.task.Heard.{Heard}
+use Rattle.js_ordered_table.specs.declared.transitions.task.Heard.TheVariants as hears
+use Rattle.js_ordered_table.specs.declared.transitions.task.Inbox.{Inbox}
+use Rattle.js_ordered_table.specs.declared.transitions.task.Task.{Task}
+use Rattle.js_ordered_table.specs.Tasks.{StepsTo, next_rows, rows_of}
+use Rattle.js_ordered_stream.specs.declared.remaining_rows.First.{First}
+use Rattle.js_ordered_stream.specs.declared.remaining_rows.First.TheVariants as first
+use Rattle.js_ordered_stream.specs.declared.remaining_rows.RemainingRows.{RemainingRows}
+use Rattle.js_ordered_stream.specs.declared.remaining_rows.Seen.{Seen}
+use Rattle.js_ordered_stream.specs.declared.remaining_rows.Seen.TheVariants as sight
+use Rattle.js_ordered_stream.specs.declared.remaining_rows.TaskQueue.{TaskQueue}
+use Rattle.js_ordered_stream.specs.declared.remaining_rows.TaskQueue.TheVariants as todo
 use Rattle.js_ordered_stream.specs.declared.reading.ReadMet.{ReadMet}
-use Rattle.js_ordered_stream.specs.declared.reading.Taken.{Taken}
-use Rattle.js_ordered_stream.specs.declared.rows.Handed.{Handed}
-use Rattle.js_ordered_stream.specs.declared.rows.Handed.TheVariants as hands
+use Rattle.js_ordered_stream.specs.declared.reading.ReaderStep.{ReaderStep}
+use Rattle.js_ordered_stream.specs.declared.rows.RowItem.{RowItem}
+use Rattle.js_ordered_stream.specs.declared.rows.RowItem.TheVariants as hands
 use Rattle.js_ordered_stream.specs.declared.rows.Stepped.{Stepped}
 use Rattle.js_ordered_stream.specs.declared.rows.Stop.{Stop}
 use Rattle.js_ordered_stream.specs.declared.rows.Stop.TheVariants as stop
-use Rattle.js_pull.specs.Asking.{is_shut, met_shown}
 use Rattle.js_pull.specs.Reader.{Answer}
 use Rattle.js_pull.specs.Reader as pull
-use Rattle.js_pull.specs.Steps.{IsInformed, row_of}
+use Rattle.js_pull.specs.Rows.{IsInformed, row_of}
 use Rattle.js_pull.specs.declared.rows.Due.{Due}
 use Rattle.js_pull.specs.declared.reader.Reader.{Reader}
 use Rattle.js_pull.specs.declared.reader.ReaderOutput.{ReaderOutput}
 use Rattle.js_pull.specs.declared.reader.Row.{Row as PullRow}
-use Rattle.js_table.specs.declared.consumer.Consumer.{Consumer}
-use Rattle.js_table.specs.declared.consumer.Opened.{Opened as OpenedInbox}
-use Rattle.js_table.specs.declared.consumer.ReplayInput.{ReplayInput}
-use Rattle.js_table.specs.declared.consumer.Stage.{Stage}
-use Rattle.js_table.specs.declared.consumer.Stage.TheVariants.{Deleting, Creating}
-use Rattle.js_table.specs.declared.row.Arrival.{Arrival}
-use Rattle.js_table.specs.declared.row.Row.{Row}
-use Rattle.js_table.specs.declared.row.Row.TheVariants.{Hear}
-use Rattle.js_table.specs.declared.run.ItemKind.TheVariants as item
-use Rattle.js_table.specs.declared.run.Output.{Output}
-use Rattle.js_table.specs.declared.run.Output.TheVariants as out
-use Rattle.js_table.specs.Reading.{push_kind, told, with_sent}
-use Rattle.js_table.specs.State.{Matter, Passed, Unchanged}
-use Rattle.js_table.specs.Turn.{pass, push_rows}
-use Rattle.js_turns.specs.Polling.{poll_wish_at, yielded}
-use Rattle.js_turns.specs.Turns.{handed}
-use Rattle.js_turns.specs.Wishes.{beat_wish, matter_of}
+use Rattle.js_ordered_table.specs.declared.consumer.Consumer.{Consumer}
+use Rattle.js_ordered_table.specs.declared.consumer.Opened.{Opened as OpenedInbox}
+use Rattle.js_ordered_table.specs.declared.consumer.ReplayInput.{ReplayInput}
+use Rattle.js_ordered_table.specs.declared.consumer.Stage.{Stage}
+use Rattle.js_ordered_table.specs.declared.consumer.Stage.TheVariants.{Deleting, Creating}
+use Rattle.js_ordered_table.specs.declared.row.Arrival.{Arrival}
+use Rattle.js_ordered_table.specs.declared.row.Row.{Row}
+use Rattle.js_ordered_table.specs.declared.row.Row.TheVariants.{Hear}
+use Rattle.js_ordered_table.specs.declared.run.ItemKind.TheVariants as item
+use Rattle.js_ordered_table.specs.declared.run.Output.{Output}
+use Rattle.js_ordered_table.specs.declared.run.Output.TheVariants as out
+use Rattle.js_ordered_table.specs.Arrivals.{push_kind, told, with_sent}
+use Rattle.js_ordered_table.specs.Consumer.{Matter, Passed, Unchanged}
+use Rattle.js_ordered_table.specs.Table.{pass, push_rows}
+use Rattle.js_ordered_table.specs.Poll.{poll_wish_at, yielded}
+use Rattle.js_ordered_table.specs.Walk.{handed}
+use Rattle.js_ordered_table.specs.Wishes.{beat_wish, matter_of}
 
 -- ---- what a row has looked at
 
@@ -100,14 +102,14 @@ abbrev pub read_in : Seen → Matter
 read_in seen = read_by (answer_in seen) (arrival_in seen)
 
 -- in order
-abbrev pub todo_rows : Matter → Todo → List Row
+abbrev pub todo_rows : Matter → TaskQueue → List Row
 todo_rows m todo.Nothing = []
 todo_rows m (todo.One one) = rows_of m one
 todo_rows m (todo.Two one second) = rows_of m one ++ rows_of m second
 todo_rows m (todo.Three one second third) = rows_of m one ++ (rows_of m second ++ rows_of m third)
 
 -- what is left after the next row
-abbrev pub later_of : Matter → Todo → List Row
+abbrev pub later_of : Matter → TaskQueue → List Row
 later_of m todo.Nothing = []
 later_of m (todo.One one) = []
 later_of m (todo.Two one second) = rows_of m second
@@ -117,15 +119,15 @@ abbrev pub later_list : Matter → Option Task → List Row
 later_list m None = []
 later_list m (Some one) = rows_of m one
 
-abbrev pub left_rows : Left → List Row
+abbrev pub left_rows : RemainingRows → List Row
 left_rows left = todo_rows (read_in left.seen) left.todo
 
-abbrev pub is_rested : Todo → Bool
+abbrev pub is_rested : TaskQueue → Bool
 is_rested todo.Nothing = true
 is_rested _ = false
 
 -- there is room for what follows the next row
-abbrev pub Fits : Todo → Type 0
+abbrev pub Fits : TaskQueue → Type 0
 Fits (todo.Three one second third) = ⊥
 Fits _ = ⊤
 
@@ -140,7 +142,7 @@ IsPlain one true = (m u : Matter) → rows_of m one ≡ rows_of u one
 IsPlain one false = ⊤
 
 -- the next row, after which the others stay the same
-abbrev pub FirstOf : First → Todo → Type 0
+abbrev pub FirstOf : First → TaskQueue → Type 0
 FirstOf first.Rests left = left ≡ todo.Nothing
 FirstOf (first.Next task) left =
     ((m : Matter) → todo_rows m left ≡ rows_of m task.now ++ later_of m left) × ((m u : Matter) → later_of m left ≡ later_of u left) × Fits left
@@ -149,14 +151,14 @@ FirstOf first.Blocked left = ⊤
 -- ---- a row is passed
 
 -- what is handed out, with the message that was taken
-abbrev pub handed_list : Handed → Option Message → List Output
+abbrev pub handed_list : RowItem → Option Message → List Output
 handed_list hands.Nothing message = []
 handed_list hands.Message None = []
 handed_list hands.Message (Some message) = yielded (readable_as message.reply) message ∷ []
 handed_list (hands.Error kind) message = out.Item kind ∷ []
 
 -- what is handed out of a message of the stream
-abbrev pub handed_by_heard : Heard → Handed
+abbrev pub handed_by_heard : Heard → RowItem
 handed_by_heard (hears.Yields place) = hands.Message
 handed_by_heard hears.Unreadable = hands.Error item.Other
 handed_by_heard heard = hands.Nothing
@@ -168,10 +170,10 @@ seen_by row met = message_of met
 
 -- the row of the table at what was met
 abbrev pub met_row : ReplayInput → ℕ → Row → Met → Consumer → Passed
-met_row g now row met c = pass g (passing_of now met) (matter_of (poll_wish_at g row c.phase) met) row c
+met_row g now row met c = pass g (row_input now met) (matter_of (poll_wish_at g row c.phase) met) row c
 
 -- a row that tells an error
-abbrev pub IfError : Handed → Type 0 → Type 0
+abbrev pub IfError : RowItem → Type 0 → Type 0
 IfError (hands.Error kind) holds = holds
 IfError handed holds = ⊤
 
@@ -218,8 +220,8 @@ inbox_in met = None
 
 -- a reader's row met this, and its reply tells that
 pub record IsReadMet (read : ReadMet) (one : PullRow) (r : Reader) (before after : LinkView) : Type 0 where
-  pub meets : Meets (pull.wish one r) (met_shown read.met) before after
-  pub is_open : is_shut (met_shown read.met) ≡ false
+  pub meets : Meets (pull.wish one r) read.met before after
+  pub is_open : is_shut read.met ≡ false
   pub informed : IsInformed one read.informed
 
 -- a reader's row asks its link for nothing, and is told nothing
@@ -263,7 +265,7 @@ is_bare (Some opened) = length opened.held == 0
 -- ---- what pull reads
 
 -- what the consumer makes of what its reader tells
-pub record TakesIn (m : Matter) (tells : ReaderOutput) (rows : List Row) (message : Option Message) (old new : Consumer) (taken : Taken) : Type 0 where
+pub record TakesIn (m : Matter) (tells : ReaderOutput) (rows : List Row) (message : Option Message) (old new : Consumer) (taken : ReaderStep) : Type 0 where
   pub outputs : List Output
   pub steps : StepsTo m (with_sent [] rows (told tells old)) outputs new taken.next
   pub shown : handed_list taken.handed message ≡ handed outputs

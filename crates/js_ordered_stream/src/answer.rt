@@ -3,13 +3,13 @@ ghost use Rattle.std.specs.Prelude.{◌≡◌, IfOk, Ok, Some, option_map};
 ghost use Rattle.js_ordered_stream.specs.Rows.{answer_in};
 ghost use Rattle.js_pull.specs.Reader.{info_of_reply as info_in, reply_to};
 
-use crate::left::Seen;
+use crate::remaining_rows::Seen;
 use js_base::{Boxed, Message, OutOfMemory};
 use js_json::consumer::Info;
 use js_pull::info_of_reply;
 use std::alloc::Global;
 
-/// What was found is put into a box, since it is large.
+// What was found is put into a box, since it is large.
 fn boxed<T: Drop>(
     alloc: Global,
     found: Result<Option<T>, OutOfMemory>,
@@ -22,14 +22,14 @@ fn boxed<T: Drop>(
     }
 }
 
-/// What a reply tells, in a box.
+// What a reply tells, in a box.
 fn told_by(alloc: Global, message: &Option<Message>) -> Result<Option<Boxed<Info>>, OutOfMemory>
     ensures { IfOk result (λ info. info ≡ info_in message.now) }
 {
     boxed(alloc, info_of_reply(alloc, message.as_ref()))
 }
 
-/// What the answer to a create tells.
+// What the answer to a create tells.
 pub(crate) fn info_met(
     alloc: Global,
     request: u64,

@@ -1,11 +1,11 @@
 //! What an ordered stream tells of in place of a message.
 ghost use Rattle.std.specs.Prelude.{◌≡◌, None, Some};
-ghost use Rattle.js_base.specs.Errors.{kind_of, source_of};
-ghost use Rattle.js_ordered_stream.specs.Stream.{error_kind, kind_text, source_by};
-ghost use Rattle.js_pull_stream.specs.Stream.{description_of};
+ghost use Rattle.js_base.specs.Error.{kind_of, source_of};
+ghost use Rattle.js_ordered_stream.specs.Ordered.{error_kind, kind_text, source_by};
 
-use js_base::{Error, Message, Source, Text};
-use js_table::ItemKind;
+use js_base::{Error, Message, Source};
+use js_ordered_table::ItemKind;
+use js_pull::description_of;
 use std::{error, fmt};
 
 /// What an ordered stream tells of in place of a message.
@@ -57,7 +57,7 @@ impl error::Error for OrderedErrorKind {}
 /// An error of an ordered stream.
 pub type OrderedError = Error<OrderedErrorKind>;
 
-/// The kind of the error that an item of the table is.
+// The kind of the error that an item of the table is.
 fn kind_of_item(kind: ItemKind) -> OrderedErrorKind
     ensures { result ≡ error_kind kind }
 {
@@ -71,7 +71,7 @@ fn kind_of_item(kind: ItemKind) -> OrderedErrorKind
     }
 }
 
-/// The error that an item of the table is, without a source.
+// The error that an item of the table is, without a source.
 pub(crate) fn error_of(kind: ItemKind) -> OrderedError
     ensures tells { kind_of result ≡ error_kind kind }
     ensures source { source_of result ≡ None }
@@ -79,21 +79,7 @@ pub(crate) fn error_of(kind: ItemKind) -> OrderedError
     Error::new(kind_of_item(kind))
 }
 
-/// What the server says of it.
-fn description_of(message: Option<Message>) -> Option<Text>
-    ensures { result ≡ description_of message }
-{
-    match message {
-        None => None,
-        Some(mut message) => {
-            let description = message.description.take();
-            drop(message);
-            description
-        }
-    }
-}
-
-/// The error of a limit that this message told of.
+// The error of a limit that this message told of.
 pub(crate) fn limit_error(message: Option<Message>) -> OrderedError
     ensures tells { kind_of result ≡ OrderedErrorKind.RequestLimitExceeded }
     ensures source { source_of result ≡ source_by OrderedErrorKind.RequestLimitExceeded message }
@@ -106,7 +92,7 @@ pub(crate) fn limit_error(message: Option<Message>) -> OrderedError
     }
 }
 
-/// There is no sequence to go on from.
+// There is no sequence to go on from.
 pub(crate) fn sequence_end() -> OrderedError
     ensures tells { kind_of result ≡ OrderedErrorKind.SequenceEnd }
     ensures source { source_of result ≡ None }

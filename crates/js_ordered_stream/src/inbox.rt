@@ -3,9 +3,9 @@ ghost use Rattle.std.specs.Prelude.{◌≡◌};
 ghost use Rattle.js_ordered_stream.specs.Inbox.{ClosesInbox, inbox_of, opened_inbox};
 
 use js_link::{InboxId, Link};
-use js_table::{Opened, Phase};
+use js_ordered_table::{Opened, Phase};
 
-/// The inbox of the consumer that is being made.
+// The inbox of the consumer that is being made.
 fn opened_inbox(opened: &Option<Opened>) -> Option<InboxId>
     ensures { result ≡ opened_inbox opened.now }
 {
@@ -15,7 +15,7 @@ fn opened_inbox(opened: &Option<Opened>) -> Option<InboxId>
     }
 }
 
-/// The inbox that is open at this phase.
+// The inbox that is open at this phase.
 pub(crate) fn inbox_of(phase: &Phase) -> Option<InboxId>
     ensures { result ≡ inbox_of phase.now }
 {
@@ -29,7 +29,7 @@ pub(crate) fn inbox_of(phase: &Phase) -> Option<InboxId>
     }
 }
 
-/// This inbox is closed, where there is one.
+// This inbox is closed, where there is one.
 pub(crate) fn close_inbox<L: Link>(link: &mut L, inbox: Option<InboxId>)
     ensures { ClosesInbox inbox (L.view link.old) (L.view link.new) }
 {

@@ -1,45 +1,45 @@
 //! The rows by which push reads its inbox, over a link.
 ghost use Rattle.std.specs.Prelude.{◌≡◌, ℕ, [], IfOk, None, OnErr};
 ghost use Rattle.js_link.specs.LinkView.{LinkView};
-ghost use Rattle.js_table.specs.Tasks.{IsHeard, heard_rows};
+ghost use Rattle.js_ordered_table.specs.Tasks.{IsHeard, heard_rows};
 ghost use Rattle.js_ordered_stream.specs.Rows.{AnswersBeat, LooksInto, PassesRow, PassesRows, arrival_in, seen_after};
-ghost use Rattle.js_pull.specs.Asking.{wish_shown};
-ghost use Rattle.js_table.specs.Passes.{given_of, listens_to};
-ghost use Rattle.js_table.specs.Reading.{push_kind as kind_of};
-ghost use Rattle.js_table.specs.Recreation.{message_on};
-ghost use Rattle.js_table.specs.declared.row.Row.TheVariants as row;
-ghost use Rattle.js_turns.specs.Wishes as wishes;
+ghost use Rattle.js_ordered_table.specs.Passes.{input_of, listens_to};
+ghost use Rattle.js_ordered_table.specs.Arrivals.{push_kind as kind_of};
+ghost use Rattle.js_ordered_table.specs.Recreation.{message_on};
+ghost use Rattle.js_ordered_table.specs.declared.row.Row.TheVariants as row;
+ghost use Rattle.js_ordered_table.specs.Wishes as wishes;
 
-use crate::left::{Seen, put};
 use crate::reading::handed_heard;
-use crate::rows::{Handed, Stepped, Stop, ask_for, quietly, untaken};
+use crate::remaining_rows::Seen;
+use crate::rows::{RowItem, Stepped, Stop, ask_for, followed_by, stepped_by};
 use bytes::Bytes;
-use js_base::{Message, OutOfMemory, TryClone};
-use js_link::{InboxId, Link, Taken};
-use js_pull::Wish;
-use js_table::passing::listening::{arrival_next, heard_as, listen, pass_hear, pass_silence};
-use js_table::passing::{Heard, NextTasks};
-use js_table::{Consumer, EventContext, Phase};
+use js_base::{Message, OutOfMemory, TryClone, replace_with};
+use js_link::{InboxId, Link, Taken, Wish};
+use js_ordered_table::transitions::push::{
+    arrival_next, heard_as, listen, pass_hear, pass_silence,
+};
+use js_ordered_table::transitions::{Heard, NextTasks};
+use js_ordered_table::{Consumer, EventContext, Phase};
 use std::alloc::Global;
 
 // ---- what is looked for
 
-/// This inbox is looked into. A message that is taken is heard next.
+// This inbox is looked into. A message that is taken is heard next.
 fn look_into<L: Link>(link: &mut L, inbox: u64, seen: &mut Seen) -> Result<Stepped, Stop>
     ensures looks { LooksInto result inbox (seen_after result seen.new) (L.view link.old) (L.view link.new) }
     ensures kept { OnErr result (seen.new ≡ seen.old) }
 {
     match link.take(InboxId(inbox)) {
         Taken::Closed => Err(Stop::Closed),
-        Taken::Empty => Ok(quietly(arrival_next(inbox, false))),
+        Taken::Empty => Ok(followed_by(arrival_next(inbox, false))),
         Taken::Message(message) => {
             let taken = Seen::Message {
                 unheard: Some(inbox),
                 message,
             };
-            put(seen, taken);
+            replace_with(seen, taken);
             Ok(Stepped {
-                handed: Handed::Nothing,
+                handed: RowItem::Nothing,
                 looked: true,
                 next: arrival_next(inbox, true),
             })
@@ -47,14 +47,14 @@ fn look_into<L: Link>(link: &mut L, inbox: u64, seen: &mut Seen) -> Result<Stepp
     }
 }
 
-/// Push looks for an arrival. No such row is left where it does not listen.
+// Push looks for an arrival. No such row is left where it does not listen.
 pub(crate) fn look<L: Link>(
     context: &EventContext<'_>,
     link: &mut L,
     consumer: &Consumer,
     seen: &mut Seen,
 ) -> Result<Stepped, Stop>
-    ensures passes { PassesRow (given_of context.now) context.now.moment row.CheckArrival consumer.now consumer.now (L.view link.old) (L.view link.new) (seen_after result seen.new) result }
+    ensures passes { PassesRow (input_of context.now) context.now.moment row.CheckArrival consumer.now consumer.now (L.view link.old) (L.view link.new) (seen_after result seen.new) result }
     ensures kept { OnErr result (seen.new ≡ seen.old) }
 {
     match consumer.phase {
@@ -63,30 +63,30 @@ pub(crate) fn look<L: Link>(
     }
 }
 
-/// Push looks at its heartbeat. No such row is left where it does not listen.
+// Push looks at its heartbeat. No such row is left where it does not listen.
 pub(crate) fn look_at_silence(
     context: &EventContext<'_>,
     consumer: &Consumer,
 ) -> Result<Stepped, Stop>
-    ensures { (v : LinkView) → PassesRow (given_of context.now) context.now.moment row.CheckSilence consumer.now consumer.now v v Seen.Nothing result }
+    ensures { (v : LinkView) → PassesRow (input_of context.now) context.now.moment row.CheckSilence consumer.now consumer.now v v Seen.Nothing result }
 {
     match consumer.phase {
         Phase::Pushes {
             heartbeat_timer,
             ..
-        } => Ok(untaken(pass_silence(context, heartbeat_timer))),
+        } => Ok(stepped_by(pass_silence(context, heartbeat_timer))),
         _ => Err(Stop::OutOfMemory),
     }
 }
 
-/// Push arms its heartbeat. No such row is left where it does not listen.
+// Push arms its heartbeat. No such row is left where it does not listen.
 pub(crate) fn arm(context: &EventContext<'_>, consumer: &mut Consumer) -> Result<Stepped, Stop>
-    ensures { (v : LinkView) → PassesRow (given_of context.now) context.now.moment row.Arm consumer.old consumer.new v v Seen.Nothing result }
+    ensures { (v : LinkView) → PassesRow (input_of context.now) context.now.moment row.Arm consumer.old consumer.new v v Seen.Nothing result }
 {
     match consumer.phase {
         Phase::Pushes { inbox, .. } => {
             listen(context, consumer, inbox);
-            Ok(quietly(NextTasks::Nothing))
+            Ok(followed_by(NextTasks::Nothing))
         }
         _ => Err(Stop::OutOfMemory),
     }
@@ -94,7 +94,7 @@ pub(crate) fn arm(context: &EventContext<'_>, consumer: &mut Consumer) -> Result
 
 // ---- an arrival
 
-/// The consumer listens to this inbox.
+// The consumer listens to this inbox.
 fn listens(phase: &Phase, inbox: u64) -> bool
     ensures { result ≡ listens_to inbox phase.now }
 {
@@ -104,16 +104,16 @@ fn listens(phase: &Phase, inbox: u64) -> bool
     }
 }
 
-/// An answer to a beat says nothing.
+// An answer to a beat says nothing.
 fn empty() -> Bytes
     ensures { result ≡ [] }
 {
     Bytes::from_static(b"")
 }
 
-/// What an arrival asks for: a beat that wants an answer gets an empty one.
+// What an arrival asks for: a beat that wants an answer gets an empty one.
 fn answer_wish(heard: Heard, message: &Message) -> Result<Wish, OutOfMemory>
-    ensures { (number : ℕ) → IsHeard number message.now heard → IfOk result (λ wish. wish_shown wish ≡ wishes.beat_wish (kind_of message.now) message.now.reply) }
+    ensures { (number : ℕ) → IsHeard number message.now heard → IfOk result (λ wish. wish ≡ wishes.beat_wish (kind_of message.now) message.now.reply) }
 {
     match heard {
         Heard::Beat(_) => match &message.reply {
@@ -131,7 +131,7 @@ fn answer_wish(heard: Heard, message: &Message) -> Result<Wish, OutOfMemory>
     }
 }
 
-/// An arrival is answered where it asks for that. Without memory for its answer it is still to be heard.
+// An arrival is answered where it asks for that. Without memory for its answer it is still to be heard.
 fn answer<L: Link>(
     alloc: Global,
     link: &mut L,
@@ -152,7 +152,7 @@ fn answer<L: Link>(
     Ok(heard)
 }
 
-/// Push hears a message that came on this inbox, where it listens there.
+// Push hears a message that came on this inbox, where it listens there.
 fn hear_message<L: Link>(
     alloc: Global,
     context: &EventContext<'_>,
@@ -161,7 +161,7 @@ fn hear_message<L: Link>(
     inbox: u64,
     message: &Message,
 ) -> Result<Stepped, Stop>
-    ensures { PassesRow (given_of context.now) context.now.moment (row.Hear (record { inbox = inbox; message = message.now })) consumer.old consumer.new (L.view link.old) (L.view link.new) (Seen.Message None message.now) result }
+    ensures { PassesRow (input_of context.now) context.now.moment (row.Hear (record { inbox = inbox; message = message.now })) consumer.old consumer.new (L.view link.old) (L.view link.new) (Seen.Message None message.now) result }
 {
     if !listens(&consumer.phase, inbox) {
         return Err(Stop::OutOfMemory);
@@ -174,7 +174,7 @@ fn hear_message<L: Link>(
     })
 }
 
-/// What was taken from this inbox is heard, and stays in its place. No such row is left where nothing was taken, or where push does not listen.
+// What was taken from this inbox is heard, and stays in its place. No such row is left where nothing was taken, or where push does not listen.
 pub(crate) fn hear<L: Link>(
     alloc: Global,
     context: &EventContext<'_>,
@@ -183,7 +183,7 @@ pub(crate) fn hear<L: Link>(
     inbox: u64,
     seen: &mut Seen,
 ) -> Result<Stepped, Stop>
-    ensures passes { PassesRows (given_of context.now) context.now.moment (heard_rows inbox (message_on inbox (arrival_in seen.old))) consumer.old consumer.new (L.view link.old) (L.view link.new) (seen_after result seen.new) result }
+    ensures passes { PassesRows (input_of context.now) context.now.moment (heard_rows inbox (message_on inbox (arrival_in seen.old))) consumer.old consumer.new (L.view link.old) (L.view link.new) (seen_after result seen.new) result }
     ensures kept { OnErr result (seen.new ≡ seen.old) }
 {
     let Seen::Message { unheard, message } = seen else {

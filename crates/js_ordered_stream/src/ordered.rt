@@ -1,27 +1,27 @@
 //! An ordered consumer over its link, by pull or by push: it passes row after row, and may stop between any two.
 ghost use Rattle.std.specs.Prelude.{◌≡◌, ◌<◌, ◌^◌, ◌||◌, ◌&&◌, ◌++◌, IfOk, OnErr, false, not, true, ℕ};
 ghost use Rattle.js_link.specs.Meets.{Meets};
-ghost use Rattle.js_table.specs.Tasks.{next_rows};
+ghost use Rattle.js_ordered_table.specs.Tasks.{next_rows};
 ghost use Rattle.js_ordered_stream.specs.Inbox.{ClosesInbox, inbox_of};
 ghost use Rattle.js_ordered_stream.specs.Rows.{Fits, has_message, kept_if, later_of, left_rows, message_in, read_in, seen_after};
-ghost use Rattle.js_ordered_stream.specs.Stream.{IsGivenKind, PassesFirst, PollsWithSource, TurnsTo, error_kind, first_at, given_to, handing, is_spent as has_no_sequence, poll_answer, position_of, silent_by, source_by, turned_by, with_retries};
+ghost use Rattle.js_ordered_stream.specs.Ordered.{IsGivenKind, PassesFirst, PollsWithSource, ComesTo, error_kind, first_at, given_to, handing, is_spent as has_no_sequence, poll_answer, position_of, silent_by, source_by, outcome_by, with_retries};
 ghost use Rattle.js_base.specs.Clock.{has_come};
-ghost use Rattle.js_base.specs.Errors.{kind_of, source_of};
-ghost use Rattle.js_table.specs.Fold.{is_over as has_ended};
-ghost use Rattle.js_table.specs.Passes.{given_of};
-ghost use Rattle.js_turns.specs.Polling.{IsPoll, closed_at, is_reading as reads_inbox};
-ghost use Rattle.js_turns.specs.Wakes.{phase_due};
+ghost use Rattle.js_base.specs.Error.{kind_of, source_of};
+ghost use Rattle.js_ordered_table.specs.Fold.{is_over as has_ended};
+ghost use Rattle.js_ordered_table.specs.Passes.{input_of};
+ghost use Rattle.js_ordered_table.specs.Poll.{IsPoll, closed_at, is_reading as reads_inbox};
+ghost use Rattle.js_ordered_table.specs.Timers.{phase_due};
 
 use crate::error::{OrderedError, error_of, limit_error, sequence_end};
 use crate::inbox::{close_inbox, inbox_of};
-use crate::left::{First, Left, Seen, Todo, put};
-use crate::rows::{Handed, Stepped, Stop, begin, pass};
+use crate::remaining_rows::{First, RemainingRows, Seen, TaskQueue};
+use crate::rows::{RowItem, Stepped, Stop, begin, pass};
 use crate::wakes::phase_end;
-use js_base::{Boxed, Message, Moment, Next, OutOfMemory, State, Text};
+use js_base::{Boxed, Message, Moment, Next, OutOfMemory, State, Text, replace_with};
 use js_json::consumer::Info;
 use js_link::{InboxId, Link};
-use js_table::passing::event::is_over;
-use js_table::{
+use js_ordered_table::transitions::event::is_over;
+use js_ordered_table::{
     Consumer, EventContext, EventKind, ItemKind, OrderedCore, OrderedSetup, Phase, ReplayInput,
     Settings,
 };
@@ -32,12 +32,12 @@ use std::alloc::Global;
 pub(crate) struct Ordered {
     given: Boxed<ReplayInput>,
     consumer: Consumer,
-    left: Left,
+    left: RemainingRows,
 }
 
 /// What the next row comes to.
 #[derive(Drop)]
-pub(crate) enum Turned {
+pub(crate) enum RowOutcome {
     /// Nothing is handed out.
     Silent { stirs: bool },
     /// The message that was taken, which lies in its place: it is large.
@@ -75,28 +75,28 @@ fn is_spent(phase: &Phase) -> bool
     }
 }
 
-/// Nothing is handed out.
-fn silently(stirs: bool, spent: bool) -> Turned
+// Nothing is handed out.
+fn silent_outcome(stirs: bool, spent: bool) -> RowOutcome
     ensures { result ≡ silent_by stirs spent }
 {
     if spent {
-        Turned::Exhausted
+        RowOutcome::Exhausted
     } else {
-        Turned::Silent { stirs }
+        RowOutcome::Silent { stirs }
     }
 }
 
-/// A message is handed out, where there is one.
-fn hands(seen: &Seen, stirs: bool, spent: bool) -> Turned
-    ensures { result ≡ turned_by Handed.Message (message_in seen.now) stirs spent }
+// A message is handed out, where there is one.
+fn hands(seen: &Seen, stirs: bool, spent: bool) -> RowOutcome
+    ensures { result ≡ outcome_by RowItem.Message (message_in seen.now) stirs spent }
 {
     match seen.message() {
-        Some(_) => Turned::Hands,
-        None => silently(stirs, spent),
+        Some(_) => RowOutcome::Hands,
+        None => silent_outcome(stirs, spent),
     }
 }
 
-/// A row looked at a message, or started a reader.
+// A row looked at a message, or started a reader.
 fn stirs(looked: bool, was_reading: bool, phase: &Phase) -> bool
     ensures { result ≡ (looked || (not was_reading && reads_inbox phase.now)) }
 {
@@ -104,21 +104,21 @@ fn stirs(looked: bool, was_reading: bool, phase: &Phase) -> bool
     looked || (!was_reading && reads)
 }
 
-/// A turn that begins is quiet until a row stirs.
+// A turn that begins is quiet until a row stirs.
 fn is_quiet(quiet: bool, begins: bool, stirs: bool) -> bool
     ensures { result ≡ ((begins || quiet) && not stirs) }
 {
     (begins || quiet) && !stirs
 }
 
-/// Nothing is left of a turn that was quiet.
-fn both(begins: bool, quiet: bool) -> bool
+// Nothing is left of a turn that was quiet.
+fn may_wait(begins: bool, quiet: bool) -> bool
     ensures { result ≡ (begins && quiet) }
 {
     begins && quiet
 }
 
-/// A consumer with this configured start and this name, and at this phase, which has yielded nothing yet.
+// A consumer with this configured start and this name, and at this phase, which has yielded nothing yet.
 pub(crate) fn first_consumer(start: Option<u64>, name: Text, phase: Phase) -> Consumer
     ensures { result ≡ first_at start name phase }
 {
@@ -132,7 +132,7 @@ pub(crate) fn first_consumer(start: Option<u64>, name: Text, phase: Phase) -> Co
     }
 }
 
-/// What a polled consumer is made with: it is tried to be made anew as often as a number counts.
+// What a polled consumer is made with: it is tried to be made anew as often as a number counts.
 pub(crate) fn given_with(
     alloc: Global,
     mut settings: Settings,
@@ -152,16 +152,16 @@ pub(crate) fn given_with(
     )
 }
 
-/// Passes the first of the rows that are left, which read this, and keeps there what it looked at. A turn begins where none is left.
+// Passes the first of the rows that are left, which read this, and keeps there what it looked at. A turn begins where none is left.
 fn pass_first<L: Link>(
     alloc: Global,
     context: &EventContext<'_>,
     link: &mut L,
     consumer: &mut Consumer,
-    todo: &Todo,
+    todo: &TaskQueue,
     seen: &mut Seen,
 ) -> Result<Stepped, Stop>
-    ensures passes { PassesFirst (given_of context.now) context.now.moment (record { todo = todo.now; seen = seen.old }) consumer.old consumer.new (L.view link.old) (L.view link.new) (seen_after result seen.new) result }
+    ensures passes { PassesFirst (input_of context.now) context.now.moment (record { todo = todo.now; seen = seen.old }) consumer.old consumer.new (L.view link.old) (L.view link.new) (seen_after result seen.new) result }
     ensures kept { OnErr result (seen.new ≡ seen.old) }
 {
     match todo.first() {
@@ -172,8 +172,8 @@ fn pass_first<L: Link>(
 }
 
 impl Ordered {
-    /// A consumer with the rows that are left of its opening.
-    pub(crate) fn new(given: Boxed<ReplayInput>, consumer: Consumer, left: Left) -> Ordered
+    // A consumer with the rows that are left of its opening.
+    pub(crate) fn new(given: Boxed<ReplayInput>, consumer: Consumer, left: RemainingRows) -> Ordered
         ensures { result ≡ record { given = given; consumer = consumer; left = left } }
     {
         Ordered {
@@ -183,7 +183,7 @@ impl Ordered {
         }
     }
 
-    /// Reads the next message or error. It waits after a turn in which nothing came.
+    // Reads the next message or error. It waits after a turn in which nothing came.
     pub(crate) fn poll_next<L: Link>(
         &mut self,
         alloc: Global,
@@ -201,21 +201,21 @@ impl Ordered {
         self.walk(alloc, link, now)
     }
 
-    /// When it has something to do by itself.
+    // When it has something to do by itself.
     pub(crate) fn wakes_at(&self) -> Option<Moment>
         ensures { (now : ℕ) → now < 2 ^ 64 → has_come result now ≡ phase_due now (position_of self.now).consumer.phase }
     {
         phase_end(&self.consumer.phase)
     }
 
-    /// The inbox that is open for it.
+    // The inbox that is open for it.
     pub(crate) fn inbox(&self) -> Option<InboxId>
         ensures { result ≡ inbox_of (position_of self.now).consumer.phase }
     {
         inbox_of(&self.consumer.phase)
     }
 
-    /// Lets go of it, and closes its inbox.
+    // Lets go of it, and closes its inbox.
     pub(crate) fn leave<L: Link>(self, link: &mut L)
         ensures { ClosesInbox (inbox_of (position_of self).consumer.phase) (L.view link.old) (L.view link.new) }
     {
@@ -224,9 +224,9 @@ impl Ordered {
         close_inbox(link, inbox);
     }
 
-    /// Passes row after row, up to the first that hands something out.
-    ///
-    /// A poll has fewer rows than a `u64` counts: memory ends long before.
+    // Passes row after row, up to the first that hands something out.
+    //
+    // A poll has fewer rows than a `u64` counts: memory ends long before.
     fn walk<L: Link>(
         &mut self,
         alloc: Global,
@@ -241,22 +241,22 @@ impl Ordered {
         let mut quiet = false;
         'rows: for _ in 0..u64::MAX {
             let begins = self.left.todo.is_empty();
-            if both(begins, quiet) {
+            if may_wait(begins, quiet) {
                 return Next::Pending;
             }
             match self.pass_next(alloc, link, now) {
-                Turned::Silent { stirs } => quiet = is_quiet(quiet, begins, stirs),
-                Turned::Hands => return self.hand_out(),
-                Turned::Tells(kind) => return Next::Item(Err(self.tell(kind))),
-                Turned::Exhausted => return Next::Item(Err(sequence_end())),
-                Turned::Closed => return Next::End,
-                Turned::OutOfMemory => return Next::OutOfMemory,
+                RowOutcome::Silent { stirs } => quiet = is_quiet(quiet, begins, stirs),
+                RowOutcome::Hands => return self.hand_out(),
+                RowOutcome::Tells(kind) => return Next::Item(Err(self.tell(kind))),
+                RowOutcome::Exhausted => return Next::Item(Err(sequence_end())),
+                RowOutcome::Closed => return Next::End,
+                RowOutcome::OutOfMemory => return Next::OutOfMemory,
             }
         }
         Next::OutOfMemory
     }
 
-    /// The message that was taken is handed out.
+    // The message that was taken is handed out.
     fn hand_out(&mut self) -> Next<Result<Message, OrderedError>>
         ensures given { given_to self.new ≡ given_to self.old }
         ensures place { position_of self.new ≡ position_of self.old }
@@ -270,7 +270,7 @@ impl Ordered {
         }
     }
 
-    /// The error that the last row told of. The message that told of a limit lies in its place still.
+    // The error that the last row told of. The message that told of a limit lies in its place still.
     fn tell(&mut self, kind: ItemKind) -> OrderedError
         ensures given { given_to self.new ≡ given_to self.old }
         ensures place { position_of self.new ≡ position_of self.old }
@@ -287,7 +287,7 @@ impl Ordered {
         }
     }
 
-    /// Passes the next row over its link.
+    // Passes the next row over its link.
     fn pass_over<L: Link>(
         &mut self,
         alloc: Global,
@@ -320,39 +320,39 @@ impl Ordered {
         passed
     }
 
-    /// A closed inbox ends the stream.
+    // A closed inbox ends the stream.
     fn close(&mut self)
         ensures given { given_to self.new ≡ given_to self.old }
         ensures place { position_of self.new ≡ closed_at true (position_of self.old) }
     {
-        put(&mut self.consumer.phase, Phase::Ended);
+        replace_with(&mut self.consumer.phase, Phase::Ended);
         self.left.clear();
     }
 
-    /// Passes the next row, and keeps what is left then.
-    fn pass_next<L: Link>(&mut self, alloc: Global, link: &mut L, now: Moment) -> Turned
+    // Passes the next row, and keeps what is left then.
+    fn pass_next<L: Link>(&mut self, alloc: Global, link: &mut L, now: Moment) -> RowOutcome
         ensures given { given_to self.new ≡ given_to self.old }
-        ensures turns { TurnsTo result (message_in self.new.left.seen) (given_to self.old) now (position_of self.old) (position_of self.new) (L.view link.old) (L.view link.new) }
+        ensures turns { ComesTo result (message_in self.new.left.seen) (given_to self.old) now (position_of self.old) (position_of self.new) (L.view link.old) (L.view link.new) }
     {
         let was_reading = is_reading(&self.consumer.phase);
         match self.pass_over(alloc, link, now) {
             Ok(done) => self.settle(done, was_reading),
             Err(Stop::Closed) => {
                 self.close();
-                Turned::Closed
+                RowOutcome::Closed
             }
-            Err(Stop::OutOfMemory) => Turned::OutOfMemory,
+            Err(Stop::OutOfMemory) => RowOutcome::OutOfMemory,
         }
     }
 
-    /// Keeps what is left after a row. A message that is to be handed out stays in its place.
-    fn settle(&mut self, done: Stepped, was_reading: bool) -> Turned
+    // Keeps what is left after a row. A message that is to be handed out stays in its place.
+    fn settle(&mut self, done: Stepped, was_reading: bool) -> RowOutcome
         requires { Fits self.old.left.todo }
         ensures given { given_to self.new ≡ given_to self.old }
         ensures consumer { self.new.consumer ≡ self.old.consumer }
         ensures seen { self.new.left.seen ≡ kept_if done.looked self.old.left.seen }
         ensures left { left_rows self.new.left ≡ next_rows (read_in (kept_if done.looked self.old.left.seen)) done.next ++ later_of (read_in (kept_if done.looked self.old.left.seen)) self.old.left.todo }
-        ensures turned { result ≡ turned_by done.handed (message_in (kept_if done.looked self.old.left.seen)) (has_message (kept_if done.looked self.old.left.seen) || (not was_reading && reads_inbox self.old.consumer.phase)) (has_no_sequence self.old.consumer.phase) }
+        ensures turned { result ≡ outcome_by done.handed (message_in (kept_if done.looked self.old.left.seen)) (has_message (kept_if done.looked self.old.left.seen) || (not was_reading && reads_inbox self.old.consumer.phase)) (has_no_sequence self.old.consumer.phase) }
     {
         let Stepped {
             handed,
@@ -367,9 +367,9 @@ impl Ordered {
         );
         let spent = is_spent(&self.consumer.phase);
         match handed {
-            Handed::Nothing => silently(stirs, spent),
-            Handed::Message => hands(&self.left.seen, stirs, spent),
-            Handed::Error(kind) => Turned::Tells(kind),
+            RowItem::Nothing => silent_outcome(stirs, spent),
+            RowItem::Message => hands(&self.left.seen, stirs, spent),
+            RowItem::Error(kind) => RowOutcome::Tells(kind),
         }
     }
 }

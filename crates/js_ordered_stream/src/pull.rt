@@ -2,35 +2,36 @@
 ghost use Rattle.std.specs.Prelude.{◌≡◌, ◌<◌, ◌^◌, ℕ, [], IfOk};
 ghost use Rattle.js_link.specs.Meets.{Meets};
 ghost use Rattle.js_ordered_stream.specs.Inbox.{ClosesInbox, inbox_of};
-ghost use Rattle.js_ordered_stream.specs.Opening.{IsGaplessPull, OpensConsumer, OpensOrdered, given_of_pull, position_of_pull};
-ghost use Rattle.js_ordered_stream.specs.Stream.{IsGivenKind, PollsWithSource, poll_answer};
+ghost use Rattle.js_ordered_stream.specs.Opening.{IsGaplessPull, OpensConsumer, OpensOrdered, input_of_pull, position_of_pull};
+ghost use Rattle.js_ordered_stream.specs.Ordered.{IsGivenKind, PollsWithSource, poll_answer};
 ghost use Rattle.js_base.specs.Clock.{has_come};
 ghost use Rattle.js_pull.specs.Reader.{new_reader};
-ghost use Rattle.js_table.specs.Texts.{source_of};
-ghost use Rattle.js_turns.specs.Polling.{IsPoll};
-ghost use Rattle.js_turns.specs.Wakes.{SleepsIfLeftAlone, phase_due};
+ghost use Rattle.js_ordered_table.specs.Texts.{source_of};
+ghost use Rattle.js_ordered_table.specs.Poll.{IsPoll};
+ghost use Rattle.js_ordered_table.specs.Timers.{SleepsIfLeftAlone, phase_due};
 
 use crate::error::OrderedError;
-use crate::left::{Left, put};
 use crate::ordered;
-use js_base::{Message, Moment, Next, OutOfMemory, Subject, TryClone};
+use crate::remaining_rows::RemainingRows;
+use js_base::{Message, Moment, Next, OutOfMemory, Subject, TryClone, replace_with};
 use js_json::consumer::Info;
 use js_json::pull::OrderedConfig;
 use js_link::{InboxId, Link, LinkError};
-use js_pull::{Reader, Source};
-use js_table::{
+use js_ordered_table::{
     Consumer, EventContext, EventKind, OrderedSetup, Phase, ReplayInput, Settings, texts,
 };
+use js_pull::{PullSource, Reader};
 use std::alloc::Global;
 
 /// The stream of an ordered pull consumer: it yields the messages of its stream in order and without a gap, and makes its consumer anew where one shows.
 #[derive(Drop)]
+#[must_use = "messages come by polls"]
 pub struct Ordered {
     polled: ordered::Ordered,
 }
 
-/// Whom the reader of the first consumer asks, but for its inbox.
-fn first_source(alloc: Global, given: &ReplayInput) -> Result<Source, OutOfMemory>
+// Whom the reader of the first consumer asks, but for its inbox.
+fn first_source(alloc: Global, given: &ReplayInput) -> Result<PullSource, OutOfMemory>
     ensures { IfOk result (λ source. source ≡ source_of given.now 0 0 [] given.now.first) }
 {
     let tick = EventKind::Tick;
@@ -41,22 +42,21 @@ fn first_source(alloc: Global, given: &ReplayInput) -> Result<Source, OutOfMemor
         moment: 0,
         what: &tick,
     };
-    let unknown = Subject::from(String::new(alloc));
-    let source = texts::source_of(&context, 0, 0, unknown, &given.first);
+    let source = texts::source_without_inbox(alloc, &context, 0, &given.first);
     drop(tick);
     source
 }
 
-/// A reader that reads this inbox, and has read nothing yet.
-fn reader_at(mut source: Source, inbox: u64, subject: Subject) -> Reader
+// A reader that reads this inbox, and has read nothing yet.
+fn reader_at(mut source: PullSource, inbox: u64, subject: Subject) -> Reader
     ensures { result ≡ new_reader (record source { inbox = inbox; subject = subject }) }
 {
     source.inbox = inbox;
-    put(&mut source.subject, subject);
+    replace_with(&mut source.subject, subject);
     Reader::new(source)
 }
 
-/// Opens an inbox for the reader of the first consumer.
+// Opens an inbox for the reader of the first consumer.
 fn open_consumer<L: Link>(
     alloc: Global,
     link: &mut L,
@@ -111,7 +111,7 @@ impl Ordered {
                 Err(refused)
             }
             Ok(consumer) => Ok(Ordered {
-                polled: ordered::Ordered::new(given, consumer, Left::opening()),
+                polled: ordered::Ordered::new(given, consumer, RemainingRows::opening()),
             }),
         }
     }
@@ -128,11 +128,11 @@ impl Ordered {
         link: &mut L,
         now: Moment,
     ) -> Next<Result<Message, OrderedError>>
-        ensures given { given_of_pull self.new ≡ given_of_pull self.old }
-        ensures polls { IsPoll (given_of_pull self.old) Meets now (position_of_pull self.old) (position_of_pull self.new) (L.view link.old) (L.view link.new) (poll_answer result) }
-        ensures sources { PollsWithSource (given_of_pull self.old) now (position_of_pull self.old) (position_of_pull self.new) (L.view link.old) (L.view link.new) result }
+        ensures given { input_of_pull self.new ≡ input_of_pull self.old }
+        ensures polls { IsPoll (input_of_pull self.old) Meets now (position_of_pull self.old) (position_of_pull self.new) (L.view link.old) (L.view link.new) (poll_answer result) }
+        ensures sources { PollsWithSource (input_of_pull self.old) now (position_of_pull self.old) (position_of_pull self.new) (L.view link.old) (L.view link.new) result }
         ensures kinds { IsGivenKind result }
-        ensures sleeps { SleepsIfLeftAlone (given_of_pull self.old) now (position_of_pull self.old) (position_of_pull self.new) (L.view link.old) (L.view link.new) (poll_answer result) }
+        ensures sleeps { SleepsIfLeftAlone (input_of_pull self.old) now (position_of_pull self.old) (position_of_pull self.new) (L.view link.old) (L.view link.new) (poll_answer result) }
     {
         self.polled.poll_next(alloc, link, now)
     }

@@ -2,21 +2,23 @@
 ghost use Rattle.std.specs.Prelude.{◌≡◌, ◌<◌, ◌^◌, IfOk, Some, ℕ};
 ghost use Rattle.js_link.specs.Meets.{Meets};
 ghost use Rattle.js_ordered_stream.specs.Inbox.{ClosesInbox, inbox_of};
-ghost use Rattle.js_ordered_stream.specs.Opening.{IsGaplessPush, ListensFirst, OpensPushed, Subscribes, given_of_push, open_text, position_of_push};
-ghost use Rattle.js_ordered_stream.specs.Stream.{IsGivenKind, PollsWithSource, poll_answer};
+ghost use Rattle.js_ordered_stream.specs.Opening.{IsGaplessPush, ListensFirst, OpensPushed, Subscribes, input_of_push, open_text, position_of_push};
+ghost use Rattle.js_ordered_stream.specs.Ordered.{IsGivenKind, PollsWithSource, poll_answer};
 ghost use Rattle.js_base.specs.Clock.{has_come};
-ghost use Rattle.js_turns.specs.Polling.{IsPoll};
-ghost use Rattle.js_turns.specs.Wakes.{SleepsIfLeftAlone, phase_due};
+ghost use Rattle.js_ordered_table.specs.Poll.{IsPoll};
+ghost use Rattle.js_ordered_table.specs.Timers.{SleepsIfLeftAlone, phase_due};
 
 use crate::error::OrderedError;
-use crate::left::Left;
 use crate::ordered;
+use crate::remaining_rows::RemainingRows;
 use js_base::{Message, Moment, Next, OutOfMemory, TryClone};
 use js_json::consumer::Info;
 use js_json::push::OrderedConfig;
 use js_link::{InboxId, Link, LinkError};
-use js_table::passing::listening::listen;
-use js_table::{Consumer, EventContext, EventKind, OrderedSetup, Phase, ReplayInput, Settings};
+use js_ordered_table::transitions::push::listen;
+use js_ordered_table::{
+    Consumer, EventContext, EventKind, OrderedSetup, Phase, ReplayInput, Settings,
+};
 use std::alloc::Global;
 use std::{error, fmt};
 
@@ -59,11 +61,12 @@ impl From<OutOfMemory> for OpenError {
 /// The stream of an ordered push consumer: it yields the messages of its stream in order and without a gap, answers what the server's flow control asks,
 /// and makes its consumer anew where a gap shows, where the server is silent, and where the connection comes or goes.
 #[derive(Drop)]
+#[must_use = "messages come by polls"]
 pub struct Ordered {
     polled: ordered::Ordered,
 }
 
-/// Subscribes to what the consumer delivers to.
+// Subscribes to what the consumer delivers to.
 fn subscribe<L: Link>(alloc: Global, link: &mut L, first: &Info) -> Result<u64, OpenError>
     ensures { Subscribes result first.now (L.view link.old) (L.view link.new) }
 {
@@ -77,7 +80,7 @@ fn subscribe<L: Link>(alloc: Global, link: &mut L, first: &Info) -> Result<u64, 
     }
 }
 
-/// Opens the inbox of the first consumer, which listens there.
+// Opens the inbox of the first consumer, which listens there.
 fn open_consumer<L: Link>(
     alloc: Global,
     link: &mut L,
@@ -140,7 +143,7 @@ impl Ordered {
                 Err(refused)
             }
             Ok(consumer) => Ok(Ordered {
-                polled: ordered::Ordered::new(given, consumer, Left::arming()),
+                polled: ordered::Ordered::new(given, consumer, RemainingRows::arming()),
             }),
         }
     }
@@ -156,11 +159,11 @@ impl Ordered {
         link: &mut L,
         now: Moment,
     ) -> Next<Result<Message, OrderedError>>
-        ensures given { given_of_push self.new ≡ given_of_push self.old }
-        ensures polls { IsPoll (given_of_push self.old) Meets now (position_of_push self.old) (position_of_push self.new) (L.view link.old) (L.view link.new) (poll_answer result) }
-        ensures sources { PollsWithSource (given_of_push self.old) now (position_of_push self.old) (position_of_push self.new) (L.view link.old) (L.view link.new) result }
+        ensures given { input_of_push self.new ≡ input_of_push self.old }
+        ensures polls { IsPoll (input_of_push self.old) Meets now (position_of_push self.old) (position_of_push self.new) (L.view link.old) (L.view link.new) (poll_answer result) }
+        ensures sources { PollsWithSource (input_of_push self.old) now (position_of_push self.old) (position_of_push self.new) (L.view link.old) (L.view link.new) result }
         ensures kinds { IsGivenKind result }
-        ensures sleeps { SleepsIfLeftAlone (given_of_push self.old) now (position_of_push self.old) (position_of_push self.new) (L.view link.old) (L.view link.new) (poll_answer result) }
+        ensures sleeps { SleepsIfLeftAlone (input_of_push self.old) now (position_of_push self.old) (position_of_push self.new) (L.view link.old) (L.view link.new) (poll_answer result) }
     {
         self.polled.poll_next(alloc, link, now)
     }

@@ -2,26 +2,26 @@
 ghost use Rattle.std.specs.Prelude.{◌≡◌, IfOk, None, OnErr, Option, Some, false, true};
 ghost use Rattle.js_base.specs.declared.message.Message.{Message as SpecMessage};
 ghost use Rattle.js_link.specs.LinkView.{LinkView};
-ghost use Rattle.js_table.specs.Tasks.{reader_rows};
+ghost use Rattle.js_ordered_table.specs.Tasks.{reader_rows};
 ghost use Rattle.js_ordered_stream.specs.Rows.{AsksNothing, IsReadMet, MeetsReader, PassesRow, TakesIn, answer_in, handed_by_heard, message_in, seen_after};
-ghost use Rattle.js_link.specs.Met.{Unasked};
+ghost use Rattle.js_link.specs.declared.wish.Met.TheVariants.{Unasked};
 ghost use Rattle.js_pull.specs.Passes.{publishing};
 ghost use Rattle.js_pull.specs.Reader as reads;
-ghost use Rattle.js_pull.specs.Steps.{IsInformed, ReadsTo, Steps, brought, quiet_step, row_of, told_shown};
+ghost use Rattle.js_pull.specs.Rows.{IsInformed, ReadsTo, Steps, brought, quiet_step, row_of, told_shown};
 ghost use Rattle.js_pull.specs.declared.reader.Row.TheVariants as read;
-ghost use Rattle.js_table.specs.Passes.{given_of};
-ghost use Rattle.js_table.specs.State.{Matter};
-ghost use Rattle.js_table.specs.declared.row.Row.TheVariants as row;
+ghost use Rattle.js_ordered_table.specs.Passes.{input_of};
+ghost use Rattle.js_ordered_table.specs.Consumer.{Matter};
+ghost use Rattle.js_ordered_table.specs.declared.row.Row.TheVariants as row;
 
-use crate::left::{Seen, put, seen_of};
-use crate::rows::{Handed, Stepped, Stop, ask_for, handed_of, quietly};
-use js_base::{Message, Moment, OutOfMemory};
-use js_link::{InboxId, Link, Taken as Found};
-use js_pull::{Due, Met, Notice, Reader, Reason, Spare, Step as Read, informed_of};
-use js_table::passing::listening::heard_from;
-use js_table::passing::reading::{take_message, take_notice};
-use js_table::passing::{Heard, NextTasks, Step};
-use js_table::{Consumer, EventContext, ItemKind, Phase};
+use crate::remaining_rows::{Seen, seen_of};
+use crate::rows::{RowItem, Stepped, Stop, ask_for, followed_by, handed_of};
+use js_base::{Message, Moment, OutOfMemory, replace_with};
+use js_link::{InboxId, Link, Met, Taken};
+use js_ordered_table::transitions::pull::{take_message, take_notice};
+use js_ordered_table::transitions::push::heard_from;
+use js_ordered_table::transitions::{Heard, NextTasks, PassedTask};
+use js_ordered_table::{Consumer, EventContext, ItemKind, Phase};
+use js_pull::{Due, Notice, PassedRow as Read, Reader, Reason, Spare, informed_of};
 use std::alloc::Global;
 
 // ---- what a row meets
@@ -33,7 +33,7 @@ pub(crate) struct ReadMet {
     pub informed: Option<Reason>,
 }
 
-/// What a row is told that reads no answer.
+// What a row is told that reads no answer.
 fn untold(alloc: Global, due: Due) -> Result<Option<Reason>, OutOfMemory>
     ensures { IfOk result (λ reason. IsInformed (row_of None due) reason) }
 {
@@ -43,7 +43,7 @@ fn untold(alloc: Global, due: Due) -> Result<Option<Reason>, OutOfMemory>
     told
 }
 
-/// What the reply tells to the row that reads it.
+// What the reply tells to the row that reads it.
 fn told_by(alloc: Global, due: Due, seen: &Seen) -> Result<Option<Reason>, OutOfMemory>
     ensures { IfOk result (λ reason. IsInformed (row_of (brought (answer_in seen.now)) due) reason) }
 {
@@ -54,7 +54,7 @@ fn told_by(alloc: Global, due: Due, seen: &Seen) -> Result<Option<Reason>, OutOf
     }
 }
 
-/// A row of a reader asks its link.
+// A row of a reader asks its link.
 fn read_met<L: Link>(
     alloc: Global,
     link: &mut L,
@@ -80,50 +80,50 @@ fn read_met<L: Link>(
 
 // ---- what the consumer makes of it
 
-/// What is handed out of a message of the stream.
-pub(crate) fn handed_heard(heard: Heard) -> Handed
+// What is handed out of a message of the stream.
+pub(crate) fn handed_heard(heard: Heard) -> RowItem
     ensures { result ≡ handed_by_heard heard }
 {
     match heard {
-        Heard::Yields(_) => Handed::Message,
-        Heard::Unreadable => Handed::Error(ItemKind::Other),
-        Heard::Gap => Handed::Nothing,
-        Heard::Beat(_) => Handed::Nothing,
-        Heard::OtherStatus => Handed::Nothing,
+        Heard::Yields(_) => RowItem::Message,
+        Heard::Unreadable => RowItem::Error(ItemKind::Other),
+        Heard::Gap => RowItem::Nothing,
+        Heard::Beat(_) => RowItem::Nothing,
+        Heard::OtherStatus => RowItem::Nothing,
     }
 }
 
 /// What the consumer makes of what its reader tells.
 #[derive(Drop)]
-pub(crate) struct Taken {
-    pub handed: Handed,
+pub(crate) struct ReaderStep {
+    pub handed: RowItem,
     pub next: NextTasks,
 }
 
-/// What the reader tells without a message.
-fn take_told(consumer: &mut Consumer, told: Notice, due: Option<Due>) -> Taken
+// What the reader tells without a message.
+fn take_told(consumer: &mut Consumer, told: Notice, due: Option<Due>) -> ReaderStep
     ensures { (m : Matter) → (message : Option SpecMessage) → told_shown told message ≡ told_shown told None → TakesIn m (told_shown told message) (reader_rows m due) message consumer.old consumer.new result }
 {
-    let Step { told, next } = take_notice(consumer, told, due);
-    Taken {
+    let PassedTask { told, next } = take_notice(consumer, told, due);
+    ReaderStep {
         handed: handed_of(told),
         next,
     }
 }
 
-/// The message that the reader hands out.
-fn take_handed(consumer: &mut Consumer, message: &Message, due: Option<Due>) -> Taken
+// The message that the reader hands out.
+fn take_handed(consumer: &mut Consumer, message: &Message, due: Option<Due>) -> ReaderStep
     ensures { (m : Matter) → TakesIn m (told_shown Notice.Hands (Some message.now)) (reader_rows m due) (Some message.now) consumer.old consumer.new result }
 {
     let heard = heard_from(consumer.core.consumer_sequence, message);
-    Taken {
+    ReaderStep {
         handed: handed_heard(heard),
         next: take_message(consumer, heard, due),
     }
 }
 
-/// What the reader tells, with the message that was taken.
-fn take_in(consumer: &mut Consumer, told: Notice, seen: &Seen, due: Option<Due>) -> Taken
+// What the reader tells, with the message that was taken.
+fn take_in(consumer: &mut Consumer, told: Notice, seen: &Seen, due: Option<Due>) -> ReaderStep
     ensures { (m : Matter) → TakesIn m (told_shown told (message_in seen.now)) (reader_rows m due) (message_in seen.now) consumer.old consumer.new result }
 {
     match told {
@@ -138,7 +138,7 @@ fn take_in(consumer: &mut Consumer, told: Notice, seen: &Seen, due: Option<Due>)
 
 // ---- a row
 
-/// A row asks its link for nothing, and reads no answer.
+// A row asks its link for nothing, and reads no answer.
 fn asks_nothing(due: Due) -> bool
     ensures { AsksNothing due result }
 {
@@ -156,7 +156,7 @@ fn asks_nothing(due: Due) -> bool
     }
 }
 
-/// The reader passes a row that asks its link for nothing. Nearly each turn has the first two, which need nothing that is large.
+// The reader passes a row that asks its link for nothing. Nearly each turn has the first two, which need nothing that is large.
 fn alone(reader: &mut Reader, now: Moment, due: Due) -> Read
     requires { AsksNothing due true }
     ensures { (reply : Option SpecMessage) → Steps now (row_of reply due) Unasked result reader.old reader.new }
@@ -174,7 +174,7 @@ fn alone(reader: &mut Reader, now: Moment, due: Due) -> Read
     }
 }
 
-/// The reader tells nothing, and no row of it follows, as after most of these.
+// The reader tells nothing, and no row of it follows, as after most of these.
 fn is_quiet(step: Read) -> bool
     ensures { result ≡ true → step ≡ quiet_step None }
 {
@@ -185,23 +185,23 @@ fn is_quiet(step: Read) -> bool
     }
 }
 
-/// A row is passed that asks its link for nothing.
+// A row is passed that asks its link for nothing.
 fn pass_alone(
     context: &EventContext<'_>,
     consumer: &mut Consumer,
     due: Due,
 ) -> Result<Stepped, Stop>
     requires { AsksNothing due true }
-    ensures { (reply : Option SpecMessage) → (v : LinkView) → PassesRow (given_of context.now) context.now.moment (row.Read (row_of reply due)) consumer.old consumer.new v v Seen.Nothing result }
+    ensures { (reply : Option SpecMessage) → (v : LinkView) → PassesRow (input_of context.now) context.now.moment (row.Read (row_of reply due)) consumer.old consumer.new v v Seen.Nothing result }
 {
     let Phase::Pulls(reader) = &mut consumer.phase else {
         return Err(Stop::OutOfMemory);
     };
     let step = alone(reader, context.moment, due);
     if is_quiet(step) {
-        return Ok(quietly(NextTasks::Nothing));
+        return Ok(followed_by(NextTasks::Nothing));
     }
-    let Taken { handed, next } = take_told(consumer, step.told, step.next);
+    let ReaderStep { handed, next } = take_told(consumer, step.told, step.next);
     Ok(Stepped {
         handed,
         looked: false,
@@ -209,7 +209,7 @@ fn pass_alone(
     })
 }
 
-/// The reader hears the message that was taken, which lies in its place, or that there was none. It is not pinned.
+// The reader hears the message that was taken, which lies in its place, or that there was none. It is not pinned.
 fn hear_taken(reader: &mut Reader, now: Moment, seen: &Seen) -> Read
     requires { reader.old.source.pinned ≡ false }
     ensures { ReadsTo None (message_in seen.now) (reads.check_arrival (publishing now false) (message_in seen.now) reader.old) reader.new result }
@@ -220,14 +220,14 @@ fn hear_taken(reader: &mut Reader, now: Moment, seen: &Seen) -> Read
     }
 }
 
-/// The reader looks for an arrival. No such row is left where none reads.
+// The reader looks for an arrival. No such row is left where none reads.
 fn pass_arrival<L: Link>(
     context: &EventContext<'_>,
     link: &mut L,
     consumer: &mut Consumer,
     seen: &mut Seen,
 ) -> Result<Stepped, Stop>
-    ensures passes { PassesRow (given_of context.now) context.now.moment (row.Read read.CheckArrival) consumer.old consumer.new (L.view link.old) (L.view link.new) (seen_after result seen.new) result }
+    ensures passes { PassesRow (input_of context.now) context.now.moment (row.Read read.CheckArrival) consumer.old consumer.new (L.view link.old) (L.view link.new) (seen_after result seen.new) result }
     ensures kept { OnErr result (seen.new ≡ seen.old) }
 {
     let Phase::Pulls(reader) = &mut consumer.phase else {
@@ -238,24 +238,24 @@ fn pass_arrival<L: Link>(
         return Err(Stop::OutOfMemory);
     }
     match link.take(InboxId(reader.source.inbox)) {
-        Found::Closed => Err(Stop::Closed),
-        Found::Empty => {
+        Taken::Closed => Err(Stop::Closed),
+        Taken::Empty => {
             let step = reader.pass_check_arrival(context.moment, &Met::Empty, None);
-            let Taken { handed, next } = take_told(consumer, step.told, step.next);
+            let ReaderStep { handed, next } = take_told(consumer, step.told, step.next);
             Ok(Stepped {
                 handed,
                 looked: false,
                 next,
             })
         }
-        Found::Message(message) => {
+        Taken::Message(message) => {
             let taken = Seen::Message {
                 unheard: None,
                 message,
             };
-            put(seen, taken);
+            replace_with(seen, taken);
             let step = hear_taken(reader, context.moment, seen);
-            let Taken { handed, next } = take_in(consumer, step.told, seen, step.next);
+            let ReaderStep { handed, next } = take_in(consumer, step.told, seen, step.next);
             Ok(Stepped {
                 handed,
                 looked: true,
@@ -265,7 +265,7 @@ fn pass_arrival<L: Link>(
     }
 }
 
-/// A row is passed with what it meets at its link. The reader stays in its place, since it is large.
+// A row is passed with what it meets at its link. The reader stays in its place, since it is large.
 fn pass_asking<L: Link>(
     alloc: Global,
     context: &EventContext<'_>,
@@ -274,7 +274,7 @@ fn pass_asking<L: Link>(
     due: Due,
     seen: &mut Seen,
 ) -> Result<Stepped, Stop>
-    ensures passes { PassesRow (given_of context.now) context.now.moment (row.Read (row_of (brought (answer_in seen.old)) due)) consumer.old consumer.new (L.view link.old) (L.view link.new) (seen_after result seen.new) result }
+    ensures passes { PassesRow (input_of context.now) context.now.moment (row.Read (row_of (brought (answer_in seen.old)) due)) consumer.old consumer.new (L.view link.old) (L.view link.new) (seen_after result seen.new) result }
     ensures kept { OnErr result (seen.new ≡ seen.old) }
 {
     let Phase::Pulls(reader) = &mut consumer.phase else {
@@ -288,8 +288,8 @@ fn pass_asking<L: Link>(
     };
     let step = reader.pass(context.moment, due, spare, &met);
     // A reader reads its answer without the number of its request.
-    put(seen, seen_of(0, met));
-    let Taken { handed, next } = take_in(consumer, step.told, seen, step.next);
+    replace_with(seen, seen_of(0, met));
+    let ReaderStep { handed, next } = take_in(consumer, step.told, seen, step.next);
     Ok(Stepped {
         handed,
         looked: seen.is_something(),
@@ -297,7 +297,7 @@ fn pass_asking<L: Link>(
     })
 }
 
-/// A row of a reader is passed. No such row is left where none reads.
+// A row of a reader is passed. No such row is left where none reads.
 pub(crate) fn pass_read<L: Link>(
     alloc: Global,
     context: &EventContext<'_>,
@@ -306,7 +306,7 @@ pub(crate) fn pass_read<L: Link>(
     due: Due,
     seen: &mut Seen,
 ) -> Result<Stepped, Stop>
-    ensures passes { PassesRow (given_of context.now) context.now.moment (row.Read (row_of (brought (answer_in seen.old)) due)) consumer.old consumer.new (L.view link.old) (L.view link.new) (seen_after result seen.new) result }
+    ensures passes { PassesRow (input_of context.now) context.now.moment (row.Read (row_of (brought (answer_in seen.old)) due)) consumer.old consumer.new (L.view link.old) (L.view link.new) (seen_after result seen.new) result }
     ensures kept { OnErr result (seen.new ≡ seen.old) }
 {
     match due {

@@ -2,36 +2,37 @@
 ghost use Rattle.std.specs.Prelude.{◌≡◌, IfOk, OnErr, codes};
 ghost use Rattle.js_link.specs.Meets.{Meets};
 ghost use Rattle.js_link.specs.LinkView.{LinkView};
-ghost use Rattle.js_link.specs.Met.{Requests};
-ghost use Rattle.js_table.specs.Tasks.{rows_of};
+ghost use Rattle.js_link.specs.Wish.{GoesAs};
+ghost use Rattle.js_link.specs.declared.wish.Wish.TheVariants.{Requests};
+ghost use Rattle.js_ordered_table.specs.Tasks.{rows_of};
 ghost use Rattle.js_ordered_stream.specs.Rows.{PassesRow, PassesRows, read_in, replied, seen_after};
-ghost use Rattle.js_pull.specs.Asking.{GoesAs, met_shown, wish_shown};
-ghost use Rattle.js_table.specs.Kept.{IsPush};
-ghost use Rattle.js_table.specs.Passes.{given_of};
-ghost use Rattle.js_table.specs.Texts as texts_of;
-ghost use Rattle.js_table.specs.declared.row.Row.TheVariants as row;
-ghost use Rattle.js_turns.specs.Wishes as wishes;
+ghost use Rattle.js_ordered_table.specs.Invariant.{IsPush};
+ghost use Rattle.js_ordered_table.specs.Passes.{input_of};
+ghost use Rattle.js_ordered_table.specs.Texts as texts_of;
+ghost use Rattle.js_ordered_table.specs.declared.row.Row.TheVariants as row;
+ghost use Rattle.js_ordered_table.specs.Wishes as wishes;
 
 use crate::answer::info_met;
-use crate::left::{Seen, put, seen_of};
-use crate::rows::{Handed, Stepped, Stop, ask_for, quietly, untaken};
+use crate::remaining_rows::{Seen, seen_of};
+use crate::rows::{RowItem, Stepped, Stop, ask_for, followed_by, stepped_by};
 use crate::success::{inbox_met, succeed};
 use bytes::Bytes;
-use js_base::{OutOfMemory, TryClone};
-use js_link::Link;
-use js_pull::{Met, Wish};
-use js_table::passing::recreation::{
+use js_base::{OutOfMemory, TryClone, replace_with};
+use js_link::{Link, Met, Wish};
+use js_ordered_table::transitions::recreation::{
     pass_answered, pass_ask, pass_await, pass_create, pass_fail, pass_start, pass_try,
 };
-use js_table::passing::{NextTasks, Task};
-use js_table::{Consumer, EventContext, Opened, OrderedSetup, Phase, Recreation, Stage, texts};
+use js_ordered_table::transitions::{NextTasks, Task};
+use js_ordered_table::{
+    Consumer, EventContext, Opened, OrderedSetup, Phase, Recreation, Stage, texts,
+};
 use std::alloc::Global;
 use std::mem;
 
 // ---- what is asked
 
 fn opened_dropped(opened: &Option<Opened>) -> Wish
-    ensures { wish_shown result ≡ wishes.opened_dropped opened.now }
+    ensures { result ≡ wishes.opened_dropped opened.now }
 {
     match opened {
         None => Wish::Nothing,
@@ -41,9 +42,9 @@ fn opened_dropped(opened: &Option<Opened>) -> Wish
     }
 }
 
-/// The inbox that a phase has is given up.
+// The inbox that a phase has is given up.
 fn dropped(phase: &Phase) -> Wish
-    ensures { wish_shown result ≡ wishes.dropped phase.now }
+    ensures { result ≡ wishes.dropped phase.now }
 {
     match phase {
         Phase::Pulls(reader) => Wish::Drops {
@@ -57,9 +58,9 @@ fn dropped(phase: &Phase) -> Wish
     }
 }
 
-/// The answer that a recreation waits for.
+// The answer that a recreation waits for.
 fn awaited(stage: Stage) -> Wish
-    ensures { wish_shown result ≡ wishes.awaited stage }
+    ensures { result ≡ wishes.awaited stage }
 {
     match stage {
         Stage::Deleting { request, .. } => Wish::Awaits { request },
@@ -71,14 +72,14 @@ fn awaited(stage: Stage) -> Wish
 
 // ---- a recreation starts
 
-/// A recreation starts: the current inbox is given up.
+// A recreation starts: the current inbox is given up.
 pub(crate) fn start<L: Link>(
     alloc: Global,
     context: &EventContext<'_>,
     link: &mut L,
     consumer: &mut Consumer,
 ) -> Result<Stepped, Stop>
-    ensures { PassesRow (given_of context.now) context.now.moment row.Start consumer.old consumer.new (L.view link.old) (L.view link.new) Seen.Nothing result }
+    ensures { PassesRow (input_of context.now) context.now.moment row.Start consumer.old consumer.new (L.view link.old) (L.view link.new) Seen.Nothing result }
 {
     let name = texts::consumer_name(
         alloc,
@@ -95,19 +96,19 @@ pub(crate) fn start<L: Link>(
         return Err(Stop::OutOfMemory);
     };
     drop(met);
-    Ok(untaken(pass_start(context, consumer, name, again)))
+    Ok(stepped_by(pass_start(context, consumer, name, again)))
 }
 
-/// A recreation stays open: a row of it was not passed.
+// A recreation stays open: a row of it was not passed.
 pub(crate) fn keep_open(consumer: &mut Consumer, recreation: Recreation)
     ensures { consumer.new ≡ record consumer.old { phase = Phase.Recreates recreation } }
 {
-    put(&mut consumer.phase, Phase::Recreates(recreation));
+    replace_with(&mut consumer.phase, Phase::Recreates(recreation));
 }
 
-/// The number of the request that went out, which is let go.
+// The number of the request that went out, which is let go.
 fn number_of(met: Met) -> Option<u64>
-    ensures { GoesAs result (met_shown met) }
+    ensures { GoesAs result met }
 {
     let number = met.request();
     drop(met);
@@ -116,14 +117,14 @@ fn number_of(met: Met) -> Option<u64>
 
 // ---- a try
 
-/// The deletion of the old consumer is asked for.
+// The deletion of the old consumer is asked for.
 fn try_met<L: Link>(
     alloc: Global,
     context: &EventContext<'_>,
     link: &mut L,
     recreation: &Recreation,
 ) -> Result<Met, OutOfMemory>
-    ensures met { IfOk result (λ met. Meets (Requests (texts_of.delete_subject (given_of context.now) recreation.now) (codes "{}")) (met_shown met) (L.view link.old) (L.view link.new)) }
+    ensures met { IfOk result (λ met. Meets (Requests (texts_of.delete_subject (input_of context.now) recreation.now) (codes "{}")) met (L.view link.old) (L.view link.new)) }
     ensures refused { OnErr result (L.view link.new ≡ L.view link.old) }
 {
     let wish = Wish::Requests {
@@ -133,7 +134,6 @@ fn try_met<L: Link>(
     ask_for(alloc, link, wish)
 }
 
-/// A try begins.
 fn begin_try<L: Link>(
     alloc: Global,
     context: &EventContext<'_>,
@@ -141,7 +141,7 @@ fn begin_try<L: Link>(
     consumer: &mut Consumer,
     recreation: Recreation,
 ) -> Result<Stepped, Stop>
-    ensures { PassesRow (given_of context.now) context.now.moment row.Try (record consumer.old { phase = Phase.Recreates recreation }) consumer.new (L.view link.old) (L.view link.new) Seen.Nothing result }
+    ensures { PassesRow (input_of context.now) context.now.moment row.Try (record consumer.old { phase = Phase.Recreates recreation }) consumer.new (L.view link.old) (L.view link.new) Seen.Nothing result }
 {
     match try_met(alloc, context, link, &recreation) {
         Err(OutOfMemory) => {
@@ -150,12 +150,12 @@ fn begin_try<L: Link>(
         }
         Ok(met) => {
             let number = number_of(met);
-            Ok(quietly(pass_try(context, consumer, recreation, number)))
+            Ok(followed_by(pass_try(context, consumer, recreation, number)))
         }
     }
 }
 
-/// Push opens its inbox before its create.
+// Push opens its inbox before its create.
 fn create_push<L: Link>(
     alloc: Global,
     context: &EventContext<'_>,
@@ -164,7 +164,7 @@ fn create_push<L: Link>(
     recreation: Recreation,
 ) -> Result<Stepped, Stop>
     requires push { IsPush context.now.setup.now }
-    ensures { PassesRow (given_of context.now) context.now.moment row.Create (record consumer.old { phase = Phase.Recreates recreation }) consumer.new (L.view link.old) (L.view link.new) Seen.Nothing result }
+    ensures { PassesRow (input_of context.now) context.now.moment row.Create (record consumer.old { phase = Phase.Recreates recreation }) consumer.new (L.view link.old) (L.view link.new) Seen.Nothing result }
 {
     match ask_for(alloc, link, Wish::OpensInbox) {
         Err(OutOfMemory) => {
@@ -173,12 +173,12 @@ fn create_push<L: Link>(
         }
         Ok(met) => {
             let inbox = inbox_met(met);
-            Ok(quietly(pass_create(alloc, context, consumer, recreation, inbox)))
+            Ok(followed_by(pass_create(alloc, context, consumer, recreation, inbox)))
         }
     }
 }
 
-/// The new consumer is to be asked for.
+// The new consumer is to be asked for.
 fn create<L: Link>(
     alloc: Global,
     context: &EventContext<'_>,
@@ -186,24 +186,24 @@ fn create<L: Link>(
     consumer: &mut Consumer,
     recreation: Recreation,
 ) -> Result<Stepped, Stop>
-    ensures { PassesRow (given_of context.now) context.now.moment row.Create (record consumer.old { phase = Phase.Recreates recreation }) consumer.new (L.view link.old) (L.view link.new) Seen.Nothing result }
+    ensures { PassesRow (input_of context.now) context.now.moment row.Create (record consumer.old { phase = Phase.Recreates recreation }) consumer.new (L.view link.old) (L.view link.new) Seen.Nothing result }
 {
     match context.setup {
         OrderedSetup::Pull(_) => {
-            Ok(quietly(pass_create(alloc, context, consumer, recreation, None)))
+            Ok(followed_by(pass_create(alloc, context, consumer, recreation, None)))
         }
         OrderedSetup::Push(_) => create_push(alloc, context, link, consumer, recreation),
     }
 }
 
-/// The new consumer is asked for.
+// The new consumer is asked for.
 fn ask_met<L: Link>(
     alloc: Global,
     context: &EventContext<'_>,
     link: &mut L,
     recreation: &Recreation,
 ) -> Result<Met, OutOfMemory>
-    ensures met { IfOk result (λ met. Meets (Requests (texts_of.create_subject (given_of context.now) recreation.now) (texts_of.create_body (given_of context.now) recreation.now)) (met_shown met) (L.view link.old) (L.view link.new)) }
+    ensures met { IfOk result (λ met. Meets (Requests (texts_of.create_subject (input_of context.now) recreation.now) (texts_of.create_body (input_of context.now) recreation.now)) met (L.view link.old) (L.view link.new)) }
     ensures refused { OnErr result (L.view link.new ≡ L.view link.old) }
 {
     let subject = texts::create_subject(alloc, context, recreation)?;
@@ -216,7 +216,6 @@ fn ask_met<L: Link>(
     }
 }
 
-/// The create request.
 fn ask_create<L: Link>(
     alloc: Global,
     context: &EventContext<'_>,
@@ -224,7 +223,7 @@ fn ask_create<L: Link>(
     consumer: &mut Consumer,
     recreation: Recreation,
 ) -> Result<Stepped, Stop>
-    ensures { PassesRow (given_of context.now) context.now.moment row.Ask (record consumer.old { phase = Phase.Recreates recreation }) consumer.new (L.view link.old) (L.view link.new) Seen.Nothing result }
+    ensures { PassesRow (input_of context.now) context.now.moment row.Ask (record consumer.old { phase = Phase.Recreates recreation }) consumer.new (L.view link.old) (L.view link.new) Seen.Nothing result }
 {
     match ask_met(alloc, context, link, &recreation) {
         Err(OutOfMemory) => {
@@ -233,12 +232,12 @@ fn ask_create<L: Link>(
         }
         Ok(met) => {
             let number = number_of(met);
-            Ok(quietly(pass_ask(context, consumer, recreation, number)))
+            Ok(followed_by(pass_ask(context, consumer, recreation, number)))
         }
     }
 }
 
-/// A try has failed: what it has opened is given up.
+// A try has failed: what it has opened is given up.
 fn fail<L: Link>(
     alloc: Global,
     context: &EventContext<'_>,
@@ -246,7 +245,7 @@ fn fail<L: Link>(
     consumer: &mut Consumer,
     recreation: Recreation,
 ) -> Result<Stepped, Stop>
-    ensures { PassesRow (given_of context.now) context.now.moment row.Fail (record consumer.old { phase = Phase.Recreates recreation }) consumer.new (L.view link.old) (L.view link.new) Seen.Nothing result }
+    ensures { PassesRow (input_of context.now) context.now.moment row.Fail (record consumer.old { phase = Phase.Recreates recreation }) consumer.new (L.view link.old) (L.view link.new) Seen.Nothing result }
 {
     match ask_for(alloc, link, opened_dropped(&recreation.opened)) {
         Err(OutOfMemory) => {
@@ -255,14 +254,14 @@ fn fail<L: Link>(
         }
         Ok(met) => {
             drop(met);
-            Ok(untaken(pass_fail(context, consumer, recreation)))
+            Ok(stepped_by(pass_fail(context, consumer, recreation)))
         }
     }
 }
 
 // ---- an open recreation
 
-/// The request whose answer a recreation waits for.
+// The request whose answer a recreation waits for.
 fn request_of(stage: Stage) -> u64
     ensures { result ≡ replied stage }
 {
@@ -274,7 +273,7 @@ fn request_of(stage: Stage) -> u64
     }
 }
 
-/// What an open recreation waits for is looked at.
+// What an open recreation waits for is looked at.
 fn look_on<L: Link>(
     alloc: Global,
     context: &EventContext<'_>,
@@ -283,7 +282,7 @@ fn look_on<L: Link>(
     recreation: Recreation,
     seen: &mut Seen,
 ) -> Result<Stepped, Stop>
-    ensures passes { PassesRow (given_of context.now) context.now.moment row.Await (record consumer.old { phase = Phase.Recreates recreation }) consumer.new (L.view link.old) (L.view link.new) (seen_after result seen.new) result }
+    ensures passes { PassesRow (input_of context.now) context.now.moment row.Await (record consumer.old { phase = Phase.Recreates recreation }) consumer.new (L.view link.old) (L.view link.new) (seen_after result seen.new) result }
     ensures kept { OnErr result (seen.new ≡ seen.old) }
 {
     let stage = recreation.stage;
@@ -294,9 +293,9 @@ fn look_on<L: Link>(
         }
         Ok(met) => {
             let next = pass_await(context, consumer, recreation, met.is_answer());
-            put(seen, seen_of(request_of(stage), met));
+            replace_with(seen, seen_of(request_of(stage), met));
             Ok(Stepped {
-                handed: Handed::Nothing,
+                handed: RowItem::Nothing,
                 looked: seen.is_something(),
                 next,
             })
@@ -304,7 +303,7 @@ fn look_on<L: Link>(
     }
 }
 
-/// The answer to a create is read.
+// The answer to a create is read.
 fn answered(
     alloc: Global,
     context: &EventContext<'_>,
@@ -313,20 +312,20 @@ fn answered(
     request: u64,
     seen: &Seen,
 ) -> Result<Stepped, Stop>
-    ensures { (v : LinkView) → PassesRows (given_of context.now) context.now.moment (rows_of (read_in seen.now) (Task.Answered request)) (record consumer.old { phase = Phase.Recreates recreation }) consumer.new v v Seen.Nothing result }
+    ensures { (v : LinkView) → PassesRows (input_of context.now) context.now.moment (rows_of (read_in seen.now) (Task.Answered request)) (record consumer.old { phase = Phase.Recreates recreation }) consumer.new v v Seen.Nothing result }
 {
     match info_met(alloc, request, seen) {
         Err(OutOfMemory) => {
             keep_open(consumer, recreation);
             Err(Stop::OutOfMemory)
         }
-        Ok(info) => Ok(quietly(pass_answered(context, consumer, recreation, info))),
+        Ok(info) => Ok(followed_by(pass_answered(context, consumer, recreation, info))),
     }
 }
 
 // ---- any row of a recreation
 
-/// A row of the open recreation is passed.
+// A row of the open recreation is passed.
 fn pass_recreating<L: Link>(
     alloc: Global,
     context: &EventContext<'_>,
@@ -336,7 +335,7 @@ fn pass_recreating<L: Link>(
     task: &Task,
     seen: &mut Seen,
 ) -> Result<Stepped, Stop>
-    ensures passes { PassesRows (given_of context.now) context.now.moment (rows_of (read_in seen.old) task.now) (record consumer.old { phase = Phase.Recreates recreation }) consumer.new (L.view link.old) (L.view link.new) (seen_after result seen.new) result }
+    ensures passes { PassesRows (input_of context.now) context.now.moment (rows_of (read_in seen.old) task.now) (record consumer.old { phase = Phase.Recreates recreation }) consumer.new (L.view link.old) (L.view link.new) (seen_after result seen.new) result }
     ensures kept { OnErr result (seen.new ≡ seen.old) }
 {
     match task {
@@ -356,7 +355,7 @@ fn pass_recreating<L: Link>(
     }
 }
 
-/// A row that belongs to an open recreation is passed. No such row is left where none is open.
+// A row that belongs to an open recreation is passed. No such row is left where none is open.
 pub(crate) fn pass_open<L: Link>(
     alloc: Global,
     context: &EventContext<'_>,
@@ -365,7 +364,7 @@ pub(crate) fn pass_open<L: Link>(
     task: &Task,
     seen: &mut Seen,
 ) -> Result<Stepped, Stop>
-    ensures passes { PassesRows (given_of context.now) context.now.moment (rows_of (read_in seen.old) task.now) consumer.old consumer.new (L.view link.old) (L.view link.new) (seen_after result seen.new) result }
+    ensures passes { PassesRows (input_of context.now) context.now.moment (rows_of (read_in seen.old) task.now) consumer.old consumer.new (L.view link.old) (L.view link.new) (seen_after result seen.new) result }
     ensures kept { OnErr result (seen.new ≡ seen.old) }
 {
     match mem::replace(&mut consumer.phase, Phase::Idle) {
@@ -373,7 +372,7 @@ pub(crate) fn pass_open<L: Link>(
             pass_recreating(alloc, context, link, consumer, recreation, task, seen)
         }
         phase => {
-            put(&mut consumer.phase, phase);
+            replace_with(&mut consumer.phase, phase);
             Err(Stop::OutOfMemory)
         }
     }

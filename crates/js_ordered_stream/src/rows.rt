@@ -1,27 +1,26 @@
-//! One row over a link: what it asks is made first, then its link is asked, and it is passed with what it met.
+//! One row of the table, passed over a link: what it asks is made first, then its link is asked, and it is passed with what it met.
 //!
 //! Until the link was asked nothing has changed. After that a row takes no memory.
 ghost use Rattle.std.specs.Prelude.{◌≡◌, IfOk, OnErr, Option, false};
 ghost use Rattle.js_base.specs.declared.message.Message.{Message as SpecMessage};
-ghost use Rattle.js_table.specs.Tasks.{rows_of, told_outputs};
+ghost use Rattle.js_ordered_table.specs.Tasks.{rows_of, told_outputs};
 ghost use Rattle.js_ordered_stream.specs.Rows.{PassesRow, PassesRows, handed_list, read_in, seen_after};
-ghost use Rattle.js_table.specs.Passes.{change_shown, given_of};
-ghost use Rattle.js_table.specs.declared.row.Row.TheVariants as row;
-ghost use Rattle.js_turns.specs.Turns.{handed};
-ghost use Rattle.js_turns.specs.Wishes.{change_of};
+ghost use Rattle.js_ordered_table.specs.Passes.{change_shown, input_of};
+ghost use Rattle.js_ordered_table.specs.declared.row.Row.TheVariants as row;
+ghost use Rattle.js_ordered_table.specs.Walk.{handed};
+ghost use Rattle.js_ordered_table.specs.Wishes.{change_of};
 ghost use Rattle.js_link.specs.Meets.{Meets};
-ghost use Rattle.js_pull.specs.Asking.{met_shown, watch_met, wish_shown};
+ghost use Rattle.js_link.specs.Wish.{watch_met};
 
-use crate::left::Seen;
 use crate::listening::{arm, hear, look, look_at_silence};
 use crate::reading::pass_read;
 use crate::recreation::{pass_open, start};
+use crate::remaining_rows::Seen;
 use js_base::OutOfMemory;
-use js_link::{Link, Watch};
-use js_pull::{Met, Wish, ask};
-use js_table::passing::event::{is_over, pass_event};
-use js_table::passing::{NextTasks, RowOutput, Step, Task};
-use js_table::{Change, Consumer, EventContext, ItemKind};
+use js_link::{Link, Met, Watch, Wish, ask};
+use js_ordered_table::transitions::event::{is_over, pass_event};
+use js_ordered_table::transitions::{NextTasks, PassedTask, RowOutput, Task};
+use js_ordered_table::{Change, Consumer, EventContext, ItemKind};
 use std::alloc::Global;
 
 /// Why a row was not passed.
@@ -45,7 +44,7 @@ impl From<OutOfMemory> for Stop {
 
 /// What a row hands out.
 #[derive(Clone, Copy)]
-pub(crate) enum Handed {
+pub(crate) enum RowItem {
     Nothing,
     /// The message that it looked at.
     Message,
@@ -55,41 +54,41 @@ pub(crate) enum Handed {
 /// What a row comes to that was passed. It is small: what the row looked at lies in its place.
 #[derive(Drop)]
 pub(crate) struct Stepped {
-    pub handed: Handed,
+    pub handed: RowItem,
     /// It looked at something. Else what lies there is an earlier row's.
     pub looked: bool,
     /// The rows that follow at once.
     pub next: NextTasks,
 }
 
-/// A row that looked at nothing and hands nothing out.
-pub(crate) fn quietly(next: NextTasks) -> Stepped
-    ensures { result ≡ record { handed = Handed.Nothing; looked = false; next = next } }
+// A row that looked at nothing and hands nothing out: these follow it.
+pub(crate) fn followed_by(next: NextTasks) -> Stepped
+    ensures { result ≡ record { handed = RowItem.Nothing; looked = false; next = next } }
 {
     Stepped {
-        handed: Handed::Nothing,
+        handed: RowItem::Nothing,
         looked: false,
         next,
     }
 }
 
-/// What is handed out of what a row tells.
-pub(crate) fn handed_of(told: RowOutput) -> Handed
+// What is handed out of what a row tells.
+pub(crate) fn handed_of(told: RowOutput) -> RowItem
     ensures { (message : Option SpecMessage) → handed_list result message ≡ handed (told_outputs told) }
 {
     match told {
-        RowOutput::Nothing => Handed::Nothing,
-        RowOutput::Recreates { .. } => Handed::Nothing,
-        RowOutput::Tells(kind) => Handed::Error(kind),
+        RowOutput::Nothing => RowItem::Nothing,
+        RowOutput::Recreates { .. } => RowItem::Nothing,
+        RowOutput::Tells(kind) => RowItem::Error(kind),
     }
 }
 
-/// A row that looked at nothing.
-pub(crate) fn untaken(step: Step) -> Stepped
+// A row that looked at nothing, by what it tells.
+pub(crate) fn stepped_by(step: PassedTask) -> Stepped
     ensures handed { (message : Option SpecMessage) → handed_list result.handed message ≡ handed (told_outputs step.told) }
     ensures rest { result ≡ record result { looked = false; next = step.next } }
 {
-    let Step { told, next } = step;
+    let PassedTask { told, next } = step;
     Stepped {
         handed: handed_of(told),
         looked: false,
@@ -97,9 +96,9 @@ pub(crate) fn untaken(step: Step) -> Stepped
     }
 }
 
-/// A link is asked for what a row wishes, which is let go. Where there is no memory, nothing was asked.
+// A link is asked for what a row wishes, which is let go. Where there is no memory, nothing was asked.
 pub(crate) fn ask_for<L: Link>(alloc: Global, link: &mut L, wish: Wish) -> Result<Met, OutOfMemory>
-    ensures met { IfOk result (λ met. Meets (wish_shown wish) (met_shown met) (L.view link.old) (L.view link.new)) }
+    ensures met { IfOk result (λ met. Meets wish met (L.view link.old) (L.view link.new)) }
     ensures refused { OnErr result (L.view link.new ≡ L.view link.old) }
 {
     let asked = ask(alloc, link, &wish);
@@ -109,7 +108,7 @@ pub(crate) fn ask_for<L: Link>(alloc: Global, link: &mut L, wish: Wish) -> Resul
 
 // ---- a turn begins
 
-/// What the connection shows.
+// What the connection shows.
 fn change_met(watch: Watch) -> Change
     ensures { change_shown result ≡ change_of (watch_met watch) }
 {
@@ -119,25 +118,25 @@ fn change_met(watch: Watch) -> Change
     }
 }
 
-/// A turn begins with a look at the connection.
+// A turn begins with a look at the connection.
 pub(crate) fn begin<L: Link>(
     context: &EventContext<'_>,
     link: &mut L,
     consumer: &mut Consumer,
 ) -> Result<Stepped, Stop>
-    ensures { PassesRow (given_of context.now) context.now.moment row.Event consumer.old consumer.new (L.view link.old) (L.view link.new) Seen.Nothing result }
+    ensures { PassesRow (input_of context.now) context.now.moment row.Event consumer.old consumer.new (L.view link.old) (L.view link.new) Seen.Nothing result }
 {
     // No turn of an ended consumer begins.
     if is_over(&consumer.phase) {
         return Err(Stop::OutOfMemory);
     }
     let change = change_met(link.state());
-    Ok(untaken(pass_event(context, consumer, change)))
+    Ok(stepped_by(pass_event(context, consumer, change)))
 }
 
 // ---- any row
 
-/// The next row is passed. What it looked at takes the place of what it reads.
+// The next row is passed. What it looked at takes the place of what it reads.
 pub(crate) fn pass<L: Link>(
     alloc: Global,
     context: &EventContext<'_>,
@@ -146,7 +145,7 @@ pub(crate) fn pass<L: Link>(
     task: &Task,
     seen: &mut Seen,
 ) -> Result<Stepped, Stop>
-    ensures passes { PassesRows (given_of context.now) context.now.moment (rows_of (read_in seen.old) task.now) consumer.old consumer.new (L.view link.old) (L.view link.new) (seen_after result seen.new) result }
+    ensures passes { PassesRows (input_of context.now) context.now.moment (rows_of (read_in seen.old) task.now) consumer.old consumer.new (L.view link.old) (L.view link.new) (seen_after result seen.new) result }
     ensures kept { OnErr result (seen.new ≡ seen.old) }
 {
     match task {
@@ -165,7 +164,7 @@ pub(crate) fn pass<L: Link>(
         Task::CheckSilence => look_at_silence(context, consumer),
         Task::Arm => arm(context, consumer),
         // What comes for the inbox of a create lies in the link, up to a later turn.
-        Task::Hold => Ok(quietly(NextTasks::Nothing)),
+        Task::Hold => Ok(followed_by(NextTasks::Nothing)),
         // So nothing is ever held.
         Task::HearHeld(_) => Err(Stop::OutOfMemory),
     }

@@ -3,43 +3,29 @@ ghost use Rattle.std.specs.Prelude.{◌≡◌, [], IfOk, OnErr};
 ghost use Rattle.js_json.specs.declared.consumer.info.Info.{Info as SpecInfo};
 ghost use Rattle.js_link.specs.LinkView.{LinkView};
 ghost use Rattle.js_link.specs.Meets.{Meets};
-ghost use Rattle.js_link.specs.Met.{Opens_inbox};
+ghost use Rattle.js_link.specs.declared.wish.Wish.TheVariants.{OpensInbox};
 ghost use Rattle.js_ordered_stream.specs.Rows.{PassesRow, inbox_in, is_bare as holds_nothing};
-ghost use Rattle.js_pull.specs.Asking.{met_shown};
-ghost use Rattle.js_table.specs.Kept.{IsPull, IsPush};
-ghost use Rattle.js_table.specs.Passes.{given_of};
-ghost use Rattle.js_table.specs.Texts as texts_of;
-ghost use Rattle.js_table.specs.declared.consumer.Phase.TheVariants as Phase;
-ghost use Rattle.js_table.specs.declared.row.Row.TheVariants as row;
+ghost use Rattle.js_ordered_table.specs.Invariant.{IsPull, IsPush};
+ghost use Rattle.js_ordered_table.specs.Passes.{input_of};
+ghost use Rattle.js_ordered_table.specs.Texts as texts_of;
+ghost use Rattle.js_ordered_table.specs.declared.consumer.Phase.TheVariants as Phase;
+ghost use Rattle.js_ordered_table.specs.declared.row.Row.TheVariants as row;
 
-use crate::left::Seen;
 use crate::recreation::keep_open;
-use crate::rows::{Stepped, Stop, ask_for, quietly};
-use js_base::{OutOfMemory, Subject};
+use crate::remaining_rows::Seen;
+use crate::rows::{Stepped, Stop, ask_for, followed_by};
+use js_base::OutOfMemory;
 use js_json::consumer::Info;
-use js_link::Link;
-use js_pull::{Met, Source, Wish};
-use js_table::passing::recreation::{pass_succeed_pull, pass_succeed_push};
-use js_table::passing::{Inbox, NextTasks, Task};
-use js_table::{Consumer, EventContext, Opened, OrderedSetup, Recreation, texts};
+use js_link::{Link, Met, Wish};
+use js_ordered_table::transitions::recreation::{pass_succeed_pull, pass_succeed_push};
+use js_ordered_table::transitions::{Inbox, NextTasks, Task};
+use js_ordered_table::{Consumer, EventContext, Opened, OrderedSetup, Recreation, texts};
+use js_pull::PullSource;
 use std::alloc::Global;
 
-/// Whom the next reader asks, but for its inbox.
-fn source_for(
-    alloc: Global,
-    context: &EventContext<'_>,
-    recreation_count: u64,
-    info: &Info,
-) -> Result<Source, OutOfMemory>
-    ensures { IfOk result (λ source. source ≡ texts_of.source_of (given_of context.now) recreation_count 0 [] info.now) }
-{
-    let unknown = Subject::from(String::new(alloc));
-    texts::source_of(context, recreation_count, 0, unknown, info)
-}
-
-/// The inbox that was opened, or could not be.
+// The inbox that was opened, or could not be.
 pub(crate) fn inbox_met(met: Met) -> Option<Inbox>
-    ensures { result ≡ inbox_in (met_shown met) }
+    ensures { result ≡ inbox_in met }
 {
     match met {
         Met::Opened { inbox, subject } => Some(Inbox {
@@ -56,11 +42,11 @@ pub(crate) fn inbox_met(met: Met) -> Option<Inbox>
 /// What pull needs for its next reader.
 #[derive(Drop)]
 struct Reading {
-    source: Source,
+    source: PullSource,
     met: Met,
 }
 
-/// Pull's next inbox is opened.
+// Pull's next inbox is opened.
 fn reading_for<L: Link>(
     alloc: Global,
     context: &EventContext<'_>,
@@ -68,11 +54,11 @@ fn reading_for<L: Link>(
     recreation_count: u64,
     info: &Info,
 ) -> Result<Reading, OutOfMemory>
-    ensures source { IfOk result (λ reading. reading.source ≡ texts_of.source_of (given_of context.now) recreation_count 0 [] info.now) }
-    ensures met { IfOk result (λ reading. Meets Opens_inbox (met_shown reading.met) (L.view link.old) (L.view link.new)) }
+    ensures source { IfOk result (λ reading. reading.source ≡ texts_of.source_of (input_of context.now) recreation_count 0 [] info.now) }
+    ensures met { IfOk result (λ reading. Meets OpensInbox reading.met (L.view link.old) (L.view link.new)) }
     ensures refused { OnErr result (L.view link.new ≡ L.view link.old) }
 {
-    let source = source_for(alloc, context, recreation_count, info)?;
+    let source = texts::source_without_inbox(alloc, context, recreation_count, info)?;
     match ask_for(alloc, link, Wish::OpensInbox) {
         Err(OutOfMemory) => {
             drop(source);
@@ -82,7 +68,7 @@ fn reading_for<L: Link>(
     }
 }
 
-/// A create was answered well: pull opens its next inbox and reads it, and push listens to the one that it has opened for the create.
+// A create was answered well: pull opens its next inbox and reads it, and push listens to the one that it has opened for the create.
 pub(crate) fn succeed<L: Link>(
     alloc: Global,
     context: &EventContext<'_>,
@@ -91,7 +77,7 @@ pub(crate) fn succeed<L: Link>(
     recreation: Recreation,
     info: &Info,
 ) -> Result<Stepped, Stop>
-    ensures { PassesRow (given_of context.now) context.now.moment (row.Succeed info.now) (record consumer.old { phase = Phase.Recreates recreation }) consumer.new (L.view link.old) (L.view link.new) Seen.Nothing result }
+    ensures { PassesRow (input_of context.now) context.now.moment (row.Succeed info.now) (record consumer.old { phase = Phase.Recreates recreation }) consumer.new (L.view link.old) (L.view link.new) Seen.Nothing result }
 {
     match context.setup {
         OrderedSetup::Pull(_) => { succeed_pull(alloc, context, link, consumer, recreation, info) }
@@ -99,7 +85,7 @@ pub(crate) fn succeed<L: Link>(
     }
 }
 
-/// Pull reads its next inbox.
+// Pull reads its next inbox.
 fn succeed_pull<L: Link>(
     alloc: Global,
     context: &EventContext<'_>,
@@ -109,7 +95,7 @@ fn succeed_pull<L: Link>(
     info: &Info,
 ) -> Result<Stepped, Stop>
     requires pull { IsPull context.now.setup.now }
-    ensures { PassesRow (given_of context.now) context.now.moment (row.Succeed info.now) (record consumer.old { phase = Phase.Recreates recreation }) consumer.new (L.view link.old) (L.view link.new) Seen.Nothing result }
+    ensures { PassesRow (input_of context.now) context.now.moment (row.Succeed info.now) (record consumer.old { phase = Phase.Recreates recreation }) consumer.new (L.view link.old) (L.view link.new) Seen.Nothing result }
 {
     match reading_for(alloc, context, link, consumer.core.recreation_count, info) {
         Err(OutOfMemory) => {
@@ -119,12 +105,12 @@ fn succeed_pull<L: Link>(
         Ok(reading) => {
             let Reading { source, met } = reading;
             let inbox = inbox_met(met);
-            Ok(quietly(pass_succeed_pull(context, consumer, recreation, source, inbox)))
+            Ok(followed_by(pass_succeed_pull(context, consumer, recreation, source, inbox)))
         }
     }
 }
 
-/// Nothing is held for the inbox that was opened for a create.
+// Nothing is held for the inbox that was opened for a create.
 fn is_bare(opened: &Option<Opened>) -> bool
     ensures { result ≡ holds_nothing opened.now }
 {
@@ -134,14 +120,14 @@ fn is_bare(opened: &Option<Opened>) -> bool
     }
 }
 
-/// Push listens to the inbox that it has opened: what has come there lies in the link, and is the arrival of a later turn.
+// Push listens to the inbox that it has opened: what has come there lies in the link, and is the arrival of a later turn.
 fn succeed_push(
     context: &EventContext<'_>,
     consumer: &mut Consumer,
     recreation: Recreation,
 ) -> Result<Stepped, Stop>
     requires push { IsPush context.now.setup.now }
-    ensures { (info : SpecInfo) → (v : LinkView) → PassesRow (given_of context.now) context.now.moment (row.Succeed info) (record consumer.old { phase = Phase.Recreates recreation }) consumer.new v v Seen.Nothing result }
+    ensures { (info : SpecInfo) → (v : LinkView) → PassesRow (input_of context.now) context.now.moment (row.Succeed info) (record consumer.old { phase = Phase.Recreates recreation }) consumer.new v v Seen.Nothing result }
 {
     // Only a consumer that has opened an inbox comes here, and a poll holds nothing.
     if !is_bare(&recreation.opened) {
@@ -150,5 +136,5 @@ fn succeed_push(
     }
     let held = pass_succeed_push(context, consumer, recreation);
     drop(held);
-    Ok(quietly(NextTasks::One(Task::Arm)))
+    Ok(followed_by(NextTasks::One(Task::Arm)))
 }

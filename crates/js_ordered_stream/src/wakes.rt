@@ -1,12 +1,12 @@
 //! When an ordered stream has something to do by itself.
 ghost use Rattle.std.specs.Prelude.{◌≡◌, ◌<◌, ◌^◌, ℕ};
 ghost use Rattle.js_base.specs.Clock.{has_come};
-ghost use Rattle.js_turns.specs.Wakes.{phase_due, stage_due};
+ghost use Rattle.js_ordered_table.specs.Timers.{phase_due, stage_due};
 
 use js_base::Moment;
-use js_table::{Phase, Stage};
+use js_ordered_table::{Phase, Stage};
 
-/// When an open recreation has something to do.
+// When an open recreation has something to do.
 fn stage_end(stage: &Stage) -> Option<Moment>
     ensures { (now : ℕ) → now < 2 ^ 64 → has_come result now ≡ stage_due now stage.now }
 {
@@ -18,12 +18,12 @@ fn stage_end(stage: &Stage) -> Option<Moment>
     }
 }
 
-/// The first moment at which a consumer has something to do.
+// The first moment at which a consumer has something to do.
 pub(crate) fn phase_end(phase: &Phase) -> Option<Moment>
     ensures { (now : ℕ) → now < 2 ^ 64 → has_come result now ≡ phase_due now phase.now }
 {
     match phase {
-        Phase::Pulls(reader) => js_pull_stream::wakes_at(reader),
+        Phase::Pulls(reader) => js_pull::wakes_at(reader),
         Phase::Pushes {
             heartbeat_timer,
             ..

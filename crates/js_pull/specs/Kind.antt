@@ -6,7 +6,7 @@ use Rattle.js_base.specs.declared.headers.Header.{Header}
 use Rattle.js_base.specs.declared.message.Message.{Message}
 use Rattle.js_base.specs.declared.message.StatusCode.{StatusCode}
 use Rattle.js_base.specs.Headers.{first_value, all_headers}
-use Rattle.js_message.specs.Number.{u64_of}
+use Rattle.js_message.specs.Numbers.{u64_of}
 use Rattle.js_pull.specs.declared.kind.Kind.{Kind}
 use Rattle.js_pull.specs.declared.kind.Kind.TheVariants.{Delivered, IdleHeartbeat, Deleted, PushBased, Limit, Gone, Ledger, Bad}
 use Rattle.js_pull.specs.declared.kind.HeaderNumber.{HeaderNumber}

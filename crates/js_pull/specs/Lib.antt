@@ -2,6 +2,9 @@ pub mod Kind
 pub mod Limits
 pub mod Reader
 pub mod Passes
-pub mod Asking
-pub mod Steps
+pub mod Rows
 pub mod Texts
+pub mod Poll
+pub mod HeldMessage
+pub mod Stream
+pub mod Timers

@@ -4,8 +4,8 @@ use Rattle.serde_json.specs.Data.{Data}
 use Rattle.js_base.specs.Clock.{second}
 use Rattle.js_json.specs.declared.pull.batch.BatchConfig.{BatchConfig}
 use Rattle.js_json.specs.declared.consumer.info.Info.{Info}
-use Rattle.js_fields.specs.declared.error.ReadError.{ReadError}
-use Rattle.js_fields.specs.Rows.{text_of}
+use Rattle.js_json_members.specs.declared.error.ReadError.{ReadError}
+use Rattle.js_json_members.specs.Rows.{text_of}
 use Rattle.js_json.specs.Batch.{pull_request_value}
 
 -- a cap of 0 or below is none

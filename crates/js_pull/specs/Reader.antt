@@ -12,18 +12,21 @@ use Rattle.js_json.specs.declared.response.Response.{Response}
 use Rattle.js_json.specs.declared.response.Response.TheVariants as response
 use Rattle.js_json.specs.Response.{response_of}
 use Rattle.js_json.specs.ConsumerInfo.{info_fields}
-use Rattle.js_fields.specs.declared.error.ReadError.{ReadError}
-use Rattle.js_fields.specs.Reading.{float_free}
-use Rattle.js_link.specs.Passing.{Passing}
-use Rattle.js_link.specs.Met.{Wish, Met, Publishes, Requests, Reads, Awaits, reply_of}
-use Rattle.js_link.specs.Met as link
+use Rattle.js_json_members.specs.declared.error.ReadError.{ReadError}
+use Rattle.js_json_members.specs.Member.{float_free}
+use Rattle.js_link.specs.RowInput.{RowInput}
+use Rattle.js_link.specs.Wish.{reply_of}
+use Rattle.js_link.specs.declared.wish.Wish.{Wish}
+use Rattle.js_link.specs.declared.wish.Wish.TheVariants.{Publishes, Requests, Reads, Awaits}
+use Rattle.js_link.specs.declared.wish.Met.{Met}
+use Rattle.js_link.specs.declared.wish.Wish.TheVariants as wishes
 use Rattle.js_link.specs.declared.sent.Sent.{Sent}
 use Rattle.js_link.specs.declared.sent.Sent.TheVariants.{Request, Publish}
 use Rattle.js_pull.specs.declared.kind.Kind.{Kind}
 use Rattle.js_pull.specs.declared.kind.Kind.TheVariants.{Delivered, IdleHeartbeat, Deleted, PushBased, Limit, Gone, Bad, Ledger}
 use Rattle.js_pull.specs.Kind.{pull_kind}
 use Rattle.js_pull.specs.Limits.{pull_body}
-use Rattle.js_pull.specs.declared.reader.Source.{Source}
+use Rattle.js_pull.specs.declared.reader.PullSource.{PullSource}
 use Rattle.js_pull.specs.declared.reader.Reader.{Reader}
 use Rattle.js_pull.specs.declared.reader.MessagesErrorKind.{MessagesErrorKind}
 use Rattle.js_pull.specs.declared.reader.MessagesErrorKind.TheVariants as error
@@ -34,11 +37,11 @@ use Rattle.js_pull.specs.declared.reader.Reason.TheVariants.{Low, Expired, Infor
 use Rattle.js_pull.specs.declared.reader.Row.{Row}
 use Rattle.js_pull.specs.declared.reader.Row.TheVariants.{Begin, Ask, Threshold, Arm, Inquire, FailInfoRequest, CheckInfoRequest, Answered, CheckExpiry, CheckArrival, CheckSilence}
 use Rattle.js_pull.specs.declared.reader.ReaderOutput.{ReaderOutput}
-use Rattle.js_subjects.specs.Subjects.{under, of_consumer}
+use Rattle.js_base.specs.ApiSubject.{under, consumer_api_subject}
 use Rattle.js_pull.specs.declared.reader.ReaderOutput.TheVariants.{Nothing, Hands, Tells}
 
 -- a reader that has asked for nothing yet
-abbrev pub new_reader : Source → Reader
+abbrev pub new_reader : PullSource → Reader
 new_reader source = record {
   source = source;
   pending = 0;
@@ -65,8 +68,8 @@ pub record Passed : Type 0 where
   pub next : List Row
 
 -- nothing goes out, and nothing is told
-abbrev pub quietly : Reader → List Row → Passed
-quietly reader rows = record { reader = reader; sent = []; told = Nothing; next = rows }
+abbrev pub silent_row : Reader → List Row → Passed
+silent_row reader rows = record { reader = reader; sent = []; told = Nothing; next = rows }
 
 -- the user is told of an error
 abbrev pub tell : MessagesErrorKind → Reader → List Row → Passed
@@ -88,14 +91,14 @@ dot = codes "."
 
 -- of a request to the API that speaks of a consumer
 abbrev pub api_subject : List ℕ → List ℕ → List ℕ → List ℕ → List ℕ
-api_subject api words stream name = under api (of_consumer words stream name)
+api_subject api words stream name = under api (consumer_api_subject words stream name)
 
 -- of a pull request
-abbrev pub pull_subject : Source → List ℕ
+abbrev pub pull_subject : PullSource → List ℕ
 pull_subject s = api_subject s.api (codes "CONSUMER.MSG.NEXT") s.stream s.name
 
 -- of an info request
-abbrev pub info_subject : Source → List ℕ
+abbrev pub info_subject : PullSource → List ℕ
 info_subject s = api_subject s.api (codes "CONSUMER.INFO") s.stream s.name
 
 -- ---- timers
@@ -154,7 +157,7 @@ asked reason r = record r {
 }
 
 -- a pull request; the expiry is armed whether it goes out or not
-abbrev pub ask : Passing → Reason → Reader → Passed
+abbrev pub ask : RowInput → Reason → Reader → Passed
 ask p reason r =
     let armed = with_expiry p.now r in
     if p.up
@@ -181,13 +184,13 @@ is_low r =
 abbrev pub threshold : Reader → Passed
 threshold r =
     if is_low r && not r.waiting
-    then quietly (record r { waiting = true }) (if is_asking r.inquiry then [] else Ask Low ∷ [])
-    else quietly r []
+    then silent_row (record r { waiting = true }) (if is_asking r.inquiry then [] else Ask Low ∷ [])
+    else silent_row r []
 
 -- ---- infos
 
 -- a try: without the link it fails at once
-abbrev pub inquire : Passing → ℕ → Reader → Passed
+abbrev pub inquire : RowInput → ℕ → Reader → Passed
 inquire p failures r =
     if p.up
     then record {
@@ -196,14 +199,14 @@ inquire p failures r =
       told = Nothing;
       next = [];
     }
-    else quietly r (FailInfoRequest failures ∷ [])
+    else silent_row r (FailInfoRequest failures ∷ [])
 
 -- the sixth failure ends it
-abbrev pub fail_inquiry : Passing → ℕ → Reader → Passed
+abbrev pub fail_inquiry : RowInput → ℕ → Reader → Passed
 fail_inquiry p failures r =
     let n = failures + 1 in
     if nat_lt n 6
-    then quietly (record r { inquiry = Resting (record { set = p.now; wait = retry_wait n }) n }) []
+    then silent_row (record r { inquiry = Resting (record { set = p.now; wait = retry_wait n }) n }) []
     else tell error.Pull (record r { inquiry = NoInfoRequest }) (Ask (Informed false) ∷ [])
 
 -- nobody listens to the subject of a request
@@ -228,8 +231,8 @@ info_of_reply (Some message) = if is_unheard message.status then None else respo
 
 -- a good answer brings a request, with reset where no pull request waits
 abbrev pub answered : ℕ → Option Info → Reader → Passed
-answered failures None r = quietly r (FailInfoRequest failures ∷ [])
-answered failures (Some info) r = quietly (record r { inquiry = NoInfoRequest }) (Ask (Informed (info.num_waiting == 0)) ∷ [])
+answered failures None r = silent_row r (FailInfoRequest failures ∷ [])
+answered failures (Some info) r = silent_row (record r { inquiry = NoInfoRequest }) (Ask (Informed (info.num_waiting == 0)) ∷ [])
 
 -- the reply to a request, if this answers it
 abbrev pub reply_to : ℕ → Option Answer → Option (Option Message)
@@ -237,15 +240,15 @@ reply_to request None = None
 reply_to request (Some answer) = if request == answer.request then Some answer.reply else None
 
 -- an answer, which is read next, or the timeout
-abbrev pub check_asked : Passing → Option Timer → ℕ → Option (Option Message) → Reader → Passed
-check_asked p timeout failures (Some reply) r = quietly r (Answered reply failures ∷ [])
-check_asked p timeout failures None r = quietly r (if is_any_due timeout p.now then FailInfoRequest failures ∷ [] else [])
+abbrev pub check_asked : RowInput → Option Timer → ℕ → Option (Option Message) → Reader → Passed
+check_asked p timeout failures (Some reply) r = silent_row r (Answered reply failures ∷ [])
+check_asked p timeout failures None r = silent_row r (if is_any_due timeout p.now then FailInfoRequest failures ∷ [] else [])
 
 -- an open info looks at its answer before its clock
-abbrev pub check_inquiry : Passing → Option Answer → InfoRequest → Reader → Passed
-check_inquiry p answer NoInfoRequest r = quietly r []
+abbrev pub check_inquiry : RowInput → Option Answer → InfoRequest → Reader → Passed
+check_inquiry p answer NoInfoRequest r = silent_row r []
 check_inquiry p answer (Asked request timeout failures) r = check_asked p timeout failures (reply_to request answer) r
-check_inquiry p answer (Resting wait failures) r = quietly r (if is_due wait p.now then Inquire failures ∷ [] else [])
+check_inquiry p answer (Resting wait failures) r = silent_row r (if is_due wait p.now then Inquire failures ∷ [] else [])
 
 -- ---- arrivals
 
@@ -260,14 +263,14 @@ end_with kind r = tell kind (record r { ended = true }) []
 -- what an arrival of a kind does
 abbrev pub hear : Message → Kind → Reader → Passed
 hear message Delivered r = record { reader = lowered 1 message.length r; sent = []; told = Hands message; next = Threshold ∷ [] }
-hear message IdleHeartbeat r = quietly r (Threshold ∷ [])
+hear message IdleHeartbeat r = silent_row r (Threshold ∷ [])
 hear message Deleted r = end_with error.ConsumerDeleted r
 hear message PushBased r = end_with error.PushBasedConsumer r
 hear message Limit r = end_with error.RequestLimitExceeded r
 hear message Gone r = tell error.NoResponders r (Threshold ∷ [])
 hear message Bad r = tell error.Other r (Threshold ∷ [])
 hear message (Ledger messages bytes) r =
-    quietly (lowered (unwrap_or messages r.source.config.batch) (unwrap_or bytes r.source.config.max_bytes) r) (Threshold ∷ [])
+    silent_row (lowered (unwrap_or messages r.source.config.batch) (unwrap_or bytes r.source.config.max_bytes) r) (Threshold ∷ [])
 
 -- the header that names the pinned client
 abbrev pub pin_header : List ℕ
@@ -290,28 +293,28 @@ abbrev pub with_pin : Message → Reader → Reader
 with_pin message r = record r { pin = (if r.source.pinned then pin_after message message.status r.pin else None) }
 
 -- an arrival arms the heartbeat; without one it is looked at
-abbrev pub check_arrival : Passing → Option Message → Reader → Passed
-check_arrival p None r = quietly r (CheckSilence ∷ [])
+abbrev pub check_arrival : RowInput → Option Message → Reader → Passed
+check_arrival p None r = silent_row r (CheckSilence ∷ [])
 check_arrival p (Some message) r = hear message (pull_kind message) (with_pin message (with_silence p.now r))
 
 -- a heartbeat that is missing is told, and armed anew
-abbrev pub check_silence : Passing → Reader → Passed
-check_silence p r = if is_any_due r.heartbeat_timer p.now then tell error.MissingHeartbeat (with_silence p.now r) [] else quietly r []
+abbrev pub check_silence : RowInput → Reader → Passed
+check_silence p r = if is_any_due r.heartbeat_timer p.now then tell error.MissingHeartbeat (with_silence p.now r) [] else silent_row r []
 
 -- ---- an event
 
 -- without an open info a change to Connected begins one, and another change arms the expiry, which is else looked at
-abbrev pub begin_change : Passing → Option State → Reader → Passed
-begin_change p None r = quietly r (CheckExpiry ∷ CheckArrival ∷ [])
-begin_change p (Some Connected) r = quietly r (Inquire 0 ∷ CheckArrival ∷ [])
-begin_change p (Some Pending) r = quietly (with_expiry p.now r) (CheckArrival ∷ [])
-begin_change p (Some Disconnected) r = quietly (with_expiry p.now r) (CheckArrival ∷ [])
+abbrev pub begin_change : RowInput → Option State → Reader → Passed
+begin_change p None r = silent_row r (CheckExpiry ∷ CheckArrival ∷ [])
+begin_change p (Some Connected) r = silent_row r (Inquire 0 ∷ CheckArrival ∷ [])
+begin_change p (Some Pending) r = silent_row (with_expiry p.now r) (CheckArrival ∷ [])
+begin_change p (Some Disconnected) r = silent_row (with_expiry p.now r) (CheckArrival ∷ [])
 
 -- what an event does first; an ended reader passes nothing
-abbrev pub begin_row : Passing → Option State → Reader → Passed
+abbrev pub begin_row : RowInput → Option State → Reader → Passed
 begin_row p change r =
-    if r.ended then quietly r [] else (
-    if is_asking r.inquiry then quietly r (CheckInfoRequest ∷ CheckArrival ∷ []) else begin_change p change r)
+    if r.ended then silent_row r [] else (
+    if is_asking r.inquiry then silent_row r (CheckInfoRequest ∷ CheckArrival ∷ []) else begin_change p change r)
 
 -- what a new reader does first: it asks at once, and arms its heartbeat
 abbrev pub opening : List Row
@@ -320,16 +323,16 @@ opening = Threshold ∷ Arm ∷ []
 -- ---- the rows
 
 -- one row is passed
-abbrev pub row : Passing → Option Answer → Option Message → Row → Reader → Passed
+abbrev pub row : RowInput → Option Answer → Option Message → Row → Reader → Passed
 row p answer arrival (Begin change) r = begin_row p change r
 row p answer arrival (Ask reason) r = ask p reason r
 row p answer arrival Threshold r = threshold r
-row p answer arrival Arm r = quietly (with_silence p.now r) []
+row p answer arrival Arm r = silent_row (with_silence p.now r) []
 row p answer arrival (Inquire failures) r = inquire p failures r
 row p answer arrival (FailInfoRequest failures) r = fail_inquiry p failures r
 row p answer arrival CheckInfoRequest r = check_inquiry p answer r.inquiry r
 row p answer arrival (Answered reply failures) r = answered failures (info_of_reply reply) r
-row p answer arrival CheckExpiry r = quietly r (if is_any_due r.expiry p.now then Ask Expired ∷ [] else [])
+row p answer arrival CheckExpiry r = silent_row r (if is_any_due r.expiry p.now then Ask Expired ∷ [] else [])
 row p answer arrival CheckArrival r = check_arrival p arrival r
 row p answer arrival CheckSilence r = check_silence p r
 
@@ -338,7 +341,7 @@ row p answer arrival CheckSilence r = check_silence p r
 -- an open info that was asked for waits for its answer
 abbrev pub awaited : InfoRequest → Wish
 awaited (Asked request timeout failures) = Awaits request
-awaited _ = link.Nothing
+awaited _ = wishes.Nothing
 
 -- what each row asks: one thing at most
 abbrev pub wish : Row → Reader → Wish
@@ -346,7 +349,7 @@ wish (Ask reason) r = Publishes (pull_subject r.source) (Some r.source.subject) 
 wish (Inquire failures) r = Requests (info_subject r.source) (codes "{}")
 wish CheckInfoRequest r = awaited r.inquiry
 wish CheckArrival r = Reads r.source.inbox
-wish _ r = link.Nothing
+wish _ r = wishes.Nothing
 
 -- the answer that was met
 abbrev pub answer_of : Wish → Met → Option Answer

@@ -107,7 +107,7 @@ fn is_limit(description: &str) -> bool
     description.starts_with("Exceeded MaxRequest")
 }
 
-/// A status that ends a request.
+// A status that ends a request.
 fn ended_request(description: &str, headers: &Option<HeaderMap>) -> Kind
     ensures { result ≡ kinds.ended_request description.now (all_headers headers.now) }
 {
@@ -125,7 +125,8 @@ fn ended_request(description: &str, headers: &Option<HeaderMap>) -> Kind
     }
 }
 
-fn description_of(message: &Message) -> &str
+// The description of a message, which is empty where it has none.
+fn description_text(message: &Message) -> &str
     ensures { result.now ≡ unwrap_or message.now.description [] }
 {
     match &message.description {
@@ -143,7 +144,7 @@ pub fn pull_kind(message: &Message) -> Kind
         Some(StatusCode(status)) => match status {
             200 => Kind::Delivered,
             100 => Kind::IdleHeartbeat,
-            408 | 409 | 423 => ended_request(description_of(message), &message.headers),
+            408 | 409 | 423 => ended_request(description_text(message), &message.headers),
             503 => Kind::Gone,
             _ => Kind::Bad,
         },

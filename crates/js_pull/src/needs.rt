@@ -2,19 +2,18 @@
 ghost use Rattle.std.specs.Prelude.{◌≡◌, IfOk, Option};
 ghost use Rattle.std.specs.Option.{option_copied};
 ghost use Rattle.js_base.specs.declared.message.Message.{Message as SpecMessage};
-ghost use Rattle.js_link.specs.Met.{message_of};
-ghost use Rattle.js_pull.specs.Asking.{met_shown, wish_shown};
+ghost use Rattle.js_link.specs.Wish.{message_of};
 ghost use Rattle.js_pull.specs.Reader as rows;
 ghost use Rattle.js_pull.specs.declared.reader.Reason.TheVariants.{Low};
 ghost use Rattle.js_pull.specs.declared.reader.Row.TheVariants as read;
-ghost use Rattle.js_pull.specs.Steps.{IsInformed, informed_by, pin_brought, row_of};
+ghost use Rattle.js_pull.specs.Rows.{IsInformed, informed_by, pin_brought, row_of};
 
-use crate::asking::{Met, Wish};
 use crate::reader::{InfoRequest, Reader, Reason};
 use crate::replies::{brought_pin, info_of_reply};
 use crate::rows::Due;
 use bytes::Bytes;
 use js_base::{Message, OutOfMemory, Text, TryClone};
+use js_link::{Met, Wish};
 use std::alloc::Global;
 
 /// What a reply tells to the row that reads it: why messages are asked for, where it is a good answer.
@@ -61,7 +60,7 @@ impl Reader {
     ///
     /// Want of memory, after which nothing has changed.
     pub fn wish(&self, alloc: Global, due: Due) -> Result<Wish, OutOfMemory>
-        ensures { IfOk result (λ wish. (reply : Option SpecMessage) → wish_shown wish ≡ rows.wish (row_of reply due) self.now) }
+        ensures { IfOk result (λ wish. (reply : Option SpecMessage) → wish ≡ rows.wish (row_of reply due) self.now) }
     {
         match due {
             Due::Ask { .. } => self.pull_wish(alloc),
@@ -79,9 +78,9 @@ impl Reader {
         }
     }
 
-    /// A pull request goes out.
+    // A pull request goes out.
     fn pull_wish(&self, alloc: Global) -> Result<Wish, OutOfMemory>
-        ensures { IfOk result (λ wish. wish_shown wish ≡ rows.wish (read.Ask Low) self.now) }
+        ensures { IfOk result (λ wish. wish ≡ rows.wish (read.Ask Low) self.now) }
     {
         Ok(Wish::Publishes {
             subject: self.source.pull_subject(alloc)?,
@@ -90,9 +89,9 @@ impl Reader {
         })
     }
 
-    /// The consumer's info is asked for.
+    // The consumer's info is asked for.
     fn info_wish(&self, alloc: Global) -> Result<Wish, OutOfMemory>
-        ensures { IfOk result (λ wish. wish_shown wish ≡ rows.wish (read.Inquire 0) self.now) }
+        ensures { IfOk result (λ wish. wish ≡ rows.wish (read.Inquire 0) self.now) }
     {
         Ok(Wish::Requests {
             subject: self.source.info_subject(alloc)?,
@@ -106,7 +105,7 @@ impl Reader {
     ///
     /// Want of memory. The message is still there.
     pub fn pin_of(&self, alloc: Global, met: &Met) -> Result<Option<Text>, OutOfMemory>
-        ensures { IfOk result (λ pin. pin ≡ pin_brought self.now.source.pinned (message_of (met_shown met.now))) }
+        ensures { IfOk result (λ pin. pin ≡ pin_brought self.now.source.pinned (message_of met.now)) }
     {
         match met.message() {
             None => Ok(None),
@@ -115,9 +114,9 @@ impl Reader {
     }
 }
 
-/// An open info that was asked for waits for its answer.
+// An open info that was asked for waits for its answer.
 fn awaited(inquiry: InfoRequest) -> Wish
-    ensures { wish_shown result ≡ rows.awaited inquiry }
+    ensures { result ≡ rows.awaited inquiry }
 {
     match inquiry {
         InfoRequest::NoInfoRequest => Wish::Nothing,

@@ -29,7 +29,7 @@ pub enum MessagesErrorKind {
 
 /// Whom a reader asks, for what, and where it is answered.
 #[derive(Drop)]
-pub struct Source {
+pub struct PullSource {
     /// What the subjects of its requests begin with.
     pub api: Text,
     pub stream: Text,
@@ -75,7 +75,7 @@ pub enum Reason {
     Informed { reset: bool },
 }
 
-/// One thing that a reader does. It asks the link for one thing at most.
+/// A row of the table, which definitions alone use: one thing that a reader does. It asks the link for one thing at most. `Due` is its form in code.
 #[derive(Drop)]
 pub enum Row {
     /// What an event does first, with the connection's change.
@@ -110,7 +110,7 @@ pub enum Row {
     CheckSilence,
 }
 
-/// What a row tells the reader's user.
+/// What a row of the table tells the reader's user, which definitions alone use. `Notice` is its form in code.
 #[derive(Drop)]
 pub enum ReaderOutput {
     Nothing,
@@ -121,7 +121,7 @@ pub enum ReaderOutput {
 /// A pull reader: it keeps messages coming, and says what arrivals are.
 #[derive(Drop)]
 pub struct Reader {
-    pub source: Source,
+    pub source: PullSource,
     /// The messages that are still asked for,
     pub pending: u64,
     /// and the bytes.
@@ -148,7 +148,7 @@ pub fn is_asking(inquiry: &InfoRequest) -> bool
     }
 }
 
-/// Five seconds after the expiry, where there is one above 0.
+// Five seconds after the expiry, where there is one above 0.
 fn armed_expiry(now: Moment, expires: Option<Nanos>) -> Option<Timer>
     ensures { result ≡ rows.armed_expiry now expires }
 {
@@ -238,7 +238,7 @@ fn extra_after(reason: Reason, unreset_requests: u64) -> u64
 
 impl Reader {
     /// A reader that has asked for nothing yet.
-    pub fn new(source: Source) -> Reader
+    pub fn new(source: PullSource) -> Reader
         ensures { result ≡ new_reader source }
     {
         Reader {
@@ -255,7 +255,7 @@ impl Reader {
         }
     }
 
-    /// At most half of the messages are pending, or of the bytes where they are limited.
+    // At most half of the messages are pending, or of the bytes where they are limited.
     fn is_low(&self) -> bool
         ensures { result ≡ rows.is_low self.now }
     {

@@ -3,13 +3,13 @@ ghost use Rattle.std.specs.Prelude.{◌≡◌, true, Some, IfOk, OnErr, OnOk, op
 ghost use Rattle.std.specs.Option.{option_copied};
 ghost use Rattle.js_base.specs.Headers.{all_headers, last_value};
 ghost use Rattle.js_pull.specs.Reader as rows;
-ghost use Rattle.js_pull.specs.Steps.{pin_brought};
+ghost use Rattle.js_pull.specs.Rows.{pin_brought};
 
 use crate::reader::Reader;
 use js_base::{HeaderMap, Message, OutOfMemory, StatusCode, Text};
-use js_fields::ReadError;
 use js_json::consumer::Info;
 use js_json::{Response, response_as};
+use js_json_members::ReadError;
 use std::alloc::Global;
 
 fn is_unheard(status: Option<StatusCode>) -> bool
@@ -21,7 +21,7 @@ fn is_unheard(status: Option<StatusCode>) -> bool
     }
 }
 
-/// The info that a payload holds, where it reads as one and not as an error.
+// The info that a payload holds, where it reads as one and not as an error.
 fn response_info(alloc: Global, payload: &[u8]) -> Result<Option<Info>, OutOfMemory>
     ensures { IfOk result (λ info. info ≡ rows.response_info payload.now) }
 {
@@ -57,7 +57,7 @@ pub fn info_of_reply(alloc: Global, reply: Option<&Message>) -> Result<Option<In
     }
 }
 
-/// The pin that a message names.
+// The pin that a message names.
 fn named_pin(alloc: Global, headers: &Option<HeaderMap>) -> Result<Option<Text>, OutOfMemory>
     ensures { IfOk result (λ pin. pin ≡ last_value (rows.pin_header) (all_headers headers.now)) }
 {
@@ -70,7 +70,7 @@ fn named_pin(alloc: Global, headers: &Option<HeaderMap>) -> Result<Option<Text>,
     }
 }
 
-/// The newer of two pins.
+// The newer of two pins.
 fn keep_newer(pin: &mut Option<Text>, named: Option<Text>)
     ensures { pin.new ≡ rows.newer named pin.old }
 {
@@ -98,7 +98,7 @@ pub(crate) fn brought_pin(
     }
 }
 
-/// The pin after an arrival that brings one. Status 423 says that another client is pinned.
+// The pin after an arrival that brings one. Status 423 says that another client is pinned.
 fn keep_brought(pin: &mut Option<Text>, message: &Message, brought: Option<Text>)
     requires { brought ≡ pin_brought true (Some message.now) }
     ensures { pin.new ≡ rows.pin_after message.now message.now.status pin.old }

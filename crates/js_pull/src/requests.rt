@@ -3,18 +3,17 @@ ghost use Rattle.std.specs.Prelude.{◌≡◌, IfOk};
 ghost use Rattle.js_pull.specs.Reader as rows;
 ghost use Rattle.js_pull.specs.Limits.{pull_body};
 
-use crate::reader::{Reader, Source};
+use crate::reader::{PullSource, Reader};
 use bytes::Bytes;
-use js_base::{OutOfMemory, Subject};
-use js_subjects::{of_consumer, with_word};
+use js_base::{OutOfMemory, Subject, consumer_api_subject, with_word};
 use std::alloc::Global;
 
-impl Source {
-    /// The subject of a request on the consumer, by the words of the call.
+impl PullSource {
+    // The subject of a request on the consumer, by the words of the call.
     fn api_subject(&self, alloc: Global, words: &str) -> Result<Subject, OutOfMemory>
         ensures { IfOk result (λ subject. subject ≡ rows.api_subject self.now.api words.now self.now.stream self.now.name) }
     {
-        let subject = of_consumer(alloc, words, self.stream.as_str(), self.name.as_str())?;
+        let subject = consumer_api_subject(alloc, words, self.stream.as_str(), self.name.as_str())?;
         Ok(Subject::from(with_word(alloc, self.api.as_str(), subject.as_str())?))
     }
 

@@ -5,20 +5,21 @@
 //! (`Reader::pin_of`). `Reader::pass` passes it. Only the last step changes the reader; it takes no memory, and always succeeds.
 ghost use Rattle.std.specs.Prelude.{◌≡◌, [], false, true, None, Some, Option, if◌then◌else◌};
 ghost use Rattle.js_base.specs.declared.message.Message.{Message as SpecMessage};
-ghost use Rattle.js_link.specs.Met.{Met as LinkMet, Took, message_of};
-ghost use Rattle.js_pull.specs.Asking.{met_shown};
+ghost use Rattle.js_link.specs.Wish.{message_of};
+ghost use Rattle.js_link.specs.declared.wish.Met.{Met as LinkMet};
+ghost use Rattle.js_link.specs.declared.wish.Met.TheVariants.{Took};
 ghost use Rattle.js_pull.specs.Kind.{pull_kind as kind_of};
 ghost use Rattle.js_pull.specs.Passes.{publishing};
 ghost use Rattle.js_pull.specs.Reader as rows;
 ghost use Rattle.js_pull.specs.declared.reader.Row.TheVariants as read;
-ghost use Rattle.js_pull.specs.Steps.{IsInformed, ReadsTo, Steps, StepsTo, informed_by, inquiry_step, passing_at, pin_brought, requesting, row_of, rows_with};
+ghost use Rattle.js_pull.specs.Rows.{IsInformed, ReadsTo, Steps, StepsTo, informed_by, inquiry_step, passing_at, pin_brought, requesting, row_of, rows_with};
 
-use crate::asking::Met;
 use crate::kind::{Kind, pull_kind};
 use crate::reader::{
     InfoRequest, MessagesErrorKind, Reader, Reason, is_any_due, is_asking, retry_wait, timeout_from,
 };
 use js_base::{Message, Moment, State, Text, Timer};
+use js_link::Met;
 
 /// A row that is due: one thing that a reader does, after its event has begun. The reply that `Answered` reads lies beside it.
 #[derive(Clone, Copy)]
@@ -47,7 +48,7 @@ pub enum Due {
 
 /// The rows that are left of an event. There are never more than two.
 #[derive(Clone, Copy)]
-pub enum Todo {
+pub enum DueRows {
     Nothing,
     One(Due),
     Two(Due, Due),
@@ -65,7 +66,7 @@ pub enum Notice {
 
 /// What a row does that was passed.
 #[derive(Clone, Copy)]
-pub struct Step {
+pub struct PassedRow {
     pub told: Notice,
     /// The row that follows at once. `Answered` reads the reply that was met, which is none where the replier is gone.
     pub next: Option<Due>,
@@ -80,21 +81,21 @@ pub struct Spare {
     pub pin: Option<Text>,
 }
 
-/// A row that tells nothing.
-fn quietly(next: Option<Due>) -> Step
+// A row that tells nothing.
+fn silent_row(next: Option<Due>) -> PassedRow
     ensures { result ≡ record { told = Notice.Nothing; next = next } }
 {
-    Step {
+    PassedRow {
         told: Notice::Nothing,
         next,
     }
 }
 
-/// A row that tells an error.
-fn tells(kind: MessagesErrorKind, next: Option<Due>) -> Step
+// A row that tells an error.
+fn tells(kind: MessagesErrorKind, next: Option<Due>) -> PassedRow
     ensures { result ≡ record { told = Notice.Tells kind; next = next } }
 {
-    Step {
+    PassedRow {
         told: Notice::Tells(kind),
         next,
     }
@@ -104,85 +105,85 @@ fn tells(kind: MessagesErrorKind, next: Option<Due>) -> Step
 
 impl Reader {
     /// What an event does first, with the connection's change.
-    pub fn begin(&mut self, now: Moment, change: Option<State>) -> Todo
+    pub fn begin(&mut self, now: Moment, change: Option<State>) -> DueRows
         ensures reader { self.new ≡ (rows.begin_row (publishing now false) change self.old).reader }
         ensures next { (reply : Option SpecMessage) → (other : Option SpecMessage) → rows_with reply other result ≡ (rows.begin_row (publishing now false) change self.old).next }
     {
         if self.ended {
-            return Todo::Nothing;
+            return DueRows::Nothing;
         }
         if is_asking(&self.inquiry) {
-            return Todo::Two(Due::CheckInfoRequest, Due::CheckArrival);
+            return DueRows::Two(Due::CheckInfoRequest, Due::CheckArrival);
         }
         match change {
-            None => Todo::Two(Due::CheckExpiry, Due::CheckArrival),
-            Some(State::Connected) => Todo::Two(Due::Inquire { failures: 0 }, Due::CheckArrival),
+            None => DueRows::Two(Due::CheckExpiry, Due::CheckArrival),
+            Some(State::Connected) => DueRows::Two(Due::Inquire { failures: 0 }, Due::CheckArrival),
             Some(State::Pending) => {
                 self.arm_expiry(now);
-                Todo::One(Due::CheckArrival)
+                DueRows::One(Due::CheckArrival)
             }
             Some(State::Disconnected) => {
                 self.arm_expiry(now);
-                Todo::One(Due::CheckArrival)
+                DueRows::One(Due::CheckArrival)
             }
         }
     }
 
     /// A pull request has gone out, or was refused, of which the user is told. The expiry is armed in both cases.
-    pub fn pass_ask(&mut self, now: Moment, reason: Reason, goes_out: bool) -> Step
+    pub fn pass_ask(&mut self, now: Moment, reason: Reason, goes_out: bool) -> PassedRow
         ensures { (met : LinkMet) → StepsTo (rows.ask (publishing now goes_out) reason self.old) met result self.new }
     {
         self.arm_expiry(now);
         if goes_out {
             self.count_request(reason);
-            quietly(None)
+            silent_row(None)
         } else {
             tells(MessagesErrorKind::Pull, None)
         }
     }
 
     /// Where little is pending a request follows.
-    pub fn pass_threshold(&mut self) -> Step
+    pub fn pass_threshold(&mut self) -> PassedRow
         ensures { (met : LinkMet) → StepsTo (rows.threshold self.old) met result self.new }
     {
         if self.threshold() {
-            quietly(Some(Due::Ask {
+            silent_row(Some(Due::Ask {
                 reason: Reason::Low,
             }))
         } else {
-            quietly(None)
+            silent_row(None)
         }
     }
 
     /// The heartbeat is armed.
-    pub fn pass_arm(&mut self, now: Moment) -> Step
-        ensures { (met : LinkMet) → StepsTo (rows.quietly (rows.with_silence now self.old) []) met result self.new }
+    pub fn pass_arm(&mut self, now: Moment) -> PassedRow
+        ensures { (met : LinkMet) → StepsTo (rows.silent_row (rows.with_silence now self.old) []) met result self.new }
     {
         self.arm_silence(now);
-        quietly(None)
+        silent_row(None)
     }
 
     // ---- the consumer's info, after a reconnection
 
     /// The info was asked for, under this number, or the request was refused.
-    pub fn pass_inquire(&mut self, now: Moment, failures: u64, request: Option<u64>) -> Step
+    pub fn pass_inquire(&mut self, now: Moment, failures: u64, request: Option<u64>) -> PassedRow
         ensures { (met : LinkMet) → StepsTo (rows.inquire (requesting now request) failures self.old) met result self.new }
     {
         match request {
-            None => quietly(Some(Due::FailInfoRequest { failures })),
+            None => silent_row(Some(Due::FailInfoRequest { failures })),
             Some(request) => {
                 self.inquiry = InfoRequest::Asked {
                     request,
                     timeout: timeout_from(now, self.source.info_timeout),
                     failures,
                 };
-                quietly(None)
+                silent_row(None)
             }
         }
     }
 
     /// A try failed: the next one waits, and after the sixth the user is told.
-    pub fn pass_fail_inquiry(&mut self, now: Moment, failures: u64) -> Step
+    pub fn pass_fail_inquiry(&mut self, now: Moment, failures: u64) -> PassedRow
         ensures { (met : LinkMet) → StepsTo (rows.fail_inquiry (publishing now false) failures self.old) met result self.new }
     {
         if failures >= 5 {
@@ -201,19 +202,19 @@ impl Reader {
             },
             failures: failures + 1,
         };
-        quietly(None)
+        silent_row(None)
     }
 
     /// The answer was read.
-    pub fn pass_answered(&mut self, failures: u64, informed: Option<Reason>) -> Step
+    pub fn pass_answered(&mut self, failures: u64, informed: Option<Reason>) -> PassedRow
         ensures { (reply : Option SpecMessage) → (met : LinkMet) → informed ≡ informed_by (rows.info_of_reply reply)
             → StepsTo (rows.answered failures (rows.info_of_reply reply) self.old) met result self.new }
     {
         match informed {
-            None => quietly(Some(Due::FailInfoRequest { failures })),
+            None => silent_row(Some(Due::FailInfoRequest { failures })),
             Some(reason) => {
                 self.inquiry = InfoRequest::NoInfoRequest;
-                quietly(Some(Due::Ask { reason }))
+                silent_row(Some(Due::Ask { reason }))
             }
         }
     }
@@ -221,34 +222,34 @@ impl Reader {
     // ---- timers
 
     /// After a request has expired another one follows.
-    pub fn pass_check_expiry(&mut self, now: Moment) -> Step
+    pub fn pass_check_expiry(&mut self, now: Moment) -> PassedRow
         ensures { (met : LinkMet) → StepsTo (rows.row (publishing now false) None None read.CheckExpiry self.old) met result self.new }
     {
         if is_any_due(&self.expiry, now) {
-            quietly(Some(Due::Ask {
+            silent_row(Some(Due::Ask {
                 reason: Reason::Expired,
             }))
         } else {
-            quietly(None)
+            silent_row(None)
         }
     }
 
     /// A missing heartbeat is told, and armed anew.
-    pub fn pass_check_silence(&mut self, now: Moment) -> Step
+    pub fn pass_check_silence(&mut self, now: Moment) -> PassedRow
         ensures { (met : LinkMet) → StepsTo (rows.check_silence (publishing now false) self.old) met result self.new }
     {
         if is_any_due(&self.heartbeat_timer, now) {
             self.arm_silence(now);
             tells(MessagesErrorKind::MissingHeartbeat, None)
         } else {
-            quietly(None)
+            silent_row(None)
         }
     }
 
     // ---- arrivals
 
     /// What an arrival does, once its pin is kept and the heartbeat is armed.
-    pub fn hear(&mut self, message: &Message) -> Step
+    pub fn hear(&mut self, message: &Message) -> PassedRow
         ensures { (reply : Option SpecMessage) → ReadsTo reply (Some message.now) (rows.hear message.now (kind_of message.now) self.old) self.new result }
     {
         match pull_kind(message) {
@@ -271,8 +272,8 @@ impl Reader {
         }
     }
 
-    /// An error ends the reader: no row follows.
-    fn end_with(&mut self, kind: MessagesErrorKind) -> Step
+    // An error ends the reader: no row follows.
+    fn end_with(&mut self, kind: MessagesErrorKind) -> PassedRow
         ensures step { result ≡ record { told = Notice.Tells kind; next = None } }
         ensures reader { self.new ≡ record self.old { ended = true } }
     {
@@ -281,7 +282,7 @@ impl Reader {
     }
 
     /// A message that was taken is heard: it arms the heartbeat, and may bring a pin.
-    pub fn hear_arrival(&mut self, now: Moment, message: &Message, pin: Option<Text>) -> Step
+    pub fn hear_arrival(&mut self, now: Moment, message: &Message, pin: Option<Text>) -> PassedRow
         requires { pin ≡ pin_brought self.old.source.pinned (Some message.now) }
         ensures { StepsTo (rows.check_arrival (publishing now false) (Some message.now) self.old) (Took message.now) result self.new }
     {
@@ -291,9 +292,9 @@ impl Reader {
     }
 
     /// The message that was taken is heard. Without one the heartbeat is looked at.
-    pub fn pass_check_arrival(&mut self, now: Moment, met: &Met, pin: Option<Text>) -> Step
-        requires { pin ≡ pin_brought self.old.source.pinned (message_of (met_shown met.now)) }
-        ensures { StepsTo (rows.check_arrival (passing_at now (met_shown met.now)) (message_of (met_shown met.now)) self.old) (met_shown met.now) result self.new }
+    pub fn pass_check_arrival(&mut self, now: Moment, met: &Met, pin: Option<Text>) -> PassedRow
+        requires { pin ≡ pin_brought self.old.source.pinned (message_of met.now) }
+        ensures { StepsTo (rows.check_arrival (passing_at now met.now) (message_of met.now) self.old) met.now result self.new }
     {
         match met {
             Met::Took(message) => self.hear_arrival(now, message, pin),
@@ -311,7 +312,7 @@ impl Reader {
             | Met::Stands(_)
             | Met::WatchOver => {
                 drop(pin);
-                quietly(Some(Due::CheckSilence))
+                silent_row(Some(Due::CheckSilence))
             }
         }
     }
@@ -319,9 +320,9 @@ impl Reader {
     // ---- each row
 
     /// Passes a row of an event that has begun, with what it met. It takes no memory.
-    pub fn pass(&mut self, now: Moment, due: Due, spare: Spare, met: &Met) -> Step
-        requires pin { due ≡ Due.CheckArrival → spare.pin ≡ pin_brought self.old.source.pinned (message_of (met_shown met.now)) }
-        ensures { (reply : Option SpecMessage) → IsInformed (row_of reply due) spare.informed → Steps now (row_of reply due) (met_shown met.now) result self.old self.new }
+    pub fn pass(&mut self, now: Moment, due: Due, spare: Spare, met: &Met) -> PassedRow
+        requires pin { due ≡ Due.CheckArrival → spare.pin ≡ pin_brought self.old.source.pinned (message_of met.now) }
+        ensures { (reply : Option SpecMessage) → IsInformed (row_of reply due) spare.informed → Steps now (row_of reply due) met.now result self.old self.new }
     {
         match due {
             Due::Ask { reason } => self.pass_ask(now, reason, met.request().is_some()),
@@ -338,11 +339,11 @@ impl Reader {
     }
 }
 
-/// An arrival was heard, after which the threshold is looked at.
-fn heard(told: Notice) -> Step
+// An arrival was heard, after which the threshold is looked at.
+fn heard(told: Notice) -> PassedRow
     ensures { result ≡ record { told = told; next = Some Due.Threshold } }
 {
-    Step {
+    PassedRow {
         told,
         next: Some(Due::Threshold),
     }
@@ -369,19 +370,19 @@ fn tried_if(is_due: bool, failures: u64) -> Option<Due>
 }
 
 /// What follows from an open info, where this is whether its answer is there: the answer goes before the clock.
-pub fn check_inquiry(inquiry: InfoRequest, now: Moment, is_answered: bool) -> Step
+pub fn check_inquiry(inquiry: InfoRequest, now: Moment, is_answered: bool) -> PassedRow
     ensures { result ≡ inquiry_step now is_answered inquiry }
 {
     match inquiry {
-        InfoRequest::NoInfoRequest => quietly(None),
+        InfoRequest::NoInfoRequest => silent_row(None),
         InfoRequest::Asked { failures, .. } if is_answered => {
-            quietly(Some(Due::Answered { failures }))
+            silent_row(Some(Due::Answered { failures }))
         }
         InfoRequest::Asked {
             timeout,
             failures,
             ..
-        } => quietly(failed_if(is_any_due(&timeout, now), failures)),
-        InfoRequest::Resting { wait, failures } => quietly(tried_if(wait.is_due(now), failures)),
+        } => silent_row(failed_if(is_any_due(&timeout, now), failures)),
+        InfoRequest::Resting { wait, failures } => silent_row(tried_if(wait.is_due(now), failures)),
     }
 }

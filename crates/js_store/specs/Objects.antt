@@ -1,23 +1,23 @@
 -- Buckets of objects: rows of the table of calls on buckets.
 use Rattle.std.specs.Prelude.{ℕ, ◌≡◌, if◌then◌else◌, Option, Some, None, option_map, List, Result, Ok, Err}
-use Rattle.js_base.specs.Errors.{plain, caused}
+use Rattle.js_base.specs.Error.{plain, caused}
 use Rattle.js_base.specs.declared.error.Error.{Error}
-use Rattle.js_store.specs.Names.{is_bucket_name}
-use Rattle.js_store.specs.ObjectStores.{stream_name, stream_config}
+use Rattle.js_store.specs.Name.{is_bucket_name}
+use Rattle.js_store.specs.ObjectStore.{stream_name, stream_config}
 use Rattle.js_store.specs.declared.object_store.Config.{Config}
-use Rattle.js_stream_json.specs.declared.stream.delete_status.DeleteStatus.{DeleteStatus}
-use Rattle.js_stream_json.specs.declared.stream.info.Info.{Info}
+use Rattle.js_json_streams.specs.declared.stream.delete_status.DeleteStatus.{DeleteStatus}
+use Rattle.js_json_streams.specs.declared.stream.info.Info.{Info}
 use Rattle.js_call.specs.declared.call.Call.{Call}
 use Rattle.js_call.specs.declared.scope.ApiScope.{ApiScope}
 use Rattle.js_call.specs.Table.{refused_by}
-use Rattle.js_stream_calls.specs.Creates.{Creates}
-use Rattle.js_stream_calls.specs.Gets as streams
-use Rattle.js_stream_calls.specs.declared.create.CreatingStream.{CreatingStream}
-use Rattle.js_stream_calls.specs.declared.delete.DeletingStream.{DeletingStream}
-use Rattle.js_stream_calls.specs.declared.error.CreateStreamErrorKind.{CreateStreamErrorKind}
-use Rattle.js_stream_calls.specs.declared.error.GetStreamErrorKind.{GetStreamErrorKind}
-use Rattle.js_stream_calls.specs.declared.get.GettingStream.{GettingStream}
-use Rattle.js_stream_calls.specs.declared.handle.StreamHandle.{StreamHandle}
+use Rattle.js_call_streams.specs.Create.{Creates}
+use Rattle.js_call_streams.specs.GetAndDelete as streams
+use Rattle.js_call_streams.specs.declared.create.CreatingStream.{CreatingStream}
+use Rattle.js_call_streams.specs.declared.delete.DeletingStream.{DeletingStream}
+use Rattle.js_call_streams.specs.declared.error.CreateStreamErrorKind.{CreateStreamErrorKind}
+use Rattle.js_call_streams.specs.declared.error.GetStreamErrorKind.{GetStreamErrorKind}
+use Rattle.js_call_streams.specs.declared.get.GettingStream.{GettingStream}
+use Rattle.js_call_streams.specs.declared.handle.StreamHandle.{StreamHandle}
 use Rattle.js_store.specs.declared.error.CreateKeyValueErrorKind.{CreateKeyValueErrorKind}
 use Rattle.js_store.specs.declared.error.CreateKeyValueErrorKind.TheVariants.{InvalidStoreName, BucketCreate}
 use Rattle.js_store.specs.declared.error.ObjectStoreErrorKind.{ObjectStoreErrorKind}
@@ -27,7 +27,7 @@ use Rattle.js_store.specs.declared.objects.DeletingObjects.{DeletingObjects}
 use Rattle.js_store.specs.declared.objects.GettingObjects.{GettingObjects}
 use Rattle.js_store.specs.declared.outcome.BucketCall.{BucketCall}
 use Rattle.js_store.specs.declared.store.ObjectStore.{ObjectStore}
-use Rattle.js_store.specs.Outcomes.{Row, asking}
+use Rattle.js_store.specs.Outcome.{Row, asking}
 
 -- the bucket of a name
 abbrev pub objects_of : List ℕ → StreamHandle Info → ObjectStore

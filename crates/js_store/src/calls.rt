@@ -1,21 +1,21 @@
 //! The calls on buckets that a context makes.
 ghost use Rattle.std.specs.Prelude.{◌≡◌, IfOk};
 ghost use Rattle.js_call.specs.declared.scope.ApiScope.{ApiScope};
-ghost use Rattle.js_context.specs.Contexts.{scope_in};
-ghost use Rattle.js_store.specs.Changes.{PutsBucket, UpdatesBucket};
-ghost use Rattle.js_store.specs.Creates.{CreatesBucket};
-ghost use Rattle.js_store.specs.Gets.{deleting as deleting_bucket, getting as getting_bucket};
+ghost use Rattle.js_context.specs.Context.{scope_in};
+ghost use Rattle.js_store.specs.Update.{CreatesOrUpdatesBucket, UpdatesBucket};
+ghost use Rattle.js_store.specs.Create.{CreatesBucket};
+ghost use Rattle.js_store.specs.GetAndDelete.{deleting as deleting_bucket, getting as getting_bucket};
 ghost use Rattle.js_store.specs.Objects.{CreatesObjects, deleting as deleting_objects, getting as getting_objects};
 
-use crate::changing::{
-    CreateOrUpdateKeyValue, UpdateKeyValue, create_or_update_key_value, update_key_value,
-};
-use crate::creating::{CreateKeyValue, create_key_value};
-use crate::deleting::{DeleteKeyValue, delete_key_value};
-use crate::getting::{GetKeyValue, get_key_value};
+use crate::create::{CreateKeyValue, create_key_value};
+use crate::delete::{DeleteKeyValue, delete_key_value};
+use crate::get::{GetKeyValue, get_key_value};
 use crate::objects::{
     CreateObjectStore, DeleteObjects, GetObjectStore, create_object_store, delete_object_store,
     get_object_store,
+};
+use crate::update::{
+    CreateOrUpdateKeyValue, UpdateKeyValue, create_or_update_key_value, update_key_value,
 };
 use crate::{kv, object_store};
 use js_base::OutOfMemory;
@@ -56,7 +56,7 @@ pub trait StoreCalls {
         alloc: Global,
         config: kv::Config,
     ) -> Result<CreateOrUpdateKeyValue, OutOfMemory>
-        ensures { IfOk result (λ calls. PutsBucket (stores_by self.now) config calls) };
+        ensures { IfOk result (λ calls. CreatesOrUpdatesBucket (stores_by self.now) config calls) };
 
     /// Deletes a bucket of keys with all its values.
     fn delete_key_value(&self, alloc: Global, bucket: &str) -> Result<DeleteKeyValue, OutOfMemory>

@@ -1,12 +1,12 @@
 //! The configurations of buckets, of which calls are made, and the streams that they are.
 ghost use Rattle.std.specs.Prelude.{◌≡◌, IfOk, List, ℕ};
-ghost use Rattle.js_stream_calls.specs.Creates.{Creates};
-ghost use Rattle.js_stream_json.specs.declared.stream.config.Config.{Config};
+ghost use Rattle.js_call_streams.specs.Create.{Creates};
+ghost use Rattle.js_json_streams.specs.declared.stream.config.Config.{Config};
 
 use js_base::{OutOfMemory, Text, TryClone, both};
 use js_call::ApiScope;
-use js_stream_calls::{CreateStream, create_stream};
-use js_stream_json::stream;
+use js_call_streams::{CreateStream, create_stream};
+use js_json_streams::stream;
 use std::alloc::Global;
 
 /// The configuration of a bucket. Its stream's is made of what takes memory, and then of all else.
@@ -46,7 +46,7 @@ pub(crate) fn stream_of<C: BucketConfig>(
     Ok(config.with(names))
 }
 
-/// The call that makes the stream which a bucket is.
+// The call that makes the stream which a bucket is.
 fn create_stream_of<C: BucketConfig>(
     alloc: Global,
     scope: &ApiScope,

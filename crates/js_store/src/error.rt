@@ -1,6 +1,6 @@
 //! Why a call on a bucket was refused.
 ghost use Rattle.std.specs.Prelude.{Some};
-ghost use Rattle.js_store.specs.Errors.{key_value_text, create_text, update_text, objects_text};
+ghost use Rattle.js_store.specs.Error.{key_value_text, create_text, update_text, objects_text};
 
 use js_base::Error;
 use std::fmt;

@@ -1,14 +1,14 @@
 //! Buckets of keys and their values: how they are configured, and which stream one is (NATS ADR-8).
 ghost use Rattle.std.specs.Prelude.{◌≡◌, IfOk, Some, None, [], true, map, string_bytes};
 ghost use Rattle.js_store.specs.Origins.{mirrored, of_bucket as of_bucket_in};
-ghost use Rattle.js_store.specs.KeyValues.{all_keys as all_keys_in, history_of as history_in, replicas_of as replicas_in, compression_of as compression_in, subjects_of as subjects_in, origins_of as origins_in, stream_config};
+ghost use Rattle.js_store.specs.Kv.{all_keys as all_keys_in, history_of as history_in, replicas_of as replicas_in, compression_of as compression_in, subjects_of as subjects_in, origins_of as origins_in, stream_config};
 
 use crate::config::{BucketConfig, stream_of};
 pub use crate::origins::stream_name;
 use crate::origins::{gathered, of_bucket};
 use js_base::{Items, Nanos, OutOfMemory, Text, TryClone, both, each_copied};
-use js_stream_json::stream;
-use js_stream_json::stream::{
+use js_json_streams::stream;
+use js_json_streams::stream::{
     Compression, DiscardPolicy, Placement, Republish, RetentionPolicy, Source, StorageType,
 };
 use std::alloc::{AllocError, Global};
@@ -54,7 +54,7 @@ pub struct Config {
 }
 
 impl Config {
-    ghost use Rattle.js_store.specs.KeyValues.{new_config};
+    ghost use Rattle.js_store.specs.Kv.{new_config};
 
     /// The default, which takes no memory: without a name, kept in files, and without bounds.
     pub fn new(alloc: Global) -> Config

@@ -1,7 +1,7 @@
 //! How far the server's API goes, which is asked before the stream of a bucket is made or changed.
 ghost use Rattle.std.specs.Prelude.{◌≡◌, IfOk};
 ghost use Rattle.js_call.specs.declared.scope.ApiScope.{ApiScope};
-ghost use Rattle.js_store.specs.Levels.{asking_level, level_row, refused_with, unless_allowed, LevelFirst};
+ghost use Rattle.js_store.specs.Level.{asking_level, level_row, refused_with, unless_allowed, LevelFirst};
 ghost use Rattle.js_store.specs.declared.kv.Config.{Config};
 
 use crate::kv;
@@ -10,8 +10,8 @@ use crate::refusal::{OfRefusal, Refusal, Refused, config_refusal};
 use crate::store::Store;
 use js_base::{Error, OutOfMemory, Source};
 use js_call::{ApiScope, Decision, Then};
+use js_call_streams::{AccountError, QueryAccount, query_account};
 use js_json::account::Account;
-use js_stream_calls::{AccountError, QueryAccount, query_account};
 use std::alloc::Global;
 
 /// The row of the call that asks how far the server's API goes.
@@ -60,8 +60,8 @@ impl Outcome<Account, AccountError> for AskingLevel {
     }
 }
 
-/// The call, which is not sent.
-fn ask_level(
+// The call, which is not sent.
+fn level_call(
     alloc: Global,
     scope: &ApiScope,
     refusal: Option<Refusal>,
@@ -103,7 +103,7 @@ pub(crate) fn after_level<M: AfterLevel>(
     let refusal = config_refusal(&config);
     let limit_markers = config.limit_markers.is_some();
     let second = M::ask(alloc, scope, config)?;
-    let first = ask_level(alloc, scope, refusal)?;
+    let first = level_call(alloc, scope, refusal)?;
     Ok(Then::First {
         first,
         second,

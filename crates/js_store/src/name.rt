@@ -1,7 +1,7 @@
 //! The names that a bucket may have.
 ghost use Rattle.std.specs.Prelude.{◌≡◌};
 ghost use Rattle.std.specs.List.{list_all};
-ghost use Rattle.js_store.specs.Names.{is_bucket_name, is_bucket_byte as is_bucket_byte_in};
+ghost use Rattle.js_store.specs.Name.{is_bucket_name, is_bucket_byte as is_bucket_byte_in};
 
 fn is_bucket_byte(byte: u8) -> bool
     ensures { result ≡ is_bucket_byte_in byte }

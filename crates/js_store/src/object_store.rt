@@ -1,12 +1,12 @@
 //! Buckets of objects: how they are configured, and which stream one is (NATS ADR-20).
 ghost use Rattle.std.specs.Prelude.{◌≡◌, IfOk, string_bytes};
-ghost use Rattle.js_store.specs.ObjectStores.{stream_name as stream_name_in, chunks, metadata, subjects_of as subjects_in, stream_config};
+ghost use Rattle.js_store.specs.ObjectStore.{stream_name as stream_name_in, chunks, metadata, subjects_of as subjects_in, stream_config};
 
 use crate::config::{BucketConfig, stream_of};
 use crate::kv::compression_of;
 use js_base::{Items, Nanos, OutOfMemory, Text, TryClone, both, each_copied};
-use js_stream_json::stream;
-use js_stream_json::stream::{DiscardPolicy, Placement, RetentionPolicy, StorageType};
+use js_json_streams::stream;
+use js_json_streams::stream::{DiscardPolicy, Placement, RetentionPolicy, StorageType};
 use std::alloc::{AllocError, Global};
 
 /// The configuration of a bucket of objects.
@@ -31,7 +31,7 @@ pub struct Config {
 }
 
 impl Config {
-    ghost use Rattle.js_store.specs.ObjectStores.{new_config};
+    ghost use Rattle.js_store.specs.ObjectStore.{new_config};
 
     /// The default, which takes no memory: without a name, kept in files, and without bounds.
     pub fn new(alloc: Global) -> Config

@@ -3,23 +3,23 @@ ghost use Rattle.std.specs.Prelude.{◌≡◌, IfOk};
 ghost use Rattle.js_store.specs.Objects.{creates_refusal, create_row, CreatesObjects, delete_row, deleting, get_refusal, get_row, getting};
 
 use crate::config::create_its_stream;
-use crate::deleting::delete_named;
+use crate::delete::delete_named;
 use crate::error::{
     CreateObjectStoreError, CreateObjectStoreErrorKind, DeleteObjectStore, ObjectStoreError,
     ObjectStoreErrorKind,
 };
-use crate::getting::get_named;
+use crate::get::get_named;
 use crate::outcome::{BucketCall, Outcome};
 use crate::store::ObjectStore;
 use crate::{is_valid_bucket_name, object_store};
 use js_base::{Error, OutOfMemory, Source, Text, both};
 use js_call::ApiScope;
-use js_stream_calls::{
+use js_call_streams::{
     CreateStream, CreateStreamError, DeleteStream, DeleteStreamError, GetStream, GetStreamError,
     StreamHandle,
 };
-use js_stream_json::DeleteStatus;
-use js_stream_json::stream::Info;
+use js_json_streams::DeleteStatus;
+use js_json_streams::stream::Info;
 use std::alloc::Global;
 
 /// The row of `get_object_store`.
@@ -31,7 +31,7 @@ pub struct GettingObjects {
 /// The state of `get_object_store`.
 pub type GetObjectStore = BucketCall<GetStream, StreamHandle<Info>, GetStreamError, GettingObjects>;
 
-/// What the name of a bucket of objects that is got is refused with.
+// What the name of a bucket of objects that is got is refused with.
 fn get_refusal(bucket: &str) -> Option<ObjectStoreErrorKind>
     ensures { result ≡ get_refusal bucket.now }
 {
@@ -115,7 +115,7 @@ pub type CreateObjectStore = BucketCall<
     CreatingObjects,
 >;
 
-/// What the name of a bucket of objects that is made is refused with.
+// What the name of a bucket of objects that is made is refused with.
 fn creates_refusal(bucket: &str) -> Option<CreateObjectStoreErrorKind>
     ensures { result ≡ creates_refusal bucket.now }
 {

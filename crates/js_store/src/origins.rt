@@ -2,10 +2,9 @@
 ghost use Rattle.std.specs.Prelude.{◌≡◌, ◌++◌, ◌∷◌, [], IfOk, map, string_bytes};
 ghost use Rattle.js_store.specs.Origins.{stream_name as stream_name_in, begins_as_stream, as_stream_name, of_bucket as of_bucket_in};
 
-use js_base::{Items, OutOfMemory, Text};
-use js_stream_json::stream::Source;
+use js_base::{Items, OutOfMemory, Text, replace_with};
+use js_json_streams::stream::Source;
 use std::alloc::{AllocError, Global};
-use std::mem;
 
 fn stream_text(alloc: Global, bucket: &str) -> Result<String, AllocError>
     ensures { IfOk result (λ text. string_bytes text ≡ stream_name_in bucket.now) }
@@ -26,13 +25,13 @@ fn begins_as_stream(name: &str) -> bool
     name.starts_with("KV_")
 }
 
-/// Makes the name of a stream of one that may have been given as a bucket's.
+// Makes the name of a stream of one that may have been given as a bucket's.
 fn name_as_stream(alloc: Global, name: &mut Text) -> Result<(), OutOfMemory>
     ensures { IfOk result (λ _. name.new ≡ as_stream_name name.old) }
 {
     if !begins_as_stream(name.as_str()) {
         let stream = stream_name(alloc, name.as_str())?;
-        drop(mem::replace(name, stream));
+        replace_with(name, stream);
     }
     Ok(())
 }
@@ -50,7 +49,7 @@ pub(crate) fn of_bucket(alloc: Global, mut source: Source) -> Result<Source, Out
     }
 }
 
-/// Puts the stream that a bucket copies behind those that are there.
+// Puts the stream that a bucket copies behind those that are there.
 fn push_of_bucket(alloc: Global, source: Source, there: &mut Vec<Source>) -> Result<(), OutOfMemory>
     ensures { IfOk result (λ _. there.new.items ≡ there.old.items ++ of_bucket_in source ∷ []) }
 {

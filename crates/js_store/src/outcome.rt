@@ -1,7 +1,7 @@
 //! Calls on a bucket, each of which stands on another call.
 ghost use Rattle.std.specs.Prelude.{◌≡◌, IfOk, Result};
 ghost use Rattle.js_base.specs.declared.turn.Turn.{Turn};
-ghost use Rattle.js_store.specs.Outcomes.{Row, answered, asking, bucket_waits_for, stage_waits_for, AnswersOf, Polled, TurnsTo};
+ghost use Rattle.js_store.specs.Outcome.{Row, answered, asking, bucket_waits_for, stage_waits_for, AnswersOf, Polled, TurnsTo};
 
 use crate::to_source::ToSource;
 use js_base::{Moment, OutOfMemory, Source, Turn};
@@ -44,7 +44,7 @@ pub trait Outcome<X, E>: Drop {
 /// Refused arguments are answered before anything is sent. An answer for which no memory is left is kept, and told at the next poll.
 #[derive(Drop)]
 pub struct BucketCall<S, X, E, M> {
-    api_call: M,
+    row: M,
     stage: Stage<S, X, E>,
 }
 
@@ -57,7 +57,7 @@ pub(crate) enum Stage<S, X, E> {
 }
 
 impl<S: State, X, E> Stage<S, X, E> {
-    /// The request whose answer it waits for.
+    // The request whose answer it waits for.
     fn waits_for(&self) -> Option<OpenRequest>
         ensures { result ≡ stage_waits_for S.waits_for self.now }
     {
@@ -70,57 +70,57 @@ impl<S: State, X, E> Stage<S, X, E> {
 
 impl<S, X, E, M> BucketCall<S, X, E, M> {
     /// A call that stands on this one.
-    pub(crate) fn new(api_call: M, asked: S) -> BucketCall<S, X, E, M>
-        ensures { result ≡ asking api_call asked }
+    pub(crate) fn new(row: M, asked: S) -> BucketCall<S, X, E, M>
+        ensures { result ≡ asking row asked }
     {
         BucketCall {
-            api_call,
+            row,
             stage: Stage::Asking(asked),
         }
     }
 
-    fn answered(api_call: M, given: Result<X, E>) -> BucketCall<S, X, E, M>
-        ensures { result ≡ answered api_call given }
+    fn answered(row: M, given: Result<X, E>) -> BucketCall<S, X, E, M>
+        ensures { result ≡ answered row given }
     {
         BucketCall {
-            api_call,
+            row,
             stage: Stage::Answered(given),
         }
     }
 }
 
-/// Tells what the call that it stands on has answered, which is kept where memory runs out.
+// Tells what the call that it stands on has answered, which is kept where memory runs out.
 fn tell<S: Drop, X: Drop, E: ToSource, M: Outcome<X, E>>(
     alloc: Global,
-    api_call: M,
+    row: M,
     given: Result<X, E>,
 ) -> Turn<BucketCall<S, X, E, M>, M::Answer>
-    ensures { AnswersOf M.table E.told api_call given result }
+    ensures { AnswersOf M.table E.told row given result }
 {
     match given {
-        Ok(given) => match api_call.needs(alloc, &given) {
-            Ok(needs) => Turn::Ready(api_call.accept(given, needs)),
-            Err(OutOfMemory) => Turn::OutOfMemory(BucketCall::answered(api_call, Ok(given))),
+        Ok(given) => match row.needs(alloc, &given) {
+            Ok(needs) => Turn::Ready(row.accept(given, needs)),
+            Err(OutOfMemory) => Turn::OutOfMemory(BucketCall::answered(row, Ok(given))),
         },
         Err(error) => match error.to_source(alloc) {
-            Ok(source) => Turn::Ready(api_call.refuse(error, source)),
-            Err(OutOfMemory) => Turn::OutOfMemory(BucketCall::answered(api_call, Err(error))),
+            Ok(source) => Turn::Ready(row.refuse(error, source)),
+            Err(OutOfMemory) => Turn::OutOfMemory(BucketCall::answered(row, Err(error))),
         },
     }
 }
 
-/// What the call answers to what the call that it stands on does.
+// What the call answers to what the call that it stands on does.
 fn turn<S: Drop, X: Drop, E: ToSource, M: Outcome<X, E>>(
     alloc: Global,
-    api_call: M,
+    row: M,
     asked: Turn<S, Result<X, E>>,
 ) -> Turn<BucketCall<S, X, E, M>, M::Answer>
-    ensures { TurnsTo M.table E.told api_call asked result }
+    ensures { TurnsTo M.table E.told row asked result }
 {
     match asked {
-        Turn::Pending(asked) => Turn::Pending(BucketCall::new(api_call, asked)),
-        Turn::OutOfMemory(asked) => Turn::OutOfMemory(BucketCall::new(api_call, asked)),
-        Turn::Ready(given) => tell(alloc, api_call, given),
+        Turn::Pending(asked) => Turn::Pending(BucketCall::new(row, asked)),
+        Turn::OutOfMemory(asked) => Turn::OutOfMemory(BucketCall::new(row, asked)),
+        Turn::Ready(given) => tell(alloc, row, given),
     }
 }
 
@@ -133,23 +133,23 @@ impl<S: State<Answer = Result<X, E>>, X: Drop, E: ToSource, M: Outcome<X, E>> St
     ghost waits_for = { bucket_waits_for M.table S.waits_for };
 
     fn waits_for(&self) -> Option<OpenRequest> {
-        match self.api_call.refusal() {
+        match self.row.refusal() {
             Some(_) => None,
             None => self.stage.waits_for(),
         }
     }
 
     fn poll<L: Link>(self, alloc: Global, link: &mut L, now: Moment) -> Turn<Self, Self::Answer> {
-        if let Some(answer) = self.api_call.refusal() {
+        if let Some(answer) = self.row.refusal() {
             drop(self);
             return Turn::Ready(answer);
         }
-        let BucketCall { api_call, stage } = self;
+        let BucketCall { row, stage } = self;
         match stage {
-            Stage::Answered(given) => tell(alloc, api_call, given),
+            Stage::Answered(given) => tell(alloc, row, given),
             Stage::Asking(asked) => {
                 let asked = asked.poll(alloc, link, now);
-                turn(alloc, api_call, asked)
+                turn(alloc, row, asked)
             }
         }
     }

@@ -3,7 +3,7 @@ ghost use Rattle.std.specs.Prelude.{◌≡◌, IfOk, string_bytes};
 ghost use Rattle.js_store.specs.Places.{key_prefix as key_prefix_in, put_elsewhere as put_elsewhere_in, without_prefix, is_own_api as is_own_api_in, own, moved, mirrored, places_of as places_in};
 
 use js_base::{OutOfMemory, Text, both};
-use js_stream_json::stream::{External, Source};
+use js_json_streams::stream::{External, Source};
 use std::alloc::{AllocError, Global};
 
 /// Where the values of a bucket are.
@@ -38,7 +38,7 @@ fn put_elsewhere(alloc: Global, api: &str, bucket: &str) -> Result<Text, OutOfMe
     Ok(Text::from(put_elsewhere_text(alloc, api, bucket)?))
 }
 
-/// The name of a stream without any `KV_` that it begins with.
+// The name of a stream without any `KV_` that it begins with.
 fn without_prefix(name: &str) -> &str
     ensures { result.now ≡ without_prefix name.now }
 {
@@ -51,7 +51,7 @@ fn is_own_api(api: &str) -> bool
     api == "$JS.API"
 }
 
-/// The places of a bucket that is a mirror of none elsewhere.
+// The places of a bucket that is a mirror of none elsewhere.
 fn own(alloc: Global, api: &str, bucket: &str) -> Result<Places, OutOfMemory>
     ensures { IfOk result (λ places. places ≡ own api.now bucket.now) }
 {
@@ -62,7 +62,7 @@ fn own(alloc: Global, api: &str, bucket: &str) -> Result<Places, OutOfMemory>
     })
 }
 
-/// Those of a mirror of a bucket that is reached by that external.
+// Those of a mirror of a bucket that is reached by that external.
 fn moved(
     alloc: Global,
     api: &str,
@@ -91,7 +91,7 @@ fn moved(
     }
 }
 
-/// Those of a mirror.
+// Those of a mirror.
 fn mirrored(alloc: Global, api: &str, bucket: &str, mirror: &Source) -> Result<Places, OutOfMemory>
     ensures { IfOk result (λ places. places ≡ mirrored api.now bucket.now mirror.now.name mirror.now.external) }
 {

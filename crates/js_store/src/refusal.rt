@@ -1,7 +1,7 @@
 //! What a bucket of keys that is made or changed is refused with, before its stream is asked for.
 ghost use Rattle.std.specs.Prelude.{◌≡◌};
 ghost use Rattle.js_store.specs.declared.refusal.Refusal.{Refusal};
-ghost use Rattle.js_store.specs.Refusals.{config_refusal as refusal_in, create_refusal, error_of, error_with, update_refusal};
+ghost use Rattle.js_store.specs.Refusal.{config_refusal as refusal_in, create_refusal, error_of, error_with, update_refusal};
 
 use crate::error::{CreateKeyValueErrorKind, UpdateKeyValueErrorKind};
 use crate::{is_valid_bucket_name, kv};

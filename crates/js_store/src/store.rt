@@ -1,11 +1,11 @@
 //! What is known of a bucket.
 ghost use Rattle.std.specs.Prelude.{◌≡◌, IfOk};
-ghost use Rattle.js_store.specs.Stores.{answered_names as answered_in, store_of};
+ghost use Rattle.js_store.specs.Store.{answered_names as answered_in, store_of};
 
 use crate::places::{Places, places_of};
 use js_base::{OutOfMemory, Text, TryClone, both};
-use js_stream_calls::StreamHandle;
-use js_stream_json::stream::{Config, Info};
+use js_call_streams::StreamHandle;
+use js_json_streams::stream::{Config, Info};
 use std::alloc::Global;
 
 /// A bucket of keys and their values: the stream that it is, and where its values are.

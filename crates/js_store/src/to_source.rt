@@ -1,11 +1,11 @@
 //! Where a refusal on a bucket comes from: the error of the call that it stands on.
 ghost use Rattle.std.specs.Prelude.{◌≡◌, IfOk, string_bytes, option_copied};
 ghost use Rattle.js_base.specs.declared.error.Source.{Source};
-ghost use Rattle.js_store.specs.Tells.{sent_by, described_in, account_error_text, create_error_text, get_error_text};
+ghost use Rattle.js_store.specs.ToSource.{sent_by, described_in, account_error_text, create_error_text, get_error_text};
 
 use js_base::{Error, OutOfMemory, Source, Text, TryClone};
+use js_call_streams::{AccountError, CreateStreamError, GetStreamError};
 use js_codes::errors;
-use js_stream_calls::{AccountError, CreateStreamError, GetStreamError};
 use std::alloc::{AllocError, Global};
 
 /// An error of a call, as the source of the error of one that stands on it.
@@ -18,7 +18,7 @@ pub trait ToSource: Drop {
         ensures { IfOk result (λ source. source ≡ told self.now) };
 }
 
-/// A source that the server sent, as one of its own.
+// A source that the server sent, as one of its own.
 fn described(source: &Source) -> Result<Option<Source>, OutOfMemory>
     ensures { IfOk result (λ sent. sent ≡ described_in source.now) }
 {
@@ -36,7 +36,7 @@ fn described(source: &Source) -> Result<Option<Source>, OutOfMemory>
     }
 }
 
-/// The server's error, which the kind holds or which is the source.
+// The server's error, which the kind holds or which is the source.
 fn sent(
     held: Option<&errors::Error>,
     source: Option<&Source>,
@@ -69,7 +69,7 @@ fn account_error_text(alloc: Global, error: &AccountError) -> Result<String, All
 }
 
 impl ToSource for GetStreamError {
-    ghost use Rattle.js_store.specs.Tells.{get_told};
+    ghost use Rattle.js_store.specs.ToSource.{get_told};
 
     ghost told = { get_told };
 
@@ -82,7 +82,7 @@ impl ToSource for GetStreamError {
 }
 
 impl ToSource for CreateStreamError {
-    ghost use Rattle.js_store.specs.Tells.{create_told};
+    ghost use Rattle.js_store.specs.ToSource.{create_told};
 
     ghost told = { create_told };
 
@@ -95,7 +95,7 @@ impl ToSource for CreateStreamError {
 }
 
 impl ToSource for AccountError {
-    ghost use Rattle.js_store.specs.Tells.{account_told};
+    ghost use Rattle.js_store.specs.ToSource.{account_told};
 
     ghost told = { account_told };
 

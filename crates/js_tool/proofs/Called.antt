@@ -1,24 +1,25 @@
 -- The status that an input calls for, by what it says.
 use Rattle.std.proofs.Common.{◌≡◌, ℕ, ◌<◌, ◌≤◌, List, length, true, false, nat_lt, Option, Some, None, IfSome, Ok, refl, subst, arith}
 use Rattle.std.proofs.lemmas.Bool.Decides.{nat_tests}
-use Rattle.js_table.proofs.Accepted.{valid_accepted}
+use Rattle.js_ordered_table.proofs.Accepted.{valid_accepted}
 use Rattle.js_tool.specs.declared.status.Status.{Status}
 use Rattle.js_tool.specs.declared.status.Status.TheVariants as status
-use Rattle.js_tool.specs.declared.program.CommandOutcome.{CommandOutcome}
-use Rattle.js_tool.specs.declared.program.CommandOutcome.TheVariants as reply
-use Rattle.js_tool.specs.Program.{given, IsReply, Replays, IsRefused, IsValidTranscript, IsUnlessFailed, called_for}
-use Rattle.js_tool.specs.Texts.{run_text, refusal_text}
-use Rattle.js_tool.specs.Transcripts.{transcript}
-use Rattle.js_tool.specs.declared.transcript.Transcript.{Transcript}
-use Rattle.js_table.specs.declared.run.Run.{Run}
-use Rattle.js_table.specs.declared.run.ReplayError.{ReplayError}
-use Rattle.js_table.specs.Refusal.{refuse}
-use Rattle.js_table.specs.Valid.{IsReplay}
+use Rattle.js_tool.specs.declared.program.ReplayOutcome.{ReplayOutcome}
+use Rattle.js_tool.specs.declared.program.ReplayOutcome.TheVariants as outcome
+use Rattle.js_tool.specs.Program.{IsOutcome, IsUnlessFailed, called_for}
+use Rattle.js_tool_transcript.specs.TranscriptReplay.{replay_input, Replays, IsRefused, IsValidTranscript}
+use Rattle.js_tool_transcript.specs.Text.{run_text, refusal_text}
+use Rattle.js_tool_transcript.specs.Transcript.{transcript}
+use Rattle.js_tool_transcript.specs.declared.transcript.Transcript.{Transcript}
+use Rattle.js_ordered_table.specs.declared.run.Run.{Run}
+use Rattle.js_ordered_table.specs.declared.run.ReplayError.{ReplayError}
+use Rattle.js_ordered_table.specs.Refusal.{refuse}
+use Rattle.js_ordered_table.specs.Replay.{IsReplay}
 
 -- what holds of the bytes that were read holds of those that the source told
-pub told : (left : Option (List ℕ)) (read : List ℕ) (P : List ℕ → Type 0) → IfSome left (λ bytes. read ≡ bytes) → P read → IfSome left P
-told None read P whole h = tt
-told (Some bytes) read P whole h = subst P whole h
+pub of_source : (left : Option (List ℕ)) (read : List ℕ) (P : List ℕ → Type 0) → IfSome left (λ bytes. read ≡ bytes) → P read → IfSome left P
+of_source None read P whole h = tt
+of_source (Some bytes) read P whole h = subst P whole h
 
 -- the program reads up to 64 MiB
 pub not_long : (n : ℕ) → n ≤ 67_108_864 → nat_lt 67_108_864 n ≡ false
@@ -27,16 +28,16 @@ not_long n within = grind (arith, nat_tests)
 pub is_long : (n : ℕ) → 67_108_864 < n → nat_lt 67_108_864 n ≡ true
 is_long n above = grind (arith, nat_tests)
 
-abbrev pub reply_status : CommandOutcome → Status
-reply_status (reply.Done text) = status.Done
-reply_status (reply.Refused text) = status.Refused
-reply_status (reply.BadLine line) = status.BadLine line
+abbrev pub outcome_status : ReplayOutcome → Status
+outcome_status (outcome.Done text) = status.Done
+outcome_status (outcome.Refused text) = status.Refused
+outcome_status (outcome.BadLine line) = status.BadLine line
 
-pub called_reply : (r : CommandOutcome) (bytes : List ℕ) → IsReply bytes r → called_for bytes ≡ reply_status r
+pub called_outcome : (r : ReplayOutcome) (bytes : List ℕ) → IsOutcome bytes r → called_for bytes ≡ outcome_status r
 unfolding called_for
-called_reply (reply.Done text) bytes (run, replays, written) = rw (not_long (length bytes) replays.within, replays.by.1, replays.by.2.accepted) refl
-called_reply (reply.Refused text) bytes (refusal, refused, written) = rw (not_long (length bytes) refused.within, refused.by.1, refused.by.2) refl
-called_reply (reply.BadLine line) bytes unread = rw (not_long (length bytes) unread.within, unread.by) refl
+called_outcome (outcome.Done text) bytes (run, replays, written) = rw (not_long (length bytes) replays.within, replays.by.1, replays.by.2.accepted) refl
+called_outcome (outcome.Refused text) bytes (refusal, refused, written) = rw (not_long (length bytes) refused.within, refused.by.1, refused.by.2) refl
+called_outcome (outcome.BadLine line) bytes unread = rw (not_long (length bytes) unread.within, unread.by) refl
 
 pub called_too_long : (left : Option (List ℕ)) → IfSome left (λ bytes. 67_108_864 < length bytes) → IfSome left (λ bytes. called_for bytes ≡ status.TooLong)
 unfolding called_for
@@ -48,17 +49,17 @@ called_valid : (bytes : List ℕ) → IsValidTranscript bytes → called_for byt
 unfolding called_for
 called_valid bytes valid =
     let t = valid.by.0 in
-    rw (not_long (length bytes) valid.within, valid.by.1, valid_accepted (given t.setup) t.setup.start t.events valid.by.2) refl
+    rw (not_long (length bytes) valid.within, valid.by.1, valid_accepted (replay_input t.setup) t.setup.start t.events valid.by.2) refl
 
 -- so nothing else is answered to it, where nothing fails
-pub told_valid : (left : Option (List ℕ)) (s : Status) → IfSome left (λ bytes. IsUnlessFailed s (called_for bytes)) → IfSome left (λ bytes. IsValidTranscript bytes → IsUnlessFailed s status.Done)
-told_valid None s told = tt
-told_valid (Some bytes) s told = λ valid. subst (IsUnlessFailed s) (called_valid bytes valid) told
+pub valid_of_source : (left : Option (List ℕ)) (s : Status) → IfSome left (λ bytes. IsUnlessFailed s (called_for bytes)) → IfSome left (λ bytes. IsValidTranscript bytes → IsUnlessFailed s status.Done)
+valid_of_source None s as_called = tt
+valid_of_source (Some bytes) s as_called = λ valid. subst (IsUnlessFailed s) (called_valid bytes valid) as_called
 
--- the text of a run is the reply to the transcript
-pub done_reply : (bytes : List ℕ) (t : Transcript) (run : Run) (written : List ℕ) → length bytes ≤ 67_108_864 → transcript bytes ≡ Ok t → IsReplay (given t.setup) t.setup.start t.events run → written ≡ run_text run → (x : Run) × Replays bytes x × (written ≡ run_text x)
-done_reply bytes t run written within reads replays says = (run, record { within = within; by = (t, reads, replays) }, says)
+-- the text of a run is what the transcript calls for
+pub done_outcome : (bytes : List ℕ) (t : Transcript) (run : Run) (written : List ℕ) → length bytes ≤ 67_108_864 → transcript bytes ≡ Ok t → IsReplay (replay_input t.setup) t.setup.start t.events run → written ≡ run_text run → (x : Run) × Replays bytes x × (written ≡ run_text x)
+done_outcome bytes t run written within reads replays says = (run, record { within = within; by = (t, reads, replays) }, says)
 
 -- and so is the line of a refusal
-pub refused_reply : (bytes : List ℕ) (t : Transcript) (refusal : ReplayError) (written : List ℕ) → length bytes ≤ 67_108_864 → transcript bytes ≡ Ok t → refuse (given t.setup) t.setup.start t.events ≡ Some refusal → written ≡ refusal_text refusal → (x : ReplayError) × IsRefused bytes x × (written ≡ refusal_text x)
-refused_reply bytes t refusal written within reads refuses says = (refusal, record { within = within; by = (t, reads, refuses) }, says)
+pub refused_outcome : (bytes : List ℕ) (t : Transcript) (refusal : ReplayError) (written : List ℕ) → length bytes ≤ 67_108_864 → transcript bytes ≡ Ok t → refuse (replay_input t.setup) t.setup.start t.events ≡ Some refusal → written ≡ refusal_text refusal → (x : ReplayError) × IsRefused bytes x × (written ≡ refusal_text x)
+refused_outcome bytes t refusal written within reads refuses says = (refusal, record { within = within; by = (t, reads, refuses) }, says)

@@ -1,6 +1,2 @@
 pub mod Called
-mod Compact
-mod Headers
-mod Loop
-pub mod Passing
-pub mod Printed
+pub mod LinesPassed

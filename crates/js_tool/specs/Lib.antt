@@ -1,12 +1,5 @@
-pub mod Members
-pub mod Setups
-pub mod Messages
-pub mod Events
-pub mod Compact
-pub mod Transcripts
-pub mod Texts
-pub mod Answers
-pub mod Statuses
-pub mod Commands
+pub mod CommandTexts
+pub mod Status
+pub mod Command
 pub mod Program
 pub mod Progress

@@ -1,63 +1,37 @@
 -- What the program answers to an input, and what it writes.
 use Rattle.std.specs.Prelude.{◌≡◌, ◌⊎◌, ◌≤◌, ◌+◌, ◌*◌, ℕ, List, length, nat_lt, if◌then◌else◌, Option, Some, None, IfSome, Result, Ok, Err, ⊤}
 use Rattle.std.specs.Io.KnownBytes.{Appends, IsAtEnd}
-use Rattle.js_io.specs.Causes.{Rose, AppendsPrefix}
-use Rattle.js_generate.specs.declared.summary.Summary.{Summary}
-use Rattle.js_generate.specs.Counts.{summary}
-use Rattle.js_generate.specs.Transcript as generated
-use Rattle.js_message.specs.Ack.{Info, ack}
+use Rattle.js_tool_io.specs.Causes.{Rose, AppendsPrefix}
+use Rattle.js_tool_generate.specs.declared.summary.Summary.{Summary}
+use Rattle.js_tool_generate.specs.Summary.{summary}
+use Rattle.js_tool_generate.specs.Transcript as generated
+use Rattle.js_message.specs.AckSubject.{Info, ack}
 use Rattle.js_message.specs.declared.info_error.InfoError.{InfoError}
-use Rattle.js_table.specs.declared.consumer.ReplayInput.{ReplayInput}
-use Rattle.js_table.specs.declared.run.Run.{Run}
-use Rattle.js_table.specs.declared.run.ReplayError.{ReplayError}
-use Rattle.js_table.specs.Fold.{fold}
-use Rattle.js_table.specs.Refusal.{refuse}
-use Rattle.js_table.specs.Valid.{IsReplay, IsValid}
-use Rattle.js_workers.specs.declared.workers.WindowCounts.{WindowCounts}
-use Rattle.js_workers.specs.WindowCounts.{CountsOfRun}
+use Rattle.js_ordered_table.specs.declared.run.Run.{Run}
+use Rattle.js_ordered_table.specs.declared.run.ReplayError.{ReplayError}
+use Rattle.js_ordered_table.specs.Fold.{fold}
+use Rattle.js_ordered_table.specs.Refusal.{refuse}
+use Rattle.js_window_workers.specs.declared.workers.WindowCounts.{WindowCounts}
+use Rattle.js_window_workers.specs.WindowCounts.{CountsOfRun}
 use Rattle.js_tool.specs.declared.status.Status.{Status}
 use Rattle.js_tool.specs.declared.status.Status.TheVariants as status
-use Rattle.js_tool.specs.declared.program.CommandOutcome.{CommandOutcome}
-use Rattle.js_tool.specs.declared.program.CommandOutcome.TheVariants as reply
-use Rattle.js_tool.specs.declared.transcript.setup.Setup.{Setup}
-use Rattle.js_tool.specs.declared.transcript.Transcript.{Transcript}
-use Rattle.js_tool.specs.Answers.{summary_text, info_text, error_text, info_status, window_text}
-use Rattle.js_tool.specs.Commands.{Asked, Replay, Generate, Window}
-use Rattle.js_tool.specs.Commands as commands
-use Rattle.js_tool.specs.Transcripts.{transcript}
-use Rattle.js_tool.specs.Texts.{run_text, refusal_text}
+use Rattle.js_tool.specs.declared.program.ReplayOutcome.{ReplayOutcome}
+use Rattle.js_tool.specs.declared.program.ReplayOutcome.TheVariants as outcome
+use Rattle.js_tool_transcript.specs.declared.transcript.Transcript.{Transcript}
+use Rattle.js_tool.specs.CommandTexts.{summary_text, info_text, error_text, info_status, window_text}
+use Rattle.js_tool.specs.Command.{Asked, Replay, Generate, Window}
+use Rattle.js_tool.specs.Command as commands
+use Rattle.js_tool_transcript.specs.Transcript.{transcript}
+use Rattle.js_tool_transcript.specs.TranscriptReplay.{replay_input, Replays, IsRefused, FirstUnread, IsValidTranscript}
+use Rattle.js_tool_transcript.specs.Text.{run_text, refusal_text}
 
--- what a setup makes a consumer with
-abbrev pub given : Setup → ReplayInput
-given s = record { settings = s.settings; setup = s.setup; first = s.first }
+-- ---- what the bytes call for
 
--- ---- what the bytes are
-
--- a transcript, whose replay is this run
-pub record Replays (bytes : List ℕ) (run : Run) : Type 0 where
-  pub within : length bytes ≤ 67_108_864
-  pub by : (t : Transcript) × (transcript bytes ≡ Ok t) × IsReplay (given t.setup) t.setup.start t.events run
-
--- a transcript, whose replay is refused so
-pub record IsRefused (bytes : List ℕ) (refusal : ReplayError) : Type 0 where
-  pub within : length bytes ≤ 67_108_864
-  pub by : (t : Transcript) × (transcript bytes ≡ Ok t) × (refuse (given t.setup) t.setup.start t.events ≡ Some refusal)
-
--- lines of which this is the first that does not read
-pub record FirstUnread (bytes : List ℕ) (line : ℕ) : Type 0 where
-  pub within : length bytes ≤ 67_108_864
-  pub by : transcript bytes ≡ Err line
-
--- a transcript with good settings, moments that do not fall, and no last sequence
-pub record IsValidTranscript (bytes : List ℕ) : Type 0 where
-  pub within : length bytes ≤ 67_108_864
-  pub by : (t : Transcript) × (transcript bytes ≡ Ok t) × IsValid (given t.setup) t.setup.start t.events
-
--- a reply is what the bytes call for
-abbrev pub IsReply : List ℕ → CommandOutcome → Type 0
-IsReply bytes (reply.Done written) = (run : Run) × Replays bytes run × (written.items ≡ run_text run)
-IsReply bytes (reply.Refused written) = (refusal : ReplayError) × IsRefused bytes refusal × (written.items ≡ refusal_text refusal)
-IsReply bytes (reply.BadLine line) = FirstUnread bytes line
+-- the outcome is what the bytes call for
+abbrev pub IsOutcome : List ℕ → ReplayOutcome → Type 0
+IsOutcome bytes (outcome.Done written) = (run : Run) × Replays bytes run × (written.items ≡ run_text run)
+IsOutcome bytes (outcome.Refused written) = (refusal : ReplayError) × IsRefused bytes refusal × (written.items ≡ refusal_text refusal)
+IsOutcome bytes (outcome.BadLine line) = FirstUnread bytes line
 
 -- ---- the status that they call for, where nothing fails
 
@@ -66,7 +40,7 @@ replay_status None = status.Done
 replay_status (Some refusal) = status.Refused
 
 abbrev pub transcript_status : Result Transcript ℕ → Status
-transcript_status (Ok t) = replay_status (refuse (given t.setup) t.setup.start t.events)
+transcript_status (Ok t) = replay_status (refuse (replay_input t.setup) t.setup.start t.events)
 transcript_status (Err line) = status.BadLine line
 
 unfoldable pub called_for : List ℕ → Status
@@ -97,9 +71,9 @@ IsUnlessUnwritten status.TooLong called = called ≡ status.TooLong
 -- ---- generated transcripts
 
 -- the counts of the replay of the first so many events that a seed gives, which yields every message up to its last
-pub record IsGenerated (seed events : ℕ) (counted : Summary) : Type 0 where
-  pub counts : counted ≡ summary (fold generated.given 0 (generated.generated seed events))
-  pub whole : counted.yields ≡ counted.last
+pub record IsGenerated (seed events : ℕ) (totals : Summary) : Type 0 where
+  pub counts : totals ≡ summary (fold generated.replay_input 0 (generated.generated seed events))
+  pub whole : totals.yields ≡ totals.last
 
 -- ---- threads on a window
 

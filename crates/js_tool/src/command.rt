@@ -2,7 +2,7 @@
 
 ghost use Rattle.std.specs.Prelude.{◌≡◌, ◌≤◌, codes, if◌then◌else◌, map, option_map, string_bytes, Some, None, IfSome};
 ghost use Rattle.std.specs.Str.{bytes_eq};
-ghost use Rattle.js_tool.specs.Commands.{Info, Replay, asked, command_of as command_in, generate_of as generate_in, window_of as window_in, number_of, within, IsWithinLimits};
+ghost use Rattle.js_tool.specs.Command.{Info, Replay, asked, command_of as command_in, generate_of as generate_in, window_of as window_in, number_of, within, IsWithinLimits};
 
 use js_message::read_u64;
 
@@ -70,7 +70,7 @@ fn info_of<'a>(name: &str, subject: &'a str) -> Option<Command<'a>>
     }
 }
 
-#[tactic(auto, unfolding(crate::specs::Commands::generate_of))]
+#[tactic(auto, unfolding(crate::specs::Command::generate_of))]
 fn generate_of<'a>(name: &str, seed: &str, events: &str) -> Option<Command<'a>>
     ensures form { option_map asked result ≡ (if bytes_eq name.now (codes "generate") then generate_in seed.now events.now else None) }
     ensures limits { IfSome result IsWithinLimits }
@@ -83,7 +83,7 @@ fn generate_of<'a>(name: &str, seed: &str, events: &str) -> Option<Command<'a>>
     Some(Command::Generate { seed, events })
 }
 
-#[tactic(auto, unfolding(crate::specs::Commands::window_of))]
+#[tactic(auto, unfolding(crate::specs::Command::window_of))]
 fn window_of<'a>(name: &str, capacity: &str, threads: &str, calls: &str) -> Option<Command<'a>>
     ensures form { option_map asked result ≡ (if bytes_eq name.now (codes "window") then window_in capacity.now threads.now calls.now else None) }
     ensures limits { IfSome result IsWithinLimits }

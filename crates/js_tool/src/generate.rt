@@ -2,24 +2,24 @@
 
 ghost use Rattle.std.specs.Prelude.{◌≡◌, ◌≤◌, IfOk};
 ghost use Rattle.std.specs.Io.KnownBytes.{Keeps};
-ghost use Rattle.js_io.specs.Causes.{Rose};
-ghost use Rattle.js_table.specs.declared.run.Run.{Run};
-ghost use Rattle.js_table.specs.Valid.{IsReplay, IsValid};
-ghost use Rattle.js_generate.specs.Counts.{summary};
-ghost use Rattle.js_generate.specs.Transcript as transcript;
-ghost use Rattle.js_tool.specs.Answers.{summary_text};
+ghost use Rattle.js_tool_io.specs.Causes.{Rose};
+ghost use Rattle.js_ordered_table.specs.declared.run.Run.{Run};
+ghost use Rattle.js_ordered_table.specs.Replay.{IsReplay, IsValid};
+ghost use Rattle.js_tool_generate.specs.Summary.{summary};
+ghost use Rattle.js_tool_generate.specs.Transcript as transcript;
+ghost use Rattle.js_tool.specs.CommandTexts.{summary_text};
 ghost use Rattle.js_tool.specs.Program.{AnswersGenerate, IsGenerated, SaysNothing};
 
 use crate::status::Status;
-use crate::text::{Cell, push_line};
 use js_base::OutOfMemory;
-use js_generate::{Summary, generated, given, summary_of};
-use js_io::{Sink, write_all};
 use js_ordered::{Event, ReplayError, ReplayInput, Run, replay_ordered};
+use js_tool_generate::{Summary, generated, replay_input, summary_of};
+use js_tool_io::{Sink, write_all};
+use js_tool_transcript::{Cell, push_line};
 use std::alloc::{AllocError, Global};
 
 /// Replays the first so many events that a seed gives, and writes the line of how much their run puts out.
-pub(crate) fn tell_generate<K: Sink>(
+pub(crate) fn answer_generate<K: Sink>(
     alloc: Global,
     seed: u64,
     events: u64,
@@ -30,7 +30,7 @@ pub(crate) fn tell_generate<K: Sink>(
     ensures write_fault { result ≡ Status.WriteFault → Rose (K.faults output.old) (K.faults output.new) }
     ensures silent { SaysNothing result → Keeps (K.taken output.old) (K.taken output.new) }
 {
-    let summary = match counted(alloc, seed, events) {
+    let summary = match generated_counts(alloc, seed, events) {
         Ok(summary) => summary,
         Err(OutOfMemory) => return Status::OutOfMemory,
     };
@@ -43,16 +43,16 @@ pub(crate) fn tell_generate<K: Sink>(
     }
 }
 
-/// The run of valid events.
-fn replayed(alloc: Global, given: &ReplayInput, events: &[Event]) -> Result<Run, OutOfMemory>
-    requires { IsValid given.now 0 events.now }
-    ensures { IfOk result (λ run. IsReplay given.now 0 events.now run) }
+// The run of valid events.
+fn replayed(alloc: Global, input: &ReplayInput, events: &[Event]) -> Result<Run, OutOfMemory>
+    requires { IsValid input.now 0 events.now }
+    ensures { IfOk result (λ run. IsReplay input.now 0 events.now run) }
 {
     match replay_ordered(
         alloc,
-        &given.settings,
-        &given.setup,
-        &given.first,
+        &input.settings,
+        &input.setup,
+        &input.first,
         0,
         events,
     ) {
@@ -62,37 +62,37 @@ fn replayed(alloc: Global, given: &ReplayInput, events: &[Event]) -> Result<Run,
     }
 }
 
-/// The counts of the run of valid events.
-fn run_counts(alloc: Global, given: &ReplayInput, events: &[Event]) -> Result<Summary, OutOfMemory>
-    requires { IsValid given.now 0 events.now }
-    ensures { IfOk result (λ counts. (run : Run) × IsReplay given.now 0 events.now run × (counts ≡ summary run)) }
+// The counts of the run of valid events.
+fn run_counts(alloc: Global, input: &ReplayInput, events: &[Event]) -> Result<Summary, OutOfMemory>
+    requires { IsValid input.now 0 events.now }
+    ensures { IfOk result (λ counts. (run : Run) × IsReplay input.now 0 events.now run × (counts ≡ summary run)) }
 {
-    let run = replayed(alloc, given, events)?;
+    let run = replayed(alloc, input, events)?;
     summary_of(&run)
 }
 
-/// The counts of the replay of the first so many events that a seed gives, to the consumer of such transcripts.
+// The counts of the replay of the first so many events that a seed gives, to the consumer of such transcripts.
 fn seed_counts(
     alloc: Global,
-    given: &ReplayInput,
+    input: &ReplayInput,
     seed: u64,
     events: u64,
 ) -> Result<Summary, OutOfMemory>
     requires few { events ≤ 200_000 }
-    requires given { given.now ≡ transcript.given }
+    requires input { input.now ≡ transcript.replay_input }
     ensures { IfOk result (IsGenerated seed events) }
 {
     let events = generated(alloc, seed, events)?;
-    run_counts(alloc, given, events.as_slice())
+    run_counts(alloc, input, events.as_slice())
 }
 
-fn counted(alloc: Global, seed: u64, events: u64) -> Result<Summary, OutOfMemory>
+fn generated_counts(alloc: Global, seed: u64, events: u64) -> Result<Summary, OutOfMemory>
     requires { events ≤ 200_000 }
     ensures { IfOk result (IsGenerated seed events) }
 {
-    let given = given(alloc)?;
-    let summary = seed_counts(alloc, &given, seed, events);
-    drop(given);
+    let input = replay_input(alloc)?;
+    let summary = seed_counts(alloc, &input, seed, events);
+    drop(input);
     summary
 }
 

@@ -3,20 +3,20 @@
 ghost use Rattle.std.specs.Prelude.{◌≡◌, option_map, IfOk};
 ghost use Rattle.std.specs.Option.{option_copied};
 ghost use Rattle.std.specs.Io.KnownBytes.{Keeps};
-ghost use Rattle.js_io.specs.Causes.{Rose};
-ghost use Rattle.js_message.specs.Shown.{shown};
-ghost use Rattle.js_tool.specs.Answers.{info_text, error_cells as error_cells_in, error_text};
+ghost use Rattle.js_tool_io.specs.Causes.{Rose};
+ghost use Rattle.js_message.specs.Info.{shown};
+ghost use Rattle.js_tool.specs.CommandTexts.{info_text, error_cells as error_cells_in, error_text};
 ghost use Rattle.js_tool.specs.Program.{AnswersInfo, SaysNothing};
-ghost use Rattle.js_tool.specs.Texts.{cell_data, text_or_null, with_detail};
+ghost use Rattle.js_tool_transcript.specs.Text.{cell_data, text_or_null, with_detail};
 
 use crate::status::Status;
-use crate::text::{Cell, push_line, push_refused};
-use js_io::{Sink, write_all};
 use js_message::{Info, InfoError, parse_info};
+use js_tool_io::{Sink, write_all};
+use js_tool_transcript::{Cell, push_line, push_refused};
 use std::alloc::{AllocError, Global};
 
 /// Reads an acknowledgement subject, and writes the line of what it says, or of why it is none.
-pub(crate) fn tell_info<K: Sink>(alloc: Global, subject: &str, output: &mut K) -> Status
+pub(crate) fn answer_info<K: Sink>(alloc: Global, subject: &str, output: &mut K) -> Status
     ensures answers { AnswersInfo subject.now (K.taken output.old) (K.taken output.new) (K.faults output.old) (K.faults output.new) result }
     ensures write_fault { result ≡ Status.WriteFault → Rose (K.faults output.old) (K.faults output.new) }
     ensures silent { SaysNothing result → Keeps (K.taken output.old) (K.taken output.new) }

@@ -1,4 +1,10 @@
-//! The top call of the program: a transcript is read from a source, replayed, and the text of its run written to a sink.
+//! What the words of a command line ask for: a transcript is read, replayed, and the text of its run written; a generated
+//! transcript is replayed and counted; what an ack subject says is written; threads share a publish window, and their counts are
+//! written.
+//!
+//! [`run`] takes the words, a source and a sink, and answers a status with its cause. Each line is replayed as it is read, and the
+//! text of its step is made at once, so that only the input that is left and the text so far are held. [`run_plain`] is the same
+//! for all words that need no threads.
 #![tactic(auto)]
 
 mod command;
@@ -7,19 +13,8 @@ mod info;
 mod program;
 mod progress;
 mod status;
-mod text;
-mod transcript;
 mod window;
 
 pub use command::read_number;
-pub use js_io::{
-    Failed, MemorySink, MemorySource, Pieces, PlainSink, PlainSource, ReadSource, Sink, Source,
-    WriteSink,
-};
-pub use js_workers::{Gate, Open, WindowCounts, run_window, take_calls};
 pub use program::{run, run_plain};
 pub use status::Status;
-pub use text::{Cell, field_text, push_end, push_line, push_outputs, push_quoted, refusal_line};
-pub use transcript::{
-    Payloads, Setup, Transcript, Unread, event_line, first_line, next_line, setup_line,
-};

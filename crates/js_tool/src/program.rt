@@ -2,24 +2,25 @@
 
 ghost use Rattle.std.specs.Prelude.{◌≡◌, ◌≤◌, ◌<◌, ◌↔◌, ℕ, List, length, map, Some, None, IfSome, string_bytes};
 ghost use Rattle.std.specs.Io.KnownBytes.{Keeps};
-ghost use Rattle.js_io.specs.Causes.{Rose};
-ghost use Rattle.js_tool.specs.Commands.{Replay, Generate, Info, Window, command_of as command_in};
-ghost use Rattle.js_tool.specs.Program.{AnswersReplay, AnswersGenerate, AnswersInfo, AnswersWindow, FirstUnread, SaysNothing, without_threads};
+ghost use Rattle.js_tool_io.specs.Causes.{Rose};
+ghost use Rattle.js_tool.specs.Command.{Replay, Generate, Info, Window, command_of as command_in};
+ghost use Rattle.js_tool.specs.Program.{AnswersReplay, AnswersGenerate, AnswersInfo, AnswersWindow, SaysNothing, without_threads};
+ghost use Rattle.js_tool_transcript.specs.TranscriptReplay.{FirstUnread};
 
 use crate::command::{Command, command_of};
-use crate::generate::tell_generate;
-use crate::info::tell_info;
+use crate::generate::answer_generate;
+use crate::info::answer_info;
 use crate::progress::replay;
 use crate::status::Status;
-use crate::window::tell_window;
-use js_io::{Sink, Source, Stop, read_all, write_all};
+use crate::window::answer_window;
+use js_tool_io::{Sink, Source, Stop, read_all, write_all};
 use std::alloc::{AllocError, Global};
 use std::sync::Wait;
 use std::thread::Threads;
 
 // What an input calls for: a text to write, or none.
 #[derive(Drop)]
-pub(crate) enum CommandOutcome {
+pub(crate) enum ReplayOutcome {
     Done(Vec<u8>),
     Refused(Vec<u8>),
     BadLine(u64),
@@ -73,7 +74,7 @@ pub fn run<R: Threads + Wait + Sync, S: Source, K: Sink>(
         },
     ) = command_of(words)
     {
-        return tell_window(rt, alloc, capacity, threads, calls, output);
+        return answer_window(rt, alloc, capacity, threads, calls, output);
     }
     run_plain(alloc, words, input, output)
 }
@@ -109,16 +110,16 @@ pub fn run_plain<S: Source, K: Sink>(
     ensures unread { (command_in (map string_bytes words.now) ≡ Some Replay → ⊥) → input.new ≡ input.old }
 {
     match command_of(words) {
-        Some(Command::Replay) => tell_replay(alloc, input, output),
-        Some(Command::Generate { seed, events }) => tell_generate(alloc, seed, events, output),
-        Some(Command::Info { subject }) => tell_info(alloc, subject, output),
+        Some(Command::Replay) => answer_replay(alloc, input, output),
+        Some(Command::Generate { seed, events }) => answer_generate(alloc, seed, events, output),
+        Some(Command::Info { subject }) => answer_info(alloc, subject, output),
         Some(Command::Window { .. }) => Status::Usage,
         None => Status::Usage,
     }
 }
 
 // Reads a transcript to its end, and writes the text of its run.
-fn tell_replay<S: Source, K: Sink>(alloc: Global, input: &mut S, output: &mut K) -> Status
+fn answer_replay<S: Source, K: Sink>(alloc: Global, input: &mut S, output: &mut K) -> Status
     ensures not_usage { result ≡ Status.Usage → ⊥ }
     ensures write_fault { result ≡ Status.WriteFault → Rose (K.faults output.old) (K.faults output.new) }
     ensures silent { SaysNothing result → Keeps (K.taken output.old) (K.taken output.new) }
@@ -137,7 +138,7 @@ fn tell_replay<S: Source, K: Sink>(alloc: Global, input: &mut S, output: &mut K)
         Err(Stop::OutOfMemory) => return Status::OutOfMemory,
     };
     match replay(alloc, bytes) {
-        Ok(CommandOutcome::Done(text)) => {
+        Ok(ReplayOutcome::Done(text)) => {
             let written = write_all(output, &text);
             drop(text);
             match written {
@@ -145,12 +146,12 @@ fn tell_replay<S: Source, K: Sink>(alloc: Global, input: &mut S, output: &mut K)
                 Err(_) => Status::WriteFault,
             }
         }
-        Ok(CommandOutcome::Refused(text)) => {
+        Ok(ReplayOutcome::Refused(text)) => {
             let _ = write_all(output, &text);
             drop(text);
             Status::Refused
         }
-        Ok(CommandOutcome::BadLine(line)) => Status::BadLine { line },
+        Ok(ReplayOutcome::BadLine(line)) => Status::BadLine { line },
         Err(AllocError) => Status::OutOfMemory,
     }
 }

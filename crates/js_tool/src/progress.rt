@@ -1,20 +1,22 @@
 //! A replay that goes on as its lines are read. Their text is made at once, so that neither events nor steps are kept.
 
 ghost use Rattle.std.specs.Prelude.{◌≡◌, ◌≤◌, ◌+◌, ◌++◌, ◌∷◌, [], ℕ, List, length, IfOk, OnOk};
-ghost use Rattle.js_table.specs.declared.consumer.ReplayInput.{ReplayInput};
-ghost use Rattle.js_table.specs.declared.event.Event as events;
-ghost use Rattle.js_io.specs.Lines.{lines_of};
-ghost use Rattle.js_tool.specs.Program.{given, IsReply};
-ghost use Rattle.js_tool.specs.Progress.{HasPassed, PassesLines, IsReplyOn, IsReplyTo};
-ghost use Rattle.js_tool.specs.Setups.{setup_line};
-ghost use Rattle.js_tool.specs.Transcripts.{GivesLines, numbered, transcript_of, with_lines};
+ghost use Rattle.js_ordered_table.specs.declared.consumer.ReplayInput.{ReplayInput};
+ghost use Rattle.js_ordered_table.specs.declared.event.Event as events;
+ghost use Rattle.js_tool_io.specs.Lines.{lines_of};
+ghost use Rattle.js_tool.specs.Program.{IsOutcome};
+ghost use Rattle.js_tool_transcript.specs.TranscriptReplay.{replay_input};
+ghost use Rattle.js_tool.specs.Progress.{HasPassed, PassesLines, IsOutcomeOn, IsOutcomeTo};
+ghost use Rattle.js_tool_transcript.specs.Setup.{setup_line};
+ghost use Rattle.js_tool_transcript.specs.Transcript.{GivesLines, numbered, transcript_of, with_lines};
 
-use crate::program::CommandOutcome;
-use crate::text::{push_end, push_outputs, refusal_line};
-use crate::transcript::{Payloads, Setup, Unread, first_line, next_line};
+use crate::program::ReplayOutcome;
 use js_base::OutOfMemory;
-use js_io::{Pieces, cut_line, next_piece};
 use js_ordered::{Event, IncrementalReplay};
+use js_tool_io::{Pieces, cut_line, next_piece};
+use js_tool_transcript::{
+    Payloads, Setup, Unread, first_line, next_line, push_end, push_outputs, refusal_line,
+};
 use std::alloc::{AllocError, Global};
 
 /// How far a replay has come, and the text of what it has put out.
@@ -27,7 +29,7 @@ pub(crate) struct Progress<'s> {
 
 impl<'s> Progress<'s> {
     fn open(alloc: Global, setup: &'s Setup) -> Result<Progress<'s>, OutOfMemory>
-        ensures { IfOk result (λ progress. HasPassed (given setup.now) setup.now.start [] progress) }
+        ensures { IfOk result (λ progress. HasPassed (replay_input setup.now) setup.now.start [] progress) }
     {
         let opened = IncrementalReplay::open(
             alloc,
@@ -53,17 +55,17 @@ impl<'s> Progress<'s> {
     }
 
     // The text of the whole run, or the line of its refusal.
-    fn finish(self, alloc: Global) -> Result<CommandOutcome, AllocError>
+    fn finish(self, alloc: Global) -> Result<ReplayOutcome, AllocError>
         ensures { (g : ReplayInput) → (start : ℕ) → (es : List events.Event) → HasPassed g start es self.entry
-            → IfOk result (λ reply. IsReplyOn g start es reply) }
+            → IfOk result (λ outcome. IsOutcomeOn g start es outcome) }
     {
         let Progress { replay, mut text } = self;
         match replay.end() {
             Ok(ended) => {
                 push_end(&mut text, ended, replay.count())?;
-                Ok(CommandOutcome::Done(text))
+                Ok(ReplayOutcome::Done(text))
             }
-            Err(refusal) => Ok(CommandOutcome::Refused(refusal_line(alloc, refusal)?)),
+            Err(refusal) => Ok(ReplayOutcome::Refused(refusal_line(alloc, refusal)?)),
         }
     }
 }
@@ -155,9 +157,9 @@ fn replay_events(
     setup: &Setup,
     piece: &[u8],
     bytes: Pieces,
-) -> Result<CommandOutcome, AllocError>
+) -> Result<ReplayOutcome, AllocError>
     requires { length piece.now + length bytes ≤ 67_108_864 }
-    ensures { IfOk result (λ reply. IsReplyTo (with_lines setup.now (lines_of piece.now ++ lines_of bytes)) reply) }
+    ensures { IfOk result (λ outcome. IsOutcomeTo (with_lines setup.now (lines_of piece.now ++ lines_of bytes)) outcome) }
 {
     let mut progress = match Progress::open(alloc, setup) {
         Ok(progress) => progress,
@@ -170,7 +172,7 @@ fn replay_events(
         Ok(()) => progress.finish(alloc),
         Err(Unread::BadLine(line)) => {
             drop(progress);
-            Ok(CommandOutcome::BadLine(line))
+            Ok(ReplayOutcome::BadLine(line))
         }
         Err(Unread::OutOfMemory) => {
             drop(progress);
@@ -185,16 +187,16 @@ fn replay_rest(
     first: &Result<Setup, Unread>,
     piece: &[u8],
     bytes: Pieces,
-) -> Result<CommandOutcome, AllocError>
+) -> Result<ReplayOutcome, AllocError>
     requires { length piece.now + length bytes ≤ 67_108_864 }
     ensures { (line : List ℕ) → GivesLines (λ s. s) first.now (numbered 1 (setup_line line))
-        → IfOk result (λ reply. IsReplyTo (transcript_of (line ∷ (lines_of piece.now ++ lines_of bytes))) reply) }
+        → IfOk result (λ outcome. IsOutcomeTo (transcript_of (line ∷ (lines_of piece.now ++ lines_of bytes))) outcome) }
 {
     match first {
         Ok(setup) => replay_events(alloc, setup, piece, bytes),
         Err(Unread::BadLine(line)) => {
             drop(bytes);
-            Ok(CommandOutcome::BadLine(*line))
+            Ok(ReplayOutcome::BadLine(*line))
         }
         Err(Unread::OutOfMemory) => {
             drop(bytes);
@@ -204,13 +206,13 @@ fn replay_rest(
 }
 
 /// What the bytes call for, which are given up as they are read.
-#[tactic(auto, unfolding(crate::specs::Transcripts::transcript))]
-pub(crate) fn replay(alloc: Global, mut bytes: Pieces) -> Result<CommandOutcome, AllocError>
+#[tactic(auto, unfolding(js_tool_transcript::specs::Transcript::transcript))]
+pub(crate) fn replay(alloc: Global, mut bytes: Pieces) -> Result<ReplayOutcome, AllocError>
     requires { length bytes ≤ 67_108_864 }
-    ensures { IfOk result (λ reply. IsReply bytes reply) }
+    ensures { IfOk result (λ outcome. IsOutcome bytes outcome) }
 {
     let Some(piece) = next_piece(alloc, &mut bytes) else {
-        return Ok(CommandOutcome::BadLine(1));
+        return Ok(ReplayOutcome::BadLine(1));
     };
     let (line, rest) = cut_line(&piece);
     let first = first_line(alloc, line);

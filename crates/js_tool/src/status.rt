@@ -1,7 +1,7 @@
 //! How a call ended.
 
 ghost use Rattle.std.specs.Prelude.{◌≡◌, Some};
-ghost use Rattle.js_tool.specs.Statuses.{exit_code as code_of, status_text};
+ghost use Rattle.js_tool.specs.Status.{exit_code as code_of, status_text};
 
 use std::fmt;
 

@@ -2,21 +2,21 @@
 
 ghost use Rattle.std.specs.Prelude.{◌≡◌, ◌<◌, ◌≤◌, ◌^◌, IfOk};
 ghost use Rattle.std.specs.Io.KnownBytes.{Keeps};
-ghost use Rattle.js_io.specs.Causes.{Rose};
-ghost use Rattle.js_tool.specs.Answers.{window_text};
+ghost use Rattle.js_tool_io.specs.Causes.{Rose};
+ghost use Rattle.js_tool.specs.CommandTexts.{window_text};
 ghost use Rattle.js_tool.specs.Program.{AnswersWindow, SaysNothing};
 
 use crate::status::Status;
-use crate::text::{Cell, push_line};
 use js_base::OutOfMemory;
-use js_io::{Sink, write_all};
-use js_workers::{Open, WindowCounts, run_window};
+use js_tool_io::{Sink, write_all};
+use js_tool_transcript::{Cell, push_line};
+use js_window_workers::{Open, WindowCounts, run_window};
 use std::alloc::{AllocError, Global};
 use std::sync::Wait;
 use std::thread::Threads;
 
 /// Runs so many threads on a window with so many permits, each for so many takes, and writes the line of their counts.
-pub(crate) fn tell_window<R: Threads + Wait + Sync, K: Sink>(
+pub(crate) fn answer_window<R: Threads + Wait + Sync, K: Sink>(
     rt: &R,
     alloc: Global,
     capacity: u64,

@@ -78,10 +78,7 @@ module _ (p : Caller) (t u : TableId) (v w : View) (is : caller_of t v ≡ p) (s
   pub makes : (call : Call) → IsCaller (number_of v) (capacity_of v) v → Adds (number_of v) (capacity_of v) call v w → Makes call p (caller_of u w)
   makes call c s = subst (λ (z : Caller). Makes call z (caller_of u w)) is (made t u v w same call c s)
 
--- a caller that looked on is the same caller, and so is one that looked on twice
-pub watches-refl : (p : Caller) → Watches p p
-watches-refl p = record { window = refl; number = refl; grows = prefix-refl p.seen; mine = refl }
-
+-- a caller that looked on twice is the same caller
 pub watches-trans : (p q r : Caller) → Watches p q → Watches q r → Watches p r
 watches-trans p q r a b = record {
   window = b.window ∙ a.window;

@@ -2,8 +2,9 @@
 
 use crate::steps::{GAP, GAP_TEXT, NO_FAULTS, Told, sink, source};
 use crate::tables::same;
-use js_follow::follow;
-use js_tool::{MemorySink, Source, Status};
+use js_tool::Status;
+use js_tool_follow::follow;
+use js_tool_io::{MemorySink, Source};
 use std::alloc::Global;
 
 fn followed_into<S: Source>(

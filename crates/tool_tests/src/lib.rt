@@ -1,5 +1,5 @@
-//! Tests over the public calls of the upper crates: what no clause says of them and no stored command line shows, and
-//! each call that takes memory once. It has no calls of its own.
+//! Tests of the upper crates: what no clause says of them and no stored command line shows, and each public call that takes memory
+//! once. It has no calls of its own.
 #![tactic(auto)]
 
 #[cfg(test)]
@@ -15,6 +15,8 @@ mod mirrors;
 mod ordered;
 #[cfg(test)]
 mod polled;
+#[cfg(test)]
+mod projection;
 #[cfg(test)]
 mod pull;
 #[cfg(test)]

@@ -3,9 +3,9 @@
 use crate::tables::same;
 use bytes::Bytes;
 use js_base::{Boxed, Message, OutOfMemory, Subject, Text};
-use js_fields::ReadError;
 use js_json::consumer::Info;
 use js_json::{Response, pull, response_as};
+use js_json_members::ReadError;
 use js_ordered::{
     AtEnd, Event, EventKind, IncrementalReplay, ItemKind, OrderedCore, OrderedSetup, Output,
     ReplayError, ReplayInput, Run, Settings, Start, replay_ordered,

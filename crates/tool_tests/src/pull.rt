@@ -3,13 +3,12 @@
 use crate::tables::same;
 use bytes::Bytes;
 use js_base::{HeaderMap, Message, Moment, OutOfMemory, StatusCode, Subject, Text, all_4, both};
-use js_fields::ReadError;
 use js_json::consumer::Info;
 use js_json::pull::BatchConfig;
 use js_json::{Response, response_as};
+use js_json_members::ReadError;
 use js_link::{InboxId, MemoryLink};
-use js_pull::{Reader, Source, info_of_reply, ordered_batch_config};
-use js_pull_stream::{Advance, Consumer, Stream};
+use js_pull::{Advance, Consumer, PullSource, Reader, Stream, info_of_reply, ordered_batch_config};
 use std::alloc::Global;
 use std::process::Abort;
 
@@ -58,8 +57,14 @@ fn told_of<I: Informed, E: Drop>(info: Result<I, E>) -> Result<I::Told, E> {
     }
 }
 
-fn source(api: Text, stream: Text, name: Text, subject: Subject, config: BatchConfig) -> Source {
-    Source {
+fn source(
+    api: Text,
+    stream: Text,
+    name: Text,
+    subject: Subject,
+    config: BatchConfig,
+) -> PullSource {
+    PullSource {
         api,
         stream,
         name,

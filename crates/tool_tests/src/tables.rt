@@ -7,3 +7,14 @@ use std::process::Abort;
 pub(crate) fn same<T: Debug + PartialEq + Drop>(rt: &impl Abort, row: &str, found: T, wanted: T) {
     assert_eq!(rt; found, wanted, "{row}");
 }
+
+/// Asserts that the word of a row is the one that is wanted.
+pub(crate) fn says<E: Debug + Drop>(
+    rt: &impl Abort,
+    row: &str,
+    found: Result<String, E>,
+    wanted: &str,
+) {
+    let found = found.expect(rt, row);
+    assert_eq!(rt; found.as_str(), wanted, "{row}");
+}

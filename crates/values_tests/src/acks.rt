@@ -3,11 +3,10 @@
 use crate::received::{REPLY, WAIT, delivered, received, reply_of};
 use crate::tables::{same, says_at};
 use crate::words::word;
-use js_base::{Moment, OutOfMemory, Turn};
+use js_base::{Moment, OutOfMemory, Turn, replace_with};
 use js_link::{InboxId, Link, MemoryLink, Sent};
 use js_message::{AckError, AckKind, Acker, DoubleAck, Message};
 use std::alloc::Global;
-use std::mem;
 
 const START: Moment = 1_790_000_000_000_000_000;
 
@@ -131,7 +130,7 @@ fn poll<L: Link>(alloc: Global, link: &mut L, call: &mut Option<DoubleAck>, afte
     };
     match state.poll(alloc, link, START.saturating_add(after)) {
         Turn::Pending(state) => {
-            drop(mem::replace(call, Some(state)));
+            replace_with(call, Some(state));
             word(alloc, "pending")
         }
         Turn::Ready(found) => ended(alloc, found),
@@ -194,7 +193,7 @@ fn told(alloc: Global, link: &mut MemoryLink, call: &mut Option<DoubleAck>, even
     match event {
         Event::Begin(by, kind) => {
             let asked = double_ack(alloc, by, kind)?;
-            drop(mem::replace(call, Some(asked)));
+            replace_with(call, Some(asked));
             word(alloc, "")
         }
         Event::Poll(after) => poll(alloc, link, call, after),

@@ -5,10 +5,10 @@ use crate::{answer_rows, consumer_rows, stream_rows};
 use js_base::{Text, TryClone, both};
 use js_codes::errors::Error;
 use js_codes::is_valid_name;
-use js_fields::{FromValue, ReadError, ToValue, value_of};
 use js_json::account::{Account, Limits};
 use js_json::{PublishAck, Response, consumer, response_as};
-use js_stream_json::{DeleteStatus, stream};
+use js_json_members::{FromValue, ReadError, ToValue, value_of};
+use js_json_streams::{DeleteStatus, stream};
 use std::alloc::Global;
 
 /// What a text is read as.

@@ -1,4 +1,4 @@
-//! Tests of the crates of values: subjects, headers, JSON bodies, the link in memory, messages and their acks, and the table of a log.
+//! Tests of the crates of values: subjects, headers, JSON bodies, the link in memory, messages and their acks.
 #![tactic(auto)]
 
 #[cfg(test)]
@@ -15,8 +15,6 @@ mod consumer_rows;
 mod link;
 #[cfg(test)]
 mod message;
-#[cfg(test)]
-mod project;
 #[cfg(test)]
 mod received;
 #[cfg(test)]

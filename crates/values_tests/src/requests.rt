@@ -1,20 +1,19 @@
 //! Bodies that the client writes, and consumers' configurations of each kind.
 
 use crate::tables::{same, says};
-use js_base::{Text, TryClone, both};
-use js_fields::{FromValue, ReadError, ToValue, value_of};
+use js_base::{Text, TryClone, both, replace_with};
 use js_json::consumer::{
     AckPolicy, Action, Config, CreateRequest, DeliverPolicy, FromConsumer, IntoConsumerConfig,
     PriorityPolicy, ReplayPolicy,
 };
 use js_json::pull::BatchConfig;
 use js_json::{pull, push};
-use js_stream_json::stream::{
+use js_json_members::{FromValue, ReadError, ToValue, value_of};
+use js_json_streams::stream::{
     self, DiscardPolicy, ListRequest, NamesRequest, RetentionPolicy, StorageType,
 };
 use std::alloc::Global;
 use std::fmt::Debug;
-use std::mem;
 use std::process::Abort;
 
 type Words = Result<String, ReadError>;
@@ -43,7 +42,7 @@ enum Body {
 fn stream_named(alloc: Global, name: &str) -> Words {
     let name = Text::from_str(alloc, name)?;
     let mut config = stream::Config::new(alloc);
-    drop(mem::replace(&mut config.name, name));
+    replace_with(&mut config.name, name);
     let text = config.to_text(alloc);
     drop(config);
     text

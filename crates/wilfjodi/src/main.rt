@@ -1,8 +1,9 @@
 //! `wilfjodi`: JetStream consumers replayed from transcripts and from numbers, tables and mirrors of their logs, sessions with bookmarks, acknowledgement subjects and publish windows, on a command line.
 #![tactic(auto)]
 
-use js_follow::follow;
-use js_words::{ReadSource, Status, WriteSink, run};
+use js_tool_follow::follow;
+use js_tool_io::{ReadSource, WriteSink};
+use js_tool_logs::{Status, run};
 use std::process::ExitCode;
 use std::{env, io};
 

@@ -3,7 +3,8 @@
 //! goes to standard output, which the gate compares with the stored text.
 #![tactic(auto)]
 
-use js_words::{PlainSource, Status, WriteSink, run};
+use js_tool_io::{PlainSource, WriteSink};
+use js_tool_logs::{Status, run};
 use std::alloc::{AllocError, Global};
 use std::io::{BufRead, BufReader, Write};
 use std::sync::Wait;

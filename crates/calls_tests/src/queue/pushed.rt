@@ -2,7 +2,7 @@
 
 use crate::queue::server::{api, info};
 use js_base::{Nanos, OutOfMemory, Text, both};
-use js_consumer_calls::PushConsumer;
+use js_call_consumers::PushConsumer;
 use js_json::consumer::Info;
 use js_json::push::Config;
 use std::alloc::Global;

@@ -4,13 +4,13 @@ use crate::queue::told::{followed, given, opened};
 use crate::server::Answered;
 use crate::words::{Words, word};
 use js_base::{Moment, OutOfMemory};
-use js_consumer_calls::{PullConsumer, PushConsumer};
+use js_call_consumers::{PullConsumer, PushConsumer};
 use js_link::MemoryLink;
 use js_message::Message;
-use js_reader_calls::pull::{
+use js_readers::pull::{
     Batch, FetchBuilder, PullCalls, Sequence, Stream, StreamBuilder, StreamError,
 };
-use js_reader_calls::push::{Messages, PushCalls};
+use js_readers::push::{Messages, PushCalls};
 use std::alloc::Global;
 
 /// What a worker reads by.

@@ -6,7 +6,7 @@ use crate::server::Answered;
 use crate::words::{Words, word};
 use js_base::OutOfMemory;
 use js_call::State;
-use js_consumer_calls::{ConsumerCalls, InfoCall, PullConsumer, Reset};
+use js_call_consumers::{ConsumerCalls, InfoCall, PullConsumer, Reset};
 use js_json::consumer::Info;
 use js_json::pull::Config;
 use js_link::MemoryLink;

@@ -4,7 +4,7 @@ use crate::server::scope;
 use bytes::Bytes;
 use js_base::{HeaderMap, Message, OutOfMemory, StatusCode, Subject, Text, TryClone, all_3};
 use js_call::ApiScope;
-use js_consumer_calls::PullConsumer;
+use js_call_consumers::PullConsumer;
 use js_json::consumer::{FromConsumer, Info};
 use js_json::{Response, pull, response_as};
 use js_message::read_u64;

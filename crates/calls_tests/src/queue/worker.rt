@@ -8,12 +8,12 @@ use crate::queue::told::{done, outcome};
 use crate::tables::numbered;
 use crate::words::{Words, word};
 use js_base::{Message as Received, OutOfMemory};
-use js_consumer_calls::PullConsumer;
+use js_call_consumers::PullConsumer;
 use js_json::consumer::PriorityPolicy;
 use js_json::pull::BatchConfig;
 use js_link::{InboxId, Link, MemoryLink, RequestId, Sent};
 use js_message::{AckKind, Message};
-use js_reader_calls::pull::PullCalls;
+use js_readers::pull::PullCalls;
 use std::alloc::Global;
 
 /// A worker of the queue.

@@ -4,20 +4,18 @@ ghost use Rattle.jetstream.specs.declared.any_error.AnyError.TheVariants as any;
 
 use crate::any_error::AnyError;
 use js_call::{RequestError, SendError};
-use js_consumer_calls::{
+use js_call_consumers::{
     ConsumerCreateStrictError, ConsumerError, ConsumerInfoError, ConsumerUpdateError,
 };
+use js_call_streams::{AccountError, CreateStreamError, GetStreamByNameError, GetStreamError};
 use js_context::{BuildError, PublishError};
-use js_fields::ReadError;
 use js_json::consumer::ConfigError;
+use js_json_members::ReadError;
 use js_link::LinkError;
 use js_message::{AckError, InfoError, MessageInfoError, StreamMessageError};
-use js_reader_calls::ordered::OrderedError;
-use js_reader_calls::pull::{
-    BatchError, BatchItemError, BatchRequestError, MessagesError, StreamError,
-};
+use js_readers::ordered::OrderedError;
+use js_readers::pull::{BatchError, BatchItemError, BatchRequestError, MessagesError, StreamError};
 use js_store::{CreateKeyValueError, KeyValueError, ObjectStoreError, UpdateKeyValueError};
-use js_stream_calls::{AccountError, CreateStreamError, GetStreamByNameError, GetStreamError};
 use std::io;
 
 impl From<LinkError> for AnyError {
@@ -108,10 +106,10 @@ impl From<BatchItemError> for AnyError {
     }
 }
 
-impl From<js_reader_calls::push::MessagesError> for AnyError {
+impl From<js_readers::push::MessagesError> for AnyError {
     ghost from_gives = { λ error told. told ≡ any.PushMessages error };
 
-    fn from(error: js_reader_calls::push::MessagesError) -> AnyError {
+    fn from(error: js_readers::push::MessagesError) -> AnyError {
         AnyError::PushMessages(error)
     }
 }

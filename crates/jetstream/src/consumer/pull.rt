@@ -14,9 +14,9 @@
 //! **Letting go of a reader** leaves its inbox open: the server goes on delivering what was asked for, and the link keeps what comes. `close` lets go of the reader and
 //! closes its inbox. What lies in it is lost, and requests that are open at the server run out by themselves. A batch closes its inbox where it ends.
 pub use js_json::pull::{BatchConfig, Config, OrderedConfig};
-pub use js_reader_calls::ordered::pull::Ordered;
-pub use js_reader_calls::ordered::{OrderedError, OrderedErrorKind, OrderedPullCalls};
-pub use js_reader_calls::pull::{
+pub use js_readers::ordered::pull::Ordered;
+pub use js_readers::ordered::{OrderedError, OrderedErrorKind, OrderedPullCalls};
+pub use js_readers::pull::{
     Batch, BatchBuilder, BatchError, BatchErrorKind, BatchItemError, BatchRequestError,
     BatchRequestErrorKind, FetchBuilder, MessagesError, MessagesErrorKind, PullCalls, Sequence,
     Stream, StreamBuilder,

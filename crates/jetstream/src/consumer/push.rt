@@ -23,6 +23,6 @@
 //! **Letting go of a reader** leaves its inbox open: the server goes on delivering, and the link keeps what comes. `close` lets go of the reader and closes its inbox;
 //! what lies in it is lost.
 pub use js_json::push::{Config, OrderedConfig};
-pub use js_reader_calls::ordered::push::Ordered;
-pub use js_reader_calls::ordered::{OrderedError, OrderedErrorKind, OrderedPushCalls};
-pub use js_reader_calls::push::{Messages, MessagesError, MessagesErrorKind, PushCalls};
+pub use js_readers::ordered::push::Ordered;
+pub use js_readers::ordered::{OrderedError, OrderedErrorKind, OrderedPushCalls};
+pub use js_readers::push::{Messages, MessagesError, MessagesErrorKind, PushCalls};

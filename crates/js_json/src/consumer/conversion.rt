@@ -23,7 +23,7 @@ pub enum ConfigError {
 
 impl fmt::Display for ConfigError {
     ghost use Rattle.std.specs.Prelude.{Some};
-    ghost use Rattle.js_json.specs.Conversions.{config_error_text};
+    ghost use Rattle.js_json.specs.Conversion.{config_error_text};
 
     ghost output = { λ e. Some (config_error_text e) };
 

@@ -5,7 +5,7 @@ ghost use Rattle.js_json.specs.CreateRequest.{action_data, create_request_value}
 
 use crate::consumer::config::Config;
 use js_base::Text;
-use js_fields::{Key, Object, ReadError, ToValue, Written};
+use js_json_members::{Key, Object, ReadError, ToValue, Written};
 use serde_json::Value;
 use std::alloc::Global;
 

@@ -2,15 +2,15 @@
 
 ghost use Rattle.std.specs.Prelude.{◌≡◌, Ok, Option, Result, string_bytes, option_copied};
 ghost use Rattle.serde_json.specs.Data.{Members, no_members};
-ghost use Rattle.js_fields.specs.Object.{Holds};
-ghost use Rattle.js_fields.specs.Reading.{GivesAs};
-ghost use Rattle.js_fields.specs.Rows.{with_row, with_rows, where_some, text_data, text_of};
-ghost use Rattle.js_fields.specs.declared.key.Key.TheVariants.{Id as id};
-ghost use Rattle.js_fields.specs.declared.error.ReadError.{ReadError};
+ghost use Rattle.js_json_members.specs.Object.{Holds};
+ghost use Rattle.js_json_members.specs.Member.{GivesAs};
+ghost use Rattle.js_json_members.specs.Rows.{with_row, with_rows, where_some, text_data, text_of};
+ghost use Rattle.js_json_members.specs.declared.key.Key.TheVariants.{Id as id};
+ghost use Rattle.js_json_members.specs.declared.error.ReadError.{ReadError};
 ghost use Rattle.js_json.specs.Batch.{new_batch_config, batch_config_rows, batch_config_value, pull_request_value};
 
 use js_base::{Nanos, OutOfMemory, Text, TryClone};
-use js_fields::{Key, Object, ReadError, ToValue};
+use js_json_members::{Key, Object, ReadError, ToValue};
 use serde_json::Value;
 use std::alloc::Global;
 
@@ -56,7 +56,7 @@ impl BatchConfig {
     }
 
     /// The body of the request, with the id of the client that is pinned where there is one.
-    #[tactic(auto, unfolding(crate::specs::Batch::pull_request_value, js_fields::specs::Rows::text_of))]
+    #[tactic(auto, unfolding(crate::specs::Batch::pull_request_value, js_json_members::specs::Rows::text_of))]
     pub fn request_text(&self, alloc: Global, pin: Option<&Text>) -> Result<String, ReadError>
         ensures { GivesAs string_bytes result (text_of (pull_request_value (option_copied pin.entry) self.now)) }
     {
@@ -81,7 +81,7 @@ impl BatchConfig {
     }
 }
 
-#[tactic(auto, unfolding(js_fields::specs::Rows::with_row, js_fields::specs::Rows::where_some, js_fields::specs::Rows::always))]
+#[tactic(auto, unfolding(js_json_members::specs::Rows::with_row, js_json_members::specs::Rows::where_some, js_json_members::specs::Rows::always))]
 fn with_pin(alloc: Global, pin: Option<&Text>) -> Object
     ensures { Holds result (with_row id (where_some text_data id (option_copied pin.entry)) (Ok no_members)) }
 {

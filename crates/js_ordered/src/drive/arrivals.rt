@@ -2,19 +2,20 @@
 ghost use Rattle.std.specs.Prelude.{◌≡◌, ◌≢◌, ◌+◌, ◌≤◌, ◌∷◌, ◌↔◌, [], IfOk, OnOk, OnErr, IsTrue, option_to_list, vec_capacity, vec_len};
 ghost use Rattle.js_ordered.specs.Driven.{Arrives, PassesTo};
 ghost use Rattle.js_pull.specs.Kind.{pull_kind as kind_of};
-ghost use Rattle.js_table.specs.Tasks.{IsHeardFrom, heard_outputs};
+ghost use Rattle.js_ordered_table.specs.Tasks.{IsHeardFrom, heard_outputs};
 ghost use Rattle.js_pull.specs.declared.reader.Row.TheVariants as read;
-ghost use Rattle.js_table.specs.Passes.{heard, matter_now};
-ghost use Rattle.js_table.specs.declared.row.Row.TheVariants as row;
+ghost use Rattle.js_ordered_table.specs.Passes.{heard, matter_now};
+ghost use Rattle.js_ordered_table.specs.declared.row.Row.TheVariants as row;
 
 use crate::drive::give::put;
 use crate::drive::listening::output_of;
 use crate::drive::reading::finish;
 use js_base::{Message, OutOfMemory};
+use js_ordered_table::transitions::pull::take_message;
+use js_ordered_table::transitions::push::heard_from;
+use js_ordered_table::transitions::{Heard, NextTasks, Task};
+use js_ordered_table::{EventContext, Output, Phase, ReplayState};
 use js_pull::{Due, Kind, Reader, pull_kind};
-use js_table::passing::listening::heard_from;
-use js_table::passing::{Heard, NextTasks, Task, reading};
-use js_table::{EventContext, Output, Phase, ReplayState};
 use std::alloc::Global;
 
 /// What an arrival needs before it is heard.
@@ -75,11 +76,7 @@ fn hear_message(
                 return Err(OutOfMemory);
             };
             reader.lower(1, message.length);
-            let next = reading::take_message(
-                &mut state.consumer,
-                ready.heard,
-                Some(Due::Threshold),
-            );
+            let next = take_message(&mut state.consumer, ready.heard, Some(Due::Threshold));
             put(ready.output, outputs);
             Ok(next)
         }

@@ -1,12 +1,12 @@
 //! What a replay gives to the sends of a row: where the link is up they go out, with the next number.
 ghost use Rattle.std.specs.Prelude.{◌≡◌, ◌+◌, ◌≤◌, ◌++◌, ◌∷◌, [], ℕ, List, Bool, true, Some, IfOk, option_to_list, vec_capacity, vec_len};
 ghost use Rattle.js_ordered.specs.Giving.{IsOpening, IsSending, Sends, Subscribes};
-ghost use Rattle.js_table.specs.Tasks.{told_outputs};
+ghost use Rattle.js_ordered_table.specs.Tasks.{told_outputs};
 
 use bytes::Bytes;
 use js_base::{OutOfMemory, Subject, TryClone};
-use js_table::passing::{Inbox, RowOutput};
-use js_table::{Output, next_number};
+use js_ordered_table::transitions::{Inbox, RowOutput};
+use js_ordered_table::{Output, next_number};
 
 /// A request that is ready to go out, and its number.
 #[derive(Drop)]

@@ -1,20 +1,22 @@
 //! The rows by which push reads its inbox, in a replay: what arrives is lent by the event, and what is put out of it is made first.
 ghost use Rattle.std.specs.Prelude.{◌≡◌, ◌+◌, ◌≤◌, ◌++◌, ◌∷◌, [], IfOk, List, is_some, option_to_list, vec_capacity, vec_len};
 ghost use Rattle.js_ordered.specs.Driven.{LeadsOn, PassesTo};
-ghost use Rattle.js_table.specs.Tasks.{heard_outputs, next_rows};
-ghost use Rattle.js_table.specs.Passes.{listens_to, matter_now};
-ghost use Rattle.js_table.specs.Fold.{matter_of};
-ghost use Rattle.js_table.specs.Reading.{beat_answer};
-ghost use Rattle.js_table.specs.Recreation.{message_on};
-ghost use Rattle.js_table.specs.declared.row.Row.TheVariants as row;
-ghost use Rattle.js_table.specs.declared.run.Output.{Output as SpecOutput};
+ghost use Rattle.js_ordered_table.specs.Tasks.{heard_outputs, next_rows};
+ghost use Rattle.js_ordered_table.specs.Passes.{listens_to, matter_now};
+ghost use Rattle.js_ordered_table.specs.Fold.{matter_of};
+ghost use Rattle.js_ordered_table.specs.Arrivals.{beat_answer};
+ghost use Rattle.js_ordered_table.specs.Recreation.{message_on};
+ghost use Rattle.js_ordered_table.specs.declared.row.Row.TheVariants as row;
+ghost use Rattle.js_ordered_table.specs.declared.run.Output.{Output as SpecOutput};
 
 use crate::drive::give::{put, tell};
 use bytes::Bytes;
 use js_base::{Message, OutOfMemory, TryClone};
-use js_table::passing::listening::{arrival_next, heard_as, listen, pass_hear, pass_silence};
-use js_table::passing::{Heard, NextTasks, Step};
-use js_table::{EventContext, EventKind, ItemKind, Output, Phase, ReplayState, yield_of};
+use js_ordered_table::transitions::push::{
+    arrival_next, heard_as, listen, pass_hear, pass_silence,
+};
+use js_ordered_table::transitions::{Heard, NextTasks, PassedTask};
+use js_ordered_table::{EventContext, EventKind, ItemKind, Output, Phase, ReplayState, yield_of};
 
 /// The event brings something on this inbox.
 #[inline]
@@ -57,7 +59,7 @@ pub(crate) fn look_at_silence(
             heartbeat_timer,
             ..
         } => {
-            let Step { told, next } = pass_silence(context, heartbeat_timer);
+            let PassedTask { told, next } = pass_silence(context, heartbeat_timer);
             tell(told, outputs);
             next
         }

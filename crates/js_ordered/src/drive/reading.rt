@@ -3,24 +3,24 @@ ghost use Rattle.std.specs.Prelude.{◌≡◌, ◌+◌, ◌≤◌, ◌∷◌, []
 ghost use Rattle.std.specs.Option.{option_copied};
 ghost use Rattle.js_ordered.specs.Driven.{Finishes, LeadsOn, PassesTo};
 ghost use Rattle.js_ordered.specs.Giving.{IsPublishing, IsSending};
-ghost use Rattle.js_table.specs.Tasks.{next_rows};
-ghost use Rattle.js_pull.specs.Steps.{IsInquired, brought, informed_by, row_of};
+ghost use Rattle.js_ordered_table.specs.Tasks.{next_rows};
+ghost use Rattle.js_pull.specs.Rows.{IsInquired, brought, informed_by, row_of};
 ghost use Rattle.js_pull.specs.Reader.{info_of_reply, info_subject};
 ghost use Rattle.js_pull.specs.declared.reader.Row.TheVariants as read;
-ghost use Rattle.js_table.specs.Fold.{matter_of};
-ghost use Rattle.js_table.specs.Passes.{matter_now};
-ghost use Rattle.js_table.specs.State.{Matter};
-ghost use Rattle.js_table.specs.declared.row.Row.TheVariants as row;
-ghost use Rattle.js_table.specs.declared.run.Output.{Output as SpecOutput};
+ghost use Rattle.js_ordered_table.specs.Fold.{matter_of};
+ghost use Rattle.js_ordered_table.specs.Passes.{matter_now};
+ghost use Rattle.js_ordered_table.specs.Consumer.{Matter};
+ghost use Rattle.js_ordered_table.specs.declared.row.Row.TheVariants as row;
+ghost use Rattle.js_ordered_table.specs.declared.run.Output.{Output as SpecOutput};
 
 use crate::drive::arrivals::check_arrival;
 use crate::drive::give::{Sending, request_for, send, tell};
 use crate::drive::recreation::has_reply;
 use bytes::Bytes;
 use js_base::{Message, OutOfMemory, TryClone, all_3};
-use js_pull::{Due, InfoRequest, Reader, Reason, Step as Read, check_inquiry, reason_of};
-use js_table::passing::{NextTasks, Step, reading};
-use js_table::{EventContext, EventKind, Output, Phase, ReplayState};
+use js_ordered_table::transitions::{NextTasks, PassedTask, pull};
+use js_ordered_table::{EventContext, EventKind, Output, Phase, ReplayState};
+use js_pull::{Due, InfoRequest, PassedRow as Read, Reader, Reason, check_inquiry, reason_of};
 use std::alloc::Global;
 
 /// What the reader tells without a message is put out.
@@ -29,7 +29,7 @@ pub(crate) fn finish(state: &mut ReplayState, step: Read, outputs: &mut Vec<Outp
     requires room { vec_len outputs.old + 1 ≤ vec_capacity outputs.old }
     ensures { (m : Matter) → Finishes m state.old state.new step outputs.old.items outputs.new.items result }
 {
-    let Step { told, next } = reading::take_notice(&mut state.consumer, step.told, step.next);
+    let PassedTask { told, next } = pull::take_notice(&mut state.consumer, step.told, step.next);
     tell(told, outputs);
     next
 }
@@ -70,11 +70,11 @@ fn ask(
         Phase::Pulls(reader) => match pull_request(alloc, state.link_up, reader) {
             Err(OutOfMemory) => Err(OutOfMemory),
             Ok(None) => {
-                let step = reading::ask(reader, context.moment, reason, false);
+                let step = pull::ask(reader, context.moment, reason, false);
                 Ok(finish(state, step, outputs))
             }
             Ok(Some(output)) => {
-                reading::ask(reader, context.moment, reason, true);
+                pull::ask(reader, context.moment, reason, true);
                 outputs.push_reserved(output);
                 Ok(NextTasks::Nothing)
             }
@@ -115,8 +115,8 @@ fn inquire(
         Phase::Pulls(reader) => {
             let request = info_request(alloc, state.link_up, state.requests_sent, reader)?;
             let number = send(&mut state.requests_sent, request, outputs);
-            let step = reading::inquire(reader, context.moment, failures, number);
-            Ok(reading::after(step.next))
+            let step = pull::inquire(reader, context.moment, failures, number);
+            Ok(pull::after(step.next))
         }
         _ => Ok(NextTasks::Nothing),
     }
@@ -162,7 +162,7 @@ fn answered(
     match &mut state.consumer.phase {
         Phase::Pulls(reader) => {
             let informed = informed(alloc, context.what)?;
-            let step = reading::answered(reader, failures, informed);
+            let step = pull::answered(reader, failures, informed);
             Ok(finish(state, step, outputs))
         }
         _ => Ok(NextTasks::Nothing),
@@ -211,7 +211,7 @@ fn fail_inquiry(
 {
     match &mut state.consumer.phase {
         Phase::Pulls(reader) => {
-            let step = reading::fail_inquiry(reader, context.moment, failures);
+            let step = pull::fail_inquiry(reader, context.moment, failures);
             finish(state, step, outputs)
         }
         _ => NextTasks::Nothing,
@@ -232,7 +232,7 @@ fn check_expiry(
 {
     match &mut state.consumer.phase {
         Phase::Pulls(reader) => {
-            let step = reading::check_expiry(reader, context.moment);
+            let step = pull::check_expiry(reader, context.moment);
             finish(state, step, outputs)
         }
         _ => NextTasks::Nothing,
@@ -251,7 +251,7 @@ fn check_silence(
 {
     match &mut state.consumer.phase {
         Phase::Pulls(reader) => {
-            let step = reading::check_silence(reader, context.moment);
+            let step = pull::check_silence(reader, context.moment);
             finish(state, step, outputs)
         }
         _ => NextTasks::Nothing,
@@ -270,7 +270,7 @@ fn check_threshold(
 {
     match &mut state.consumer.phase {
         Phase::Pulls(reader) => {
-            let step = reading::threshold(reader);
+            let step = pull::threshold(reader);
             finish(state, step, outputs)
         }
         _ => NextTasks::Nothing,

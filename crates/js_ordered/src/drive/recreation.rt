@@ -2,29 +2,29 @@
 ghost use Rattle.std.specs.Prelude.{◌≡◌, ◌+◌, ◌≤◌, ◌∷◌, [], Some, IfOk, OnOk, OnErr, codes, is_some, option_map, vec_capacity, vec_len};
 ghost use Rattle.js_ordered.specs.Driven.{PassesTo};
 ghost use Rattle.js_ordered.specs.Giving.{IsOpening, IsSending};
-ghost use Rattle.js_table.specs.Tasks.{IsAnswered, answered_rows};
+ghost use Rattle.js_ordered_table.specs.Tasks.{IsAnswered, answered_rows};
 ghost use Rattle.js_pull.specs.Reader.{info_of_reply as info_in, reply_to};
-ghost use Rattle.js_table.specs.Fold.{matter_of};
-ghost use Rattle.js_table.specs.Kept.{IsPull, IsPush};
-ghost use Rattle.js_table.specs.Passes.{at, given_of, holding, matter_now};
-ghost use Rattle.js_table.specs.Recreation.{held_in};
-ghost use Rattle.js_table.specs.Texts as texts_of;
-ghost use Rattle.js_table.specs.declared.row.Row.TheVariants as row;
+ghost use Rattle.js_ordered_table.specs.Fold.{matter_of};
+ghost use Rattle.js_ordered_table.specs.Invariant.{IsPull, IsPush};
+ghost use Rattle.js_ordered_table.specs.Passes.{at, input_of, holding, matter_now};
+ghost use Rattle.js_ordered_table.specs.Recreation.{held_in};
+ghost use Rattle.js_ordered_table.specs.Texts as texts_of;
+ghost use Rattle.js_ordered_table.specs.declared.row.Row.TheVariants as row;
 
 use crate::drive::give::{Opening, Sending, inbox_for, request_for, send, subscribe, tell};
 use bytes::Bytes;
 use js_base::{Boxed, Message, OutOfMemory, Subject, TryClone};
 use js_json::consumer::Info;
-use js_pull::{Source, info_of_reply};
-use js_table::passing::recreation::{
+use js_ordered_table::transitions::recreation::{
     pass_answered, pass_ask, pass_await, pass_create, pass_fail, pass_start, pass_succeed_pull,
     pass_succeed_push, pass_try,
 };
-use js_table::passing::{NextTasks, Step};
-use js_table::{
+use js_ordered_table::transitions::{NextTasks, PassedTask};
+use js_ordered_table::{
     EventContext, EventKind, Opened, OrderedSetup, Output, Phase, Recreation, ReplayState,
     RequestOutcome, Stage, texts,
 };
+use js_pull::{PullSource, info_of_reply};
 use std::alloc::Global;
 
 // ---- a recreation starts
@@ -48,7 +48,7 @@ pub(crate) fn start(
         drop(name);
         return Err(OutOfMemory);
     };
-    let Step { told, next } = pass_start(context, &mut state.consumer, name, again);
+    let PassedTask { told, next } = pass_start(context, &mut state.consumer, name, again);
     tell(told, outputs);
     Ok(next)
 }
@@ -62,7 +62,7 @@ fn try_request(
     state: &ReplayState,
     recreation: &Recreation,
 ) -> Result<Option<Sending>, OutOfMemory>
-    ensures { IfOk result (λ request. IsSending state.now.link_up state.now.requests_sent (texts_of.delete_subject (given_of context.now) recreation.now) (codes "{}") request) }
+    ensures { IfOk result (λ request. IsSending state.now.link_up state.now.requests_sent (texts_of.delete_subject (input_of context.now) recreation.now) (codes "{}") request) }
 {
     if !state.link_up {
         return Ok(None);
@@ -76,7 +76,7 @@ fn try_request(
 pub(crate) fn keep_open(state: &mut ReplayState, recreation: Recreation)
     ensures { state.new ≡ at (Phase.Recreates recreation) state.old }
 {
-    state.enter(Phase::Recreates(recreation));
+    state.set_phase(Phase::Recreates(recreation));
 }
 
 /// A try begins.
@@ -108,7 +108,7 @@ pub(crate) fn create_inbox(
     context: &EventContext<'_>,
     state: &ReplayState,
 ) -> Result<Option<Opening>, OutOfMemory>
-    ensures { IfOk result (λ opening. IsOpening state.now.link_up state.now.inboxes_opened (texts_of.inbox_subject (given_of context.now) state.now.inboxes_opened) opening) }
+    ensures { IfOk result (λ opening. IsOpening state.now.link_up state.now.inboxes_opened (texts_of.inbox_subject (input_of context.now) state.now.inboxes_opened) opening) }
 {
     if !state.link_up {
         return Ok(None);
@@ -180,7 +180,7 @@ fn create_request(
     state: &ReplayState,
     recreation: &Recreation,
 ) -> Result<Option<Sending>, OutOfMemory>
-    ensures { IfOk result (λ request. IsSending state.now.link_up state.now.requests_sent (texts_of.create_subject (given_of context.now) recreation.now) (texts_of.create_body (given_of context.now) recreation.now) request) }
+    ensures { IfOk result (λ request. IsSending state.now.link_up state.now.requests_sent (texts_of.create_subject (input_of context.now) recreation.now) (texts_of.create_body (input_of context.now) recreation.now) request) }
 {
     if !state.link_up {
         return Ok(None);
@@ -224,7 +224,7 @@ pub(crate) fn fail(
     requires room { vec_len outputs.old + 1 ≤ vec_capacity outputs.old }
     ensures { PassesTo context.now (row.Fail ∷ []) (at (Phase.Recreates recreation) state.old) state.new outputs.old.items outputs.new.items result }
 {
-    let Step { told, next } = pass_fail(context, &mut state.consumer, recreation);
+    let PassedTask { told, next } = pass_fail(context, &mut state.consumer, recreation);
     tell(told, outputs);
     Ok(next)
 }

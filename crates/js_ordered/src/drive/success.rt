@@ -2,50 +2,37 @@
 ghost use Rattle.std.specs.Prelude.{◌≡◌, ◌+◌, ◌≤◌, ◌∷◌, [], Some, IfOk, OnOk, OnErr, codes, is_some, option_map, vec_capacity, vec_len};
 ghost use Rattle.js_ordered.specs.Driven.{PassesTo};
 ghost use Rattle.js_ordered.specs.Giving.{IsOpening, IsSending};
-ghost use Rattle.js_table.specs.Tasks.{IsAnswered, answered_rows, held_rows, next_rows};
-ghost use Rattle.js_table.specs.State.{Matter};
+ghost use Rattle.js_ordered_table.specs.Tasks.{IsAnswered, answered_rows, held_rows, next_rows};
+ghost use Rattle.js_ordered_table.specs.Consumer.{Matter};
 ghost use Rattle.js_pull.specs.Reader.{info_of_reply as info_in, reply_to};
-ghost use Rattle.js_table.specs.Fold.{matter_of};
-ghost use Rattle.js_table.specs.Kept.{IsPull, IsPush};
-ghost use Rattle.js_table.specs.Passes.{at, given_of, holding, matter_now};
-ghost use Rattle.js_table.specs.Recreation.{held_in};
-ghost use Rattle.js_table.specs.Texts as texts_of;
-ghost use Rattle.js_table.specs.declared.row.Row.TheVariants as row;
+ghost use Rattle.js_ordered_table.specs.Fold.{matter_of};
+ghost use Rattle.js_ordered_table.specs.Invariant.{IsPull, IsPush};
+ghost use Rattle.js_ordered_table.specs.Passes.{at, input_of, holding, matter_now};
+ghost use Rattle.js_ordered_table.specs.Recreation.{held_in};
+ghost use Rattle.js_ordered_table.specs.Texts as texts_of;
+ghost use Rattle.js_ordered_table.specs.declared.row.Row.TheVariants as row;
 
 use crate::drive::give::{Opening, Sending, inbox_for, request_for, send, subscribe, tell};
 use crate::drive::recreation::{create_inbox, keep_open};
 use bytes::Bytes;
-use js_base::{Boxed, Items, Message, OutOfMemory, Subject, TryClone};
+use js_base::{Boxed, Items, Message, OutOfMemory, TryClone};
 use js_json::consumer::Info;
-use js_pull::{Source, info_of_reply};
-use js_table::passing::recreation::{
+use js_ordered_table::transitions::recreation::{
     pass_answered, pass_ask, pass_await, pass_create, pass_fail, pass_start, pass_succeed_pull,
     pass_succeed_push, pass_try,
 };
-use js_table::passing::{Held, NextTasks, Step, Task};
-use js_table::{
+use js_ordered_table::transitions::{Held, NextTasks, Task};
+use js_ordered_table::{
     EventContext, EventKind, Opened, OrderedSetup, Output, Phase, Recreation, ReplayState,
     RequestOutcome, Stage, texts,
 };
+use js_pull::{PullSource, info_of_reply};
 use std::alloc::Global;
-
-/// Whom the next reader asks, but for its inbox.
-fn source_for(
-    alloc: Global,
-    context: &EventContext<'_>,
-    recreation_count: u64,
-    info: &Info,
-) -> Result<Source, OutOfMemory>
-    ensures { IfOk result (λ source. source ≡ texts_of.source_of (given_of context.now) recreation_count 0 [] info.now) }
-{
-    let unknown = Subject::from(String::new(alloc));
-    texts::source_of(context, recreation_count, 0, unknown, info)
-}
 
 /// What pull needs for its next reader.
 #[derive(Drop)]
 struct Reading {
-    source: Source,
+    source: PullSource,
     opening: Option<Opening>,
 }
 
@@ -55,10 +42,15 @@ fn reading_for(
     state: &ReplayState,
     info: &Info,
 ) -> Result<Reading, OutOfMemory>
-    ensures source { IfOk result (λ reading. reading.source ≡ texts_of.source_of (given_of context.now) state.now.consumer.core.recreation_count 0 [] info.now) }
-    ensures opening { IfOk result (λ reading. IsOpening state.now.link_up state.now.inboxes_opened (texts_of.inbox_subject (given_of context.now) state.now.inboxes_opened) reading.opening) }
+    ensures source { IfOk result (λ reading. reading.source ≡ texts_of.source_of (input_of context.now) state.now.consumer.core.recreation_count 0 [] info.now) }
+    ensures opening { IfOk result (λ reading. IsOpening state.now.link_up state.now.inboxes_opened (texts_of.inbox_subject (input_of context.now) state.now.inboxes_opened) reading.opening) }
 {
-    let source = source_for(alloc, context, state.consumer.core.recreation_count, info)?;
+    let source = texts::source_without_inbox(
+        alloc,
+        context,
+        state.consumer.core.recreation_count,
+        info,
+    )?;
     match create_inbox(alloc, context, state) {
         Ok(opening) => Ok(Reading { source, opening }),
         Err(OutOfMemory) => {

@@ -3,12 +3,11 @@ ghost use Rattle.std.specs.Prelude.{◌<◌};
 
 use crate::mirrors::draw::mirror;
 use js_base::{Entry, OutOfMemory};
-use js_generate::given;
 use js_json::consumer::DeliverPolicy;
 use js_json::pull::OrderedConfig;
-use js_logs::{entry_of, relay};
-use js_mirror::{Mirror, Slot};
+use js_log::{Mirror, Slot, entry_of, relay};
 use js_ordered::{Event, OrderedSetup, Output, ReplayError, Run, replay_ordered};
+use js_tool_generate::replay_input;
 use rand_pcg::Pcg32;
 use std::alloc::Global;
 use std::test::Fail;
@@ -105,7 +104,7 @@ fn is_handed_out(alloc: Global, mirror: &Mirror, run: &Run) -> Result<bool, Fail
 
 /// The run of an ordered consumer that starts at a sequence.
 pub(crate) fn replayed(alloc: Global, start: u64, events: &[Event]) -> Result<Run, ReplayError> {
-    let given = given(alloc)?;
+    let given = replay_input(alloc)?;
     let setup = reader_from(alloc, start);
     let run = replay_ordered(alloc, &given.settings, &setup, &given.first, 0, events);
     drop(setup);

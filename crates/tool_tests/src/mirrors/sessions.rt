@@ -4,14 +4,13 @@ use crate::mirrors::calls::fill;
 use crate::mirrors::round::reader_from;
 use crate::tables::same;
 use js_base::{Entry, Items};
-use js_bookmark::{
+use js_log::{Mirror, relay};
+use js_log_sessions::{
     Line, Session, SessionEnd, SessionReplay, SessionRun, Sessions, SessionsError, run_sessions,
 };
-use js_generate::given;
-use js_logs::relay;
-use js_mirror::Mirror;
 use js_ordered::{Event, OrderedSetup};
-use js_table::ReplayInput;
+use js_ordered_table::ReplayInput;
+use js_tool_generate::replay_input;
 use std::alloc::{AllocError, Global};
 use std::process::Abort;
 use std::test::Fail;
@@ -58,7 +57,7 @@ fn events_from(alloc: Global, start: u64) -> Result<Vec<Event>, Fail> {
 /// A session that starts at a sequence, and saves after the event at a place.
 fn session(alloc: Global, start: u64, saved: usize) -> Result<Session, Fail> {
     let lines = lines_of(alloc, events_from(alloc, start)?, saved)?;
-    match given(alloc) {
+    match replay_input(alloc) {
         Ok(given) => Ok(beginning(given, reader_from(alloc, start), lines)),
         Err(fault) => {
             drop(lines);

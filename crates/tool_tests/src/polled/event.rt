@@ -1,7 +1,7 @@
 //! What happens to the link by an event of a transcript.
 use js_base::OutOfMemory;
 use js_link::{InboxId, MemoryLink, RequestId, Watch};
-use js_table::EventKind;
+use js_ordered_table::EventKind;
 
 /// Has the link meet what the event tells.
 pub(crate) fn happen(link: &mut MemoryLink, what: EventKind) -> Result<(), OutOfMemory> {

@@ -3,8 +3,8 @@ use crate::polled::rows::LIMIT;
 use js_base::Message;
 use js_link::Sent;
 use js_ordered::{ItemKind, Output};
-use js_reader_calls::ordered::{OrderedError, OrderedErrorKind};
-use js_table::place_of;
+use js_ordered_table::place_of;
+use js_readers::ordered::{OrderedError, OrderedErrorKind};
 use std::alloc::Global;
 
 /// Whether that is what was sent.

@@ -3,9 +3,9 @@ ghost use Rattle.std.specs.Prelude.{◌≤◌};
 
 use crate::polled::consumer::PolledConsumer;
 use js_base::OutOfMemory;
-use js_generate::{generated, given};
 use js_ordered::{Event, ReplayError, ReplayInput, Run, replay_ordered};
-use js_tool::{Payloads, Setup, Unread, first_line, next_line};
+use js_tool_generate::{generated, replay_input};
+use js_tool_transcript::{Payloads, Setup, Unread, first_line, next_line};
 use std::alloc::Global;
 use std::test::Fail;
 
@@ -80,7 +80,7 @@ pub(crate) fn drawn(alloc: Global, seed: u64, count: u64) -> Result<Transcript, 
         settings,
         setup,
         first,
-    } = given(alloc)?;
+    } = replay_input(alloc)?;
     let setup = Setup {
         settings,
         setup,

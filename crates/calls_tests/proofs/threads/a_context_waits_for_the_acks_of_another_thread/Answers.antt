@@ -1,6 +1,6 @@
 use denote.Param.Send.{sendable}
 use Rattle.std.proofs.Crossing.{crosses}
-use Rattle.js_context.proofs.Crossing.{context_send}
+use Rattle.js_context.proofs.OtherThread.{context_send}
 use Rattle.calls_tests.proofs.threads.a_context_waits_for_the_acks_of_another_thread.Goals as goal
 
 pub join-reaped-requires-send-F : goal.join-reaped-requires-send-F

@@ -2,12 +2,11 @@
 
 use crate::stores::bodies::{add, asked, requests};
 use crate::words::Words;
-use js_base::{Items, OutOfMemory, Text, both};
+use js_base::{Items, OutOfMemory, Text, both, replace_with};
 use js_context::Context;
+use js_json_streams::stream::{External, Placement, Republish, Source, StorageType};
 use js_store::{StoreCalls, kv};
-use js_stream_json::stream::{External, Placement, Republish, Source, StorageType};
 use std::alloc::Global;
-use std::mem;
 
 /// A bucket, by what it has that others have not.
 #[derive(Clone, Copy, Drop)]
@@ -70,7 +69,7 @@ fn source(alloc: Global, bucket: &str, start_sequence: Option<u64>) -> Result<So
 /// The bucket of another domain.
 fn elsewhere(alloc: Global) -> Result<Source, OutOfMemory> {
     let (external, mut source) = both(external(alloc), source(alloc, "plain", None))?;
-    drop(mem::replace(&mut source.external, Some(external)));
+    replace_with(&mut source.external, Some(external));
     Ok(source)
 }
 
@@ -172,8 +171,8 @@ impl Keys {
             Text::from_str(alloc, description),
         )?;
         let mut config = kv::Config::new(alloc);
-        drop(mem::replace(&mut config.bucket, bucket));
-        drop(mem::replace(&mut config.description, description));
+        replace_with(&mut config.bucket, bucket);
+        replace_with(&mut config.description, description);
         self.set(&mut config);
         let filled = self.fill(alloc, &mut config);
         let (config, _) = both(Ok(config), filled)?;

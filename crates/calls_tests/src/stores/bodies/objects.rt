@@ -4,8 +4,8 @@ use crate::stores::bodies::{add, asked, requests};
 use crate::words::Words;
 use js_base::{OutOfMemory, Text};
 use js_context::Context;
+use js_json_streams::stream::StorageType;
 use js_store::{StoreCalls, object_store};
-use js_stream_json::stream::StorageType;
 use std::alloc::Global;
 
 /// A bucket, by what it has that others have not.

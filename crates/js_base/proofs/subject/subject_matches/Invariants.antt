@@ -1,5 +1,5 @@
 use Rattle.std.proofs.Common.{◌≡◌, length}
-use Rattle.js_base.specs.Match.{tokens_match, tokens}
+use Rattle.js_base.specs.Subject.{tokens_match, tokens}
 use Rattle.js_base.proofs.subject.subject_matches.Given as goal
 
 -- what is left matches where the whole does

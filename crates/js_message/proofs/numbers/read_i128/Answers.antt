@@ -2,7 +2,7 @@ use Rattle.std.proofs.Common.{◌≡◌, ℕ, ◌<◌, ◌≤◌, ◌^◌, ◌�
 use mir.Syntax.{w128}
 use Rattle.std.proofs.lemmas.Int.{to_z_pos}
 use Rattle.std.specs.Str.Parse.{digits_value}
-use Rattle.js_base.proofs.Numbers.{signed_of-parse}
+use Rattle.js_base.proofs.Numeral.{signed_of-parse}
 use Rattle.js_message.proofs.Digits.{below, signed_of-digits}
 use Rattle.js_message.proofs.numbers.read_i128.Goals as goal
 

@@ -1,6 +1,6 @@
 use Rattle.std.proofs.Common.{◌≡◌, ℕ, ◌≤◌, pos, ◌∙◌, w64, refl, sym, ap, Some, to_z, arith}
 use Rattle.std.proofs.lemmas.Int.{to_z_pos}
-use Rattle.js_base.proofs.Numbers.{signed_of-parse}
+use Rattle.js_base.proofs.Numeral.{signed_of-parse}
 use Rattle.js_message.proofs.Digits.{signed_of-digits}
 use Rattle.js_message.proofs.numbers.read_i64.Goals as goal
 

@@ -1,4 +1,4 @@
-use Rattle.js_ordered_stream.proofs.Passing.{reply_told}
+use Rattle.js_ordered_stream.proofs.PassedRows.{reply_told}
 use Rattle.js_ordered_stream.proofs.answer.info_met.Goals as goal
 
 pub returns-then-reply-request : goal.returns-then-reply-request

@@ -1,5 +1,5 @@
 use Rattle.std.specs.Option.{option_copied}
-use Rattle.js_ordered_stream.proofs.Passing.{told_boxed}
+use Rattle.js_ordered_stream.proofs.PassedRows.{told_boxed}
 use Rattle.js_ordered_stream.proofs.answer.told_by.Goals as goal
 
 pub returns : goal.returns

@@ -1,8 +1,7 @@
 use Rattle.std.proofs.Common.{refl}
-use Rattle.js_table.specs.declared.passing.task.Heard.TheVariants as hears
-use Rattle.js_pull.specs.Asking.{met_shown}
-use Rattle.js_ordered_stream.proofs.Passing.{meets_as}
-use Rattle.js_ordered_stream.proofs.Pushing.{unanswered}
+use Rattle.js_ordered_table.specs.declared.transitions.task.Heard.TheVariants as hears
+use Rattle.js_ordered_stream.proofs.PassedRows.{meets_as}
+use Rattle.js_ordered_stream.proofs.PushRows.{unanswered}
 use Rattle.js_ordered_stream.proofs.listening.answer.Goals as goal
 
 pub returns-in-Yields-clause-heard : goal.returns-in-Yields-clause-heard
@@ -13,6 +12,6 @@ returns-in-Yields-clause-heard g c =
 pub returns-clause-heard : goal.returns-clause-heard
 returns-clause-heard g c =
     let view = g.L.Link.view in
-    let met = met_shown c.in_ok-met.met in
+    let met = c.in_ok-met.met in
     let heard = c.heard_as-heard.ensures in
     (heard, (met, meets_as _ _ met (view c.args.link.now) (view c.ask_for.new.link) (c.in_ok-wish.ensures c.args.number heard) c.in_ok-met.ensures.met))

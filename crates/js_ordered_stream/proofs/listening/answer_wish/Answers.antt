@@ -1,6 +1,6 @@
 use Rattle.std.proofs.Common.{refl}
-use Rattle.js_table.specs.declared.passing.task.Heard.TheVariants as hears
-use Rattle.js_ordered_stream.proofs.Pushing.{asks_answer, asks_no_reply, asks_nothing}
+use Rattle.js_ordered_table.specs.declared.transitions.task.Heard.TheVariants as hears
+use Rattle.js_ordered_stream.proofs.PushRows.{asks_answer, asks_no_reply, asks_nothing}
 use Rattle.js_ordered_stream.proofs.listening.answer_wish.Goals as goal
 
 pub returns-in_ok-try_clone-in-Some : goal.returns-in_ok-try_clone-in-Some

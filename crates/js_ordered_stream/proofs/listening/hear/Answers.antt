@@ -1,18 +1,18 @@
 use Rattle.std.proofs.Common.{None}
-use Rattle.js_ordered_stream.specs.declared.left.Seen.{Seen}
-use Rattle.js_ordered_stream.specs.declared.left.Seen.TheVariants as sight
+use Rattle.js_ordered_stream.specs.declared.remaining_rows.Seen.{Seen}
+use Rattle.js_ordered_stream.specs.declared.remaining_rows.Seen.TheVariants as sight
 use Rattle.js_ordered_stream.specs.Rows.{kept_if}
-use Rattle.js_table.specs.Passes.{given_of}
-use Rattle.js_table.specs.declared.row.Row.TheVariants as row
-use Rattle.js_ordered_stream.proofs.Keeping.{seen_kept}
-use Rattle.js_ordered_stream.proofs.Pushing.{heard_alone}
+use Rattle.js_ordered_table.specs.Passes.{input_of}
+use Rattle.js_ordered_table.specs.declared.row.Row.TheVariants as row
+use Rattle.js_ordered_stream.proofs.KeptSeen.{seen_kept}
+use Rattle.js_ordered_stream.proofs.PushRows.{heard_alone}
 use Rattle.js_ordered_stream.proofs.listening.hear.Goals as goal
 
 pub returns-in_ok-done-in-Some-clause-passes : goal.returns-in_ok-done-in-Some-clause-passes
 returns-in_ok-done-in-Some-clause-passes g c =
     let old = g.L.Link.view c.args.link.now in
     let new = g.L.Link.view c.hear_message.new.link in
-    let given = given_of c.args.context.now in
+    let given = input_of c.args.context.now in
     let now = c.args.context.now.moment in
     let message = c.in-Message.message in
     let done = c.in_ok-done-in-Some.done in

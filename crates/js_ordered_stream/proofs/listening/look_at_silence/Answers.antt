@@ -1,9 +1,9 @@
 use Rattle.std.proofs.Common.{None}
-use Rattle.js_table.specs.Passes.{given_of}
-use Rattle.js_ordered_stream.proofs.Pushing.{silence_passes}
+use Rattle.js_ordered_table.specs.Passes.{input_of}
+use Rattle.js_ordered_stream.proofs.PushRows.{silence_passes}
 use Rattle.js_ordered_stream.proofs.listening.look_at_silence.Goals as goal
 
 pub returns-in-Pushes : goal.returns-in-Pushes
 returns-in-Pushes c = λ v.
-    silence_passes (given_of c.args.context.now) c.args.context.now.moment c.in-Pushes.inbox c.in-Pushes.heartbeat_timer c.args.consumer.now c.pass_silence.result.told c.pass_silence.result.next c.untaken.result v
-    c.in-Pushes.is c.pass_silence.ensures (c.untaken.ensures.handed None) c.untaken.ensures.rest
+    silence_passes (input_of c.args.context.now) c.args.context.now.moment c.in-Pushes.inbox c.in-Pushes.heartbeat_timer c.args.consumer.now c.pass_silence.result.told c.pass_silence.result.next c.stepped_by.result v
+    c.in-Pushes.is c.pass_silence.ensures (c.stepped_by.ensures.handed None) c.stepped_by.ensures.rest

@@ -1,6 +1,6 @@
 use Rattle.std.proofs.Common.{None, subst, sym}
-use Rattle.js_link.specs.Met.{Unasked}
-use Rattle.js_pull.specs.Steps.{ReadsTo, met_row, row_of}
+use Rattle.js_link.specs.declared.wish.Met.TheVariants.{Unasked}
+use Rattle.js_pull.specs.Rows.{ReadsTo, met_row, row_of}
 use Rattle.js_pull.specs.declared.rows.Due.{Due}
 use Rattle.js_ordered_stream.proofs.reading.alone.Goals as goal
 

@@ -1,25 +1,25 @@
 use Rattle.std.proofs.Common.{None, false, refl, sym}
 use Rattle.std.specs.Prelude.{Ok}
-use Rattle.js_link.specs.Met.{Unasked}
-use Rattle.js_table.specs.declared.passing.task.NextTasks.TheVariants as next
-use Rattle.js_ordered_stream.specs.declared.left.Seen.TheVariants as sight
-use Rattle.js_ordered_stream.specs.declared.reading.Taken.{Taken}
-use Rattle.js_ordered_stream.specs.declared.rows.Handed.TheVariants as hands
+use Rattle.js_link.specs.declared.wish.Met.TheVariants.{Unasked}
+use Rattle.js_ordered_table.specs.declared.transitions.task.NextTasks.TheVariants as next
+use Rattle.js_ordered_stream.specs.declared.remaining_rows.Seen.TheVariants as sight
+use Rattle.js_ordered_stream.specs.declared.reading.ReaderStep.{ReaderStep}
+use Rattle.js_ordered_stream.specs.declared.rows.RowItem.TheVariants as hands
 use Rattle.js_ordered_stream.specs.declared.rows.Stepped.{Stepped}
 use Rattle.js_ordered_stream.specs.Rows.{read_by}
-use Rattle.js_pull.specs.Steps.{row_of}
-use Rattle.js_table.specs.Passes.{given_of}
-use Rattle.js_table.specs.declared.consumer.Phase.TheVariants.{Pulls}
-use Rattle.js_table.specs.declared.row.Row.TheVariants as row
-use Rattle.js_table.specs.State.{at_phase}
-use Rattle.js_ordered_stream.proofs.Hearing.{read_passes, takes_nothing}
-use Rattle.js_ordered_stream.proofs.Keeping.{row_at_phase}
-use Rattle.js_ordered_stream.proofs.Passing.{meets_as}
+use Rattle.js_pull.specs.Rows.{row_of}
+use Rattle.js_ordered_table.specs.Passes.{input_of}
+use Rattle.js_ordered_table.specs.declared.consumer.Phase.TheVariants.{Pulls}
+use Rattle.js_ordered_table.specs.declared.row.Row.TheVariants as row
+use Rattle.js_ordered_table.specs.Consumer.{at_phase}
+use Rattle.js_ordered_stream.proofs.ReaderRows.{read_passes, takes_nothing}
+use Rattle.js_ordered_stream.proofs.KeptSeen.{row_at_phase}
+use Rattle.js_ordered_stream.proofs.PassedRows.{meets_as}
 use Rattle.js_ordered_stream.proofs.reading.pass_alone.Goals as goal
 
 pub returns : goal.returns
 returns c = λ reply v.
-    let given = given_of c.args.context.now in
+    let given = input_of c.args.context.now in
     let now = c.args.context.now.moment in
     let one = row_of reply c.args.due in
     let asks = c.requires reply c.in-Pulls.reader in
@@ -30,12 +30,12 @@ returns c = λ reply v.
 
 pub returns-then-is_quiet : goal.returns-then-is_quiet
 returns-then-is_quiet c = λ reply v.
-    let given = given_of c.args.context.now in
+    let given = input_of c.args.context.now in
     let now = c.args.context.now.moment in
     let one = row_of reply c.args.due in
     let asks = c.requires reply c.in-Pulls.reader in
     let same = at_phase (Pulls c.alone-step.new.reader) c.args.consumer.now in
-    let taken : Taken = record { handed = hands.Nothing; next = next.Nothing } in
-    row_at_phase given now (row.Read one) (Pulls c.in-Pulls.reader) c.args.consumer.now same v v sight.Nothing (Ok c.quietly.result) c.in-Pulls.is
-    (read_passes given now one c.in-Pulls.reader c.alone-step.new.reader c.args.consumer.now same Unasked c.alone-step.result taken sight.Nothing c.quietly.result v v
-    (meets_as _ _ Unasked v v (sym asks.0) refl) refl (c.alone-step.ensures reply) refl refl refl (takes_nothing (read_by None None) same c.alone-step.result (c.is_quiet.ensures c.if-is_quiet.true)) c.quietly.ensures)
+    let taken : ReaderStep = record { handed = hands.Nothing; next = next.Nothing } in
+    row_at_phase given now (row.Read one) (Pulls c.in-Pulls.reader) c.args.consumer.now same v v sight.Nothing (Ok c.followed_by.result) c.in-Pulls.is
+    (read_passes given now one c.in-Pulls.reader c.alone-step.new.reader c.args.consumer.now same Unasked c.alone-step.result taken sight.Nothing c.followed_by.result v v
+    (meets_as _ _ Unasked v v (sym asks.0) refl) refl (c.alone-step.ensures reply) refl refl refl (takes_nothing (read_by None None) same c.alone-step.result (c.is_quiet.ensures c.if-is_quiet.true)) c.followed_by.ensures)

@@ -1,34 +1,33 @@
 use Rattle.std.proofs.Common.{ap, ◌∙◌}
 use Rattle.std.specs.Prelude.{Ok}
-use Rattle.js_link.specs.Met.{message_of}
+use Rattle.js_link.specs.Wish.{message_of}
 use Rattle.js_ordered_stream.specs.declared.rows.Stepped.{Stepped}
 use Rattle.js_ordered_stream.specs.Rows.{answer_in, has_message, message_in, read_in}
-use Rattle.js_ordered_stream.specs.declared.left.Seen.{Seen}
-use Rattle.js_pull.specs.Asking.{met_shown}
-use Rattle.js_pull.specs.Steps.{brought, row_of}
-use Rattle.js_table.specs.Passes.{given_of}
-use Rattle.js_table.specs.declared.consumer.Phase.TheVariants.{Pulls}
-use Rattle.js_table.specs.declared.row.Row.TheVariants as row
-use Rattle.js_ordered_stream.proofs.Hearing.{no_pin, read_passes}
-use Rattle.js_ordered_stream.proofs.Keeping.{row_at_phase, seen_kept}
-use Rattle.js_ordered_stream.proofs.Meeting.{any_seen, message_seen, reply_seen}
+use Rattle.js_ordered_stream.specs.declared.remaining_rows.Seen.{Seen}
+use Rattle.js_pull.specs.Rows.{brought, row_of}
+use Rattle.js_ordered_table.specs.Passes.{input_of}
+use Rattle.js_ordered_table.specs.declared.consumer.Phase.TheVariants.{Pulls}
+use Rattle.js_ordered_table.specs.declared.row.Row.TheVariants as row
+use Rattle.js_ordered_stream.proofs.ReaderRows.{no_pin, read_passes}
+use Rattle.js_ordered_stream.proofs.KeptSeen.{row_at_phase, seen_kept}
+use Rattle.js_ordered_stream.proofs.RowMet.{any_seen, message_seen, reply_seen}
 use Rattle.js_ordered_stream.proofs.reading.pass_asking.Goals as goal
 
 pub pass-step-requires : goal.pass-step-requires
-pass-step-requires g c = record { pin = λ _. no_pin c.in-Pulls.reader.source.pinned (message_of (met_shown c.in_ok-found.found.met)) c.in_ok-found.ensures.1 }
+pass-step-requires g c = record { pin = λ _. no_pin c.in-Pulls.reader.source.pinned (message_of c.in_ok-found.found.met) c.in_ok-found.ensures.1 }
 
 pub returns-clause-passes : goal.returns-clause-passes
 returns-clause-passes g c =
     let old = g.L.Link.view c.args.link.now in
     let new = g.L.Link.view c.read_met.new.link in
-    let given = given_of c.args.context.now in
+    let given = input_of c.args.context.now in
     let now = c.args.context.now.moment in
     let reply = brought (answer_in c.args.seen.now) in
     let one = row_of reply c.args.due in
-    let met = met_shown c.in_ok-found.found.met in
-    let seen = c.put.new.place in
+    let met = c.in_ok-found.found.met in
+    let seen = c.replace_with.new.place in
     let done : Stepped = record { handed = c.take_in-handed.result.handed; looked = c.is_something.result; next = c.take_in-handed.result.next } in
-    let is = c.put.ensures ∙ c.seen_of.ensures in
+    let is = c.replace_with.ensures ∙ c.seen_of.ensures in
     row_at_phase given now (row.Read one) (Pulls c.in-Pulls.reader) c.args.consumer.now c.take_in-handed.new.consumer old new _ (Ok done) c.in-Pulls.is
     (seen_kept given now (row.Read one) _ c.take_in-handed.new.consumer old new seen done
     (read_passes given now one c.in-Pulls.reader c.pass-step.new.self c.args.consumer.now c.take_in-handed.new.consumer met c.pass-step.result c.take_in-handed.result seen done old new

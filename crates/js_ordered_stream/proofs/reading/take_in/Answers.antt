@@ -1,8 +1,8 @@
 use Rattle.std.proofs.Common.{Some, None, refl, sym}
-use Rattle.js_table.specs.Tasks.{reader_rows}
+use Rattle.js_ordered_table.specs.Tasks.{reader_rows}
 use Rattle.js_pull.specs.declared.rows.Notice.TheVariants as notice
 use Rattle.js_ordered_stream.specs.Rows.{message_in}
-use Rattle.js_ordered_stream.proofs.Hearing.{takes_known}
+use Rattle.js_ordered_stream.proofs.ReaderRows.{takes_known}
 use Rattle.js_ordered_stream.proofs.reading.take_in.Goals as goal
 
 pub returns-in-Some : goal.returns-in-Some

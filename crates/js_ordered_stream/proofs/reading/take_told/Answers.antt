@@ -1,7 +1,7 @@
 use Rattle.std.proofs.Common.{None}
-use Rattle.js_table.specs.Tasks.{reader_rows}
-use Rattle.js_pull.specs.Steps.{told_shown}
-use Rattle.js_ordered_stream.proofs.Hearing.{takes_told}
+use Rattle.js_ordered_table.specs.Tasks.{reader_rows}
+use Rattle.js_pull.specs.Rows.{told_shown}
+use Rattle.js_ordered_stream.proofs.ReaderRows.{takes_told}
 use Rattle.js_ordered_stream.proofs.reading.take_told.Goals as goal
 
 pub returns : goal.returns

@@ -1,8 +1,8 @@
 use Rattle.std.proofs.Common.{None, sym, ap}
-use Rattle.js_pull.specs.Steps.{brought}
-use Rattle.js_ordered_stream.specs.declared.left.Seen.{Seen}
+use Rattle.js_pull.specs.Rows.{brought}
+use Rattle.js_ordered_stream.specs.declared.remaining_rows.Seen.{Seen}
 use Rattle.js_ordered_stream.specs.Rows.{answer_in}
-use Rattle.js_ordered_stream.proofs.Hearing.{informed_as}
+use Rattle.js_ordered_stream.proofs.ReaderRows.{informed_as}
 use Rattle.js_ordered_stream.proofs.reading.told_by.Goals as goal
 
 pub returns-in-Reply : goal.returns-in-Reply

@@ -1,18 +1,18 @@
 use Rattle.std.specs.Prelude.{Ok}
-use Rattle.js_table.specs.declared.passing.task.Task.TheVariants as task
+use Rattle.js_ordered_table.specs.declared.transitions.task.Task.TheVariants as task
 use Rattle.js_ordered_stream.specs.Rows.{answer_in, read_in, seen_after}
-use Rattle.js_table.specs.Passes.{given_of}
-use Rattle.js_pull.specs.Steps.{brought}
-use Rattle.js_pull.specs.Steps.{row_of}
-use Rattle.js_table.specs.declared.row.Row.TheVariants as row
-use Rattle.js_ordered_stream.proofs.Keeping.{blind_alone, row_alone, rows_known}
-use Rattle.js_ordered_stream.proofs.Passing.{hold_passes}
+use Rattle.js_ordered_table.specs.Passes.{input_of}
+use Rattle.js_pull.specs.Rows.{brought}
+use Rattle.js_pull.specs.Rows.{row_of}
+use Rattle.js_ordered_table.specs.declared.row.Row.TheVariants as row
+use Rattle.js_ordered_stream.proofs.KeptSeen.{blind_alone, row_alone, rows_known}
+use Rattle.js_ordered_stream.proofs.PassedRows.{hold_passes}
 use Rattle.js_ordered_stream.proofs.rows.pass.Goals as goal
 
 pub returns-in-Event-clause-passes : goal.returns-in-Event-clause-passes
 returns-in-Event-clause-passes g c =
     let view = g.L.Link.view in
-    let given = given_of c.args.context.now in
+    let given = input_of c.args.context.now in
     let now = c.args.context.now.moment in
     let old = c.args.consumer.now in
     rows_known given now (read_in c.args.seen.now) c.args.task.now task.Event old c.begin.new.consumer (view c.args.link.now) (view c.begin.new.link) (seen_after c.begin.result c.args.seen.now) c.begin.result c.in-Event.is
@@ -21,7 +21,7 @@ returns-in-Event-clause-passes g c =
 pub returns-in-Start-clause-passes : goal.returns-in-Start-clause-passes
 returns-in-Start-clause-passes g c =
     let view = g.L.Link.view in
-    let given = given_of c.args.context.now in
+    let given = input_of c.args.context.now in
     let now = c.args.context.now.moment in
     let old = c.args.consumer.now in
     rows_known given now (read_in c.args.seen.now) c.args.task.now task.Start old c.start.new.consumer (view c.args.link.now) (view c.start.new.link) (seen_after c.start.result c.args.seen.now) c.start.result c.in-Start.is
@@ -30,7 +30,7 @@ returns-in-Start-clause-passes g c =
 pub returns-in-Read-clause-passes : goal.returns-in-Read-clause-passes
 returns-in-Read-clause-passes g c =
     let view = g.L.Link.view in
-    let given = given_of c.args.context.now in
+    let given = input_of c.args.context.now in
     let now = c.args.context.now.moment in
     let old = c.args.consumer.now in
     rows_known given now (read_in c.args.seen.now) c.args.task.now (task.Read c.in-Read.due) old c.pass_read.new.consumer (view c.args.link.now) (view c.pass_read.new.link) (seen_after c.pass_read.result c.pass_read.new.seen) c.pass_read.result c.in-Read.is
@@ -39,7 +39,7 @@ returns-in-Read-clause-passes g c =
 pub returns-in-CheckArrival-clause-passes : goal.returns-in-CheckArrival-clause-passes
 returns-in-CheckArrival-clause-passes g c =
     let view = g.L.Link.view in
-    let given = given_of c.args.context.now in
+    let given = input_of c.args.context.now in
     let now = c.args.context.now.moment in
     let old = c.args.consumer.now in
     rows_known given now (read_in c.args.seen.now) c.args.task.now task.CheckArrival old old (view c.args.link.now) (view c.look.new.link) (seen_after c.look.result c.look.new.seen) c.look.result c.in-CheckArrival.is
@@ -48,7 +48,7 @@ returns-in-CheckArrival-clause-passes g c =
 pub returns-in-Hear-clause-passes : goal.returns-in-Hear-clause-passes
 returns-in-Hear-clause-passes g c =
     let view = g.L.Link.view in
-    let given = given_of c.args.context.now in
+    let given = input_of c.args.context.now in
     let now = c.args.context.now.moment in
     let old = c.args.consumer.now in
     rows_known given now (read_in c.args.seen.now) c.args.task.now (task.Hear c.in-Hear.inbox) old c.hear.new.consumer (view c.args.link.now) (view c.hear.new.link) (seen_after c.hear.result c.hear.new.seen) c.hear.result c.in-Hear.is
@@ -57,7 +57,7 @@ returns-in-Hear-clause-passes g c =
 pub returns-in-CheckSilence-clause-passes : goal.returns-in-CheckSilence-clause-passes
 returns-in-CheckSilence-clause-passes g c =
     let v = g.L.Link.view c.args.link.now in
-    let given = given_of c.args.context.now in
+    let given = input_of c.args.context.now in
     let now = c.args.context.now.moment in
     let old = c.args.consumer.now in
     rows_known given now (read_in c.args.seen.now) c.args.task.now task.CheckSilence old old v v (seen_after c.look_at_silence.result c.args.seen.now) c.look_at_silence.result c.in-CheckSilence.is
@@ -66,7 +66,7 @@ returns-in-CheckSilence-clause-passes g c =
 pub returns-in-Arm-clause-passes : goal.returns-in-Arm-clause-passes
 returns-in-Arm-clause-passes g c =
     let v = g.L.Link.view c.args.link.now in
-    let given = given_of c.args.context.now in
+    let given = input_of c.args.context.now in
     let now = c.args.context.now.moment in
     let old = c.args.consumer.now in
     rows_known given now (read_in c.args.seen.now) c.args.task.now task.Arm old c.arm.new.consumer v v (seen_after c.arm.result c.args.seen.now) c.arm.result c.in-Arm.is
@@ -75,11 +75,11 @@ returns-in-Arm-clause-passes g c =
 pub returns-in-Hold-clause-passes : goal.returns-in-Hold-clause-passes
 returns-in-Hold-clause-passes g c =
     let v = g.L.Link.view c.args.link.now in
-    let given = given_of c.args.context.now in
+    let given = input_of c.args.context.now in
     let now = c.args.context.now.moment in
     let old = c.args.consumer.now in
-    rows_known given now (read_in c.args.seen.now) c.args.task.now task.Hold old old v v (seen_after (Ok c.quietly.result) c.args.seen.now) (Ok c.quietly.result) c.in-Hold.is
-    (blind_alone given now row.Hold old old v v c.args.seen.now (Ok c.quietly.result) (hold_passes given now old c.quietly.result v c.quietly.ensures))
+    rows_known given now (read_in c.args.seen.now) c.args.task.now task.Hold old old v v (seen_after (Ok c.followed_by.result) c.args.seen.now) (Ok c.followed_by.result) c.in-Hold.is
+    (blind_alone given now row.Hold old old v v c.args.seen.now (Ok c.followed_by.result) (hold_passes given now old c.followed_by.result v c.followed_by.ensures))
 
 pub returns-in-Try-clause-passes : goal.returns-in-Try-clause-passes
 returns-in-Try-clause-passes g c = c.pass_open.ensures.passes

@@ -1,4 +1,4 @@
-use Rattle.js_generate.proofs.Whole.{if_ok}
+use Rattle.js_tool_generate.proofs.WholeRun.{if_ok}
 use Rattle.js_tool.proofs.generate.run_counts.Goals as goal
 
 pub returns : goal.returns

@@ -1,7 +1,7 @@
 use Rattle.std.proofs.Common.{◌≡◌, ◌≤◌, ◌+◌, ◌++◌, length, ◌∙◌, ap, sym, subst, arith, ℕ, List}
-use Rattle.js_io.specs.Lines.{lines_of}
+use Rattle.js_tool_io.specs.Lines.{lines_of}
 use Rattle.js_tool.specs.Progress.{PassesTo}
-use Rattle.js_tool.proofs.Passing.{passes_none, passes_more, stops_more}
+use Rattle.js_tool.proofs.LinesPassed.{passes_none, passes_more, stops_more}
 use Rattle.js_tool.proofs.progress.pass_pieces.Goals as goal
 
 pub returns-in-Err : goal.returns-in-Err

@@ -1,5 +1,5 @@
 use Rattle.std.proofs.Common.{◌≤◌, ◌+◌, ◌++◌, length}
-use Rattle.js_io.specs.Lines.{lines_of}
+use Rattle.js_tool_io.specs.Lines.{lines_of}
 use Rattle.js_tool.specs.Progress.{PassesTo}
 use Rattle.js_tool.proofs.progress.pass_pieces.Given as goal
 

@@ -1,6 +1,7 @@
 use Rattle.std.proofs.Common.{◌≡◌, ◌++◌, ◌∷◌, ◌∙◌, ap, sym, ℕ, List}
-use Rattle.js_io.specs.Lines.{lines_of}
-use Rattle.js_tool.proofs.Passing.{of_lines, result_to}
+use Rattle.js_tool_io.specs.Lines.{lines_of}
+use Rattle.js_tool.proofs.LinesPassed.{result_to}
+use Rattle.js_tool_transcript.proofs.LinesRead.{of_lines}
 use Rattle.js_tool.proofs.progress.replay.Goals as goal
 
 pub returns : goal.returns

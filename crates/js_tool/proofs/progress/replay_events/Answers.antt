@@ -1,4 +1,4 @@
-use Rattle.js_tool.proofs.Passing.{concludes, one_stops}
+use Rattle.js_tool.proofs.LinesPassed.{concludes, one_stops}
 use Rattle.js_tool.proofs.progress.replay_events.Goals as goal
 
 pub returns-in-Ok-pass_all : goal.returns-in-Ok-pass_all

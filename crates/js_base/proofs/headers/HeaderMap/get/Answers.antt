@@ -1,6 +1,6 @@
 use Rattle.std.proofs.Common.{◌∙◌, ap}
 use Rattle.js_base.specs.Headers.{first_found}
-use Rattle.js_base.proofs.Finds.{found_is}
+use Rattle.js_base.proofs.FirstValue.{found_is}
 use Rattle.js_base.proofs.headers.HeaderMap.get.Goals as goal
 
 pub returns : goal.returns

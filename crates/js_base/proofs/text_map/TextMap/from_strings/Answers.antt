@@ -3,7 +3,7 @@ use Rattle.std.specs.Prelude.{string_bytes}
 use Rattle.std.specs.Cmp.Lexicographic.{slice_cmp}
 use Rattle.std.specs.List.Sorted.{IsStrictlySortedBy}
 use Rattle.std.specs.Map.{keys_of}
-use Rattle.js_base.specs.Texts.{bytes_of}
+use Rattle.js_base.specs.TextMap.{bytes_of}
 use Rattle.js_base.proofs.Names.{Entry, insert_last}
 use Rattle.js_base.proofs.Strings.{texts_sorted}
 use Rattle.js_base.proofs.text_map.TextMap.from_strings.Goals as goal

@@ -2,7 +2,7 @@ use Rattle.std.proofs.Common.{◌≡◌, [], ◌∷◌, ◌++◌, List, ℕ, nat
 use Rattle.std.specs.Cmp.Lexicographic.{slice_cmp}
 use Rattle.std.specs.List.Sorted.{IsStrictlySortedBy}
 use Rattle.std.specs.Map.{keys_of}
-use Rattle.js_base.specs.Texts.{bytes_of}
+use Rattle.js_base.specs.TextMap.{bytes_of}
 use Rattle.js_base.proofs.Names.{Entry, insert_last}
 use Rattle.js_base.proofs.Strings.{bytes_of-insert}
 use Rattle.js_base.proofs.text_map.TextMap.to_strings.Goals as goal

@@ -1,5 +1,5 @@
 use Rattle.std.proofs.Common.{◌≡◌, ◌++◌}
-use Rattle.js_base.specs.Texts.{bytes_of}
+use Rattle.js_base.specs.TextMap.{bytes_of}
 use Rattle.js_base.proofs.text_map.TextMap.to_strings.Given as goal
 
 abbrev pub invariant-loop-name : goal.invariant-loop-name

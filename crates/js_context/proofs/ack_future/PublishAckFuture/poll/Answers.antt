@@ -1,5 +1,5 @@
 use Rattle.std.proofs.Common.{sym}
-use Rattle.js_context.proofs.Sleeping.{sleeps}
+use Rattle.js_context.proofs.Sleep.{sleeps}
 use Rattle.js_context.proofs.ack_future.PublishAckFuture.poll.Goals as goal
 
 pub returns-in-None-clause-sleeps : goal.returns-in-None-clause-sleeps

@@ -1,6 +1,6 @@
 use Rattle.std.proofs.Common.{◌≡◌, ◌+◌, ◌-◌, length, arith, subst}
-use Rattle.js_context.specs.Reaps.{Reaps}
-use Rattle.js_context.proofs.Looking.{looked_within, turned_back, still_there}
+use Rattle.js_context.specs.Reap.{Reaps}
+use Rattle.js_context.proofs.AckLooks.{looked_within, turned_back, still_there}
 use Rattle.js_context.proofs.context.Context.reap.Goals as goal
 
 pub overflow_sub-others : goal.overflow_sub-others

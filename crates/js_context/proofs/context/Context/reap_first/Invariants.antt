@@ -1,4 +1,4 @@
-use Rattle.js_context.proofs.Looking.{Going}
+use Rattle.js_context.proofs.AckLooks.{Going}
 use Rattle.js_context.proofs.context.Context.reap_first.Given as goal
 
 abbrev pub invariant-loop-look : goal.invariant-loop-look

@@ -1,4 +1,4 @@
-use Rattle.js_context.proofs.Looking.{looks_at, some_is}
+use Rattle.js_context.proofs.AckLooks.{looks_at, some_is}
 use Rattle.js_context.proofs.context.Context.reap_one.Goals as goal
 
 pub returns : goal.returns

@@ -1,5 +1,5 @@
 use Rattle.std.proofs.Common.{rules}
-use Rattle.js_context.proofs.Waiting.{waited_none, waited_more}
+use Rattle.js_context.proofs.AckWait.{waited_none, waited_more}
 use Rattle.js_context.proofs.context.Context.wait_for_acks.Goals as goal
 
 pub loop-init : goal.loop-init

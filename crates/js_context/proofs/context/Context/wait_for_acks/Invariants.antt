@@ -1,5 +1,5 @@
 use Rattle.std.proofs.Common.{◌≡◌}
-use Rattle.js_context.specs.Waits.{Waited}
+use Rattle.js_context.specs.AckWait.{Waited}
 use Rattle.js_context.proofs.context.Context.wait_for_acks.Given as goal
 
 abbrev pub invariant-loop : goal.invariant-loop

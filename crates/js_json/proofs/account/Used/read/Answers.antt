@@ -1,6 +1,6 @@
 use Rattle.std.proofs.Common.{◌≡◌, rules}
 use Rattle.std.specs.Prelude.{Err}
-use Rattle.js_fields.proofs.Gathered.{gathered_6}
+use Rattle.js_json_members.proofs.Gathered.{gathered_6}
 use Rattle.js_json.specs.Account.{used}
 use Rattle.js_json.proofs.account.Used.read.Goals as goal
 

@@ -1,6 +1,6 @@
 use Rattle.std.proofs.Common.{◌≡◌, rules}
 use Rattle.std.specs.Prelude.{Err}
-use Rattle.js_fields.proofs.Gathered.{gathered_7}
+use Rattle.js_json_members.proofs.Gathered.{gathered_7}
 use Rattle.js_json.specs.PublishAck.{publish_ack_fields}
 use Rattle.js_json.proofs.publish_ack.PublishAckFromValue.from_fields.Goals as goal
 

@@ -1,6 +1,6 @@
 use Rattle.std.proofs.Common.{◌≡◌, ℕ, ◌<◌, ◌≤◌, ◌+◌, length, [], sym, arith}
 use Rattle.std.proofs.lemmas.Option.{slice_get-get_or, slice_get_past}
-use Rattle.js_base.specs.Match.{tokens}
+use Rattle.js_base.specs.Subject.{tokens}
 use Rattle.js_message.proofs.Cuts.{tokens_counted}
 use Rattle.js_message.proofs.dots.Dots.get.Goals as goal
 

@@ -1,16 +1,16 @@
 use Rattle.std.proofs.Common.{sym, subst, [], ◌∷◌}
 use Rattle.js_pull.specs.declared.reader.Row.TheVariants as read
-use Rattle.js_table.specs.Passes.{at, given_of, matter_now}
+use Rattle.js_ordered_table.specs.Passes.{at, input_of, matter_now}
 use Rattle.js_ordered.specs.Driven.{Arrives, Leads}
-use Rattle.js_table.specs.declared.consumer.Phase.{Phase}
-use Rattle.js_table.specs.declared.row.Row.TheVariants as row
+use Rattle.js_ordered_table.specs.declared.consumer.Phase.{Phase}
+use Rattle.js_ordered_table.specs.declared.row.Row.TheVariants as row
 use Rattle.js_ordered.proofs.ReadDriving.{leads_silent}
 use Rattle.js_ordered.proofs.Nowhere.{reads_nowhere}
 use Rattle.js_ordered.proofs.drive.arrivals.check_arrival.Goals as goal
 
 pub returns-in-None : goal.returns-in-None
 returns-in-None c =
-    let g = given_of c.args.context.now in
+    let g = input_of c.args.context.now in
     let now = c.args.context.now.moment in
     let m = matter_now c.args.context.now in
     let w = c.args.state.now in
@@ -21,7 +21,7 @@ returns-in-None c =
 
 pub returns-in_default : goal.returns-in_default
 returns-in_default c =
-    let g = given_of c.args.context.now in
+    let g = input_of c.args.context.now in
     let now = c.args.context.now.moment in
     let m = matter_now c.args.context.now in
     let w = c.args.state.now in

@@ -1,21 +1,21 @@
 use Rattle.std.proofs.Common.{refl, ap, ◌∙◌, subst, List, ◌++◌}
-use Rattle.js_table.specs.Tasks.{next_rows}
+use Rattle.js_ordered_table.specs.Tasks.{next_rows}
 use Rattle.js_pull.specs.declared.reader.Row.TheVariants as read
 use Rattle.js_pull.specs.Reader as pull
-use Rattle.js_table.specs.Fold.{passing}
-use Rattle.js_table.specs.Passes.{given_of, matter_now}
+use Rattle.js_ordered_table.specs.Fold.{passing}
+use Rattle.js_ordered_table.specs.Passes.{input_of, matter_now}
 use Rattle.js_ordered.specs.Driven.{Arrives}
 use Rattle.js_pull.specs.declared.reader.Reader.{Reader}
-use Rattle.js_table.specs.declared.consumer.Phase.{Phase}
-use Rattle.js_table.specs.declared.run.Output.{Output}
+use Rattle.js_ordered_table.specs.declared.consumer.Phase.{Phase}
+use Rattle.js_ordered_table.specs.declared.run.Output.{Output}
 use Rattle.js_ordered.proofs.ReadDriving.{leads_heard}
-use Rattle.js_table.proofs.Stepping.{of_stream}
+use Rattle.js_ordered_table.proofs.PassedRows.{of_stream}
 use Rattle.js_ordered.proofs.Nowhere.{reads_here, reads_nowhere}
 use Rattle.js_ordered.proofs.drive.arrivals.hear_message.Goals as goal
 
 pub returns-in-Ok : goal.returns-in-Ok
 returns-in-Ok c =
-    let g = given_of c.args.context.now in
+    let g = input_of c.args.context.now in
     let now = c.args.context.now.moment in
     let m = matter_now c.args.context.now in
     let w = c.args.state.now in
@@ -28,7 +28,7 @@ returns-in-Ok c =
 
 pub returns-in_default : goal.returns-in_default
 returns-in_default c =
-    let g = given_of c.args.context.now in
+    let g = input_of c.args.context.now in
     let now = c.args.context.now.moment in
     let m = matter_now c.args.context.now in
     let w = c.args.state.now in

@@ -1,16 +1,16 @@
 use Rattle.std.proofs.Common.{refl, sym}
-use Rattle.js_table.specs.declared.consumer.Phase.TheVariants.{Pulls, Pushes, Recreates, Idle, Ended, Exhausted}
-use Rattle.js_table.specs.declared.row.Row.TheVariants as row
-use Rattle.js_table.specs.Passes.{given_of, matter_now}
+use Rattle.js_ordered_table.specs.declared.consumer.Phase.TheVariants.{Pulls, Pushes, Recreates, Idle, Ended, Exhausted}
+use Rattle.js_ordered_table.specs.declared.row.Row.TheVariants as row
+use Rattle.js_ordered_table.specs.Passes.{input_of, matter_now}
 use Rattle.js_ordered.proofs.Driving.{look_nowhere, told_here}
-use Rattle.js_table.specs.declared.passing.task.NextTasks.TheVariants as next
-use Rattle.js_table.specs.declared.passing.task.RowOutput.TheVariants as tells
+use Rattle.js_ordered_table.specs.declared.transitions.task.NextTasks.TheVariants as next
+use Rattle.js_ordered_table.specs.declared.transitions.task.RowOutput.TheVariants as tells
 use Rattle.std.proofs.Common.{append-nil}
 use Rattle.js_ordered.proofs.drive.listening.arm.Goals as goal
 
 pub returns-in-Pushes : goal.returns-in-Pushes
 returns-in-Pushes c = λ outputs.
-    let g = given_of c.args.context.now in
+    let g = input_of c.args.context.now in
     let now = c.args.context.now.moment in
     let m = matter_now c.args.context.now in
     let w = c.args.state.now in
@@ -19,7 +19,7 @@ returns-in-Pushes c = λ outputs.
 
 pub returns-in-Pulls : goal.returns-in-Pulls
 returns-in-Pulls c = λ outputs.
-    let g = given_of c.args.context.now in
+    let g = input_of c.args.context.now in
     let now = c.args.context.now.moment in
     let m = matter_now c.args.context.now in
     let w = c.args.state.now in
@@ -27,7 +27,7 @@ returns-in-Pulls c = λ outputs.
 
 pub returns-in-Recreates : goal.returns-in-Recreates
 returns-in-Recreates c = λ outputs.
-    let g = given_of c.args.context.now in
+    let g = input_of c.args.context.now in
     let now = c.args.context.now.moment in
     let m = matter_now c.args.context.now in
     let w = c.args.state.now in
@@ -35,7 +35,7 @@ returns-in-Recreates c = λ outputs.
 
 pub returns-in-Idle : goal.returns-in-Idle
 returns-in-Idle c = λ outputs.
-    let g = given_of c.args.context.now in
+    let g = input_of c.args.context.now in
     let now = c.args.context.now.moment in
     let m = matter_now c.args.context.now in
     let w = c.args.state.now in
@@ -43,7 +43,7 @@ returns-in-Idle c = λ outputs.
 
 pub returns-in-Ended : goal.returns-in-Ended
 returns-in-Ended c = λ outputs.
-    let g = given_of c.args.context.now in
+    let g = input_of c.args.context.now in
     let now = c.args.context.now.moment in
     let m = matter_now c.args.context.now in
     let w = c.args.state.now in
@@ -51,7 +51,7 @@ returns-in-Ended c = λ outputs.
 
 pub returns-in-Exhausted : goal.returns-in-Exhausted
 returns-in-Exhausted c = λ outputs.
-    let g = given_of c.args.context.now in
+    let g = input_of c.args.context.now in
     let now = c.args.context.now.moment in
     let m = matter_now c.args.context.now in
     let w = c.args.state.now in

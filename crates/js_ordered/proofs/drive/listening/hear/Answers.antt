@@ -1,20 +1,20 @@
 use Rattle.std.proofs.Common.{refl, sym, ap, ◌∙◌, List, ◌++◌}
-use Rattle.js_table.specs.declared.run.Output.{Output}
-use Rattle.js_table.specs.Passes.{given_of, matter_now}
-use Rattle.js_table.specs.Fold.{passing}
+use Rattle.js_ordered_table.specs.declared.run.Output.{Output}
+use Rattle.js_ordered_table.specs.Passes.{input_of, matter_now}
+use Rattle.js_ordered_table.specs.Fold.{passing}
 use Rattle.js_ordered.proofs.Driving.{hears_on, heard_elsewhere}
 use Rattle.js_ordered.proofs.drive.listening.hear.Goals as goal
 
 pub returns-then-not-listens : goal.returns-then-not-listens
 returns-then-not-listens c =
-    let g = given_of c.args.context.now in
+    let g = input_of c.args.context.now in
     let now = c.args.context.now.moment in
     let m = matter_now c.args.context.now in
     heard_elsewhere g now m c.args.inbox c.args.message.now c.args.state.now c.args.outputs.now.items (sym c.listens.ensures ∙ c.if-not-listens.true)
 
 pub returns : goal.returns
 returns c =
-    let g = given_of c.args.context.now in
+    let g = input_of c.args.context.now in
     let now = c.args.context.now.moment in
     let m = matter_now c.args.context.now in
     let w = c.args.state.now in

@@ -1,13 +1,13 @@
 use Rattle.std.proofs.Common.{refl, []}
 use Rattle.js_pull.specs.declared.reader.Row.TheVariants as read
-use Rattle.js_table.specs.Passes.{given_of, matter_now}
+use Rattle.js_ordered_table.specs.Passes.{input_of, matter_now}
 use Rattle.js_ordered.proofs.ReadDriving.{leads_armed}
 use Rattle.js_ordered.proofs.Nowhere.{reads_here, reads_nowhere}
 use Rattle.js_ordered.proofs.drive.reading.arm.Goals as goal
 
 pub returns-in-Pulls : goal.returns-in-Pulls
 returns-in-Pulls c = λ outputs.
-    let g = given_of c.args.context.now in
+    let g = input_of c.args.context.now in
     let now = c.args.context.now.moment in
     let m = matter_now c.args.context.now in
     let w = c.args.state.now in
@@ -16,7 +16,7 @@ returns-in-Pulls c = λ outputs.
 
 pub returns-in_default : goal.returns-in_default
 returns-in_default c = λ outputs.
-    let g = given_of c.args.context.now in
+    let g = input_of c.args.context.now in
     let now = c.args.context.now.moment in
     let m = matter_now c.args.context.now in
     let w = c.args.state.now in

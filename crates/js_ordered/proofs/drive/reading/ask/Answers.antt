@@ -1,11 +1,11 @@
 use Rattle.std.proofs.Common.{false, refl, ap, ◌∙◌, Some, None, []}
 use Rattle.std.specs.Prelude.{Ok}
-use Rattle.js_table.specs.Tasks.{next_rows}
-use Rattle.js_pull.specs.Steps.{brought}
+use Rattle.js_ordered_table.specs.Tasks.{next_rows}
+use Rattle.js_pull.specs.Rows.{brought}
 use Rattle.js_pull.specs.declared.reader.Row.TheVariants as read
 use Rattle.js_pull.specs.Reader as pull
-use Rattle.js_table.specs.Fold.{passing}
-use Rattle.js_table.specs.Passes.{given_of, matter_now}
+use Rattle.js_ordered_table.specs.Fold.{passing}
+use Rattle.js_ordered_table.specs.Passes.{input_of, matter_now}
 use Rattle.js_ordered.specs.Giving.{IsPublishing}
 use Rattle.js_ordered.proofs.Driving.{ok_holds}
 use Rattle.js_ordered.proofs.ReadDriving.{leads_asked, leads_finish, sent_is}
@@ -14,7 +14,7 @@ use Rattle.js_ordered.proofs.drive.reading.ask.Goals as goal
 
 pub returns-in-Ok-None : goal.returns-in-Ok-None
 returns-in-Ok-None c =
-    let g = given_of c.args.context.now in
+    let g = input_of c.args.context.now in
     let now = c.args.context.now.moment in
     let m = matter_now c.args.context.now in
     let w = c.args.state.now in
@@ -27,7 +27,7 @@ returns-in-Ok-None c =
 
 pub returns-in-Ok-Some : goal.returns-in-Ok-Some
 returns-in-Ok-Some c =
-    let g = given_of c.args.context.now in
+    let g = input_of c.args.context.now in
     let now = c.args.context.now.moment in
     let m = matter_now c.args.context.now in
     let w = c.args.state.now in
@@ -38,7 +38,7 @@ returns-in-Ok-Some c =
 
 pub returns-in_default : goal.returns-in_default
 returns-in_default c =
-    let g = given_of c.args.context.now in
+    let g = input_of c.args.context.now in
     let now = c.args.context.now.moment in
     let m = matter_now c.args.context.now in
     let w = c.args.state.now in

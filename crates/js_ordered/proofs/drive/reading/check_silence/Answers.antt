@@ -1,18 +1,18 @@
 use Rattle.std.proofs.Common.{refl, None}
-use Rattle.js_table.specs.Tasks.{next_rows}
-use Rattle.js_pull.specs.Steps.{brought}
+use Rattle.js_ordered_table.specs.Tasks.{next_rows}
+use Rattle.js_pull.specs.Rows.{brought}
 use Rattle.js_pull.specs.declared.reader.Row.TheVariants as read
 use Rattle.js_pull.specs.Reader as pull
-use Rattle.js_table.specs.Fold.{passing}
-use Rattle.js_table.specs.Passes.{given_of, matter_now}
+use Rattle.js_ordered_table.specs.Fold.{passing}
+use Rattle.js_ordered_table.specs.Passes.{input_of, matter_now}
 use Rattle.js_ordered.proofs.ReadDriving.{leads_finish}
-use Rattle.js_table.proofs.ReaderSteps.{silence_sends}
+use Rattle.js_ordered_table.proofs.ReaderSteps.{silence_sends}
 use Rattle.js_ordered.proofs.Nowhere.{reads_here, reads_nowhere}
 use Rattle.js_ordered.proofs.drive.reading.check_silence.Goals as goal
 
 pub returns-in-Pulls : goal.returns-in-Pulls
 returns-in-Pulls c =
-    let g = given_of c.args.context.now in
+    let g = input_of c.args.context.now in
     let now = c.args.context.now.moment in
     let m = matter_now c.args.context.now in
     let w = c.args.state.now in
@@ -23,7 +23,7 @@ returns-in-Pulls c =
 
 pub returns-in_default : goal.returns-in_default
 returns-in_default c =
-    let g = given_of c.args.context.now in
+    let g = input_of c.args.context.now in
     let now = c.args.context.now.moment in
     let m = matter_now c.args.context.now in
     let w = c.args.state.now in

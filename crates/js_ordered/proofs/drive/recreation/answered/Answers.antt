@@ -1,13 +1,13 @@
 use Rattle.std.proofs.Common.{refl, sym, ap, ◌∙◌}
 use Rattle.std.specs.Prelude.{◌≡◌, Ok, Some, option_map}
-use Rattle.js_table.specs.Passes.{given_of, matter_now}
+use Rattle.js_ordered_table.specs.Passes.{input_of, matter_now}
 use Rattle.js_pull.specs.Reader.{info_of_reply, reply_to}
 use Rattle.js_ordered.proofs.Driving.{ok_holds, reply_read}
 use Rattle.js_ordered.proofs.drive.recreation.answered.Goals as goal
 
 pub returns-in-Some : goal.returns-in-Some
 returns-in-Some c =
-    let g = given_of c.args.context.now in
+    let g = input_of c.args.context.now in
     let now = c.args.context.now.moment in
     let m = matter_now c.args.context.now in
     let reply = reply_to c.args.request m.answer in

@@ -1,15 +1,15 @@
 use Rattle.std.proofs.Common.{refl}
-use Rattle.js_table.specs.Passes.{given_of, matter_now}
-use Rattle.js_table.specs.declared.row.Row.TheVariants as row
+use Rattle.js_ordered_table.specs.Passes.{input_of, matter_now}
+use Rattle.js_ordered_table.specs.declared.row.Row.TheVariants as row
 use Rattle.js_ordered.specs.Giving.{IsSending}
-use Rattle.js_table.specs.Fold.{passing}
-use Rattle.js_table.specs.Texts.{create_subject, create_body}
+use Rattle.js_ordered_table.specs.Fold.{passing}
+use Rattle.js_ordered_table.specs.Texts.{create_subject, create_body}
 use Rattle.js_ordered.proofs.Driving.{leads_sent, ok_holds}
 use Rattle.js_ordered.proofs.drive.recreation.ask.Goals as goal
 
 pub returns-in-Ok : goal.returns-in-Ok
 returns-in-Ok c =
-    let g = given_of c.args.context.now in
+    let g = input_of c.args.context.now in
     let now = c.args.context.now.moment in
     let m = matter_now c.args.context.now in
     let w = c.args.state.now in

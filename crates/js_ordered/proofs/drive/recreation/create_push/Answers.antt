@@ -1,14 +1,14 @@
 use Rattle.std.proofs.Common.{refl}
-use Rattle.js_table.specs.Passes.{given_of, matter_now}
+use Rattle.js_ordered_table.specs.Passes.{input_of, matter_now}
 use Rattle.js_ordered.specs.Giving.{IsOpening}
-use Rattle.js_table.specs.Fold.{passing}
-use Rattle.js_table.specs.Texts.{inbox_subject}
+use Rattle.js_ordered_table.specs.Fold.{passing}
+use Rattle.js_ordered_table.specs.Texts.{inbox_subject}
 use Rattle.js_ordered.proofs.Driving.{creates_push, ok_holds}
 use Rattle.js_ordered.proofs.drive.recreation.create_push.Goals as goal
 
 pub returns-in-Ok : goal.returns-in-Ok
 returns-in-Ok c =
-    let g = given_of c.args.context.now in
+    let g = input_of c.args.context.now in
     let now = c.args.context.now.moment in
     let m = matter_now c.args.context.now in
     let w = c.args.state.now in

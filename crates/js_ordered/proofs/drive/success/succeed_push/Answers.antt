@@ -1,12 +1,12 @@
 use Rattle.std.proofs.Common.{refl, ◌∙◌}
-use Rattle.js_table.specs.Passes.{given_of, matter_now}
-use Rattle.js_table.specs.Fold.{passing}
+use Rattle.js_ordered_table.specs.Passes.{input_of, matter_now}
+use Rattle.js_ordered_table.specs.Fold.{passing}
 use Rattle.js_ordered.proofs.Driving.{succeeds_push}
 use Rattle.js_ordered.proofs.drive.success.succeed_push.Goals as goal
 
 pub returns-in-Ok : goal.returns-in-Ok
 returns-in-Ok c =
-    let g = given_of c.args.context.now in
+    let g = input_of c.args.context.now in
     let now = c.args.context.now.moment in
     let m = matter_now c.args.context.now in
     let listens = c.pass_succeed_push-held.ensures (passing g now c.args.state.now) in

@@ -1,5 +1,5 @@
 use Rattle.std.proofs.Common.{sym}
-use Rattle.js_ordered.proofs.Coursing.{ends_input, ends_early, ends_exhausted, ends_run}
+use Rattle.js_ordered.proofs.EventByEvent.{ends_input, ends_early, ends_exhausted, ends_run}
 use Rattle.js_ordered.proofs.incremental_replay.IncrementalReplay.end.Goals as goal
 
 pub returns-in-Some-clause-ended : goal.returns-in-Some-clause-ended

@@ -1,5 +1,5 @@
 use Rattle.std.proofs.Common.{refl, ◌∙◌, None}
-use Rattle.js_ordered.proofs.Coursing.{comes_first}
+use Rattle.js_ordered.proofs.EventByEvent.{comes_first}
 use Rattle.js_ordered.proofs.incremental_replay.IncrementalReplay.open.Goals as goal
 
 pub returns-in-Ok : goal.returns-in-Ok

@@ -1,9 +1,9 @@
 use Rattle.std.proofs.Common.{sym, subst, ap, ◌∙◌, ◌++◌}
-use Rattle.js_table.specs.Tasks.{next_rows}
-use Rattle.js_ordered_stream.specs.declared.left.Todo.{Todo}
+use Rattle.js_ordered_table.specs.Tasks.{next_rows}
+use Rattle.js_ordered_stream.specs.declared.remaining_rows.TaskQueue.{TaskQueue}
 use Rattle.js_ordered_stream.specs.Rows.{Fits, kept_if, later_of, read_in}
-use Rattle.js_ordered_stream.specs.Stream.{given_to, position_of}
-use Rattle.js_ordered_stream.proofs.Turning.{next_passed, next_closed, next_lacks}
+use Rattle.js_ordered_stream.specs.Ordered.{given_to, position_of}
+use Rattle.js_ordered_stream.proofs.NextRow.{next_passed, next_closed, next_lacks}
 use Rattle.js_ordered_stream.proofs.ordered.Ordered.pass_next.Goals as goal
 
 pub settle-requires : goal.settle-requires
@@ -18,7 +18,7 @@ returns-in-Ok-clause-turns g c =
     let m = read_in kept in
     next_passed (given_to old) c.args.now old.left c.settle.new.self.left old.consumer c.pass_over.new.self.consumer c.settle.new.self.consumer kept done c.is_reading-was_reading.result c.settle.result (view c.args.link.now) (view c.pass_over.new.link)
     c.in-Ok.ensures.passes c.settle.ensures.consumer c.is_reading-was_reading.ensures c.settle.ensures.seen
-    (c.settle.ensures.left ∙ ap (λ (t : Todo). next_rows m done.next ++ later_of m t) c.in-Ok.ensures.todo) c.settle.ensures.turned
+    (c.settle.ensures.left ∙ ap (λ (t : TaskQueue). next_rows m done.next ++ later_of m t) c.in-Ok.ensures.todo) c.settle.ensures.turned
 
 pub returns-in-Err-Closed-clause-turns : goal.returns-in-Err-Closed-clause-turns
 returns-in-Err-Closed-clause-turns g c =

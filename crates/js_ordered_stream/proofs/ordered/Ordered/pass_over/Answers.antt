@@ -1,7 +1,7 @@
 use Rattle.std.proofs.Common.{subst}
 use Rattle.js_ordered_stream.specs.Rows.{seen_after}
-use Rattle.js_ordered_stream.specs.Stream.{PassesFirst}
-use Rattle.js_table.specs.declared.consumer.ReplayInput.{ReplayInput}
+use Rattle.js_ordered_stream.specs.Ordered.{PassesFirst}
+use Rattle.js_ordered_table.specs.declared.consumer.ReplayInput.{ReplayInput}
 use Rattle.js_ordered_stream.proofs.ordered.Ordered.pass_over.Goals as goal
 
 pub returns-clause-passes : goal.returns-clause-passes

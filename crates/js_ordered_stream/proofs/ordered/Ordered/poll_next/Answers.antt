@@ -1,5 +1,5 @@
 use Rattle.std.proofs.Common.{sym, ◌∙◌}
-use Rattle.js_ordered_stream.specs.Stream.{given_to, position_of}
+use Rattle.js_ordered_stream.specs.Ordered.{given_to, position_of}
 use Rattle.js_ordered_stream.proofs.Strides.{poll_over}
 use Rattle.js_ordered_stream.proofs.ordered.Ordered.poll_next.Goals as goal
 

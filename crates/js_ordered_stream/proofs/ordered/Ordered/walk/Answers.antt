@@ -1,18 +1,18 @@
 use Rattle.std.proofs.Common.{Bool, refl, sym, ap, subst, ◌∙◌}
 use Rattle.js_ordered_stream.specs.Rows.{message_in}
-use Rattle.js_ordered_stream.specs.Stream.{given_to, is_given, position_of}
+use Rattle.js_ordered_stream.specs.Ordered.{given_to, is_given, position_of}
 use Rattle.js_ordered_stream.proofs.Strides.{Walked, walked_none, error_given, on_waits, on_silent, on_hands, on_tells, on_exhausted, on_closed, on_lacks, poll_lacks}
-use Rattle.js_ordered_stream.proofs.Turning.{rested}
+use Rattle.js_ordered_stream.proofs.NextRow.{rested}
 use Rattle.js_ordered_stream.proofs.ordered.Ordered.walk.Goals as goal
 
 pub rows-init : goal.rows-init
 rows-init g c = record { given = refl; walked = walked_none (given_to c.args.self.now) c.args.now (position_of c.args.self.now) (g.L.Link.view c.args.link.now) c.requires }
 
-pub returns-then-both-clause-sources : goal.returns-then-both-clause-sources
-returns-then-both-clause-sources g c =
+pub returns-then-may_wait-clause-sources : goal.returns-then-may_wait-clause-sources
+returns-then-may_wait-clause-sources g c =
     let view = g.L.Link.view in (
-      on_waits (given_to c.args.self.now) c.args.now c.rows.quiet c.is_empty-begins.result c.both.result (position_of c.args.self.now) (position_of c.rows.self) (view c.args.link.now) (view c.rows.link) c.rows.invariant.walked
-          (rested c.rows.self.left c.is_empty-begins.result c.is_empty-begins.ensures) c.both.ensures c.if-both.true,
+      on_waits (given_to c.args.self.now) c.args.now c.rows.quiet c.is_empty-begins.result c.may_wait.result (position_of c.args.self.now) (position_of c.rows.self) (view c.args.link.now) (view c.rows.link) c.rows.invariant.walked
+          (rested c.rows.self.left c.is_empty-begins.result c.is_empty-begins.ensures) c.may_wait.ensures c.if-may_wait.true,
       tt,
     )
 

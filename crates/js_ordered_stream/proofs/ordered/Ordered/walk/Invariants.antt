@@ -1,5 +1,5 @@
 use Rattle.std.specs.Prelude.{◌≡◌}
-use Rattle.js_ordered_stream.specs.Stream.{given_to, position_of}
+use Rattle.js_ordered_stream.specs.Ordered.{given_to, position_of}
 use Rattle.js_ordered_stream.proofs.Strides.{Walked}
 use Rattle.js_ordered_stream.proofs.ordered.Ordered.walk.Given as goal
 

@@ -1,4 +1,4 @@
-use Rattle.js_turns.proofs.Sleeping.{poll_sleeps}
+use Rattle.js_ordered_table.proofs.Sleep.{poll_sleeps}
 use Rattle.js_ordered_stream.proofs.push.Ordered.poll_next.Goals as goal
 
 pub returns-clause-sleeps : goal.returns-clause-sleeps

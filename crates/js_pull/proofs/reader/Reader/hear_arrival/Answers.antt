@@ -1,7 +1,7 @@
 use Rattle.std.proofs.Common.{None, Some, subst, ap, ◌∙◌}
 use Rattle.js_pull.specs.Kind.{pull_kind}
 use Rattle.js_pull.specs.Reader as rows
-use Rattle.js_pull.specs.Steps.{ReadsTo}
+use Rattle.js_pull.specs.Rows.{ReadsTo}
 use Rattle.js_pull.specs.declared.reader.Reader.{Reader}
 use Rattle.js_pull.proofs.reader.Reader.hear_arrival.Goals as goal
 

@@ -1,5 +1,5 @@
 use Rattle.js_pull.specs.declared.reader.Row.TheVariants as row
-use Rattle.js_pull.proofs.Stepping.{ask_steps, at_moment, inquire_steps, inquiry_steps}
+use Rattle.js_pull.proofs.PassedRows.{ask_steps, at_moment, inquire_steps, inquiry_steps}
 use Rattle.js_pull.proofs.reader.Reader.pass.Goals as goal
 
 pub returns-in-Ask : goal.returns-in-Ask

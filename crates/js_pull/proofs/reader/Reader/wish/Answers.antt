@@ -2,7 +2,7 @@ use Rattle.std.proofs.Common.{refl}
 use Rattle.js_pull.specs.declared.reader.Reason.TheVariants.{Low}
 use Rattle.js_pull.specs.declared.reader.Row.TheVariants as row
 use Rattle.js_pull.specs.Reader.{wish}
-use Rattle.js_pull.proofs.Stepping.{wish_known}
+use Rattle.js_pull.proofs.PassedRows.{wish_known}
 use Rattle.js_pull.proofs.reader.Reader.wish.Goals as goal
 
 pub returns-in-Ask : goal.returns-in-Ask

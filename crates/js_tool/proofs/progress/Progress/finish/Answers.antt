@@ -1,5 +1,5 @@
 use Rattle.std.proofs.Common.{◌≡◌, rules}
-use Rattle.js_tool.proofs.Passing.{text_done}
+use Rattle.js_tool.proofs.LinesPassed.{text_done}
 use Rattle.js_tool.proofs.progress.Progress.finish.Goals as goal
 
 pub returns-in-Ok : goal.returns-in-Ok

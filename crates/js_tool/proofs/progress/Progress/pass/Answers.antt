@@ -1,5 +1,5 @@
 use Rattle.std.proofs.Common.{◌≡◌, rules}
-use Rattle.js_tool.proofs.Passing.{text_passes}
+use Rattle.js_tool.proofs.LinesPassed.{text_passes}
 use Rattle.js_tool.proofs.progress.Progress.pass.Goals as goal
 
 pub returns-clause-passed : goal.returns-clause-passed

@@ -1,6 +1,6 @@
 use Rattle.std.proofs.Common.{◌≡◌, rules}
 use Rattle.std.specs.Prelude.{Err}
-use Rattle.js_fields.proofs.Gathered.{gathered_5}
+use Rattle.js_json_members.proofs.Gathered.{gathered_5}
 use Rattle.js_json.specs.ConsumerInfo.{states}
 use Rattle.js_json.proofs.consumer.info.States.read.Goals as goal
 

@@ -1,0 +1,14 @@
+pub mod Error
+pub mod CreateSubject
+pub mod Refusal
+pub mod ConsumerAnswer
+pub mod CreateKind
+pub mod Info
+pub mod Get
+pub mod Delete
+pub mod Create
+pub mod Instants
+pub mod KnownConsumer
+pub mod Renewal
+pub mod Refresh
+pub mod Reset

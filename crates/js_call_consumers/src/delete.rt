@@ -1,0 +1,91 @@
+//! The call that deletes a consumer of a stream.
+ghost use Rattle.std.specs.Prelude.{◌≡◌, IfOk};
+ghost use Rattle.js_call_consumers.specs.Delete.{delete_row, deleting};
+
+use crate::create_kind::consumer_failure;
+use crate::error::{ConsumerError, ConsumerErrorKind};
+use crate::refusal::delete_refusal;
+use crate::request::call_on;
+use js_base::{Error, OutOfMemory, Source, Text, both};
+use js_call::{ApiCall, ApiScope, Call, Failure};
+use js_json::{Response, response_as};
+use js_json_members::ReadError;
+use js_json_streams::DeleteStatus;
+use std::alloc::Global;
+
+/// The row of `delete_consumer_from_stream`.
+#[derive(Drop)]
+pub struct DeletingConsumer {
+    consumer: Text,
+    stream: Text,
+}
+
+/// The state of `delete_consumer_from_stream`.
+pub type DeleteConsumerFromStream = Call<DeletingConsumer>;
+
+impl ApiCall for DeletingConsumer {
+    type Reply = Response<DeleteStatus>;
+
+    type Answer = Result<DeleteStatus, ConsumerError>;
+
+    ghost table = { delete_row };
+
+    fn refusal(&self) -> Option<Result<DeleteStatus, ConsumerError>> {
+        match delete_refusal(self.consumer.as_str(), self.stream.as_str()) {
+            None => None,
+            Some(kind) => Some(Err(Error::new(kind))),
+        }
+    }
+
+    fn read(alloc: Global, payload: &[u8]) -> Result<Response<DeleteStatus>, ReadError> {
+        response_as(alloc, payload)
+    }
+
+    fn answer(self, reply: Response<DeleteStatus>) -> Result<DeleteStatus, ConsumerError> {
+        drop(self);
+        match reply {
+            Response::Ok(status) => Ok(status),
+            Response::Err { error } => Err(Error::new(ConsumerErrorKind::JetStream(error))),
+        }
+    }
+
+    fn failure(self, failure: Failure, source: Source) -> Result<DeleteStatus, ConsumerError> {
+        drop(self);
+        Err(Error::with_source(consumer_failure(failure.kind()), source))
+    }
+}
+
+// What the call keeps of its arguments.
+fn deleting_row(
+    alloc: Global,
+    consumer: &str,
+    stream: &str,
+) -> Result<DeletingConsumer, OutOfMemory>
+    ensures { IfOk result (λ row. row ≡ record { consumer = consumer.now; stream = stream.now }) }
+{
+    let (consumer, stream) = both(
+        Text::from_str(alloc, consumer),
+        Text::from_str(alloc, stream),
+    )?;
+    Ok(DeletingConsumer { consumer, stream })
+}
+
+/// Deletes a consumer of a stream.
+///
+/// The one refusal here is want of memory; others come from the polls. `InvalidName` comes from the first where the consumer's name is none that
+/// one may have, and `Other` where the stream's is; nothing is sent then. `JetStream` holds the server's error. `TimedOut` comes where the timeout is
+/// due, and `Request` where the request has no reply for another reason or its reply does not read; these have that error's text as the source.
+///
+/// Those that read the consumer are told by the server, or by nobody: an acknowledgement of one of its messages is taken still, and a
+/// pull request meets silence.
+pub fn delete_consumer_from_stream(
+    alloc: Global,
+    scope: &ApiScope,
+    consumer: &str,
+    stream: &str,
+) -> Result<DeleteConsumerFromStream, OutOfMemory>
+    ensures { IfOk result (λ call. call ≡ deleting scope.now consumer.now stream.now) }
+{
+    let row = deleting_row(alloc, consumer, stream)?;
+    call_on(alloc, scope, row, "CONSUMER.DELETE", stream, consumer)
+}

@@ -1,0 +1,50 @@
+//! The calls of the API on consumers, and the [`Consumer`] that they hand out, with the configuration of its kind.
+//!
+//! A call is made by a function that takes the scope of its context (the prefix of its subjects and its timeout), and is polled
+//! until it is ready. Its row of js_call's table stands in `specs/`: what its arguments are refused with, and what it answers to a
+//! reply, or where there is none. A consumer has two calls of its own, `info` and `reset` ([`ConsumerCalls`]): it goes into them
+//! and comes back beside the answer, with the newest info.
+#![tactic(auto)]
+
+mod calls;
+mod consumer;
+mod consumer_answer;
+mod copies;
+mod create;
+mod create_call;
+mod create_kind;
+mod create_subject;
+mod delete;
+mod error;
+mod get;
+mod info;
+mod instants;
+mod known_consumer;
+mod refresh;
+mod refusal;
+mod renewal;
+mod request;
+mod reset;
+
+pub use calls::ConsumerCalls;
+pub use consumer::{
+    Consumer, OrderedPullConsumer, OrderedPushConsumer, PullConsumer, PushConsumer,
+};
+pub use consumer_answer::ConsumerAnswer;
+pub use copies::InfoCopies;
+pub use create::CreatingConsumer;
+pub use create_call::{
+    CreateCall, CreateConsumerOnStream, CreateConsumerStrictOnStream, UpdateConsumerOnStream,
+    create_consumer_on_stream, create_consumer_strict_on_stream, update_consumer_on_stream,
+};
+pub use create_kind::CreateKind;
+pub use delete::{DeleteConsumerFromStream, DeletingConsumer, delete_consumer_from_stream};
+pub use error::{
+    ConsumerCreateStrictError, ConsumerCreateStrictErrorKind, ConsumerError, ConsumerErrorKind,
+    ConsumerInfoError, ConsumerInfoErrorKind, ConsumerUpdateError, ConsumerUpdateErrorKind,
+};
+pub use get::{GetConsumerFromStream, GettingConsumer, get_consumer_from_stream};
+pub use info::{AskingInfo, GetInfo};
+pub use instants::instants_alone_are_refused;
+pub use refresh::{InfoCall, RefreshingConsumer};
+pub use reset::{ConsumerResetError, Reset, ResettingConsumer};

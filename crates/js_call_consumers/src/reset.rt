@@ -1,0 +1,60 @@
+//! The call that resets a consumer.
+ghost use Rattle.std.specs.Prelude.{◌≡◌};
+ghost use Rattle.js_call_consumers.specs.Reset.{reset_row, was_reset};
+
+use crate::copies::InfoCopies;
+use crate::renewal::renewed;
+use crate::{Consumer, ConsumerError, ConsumerErrorKind, CreateKind};
+use js_base::{Error, Source};
+use js_call::{ApiCall, Call, Failure};
+use js_json::consumer::Info;
+use js_json::{Response, response_as};
+use js_json_members::ReadError;
+use std::alloc::Global;
+
+/// Why a consumer was not reset. `JetStream` holds the server's error, `TimedOut` comes where the timeout is due, and `Request` where the
+/// request has no reply for another reason or its reply does not read; the other kinds are never given.
+pub type ConsumerResetError = ConsumerError;
+
+/// The row of `reset`, which keeps the consumer.
+#[derive(Drop)]
+pub struct ResettingConsumer<T> {
+    pub(crate) consumer: Consumer<T>,
+}
+
+/// The state of `reset`. Its answer is the consumer, and what the server knows of it once it is reset.
+pub type Reset<T> = Call<ResettingConsumer<T>>;
+
+impl<T: Drop> ApiCall for ResettingConsumer<T> {
+    type Reply = Response<InfoCopies>;
+
+    type Answer = (Consumer<T>, Result<Info, ConsumerResetError>);
+
+    ghost table = { reset_row };
+
+    fn refusal(&self) -> Option<(Consumer<T>, Result<Info, ConsumerResetError>)> {
+        None
+    }
+
+    fn read(alloc: Global, payload: &[u8]) -> Result<Response<InfoCopies>, ReadError> {
+        response_as(alloc, payload)
+    }
+
+    fn answer(self, reply: Response<InfoCopies>) -> (Consumer<T>, Result<Info, ConsumerResetError>)
+        ensures { result ≡ was_reset self.consumer reply }
+    {
+        match reply {
+            Response::Ok(copies) => renewed(self.consumer, Ok(copies)),
+            Response::Err { error } => (self.consumer, Err(ConsumerErrorKind::of_api(error))),
+        }
+    }
+
+    fn failure(
+        self,
+        failure: Failure,
+        source: Source,
+    ) -> (Consumer<T>, Result<Info, ConsumerResetError>) {
+        let kind = ConsumerErrorKind::of_request(failure.kind());
+        (self.consumer, Err(Error::with_source(kind, source)))
+    }
+}

@@ -1,0 +1,28 @@
+-- What is kept of a stream's configuration as the server sent it.
+use Rattle.std.specs.Prelude.{Result, Ok, Err, if◌then◌else◌}
+use Rattle.serde_json.specs.Data.{Data}
+use Rattle.serde_json.specs.Written.{has_float, compact_text}
+use Rattle.js_json_members.specs.Member.{◌>>=◌, Reads, required}
+use Rattle.js_json_members.specs.declared.error.ReadError.{ReadError}
+use Rattle.js_json_members.specs.declared.error.ReadError.TheVariants.{Float}
+use Rattle.js_json_members.specs.declared.key.Key.TheVariants as key
+use Rattle.js_json_streams.specs.StreamInfo.{info_fields}
+use Rattle.js_call_streams.specs.declared.kept.Kept.{Kept}
+use Rattle.js_call_streams.specs.declared.kept.KeptInfo.{KeptInfo}
+
+-- a whole value, in which no float may stand, as its compact text
+abbrev pub whole : Reads Kept
+whole key d = if has_float d then Err Float else Ok (record { text = compact_text d })
+
+-- the configuration as it was sent, beside what was read before it
+abbrev pub with_config : {I : Type 0} → I → Data → Result (I × Kept) ReadError
+with_config info d = do
+  config ← required whole key.Config d
+  Ok (info, config)
+
+-- an info from its members, and the configuration as it was sent
+unfoldable pub kept_info_fields : Data → Result KeptInfo ReadError
+kept_info_fields d = do
+  info ← info_fields d
+  config ← required whole key.Config d
+  Ok (record { info = info; config = config })

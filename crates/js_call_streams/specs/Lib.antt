@@ -1,0 +1,17 @@
+pub mod Error
+pub mod Refusal
+pub mod Places
+pub mod Kept
+pub mod Overlay
+pub mod UpdateKept
+pub mod GetAndDelete
+pub mod Create
+pub mod Update
+pub mod AccountError
+pub mod Account
+pub mod Page
+pub mod Find
+pub mod Listing
+pub mod Wakes
+pub mod Chain
+pub mod WholeList

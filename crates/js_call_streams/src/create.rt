@@ -1,0 +1,147 @@
+//! The call that makes a stream.
+ghost use Rattle.std.specs.Prelude.{◌≡◌, IfOk};
+ghost use Rattle.js_call_streams.specs.Create.{create_row, creating_stream, AsksToCreate, AsksWith, Creates, IsTextOf};
+
+use crate::error::{CreateStreamError, api_error, create_failure};
+use crate::handle::StreamHandle;
+use crate::places::{Placing, two_places};
+use crate::refusal::create_refusal;
+use bytes::Bytes;
+use js_base::{Error, OutOfMemory, Source, Text, TryClone, both};
+use js_call::{ApiCall, ApiScope, Call, Failure, RawCall};
+use js_json::{Response, response_as};
+use js_json_members::{ReadError, ToValue};
+use js_json_streams::stream::{Config, Info};
+use std::alloc::Global;
+
+/// The row of `create_stream`: what the call keeps of its arguments.
+#[derive(Drop)]
+pub struct CreatingStream {
+    scope: ApiScope,
+    name: Text,
+    // Whether the mirror or a source has both a domain and an external.
+    two_places: bool,
+}
+
+/// The state of `create_stream`.
+pub type CreateStream = Call<CreatingStream>;
+
+impl ApiCall for CreatingStream {
+    type Reply = Response<Info>;
+
+    type Answer = Result<StreamHandle<Info>, CreateStreamError>;
+
+    ghost table = { create_row };
+
+    fn refusal(&self) -> Option<Result<StreamHandle<Info>, CreateStreamError>> {
+        match create_refusal(self.name.as_str(), self.two_places) {
+            None => None,
+            Some(kind) => Some(Err(Error::new(kind))),
+        }
+    }
+
+    fn read(alloc: Global, payload: &[u8]) -> Result<Response<Info>, ReadError> {
+        response_as(alloc, payload)
+    }
+
+    fn answer(self, reply: Response<Info>) -> Result<StreamHandle<Info>, CreateStreamError> {
+        match reply {
+            Response::Ok(info) => Ok(StreamHandle {
+                scope: self.scope,
+                name: self.name,
+                info,
+                kept: None,
+            }),
+            Response::Err { error } => {
+                drop(self);
+                Err(api_error(error))
+            }
+        }
+    }
+
+    fn failure(
+        self,
+        failure: Failure,
+        source: Source,
+    ) -> Result<StreamHandle<Info>, CreateStreamError> {
+        drop(self);
+        Err(create_failure(failure, source))
+    }
+}
+
+/// The text of a configuration. Each one has a text, so what is refused here is want of memory.
+pub(crate) fn body_of(alloc: Global, config: &Config) -> Result<Bytes, OutOfMemory>
+    ensures { IfOk result (λ body. IsTextOf config.now body) }
+{
+    match config.to_text(alloc) {
+        Ok(text) => Ok(Bytes::from_string(text)?),
+        Err(_) => Err(OutOfMemory),
+    }
+}
+
+/// A request on the words of a call and the configuration's name, whose body is the configuration.
+pub(crate) fn config_request(
+    alloc: Global,
+    scope: &ApiScope,
+    words: &str,
+    config: &Config,
+) -> Result<RawCall, OutOfMemory>
+    ensures { IfOk result (λ asked. AsksWith scope.now words.now config.now asked) }
+{
+    let body = body_of(alloc, config)?;
+    scope.ask_named(alloc, words, config.name.as_str(), body)
+}
+
+/// A request for a stream that is to be made, in whose configuration domains are externals.
+pub(crate) fn create_request<C: Placing>(
+    alloc: Global,
+    scope: &ApiScope,
+    config: C,
+) -> Result<RawCall, OutOfMemory>
+    ensures { IfOk result (λ asked. AsksToCreate scope.now (C.config config) asked) }
+{
+    let mut there = config;
+    there.place_all(alloc)?;
+    config_request(alloc, scope, "STREAM.CREATE", there.config())
+}
+
+// What the call keeps of its arguments.
+fn creating_stream(scope: &ApiScope, config: &Config) -> Result<CreatingStream, OutOfMemory>
+    ensures { IfOk result (λ row. row ≡ creating_stream scope.now config.now) }
+{
+    let (scope, name) = both(scope.try_clone(), config.name.try_clone())?;
+    Ok(CreatingStream {
+        scope,
+        name,
+        two_places: two_places(config),
+    })
+}
+
+/// The call that makes a stream of that configuration.
+pub(crate) fn create<C: Placing>(
+    alloc: Global,
+    scope: &ApiScope,
+    config: C,
+) -> Result<CreateStream, OutOfMemory>
+    ensures { IfOk result (λ call. Creates scope.now (C.config config) call) }
+{
+    let row = creating_stream(scope, config.config());
+    let (row, asked) = both(row, create_request(alloc, scope, config))?;
+    Ok(Call::new(row, asked))
+}
+
+/// Makes a stream, and answers a handle of it. A mirror or source that has a domain alone gets the domain's API as its external.
+///
+/// The server answers a stream that has that name and configuration already, and refuses another configuration as `JetStream`.
+///
+/// The one refusal here is want of memory; others come from the polls. `EmptyStreamName`, `InvalidStreamName` and
+/// `DomainAndExternalSet` come from the first, and nothing is sent. The other errors are those of `update_stream`.
+pub fn create_stream(
+    alloc: Global,
+    scope: &ApiScope,
+    config: Config,
+) -> Result<CreateStream, OutOfMemory>
+    ensures { IfOk result (λ call. Creates scope.now config call) }
+{
+    create(alloc, scope, config)
+}

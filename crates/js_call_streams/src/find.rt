@@ -1,0 +1,106 @@
+//! The call that finds the stream which stores a subject.
+ghost use Rattle.std.specs.Prelude.{◌≡◌, Ok, IfOk};
+ghost use Rattle.js_json_members.specs.Rows.{text_of};
+ghost use Rattle.js_call_streams.specs.Find.{find_row, find_refusal, found, Finds, finding_request};
+
+use crate::list_error::{GetStreamByNameError, GetStreamByNameErrorKind};
+use crate::rest::first_of;
+use bytes::Bytes;
+use js_base::{Error, OutOfMemory, Source, Text, both, is_valid_subject};
+use js_call::{ApiCall, ApiScope, Call, Failure};
+use js_json::{Response, response_as};
+use js_json_members::{ReadError, ToValue};
+use js_json_streams::stream::{NamesRequest, Page};
+use std::alloc::Global;
+
+/// The row of `stream_by_subject`.
+#[derive(Drop)]
+pub struct SearchingStream {
+    subject: Text,
+}
+
+/// The state of `stream_by_subject`.
+pub type StreamBySubject = Call<SearchingStream>;
+
+// What a subject is refused with.
+fn find_refusal(subject: &str) -> Option<GetStreamByNameErrorKind>
+    ensures { result ≡ find_refusal subject.now }
+{
+    if is_valid_subject(subject) {
+        None
+    } else {
+        Some(GetStreamByNameErrorKind::InvalidSubject)
+    }
+}
+
+impl ApiCall for SearchingStream {
+    type Reply = Response<Page<Text>>;
+
+    type Answer = Result<Text, GetStreamByNameError>;
+
+    ghost table = { find_row };
+
+    fn refusal(&self) -> Option<Result<Text, GetStreamByNameError>> {
+        match find_refusal(self.subject.as_str()) {
+            None => None,
+            Some(kind) => Some(Err(Error::new(kind))),
+        }
+    }
+
+    fn read(alloc: Global, payload: &[u8]) -> Result<Response<Page<Text>>, ReadError> {
+        response_as(alloc, payload)
+    }
+
+    fn answer(self, reply: Response<Page<Text>>) -> Result<Text, GetStreamByNameError> {
+        drop(self);
+        match reply {
+            Response::Ok(page) => match first_of(page.streams) {
+                Some(name) => Ok(name),
+                None => Err(Error::new(GetStreamByNameErrorKind::NotFound)),
+            },
+            Response::Err { error } => Err(Error::with_source(
+                GetStreamByNameErrorKind::Request,
+                error.into_source(),
+            )),
+        }
+    }
+
+    fn failure(self, _failure: Failure, source: Source) -> Result<Text, GetStreamByNameError> {
+        drop(self);
+        Err(Error::with_source(GetStreamByNameErrorKind::Request, source))
+    }
+}
+
+// The body of the request for the first page of the names of streams that store a subject.
+fn find_body(alloc: Global, subject: &str) -> Result<Bytes, OutOfMemory>
+    ensures { IfOk result (λ body. text_of (finding_request subject.now) ≡ Ok body) }
+{
+    let request = NamesRequest {
+        offset: 0,
+        subject: Some(Text::from_str(alloc, subject)?),
+    };
+    let text = request.to_text(alloc);
+    drop(request);
+    match text {
+        Ok(text) => Ok(Bytes::from_string(text)?),
+        Err(_) => Err(OutOfMemory),
+    }
+}
+
+/// Finds the name of the stream that stores a subject: the first item of the list of such streams.
+///
+/// The one refusal here is want of memory; others come from the polls. `InvalidSubject` comes from the first, and nothing is sent.
+/// `NotFound` comes where no stream stores the subject. `Request` has as its source the server's error, or the text of the
+/// request's or the reply's.
+pub fn stream_by_subject(
+    alloc: Global,
+    scope: &ApiScope,
+    subject: &str,
+) -> Result<StreamBySubject, OutOfMemory>
+    ensures { IfOk result (λ call. Finds scope.now subject.now call) }
+{
+    let body = find_body(alloc, subject)?;
+    let asked = scope.ask(alloc, "STREAM.NAMES", body);
+    let (subject, asked) = both(Text::from_str(alloc, subject), asked)?;
+    Ok(Call::new(SearchingStream { subject }, asked))
+}

@@ -1,0 +1,118 @@
+//! The calls that get a stream.
+ghost use Rattle.std.specs.Prelude.{◌≡◌, IfOk};
+ghost use Rattle.js_call_streams.specs.GetAndDelete.{get_row, getting, got, GivesHandle, handle};
+
+use crate::error::{GetStreamError, GetStreamErrorKind};
+use crate::handle::StreamHandle;
+use crate::kept::KeptInfo;
+use crate::named_call::call_on;
+use crate::refusal::get_refusal;
+use js_base::{Error, OutOfMemory, Source, Text, TryClone, both};
+use js_call::{ApiCall, ApiScope, Call, Failure};
+use js_json::{Response, response_as};
+use js_json_members::ReadError;
+use js_json_streams::stream::Info;
+use std::alloc::Global;
+
+/// The row of `get_stream`.
+#[derive(Drop)]
+pub struct GettingStream {
+    scope: ApiScope,
+    name: Text,
+}
+
+/// The state of `get_stream`.
+pub type GetStream = Call<GettingStream>;
+
+impl ApiCall for GettingStream {
+    type Reply = Response<KeptInfo>;
+
+    type Answer = Result<StreamHandle<Info>, GetStreamError>;
+
+    ghost table = { get_row };
+
+    fn refusal(&self) -> Option<Result<StreamHandle<Info>, GetStreamError>> {
+        match get_refusal(self.name.as_str()) {
+            None => None,
+            Some(kind) => Some(Err(Error::new(kind))),
+        }
+    }
+
+    fn read(alloc: Global, payload: &[u8]) -> Result<Response<KeptInfo>, ReadError> {
+        response_as(alloc, payload)
+    }
+
+    fn answer(self, reply: Response<KeptInfo>) -> Result<StreamHandle<Info>, GetStreamError> {
+        match reply {
+            Response::Ok(KeptInfo { info, config }) => Ok(StreamHandle {
+                scope: self.scope,
+                name: self.name,
+                info,
+                kept: Some(config),
+            }),
+            Response::Err { error } => {
+                drop(self);
+                Err(Error::new(GetStreamErrorKind::JetStream(error)))
+            }
+        }
+    }
+
+    fn failure(
+        self,
+        _failure: Failure,
+        source: Source,
+    ) -> Result<StreamHandle<Info>, GetStreamError> {
+        drop(self);
+        Err(Error::with_source(GetStreamErrorKind::Request, source))
+    }
+}
+
+// What the call keeps of its arguments.
+fn getting_row(alloc: Global, scope: &ApiScope, name: &str) -> Result<GettingStream, OutOfMemory>
+    ensures { IfOk result (λ row. row ≡ record { scope = scope.now; name = name.now }) }
+{
+    let (scope, name) = both(scope.try_clone(), Text::from_str(alloc, name))?;
+    Ok(GettingStream { scope, name })
+}
+
+/// Gets a stream with what the server knows of it. The handle keeps the configuration as it was sent, every member of it.
+///
+/// The one refusal here is want of memory; others come from the polls. `EmptyName` and `InvalidStreamName` come from the first, and
+/// nothing is sent. `JetStream` holds the server's error. `Request` comes where the request has no reply or its reply does not read, and
+/// has that error's text as the source: so a timeout and an absent JetStream are told apart.
+pub fn get_stream(alloc: Global, scope: &ApiScope, name: &str) -> Result<GetStream, OutOfMemory>
+    ensures { IfOk result (λ call. call ≡ getting scope.now name.now) }
+{
+    let row = getting_row(alloc, scope, name)?;
+    call_on(alloc, scope, row, "STREAM.INFO", name, b"null")
+}
+
+fn bare_handle(alloc: Global, scope: &ApiScope, name: &str) -> Result<StreamHandle<()>, OutOfMemory>
+    ensures { IfOk result (λ h. h ≡ handle scope.now name.now) }
+{
+    let (scope, name) = both(scope.try_clone(), Text::from_str(alloc, name))?;
+    Ok(StreamHandle {
+        scope,
+        name,
+        info: (),
+        kept: None,
+    })
+}
+
+/// A handle of a stream of that name, without asking the server whether it is there. An empty name is `EmptyName`, another
+/// that no stream may have `InvalidStreamName`, and want of memory `OutOfMemory`.
+pub fn get_stream_no_info(
+    alloc: Global,
+    scope: &ApiScope,
+    name: &str,
+) -> Result<StreamHandle<()>, GetStreamError>
+    ensures { GivesHandle result scope.now name.now }
+{
+    if let Some(kind) = get_refusal(name) {
+        return Err(Error::new(kind));
+    }
+    match bare_handle(alloc, scope, name) {
+        Ok(handle) => Ok(handle),
+        Err(OutOfMemory) => Err(Error::new(GetStreamErrorKind::OutOfMemory)),
+    }
+}

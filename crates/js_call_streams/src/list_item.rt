@@ -1,0 +1,56 @@
+//! What is listed page by page.
+ghost use Rattle.std.specs.Prelude.{◌≡◌, string_bytes};
+ghost use Rattle.js_json_members.specs.Member.{GivesAs};
+ghost use Rattle.js_json_members.specs.Rows.{text_of};
+ghost use Rattle.js_call_streams.specs.Page.{Lists, names_list, infos_list};
+
+use js_base::Text;
+use js_json_members::{Member, ReadError, ToValue};
+use js_json_streams::stream::{Info, ListRequest, NamesRequest};
+use std::alloc::Global;
+
+/// An item of a list of the API.
+pub trait ListItem: Member {
+    ghost list: { Lists };
+
+    /// The words of the request for a page.
+    fn words() -> &'static str
+        ensures { result.now ≡ list.words };
+
+    /// The body of the request for the page that begins at an offset.
+    fn request_text(alloc: Global, offset: u64) -> Result<String, ReadError>
+        ensures { GivesAs string_bytes result (text_of (list.request offset)) };
+}
+
+/// The names of all streams.
+impl ListItem for Text {
+    ghost list = { names_list };
+
+    fn words() -> &'static str {
+        "STREAM.NAMES"
+    }
+
+    fn request_text(alloc: Global, offset: u64) -> Result<String, ReadError> {
+        let request = NamesRequest {
+            offset,
+            subject: None,
+        };
+        let text = request.to_text(alloc);
+        drop(request);
+        text
+    }
+}
+
+/// What the server knows of all streams.
+impl ListItem for Info {
+    ghost list = { infos_list };
+
+    fn words() -> &'static str {
+        "STREAM.LIST"
+    }
+
+    fn request_text(alloc: Global, offset: u64) -> Result<String, ReadError> {
+        let request = ListRequest { offset };
+        request.to_text(alloc)
+    }
+}

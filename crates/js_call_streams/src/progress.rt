@@ -1,0 +1,57 @@
+//! How far a list has come.
+ghost use Rattle.std.specs.Prelude.{◌≡◌};
+ghost use Rattle.js_call_streams.specs.Listing.{loaded, HandsOut, fresh_progress};
+
+use crate::list_error::StreamsError;
+use crate::rest::Rest;
+use js_base::Next;
+use js_json_streams::stream::Page;
+use std::alloc::Global;
+
+/// What was received and not handed out, and where the next page begins.
+#[derive(Drop)]
+pub struct Progress<T> {
+    pub(crate) rest: Rest<T>,
+    pub(crate) offset: u64,
+    /// Whether the last page has come.
+    pub(crate) is_last: bool,
+}
+
+impl<T> Progress<T> {
+    /// Before the first page.
+    pub(crate) fn new(alloc: Global) -> Progress<T>
+        ensures { result ≡ fresh_progress }
+    {
+        Progress {
+            rest: Rest::new(alloc),
+            offset: 0,
+            is_last: false,
+        }
+    }
+}
+
+impl<T: Drop> Progress<T> {
+    /// A page has come.
+    pub(crate) fn load(&mut self, alloc: Global, page: Page<T>)
+        ensures { self.new ≡ loaded page self.old }
+    {
+        let Page { total, streams } = page;
+        let rest = Rest::of_page(alloc, streams);
+        let offset = self.offset.saturating_add(rest.len());
+        *self = Progress {
+            rest,
+            offset,
+            is_last: offset >= total,
+        };
+    }
+
+    /// Hands out the last item that is left.
+    pub(crate) fn hand_out(&mut self) -> Next<Result<T, StreamsError>>
+        ensures { HandsOut result self.old self.new }
+    {
+        match self.rest.pop() {
+            Some(item) => Next::Item(Ok(item)),
+            None => Next::End,
+        }
+    }
+}

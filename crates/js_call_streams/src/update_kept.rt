@@ -1,0 +1,166 @@
+//! The call that changes a stream, and keeps what its configuration type does not name.
+ghost use Rattle.std.specs.Prelude.{◌≡◌, false, IfOk};
+ghost use Rattle.serde_json.specs.View.{view};
+ghost use Rattle.serde_json.specs.Written.{compact_text};
+ghost use Rattle.js_call_streams.specs.Overlay.{is_same, over as over_in};
+ghost use Rattle.js_call_streams.specs.UpdateKept.{SentBy, KeepsIn, SendsKept, AsksKeeping, UpdatesKeeping, SendsBack};
+
+use crate::create::body_of;
+use crate::handle::StreamHandle;
+use crate::kept::Kept;
+use crate::overlay::{is_same, over};
+use crate::update::{UpdateStream, updating_row};
+use bytes::Bytes;
+use js_base::{OutOfMemory, both};
+use js_call::{ApiScope, Call, RawCall};
+use js_json_members::{ToValue, has_float};
+use js_json_streams::stream::{Config, Info};
+use serde_json::Value;
+use std::alloc::Global;
+
+// The text of what is sent. No float was read and none is written, so what is refused here is want of memory.
+fn text_body(alloc: Global, sent: &Value) -> Result<Bytes, OutOfMemory>
+    ensures { IfOk result (λ body. body ≡ compact_text (view sent.now)) }
+{
+    if has_float(sent) {
+        return Err(OutOfMemory);
+    }
+    Ok(Bytes::from_string(sent.to_string(alloc)?)?)
+}
+
+fn body_over(
+    alloc: Global,
+    kept: &Value,
+    before: &Value,
+    after: &Value,
+) -> Result<Bytes, OutOfMemory>
+    ensures { IfOk result (λ body. body ≡ compact_text (over_in (view kept.now) (view before.now) (view after.now))) }
+{
+    let sent = over(alloc, kept, before, after)?;
+    let body = text_body(alloc, &sent);
+    drop(sent);
+    body
+}
+
+// What is written now, over what was kept.
+fn written_body(
+    alloc: Global,
+    kept: &Kept,
+    before: &Value,
+    after: &Value,
+) -> Result<Bytes, OutOfMemory>
+    ensures { IfOk result (λ body. SentBy false kept.now.text (view before.now) (view after.now) body) }
+{
+    // What was written reads, so what is refused here is want of memory.
+    match Value::from_str(alloc, kept.as_str()) {
+        Ok(kept) => {
+            let body = body_over(alloc, &kept, before, after);
+            drop(kept);
+            body
+        }
+        Err(_) => Err(OutOfMemory),
+    }
+}
+
+// What was kept, where the configuration is written as before, and else what is written now over it.
+fn sent_body(
+    alloc: Global,
+    kept: &Kept,
+    before: &Value,
+    after: &Value,
+) -> Result<Bytes, OutOfMemory>
+    ensures { IfOk result (λ body.
+        SentBy (is_same (view before.now) (view after.now)) kept.now.text (view before.now) (view after.now) body) }
+{
+    if is_same(alloc, before, after)? {
+        Ok(Bytes::copy_from_slice(alloc, kept.as_str().as_bytes())?)
+    } else {
+        written_body(alloc, kept, before, after)
+    }
+}
+
+// The body of an update to that configuration. Each configuration has a text, so what is refused here is want of memory.
+#[tactic(auto, using(crate::proofs::KeptAsRead::keeps_in))]
+fn keeping_body(
+    alloc: Global,
+    kept: &Kept,
+    read: &Config,
+    config: &Config,
+) -> Result<Bytes, OutOfMemory>
+    ensures { IfOk result (λ body. KeepsIn kept.now.text read.now config.now body) }
+{
+    match both(read.to_value(alloc), config.to_value(alloc)) {
+        Ok((before, after)) => {
+            let body = sent_body(alloc, kept, &before, &after);
+            drop(before);
+            drop(after);
+            body
+        }
+        Err(_) => Err(OutOfMemory),
+    }
+}
+
+// The same for a handle: one that kept nothing asks with the configuration alone.
+fn body_for(
+    alloc: Global,
+    handle: &StreamHandle<Info>,
+    config: &Config,
+) -> Result<Bytes, OutOfMemory>
+    ensures { IfOk result (λ body. SendsKept handle.now.kept handle.now.info.config config.now body) }
+{
+    match &handle.kept {
+        None => body_of(alloc, config),
+        Some(kept) => keeping_body(alloc, kept, &handle.info.config, config),
+    }
+}
+
+// The request that writes the configuration over what the handle kept.
+fn update_request(
+    alloc: Global,
+    scope: &ApiScope,
+    handle: &StreamHandle<Info>,
+    config: &Config,
+) -> Result<RawCall, OutOfMemory>
+    ensures { IfOk result (λ asked. AsksKeeping scope.now handle.now config.now asked) }
+{
+    let body = body_for(alloc, handle, config)?;
+    scope.ask_named(alloc, "STREAM.UPDATE", config.name.as_str(), body)
+}
+
+fn update_call(
+    alloc: Global,
+    scope: &ApiScope,
+    handle: &StreamHandle<Info>,
+    config: &Config,
+) -> Result<UpdateStream, OutOfMemory>
+    ensures { IfOk result (λ call. UpdatesKeeping scope.now handle.now config.now call) }
+{
+    let asked = update_request(alloc, scope, handle, config);
+    let (row, asked) = both(updating_row(config), asked)?;
+    Ok(Call::new(row, asked))
+}
+
+/// Changes a stream to that configuration, and keeps what the server had sent besides to the handle that `get_stream` gave.
+///
+/// Written are the members of `Config` over those that were read, also inside a mirror, an external, a placement and a republish.
+/// A member that is no longer written is taken out, and what `Config` does not name goes back as it came. A list, as
+/// that of the sources, is written as a whole. Where nothing was changed, what was read goes back with each of its members and each of
+/// their values. A handle of another call has kept nothing, and this is then `update_stream`.
+///
+/// The scope is to be that of the handle: the stream of that name in another one gets what was read here. What was changed
+/// on the server since the handle was made is overwritten.
+///
+/// The refusals are those of `update_stream`.
+#[tactic(auto, using(crate::proofs::KeptAsRead::unchanged_call))]
+pub fn update_stream_keeping(
+    alloc: Global,
+    scope: &ApiScope,
+    handle: &StreamHandle<Info>,
+    config: &Config,
+) -> Result<UpdateStream, OutOfMemory>
+    ensures written { IfOk result (λ call. UpdatesKeeping scope.now handle.now config.now call) }
+    ensures unchanged { handle.now.info.config ≡ config.now
+        → IfOk result (λ call. SendsBack scope.now handle.now config.now call) }
+{
+    update_call(alloc, scope, handle, config)
+}

@@ -1,4 +1,0 @@
-use Rattle.js_consumer_calls.proofs.delete.delete_consumer_from_stream.Goals as goal
-
-pub returns : goal.returns
-returns c = rw c.in_ok-row.ensures at c.call_on.ensures

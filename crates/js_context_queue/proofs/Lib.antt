@@ -1,0 +1,6 @@
+pub mod Counts
+pub mod AwaitedAcks
+pub mod Rounds
+pub mod StepRuns
+pub mod Sleep
+pub mod NoPermit

@@ -1,0 +1,9 @@
+pub mod SendAttempt
+pub mod InFlight
+pub mod Queue
+pub mod Wakes
+pub mod Steps
+pub mod LeftAlone
+pub mod QueuePoll
+pub mod AnswerOutcome
+pub mod Confirm

@@ -1,0 +1,43 @@
+//! One try to send a message.
+ghost use Rattle.js_link.specs.LinkView.{LinkView};
+ghost use Rattle.js_context_queue.specs.SendAttempt.{GetsNoneIfFull, Tries};
+
+use js_base::Error;
+use js_context::{Attempt, Context, PublishAckFuture, PublishError, PublishErrorKind};
+use js_link::{Link, LinkError};
+use js_message::OutboundMessage;
+use std::alloc::Global;
+use std::sync::Wait;
+
+/// What a try to send a message came to.
+pub(crate) enum SendResult {
+    /// It was sent.
+    Went(PublishAckFuture),
+    /// It was not sent, and a later try may send it.
+    Stays(PublishErrorKind),
+    /// It can't be sent.
+    Fails(PublishError),
+    /// Memory ran out, and it was not sent.
+    NoMemory,
+}
+
+/// Tries to send a message, which is kept for a later try.
+pub(crate) fn try_to_send<R: Wait, L: Link>(
+    message: &OutboundMessage,
+    rt: &R,
+    alloc: Global,
+    context: &mut Context,
+    link: &mut L,
+) -> SendResult
+    ensures tries { Tries message.now result context.old context.new (L.view link.old) (L.view link.new) }
+    ensures full { GetsNoneIfFull message.now result context.old context.new (L.view link.old) (L.view link.new) }
+{
+    match js_context::try_to_send(message, rt, alloc, context, link) {
+        Attempt::Went(future) => SendResult::Went(future),
+        Attempt::Full => SendResult::Stays(PublishErrorKind::MaxAckPending),
+        Attempt::Barred(kind) => SendResult::Fails(Error::new(kind)),
+        Attempt::NoRoom => SendResult::NoMemory,
+        Attempt::Unsent(LinkError::Failed) => SendResult::Stays(PublishErrorKind::Other),
+        Attempt::Unsent(LinkError::OutOfMemory) => SendResult::NoMemory,
+    }
+}

@@ -1,9 +1,0 @@
-mod Answering
-mod Coming
-mod Going
-mod Punctually
-mod Runs
-mod Standings
-mod Turning
-mod Validly
-mod Worked

@@ -1,9 +1,0 @@
-use Rattle.std.proofs.Common.{ℕ, List}
-use Rattle.js_follow.specs.Followed.{IsAt}
-use Rattle.js_follow.specs.Turns.{Dialogue}
-use Rattle.js_follow.proofs.conversation.listen.Given as goal
-
-abbrev pub invariant-loop : goal.invariant-loop
-invariant-loop g l =
-    (from : Dialogue) → (told : List (List ℕ)) → IsAt from (g.P.Peer.view l.initial.peer) told l.initial.lines.left l.initial.listener
-    → (now : List (List ℕ)) × IsAt from (g.P.Peer.view l.peer) now l.lines.left l.listener

@@ -1,5 +1,0 @@
-use Rattle.js_follow.proofs.Going.{whole_before_error}
-use Rattle.js_follow.proofs.say.say.Goals as goal
-
-pub returns-clause-err : goal.returns-clause-err
-returns-clause-err g c = whole_before_error _ _ _ _ c.args.text.now c.in_ok-write_all.ensures.ok c.flush.ensures.taken

@@ -1,7 +1,0 @@
-use Rattle.std.proofs.Common.{◌≡◌, ◌++◌, length, take}
-use Rattle.js_table.specs.Gapless.{joined}
-use Rattle.js_generate.specs.Counts.{counts}
-use Rattle.js_generate.proofs.summary.summary_of.Given as goal
-
-abbrev pub invariant-loop-step : goal.invariant-loop-step
-invariant-loop-step l = l.summary ≡ counts (length l.steps) (l.run.opening.outputs ++ joined (take l.step-index l.steps))

@@ -1,4 +1,0 @@
-pub mod Episodes
-pub mod Transcript
-pub mod Honesty
-pub mod Counts

@@ -1,0 +1,99 @@
+//! Why a value could not be read.
+
+ghost use Rattle.std.specs.Prelude.{◌≡◌};
+ghost use Rattle.js_json_members.specs.Error.{message_of, key_of};
+ghost use Rattle.js_json_members.specs.declared.error.ReadError.TheVariants.{OutOfMemory as memory};
+
+use crate::key::Key;
+use std::alloc::{AllocError, AllocFailed};
+use std::{error, fmt};
+
+/// Why a JSON value is not read as a type, or a value not written as JSON.
+#[derive(Clone, Copy, Debug, PartialEq, Eq)]
+pub enum ReadError {
+    /// A required key is absent.
+    Missing { key: Key },
+    /// The value of the key has another JSON kind.
+    WrongKind { key: Key },
+    /// A number or a text is not a value of the type, or an instant has no text.
+    OutOfRange { key: Key },
+    /// A number that is neither an `i64` nor a `u64` stands in the value.
+    Float,
+    /// The bytes are no JSON.
+    NotJson,
+    /// Memory ran out.
+    OutOfMemory,
+}
+
+impl ReadError {
+    // What is wrong, without the key.
+    fn message(self) -> &'static str
+        ensures { result.now ≡ message_of self }
+    {
+        match self {
+            ReadError::Missing { .. } => "missing",
+            ReadError::WrongKind { .. } => "of the wrong kind",
+            ReadError::OutOfRange { .. } => "out of range",
+            ReadError::Float => "a number is no 64-bit integer",
+            ReadError::NotJson => "not JSON",
+            ReadError::OutOfMemory => "out of memory",
+        }
+    }
+
+    /// The key that it names.
+    pub fn key(self) -> Option<Key>
+        ensures { result ≡ key_of self }
+    {
+        match self {
+            ReadError::Missing { key }
+            | ReadError::WrongKind { key }
+            | ReadError::OutOfRange { key } => Some(key),
+            ReadError::Float | ReadError::NotJson | ReadError::OutOfMemory => None,
+        }
+    }
+}
+
+/// The key, if it names one, and what is wrong.
+impl fmt::Display for ReadError {
+    ghost use Rattle.std.specs.Prelude.{Some};
+    ghost use Rattle.js_json_members.specs.Error.{error_text};
+
+    ghost output = { λ e. Some (error_text e) };
+
+    fn fmt<W: fmt::Write>(&self, f: &mut fmt::Formatter<W>) -> fmt::Result {
+        let message = self.message();
+        match self.key() {
+            None => write!(f, "{message}"),
+            Some(key) => {
+                let name = key.name();
+                write!(f, "{name}: {message}")
+            }
+        }
+    }
+}
+
+impl error::Error for ReadError {}
+
+impl From<AllocError> for ReadError {
+    ghost from_gives = { λ _ e. e ≡ memory };
+
+    fn from(_e: AllocError) -> ReadError {
+        ReadError::OutOfMemory
+    }
+}
+
+impl<T: Drop> From<AllocFailed<T>> for ReadError {
+    ghost from_gives = { λ _ e. e ≡ memory };
+
+    fn from(_e: AllocFailed<T>) -> ReadError {
+        ReadError::OutOfMemory
+    }
+}
+
+impl From<js_base::OutOfMemory> for ReadError {
+    ghost from_gives = { λ _ e. e ≡ memory };
+
+    fn from(_e: js_base::OutOfMemory) -> ReadError {
+        ReadError::OutOfMemory
+    }
+}

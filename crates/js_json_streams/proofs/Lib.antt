@@ -1,0 +1,3 @@
+mod MemberRoundTrip
+mod Parts
+mod ConfigRoundTrip

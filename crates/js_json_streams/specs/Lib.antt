@@ -1,0 +1,14 @@
+pub mod RetentionPolicy
+pub mod StorageType
+pub mod DiscardPolicy
+pub mod Compression
+pub mod Republish
+pub mod External
+pub mod Source
+pub mod Placement
+pub mod StreamConfig
+pub mod State
+pub mod StreamInfo
+pub mod DeleteStatus
+pub mod Page
+pub mod RoundTrip

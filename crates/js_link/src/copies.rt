@@ -1,0 +1,44 @@
+//! Copies of what a link is handed to send.
+ghost use Rattle.std.specs.Prelude.{◌≡◌, IfOk};
+ghost use Rattle.std.specs.Option.{option_copied};
+
+use bytes::Bytes;
+use js_base::{HeaderMap, OutOfMemory, Subject, Text, TryClone};
+use std::alloc::Global;
+
+/// A copy of headers, where there are any.
+pub fn copy_headers(headers: Option<&HeaderMap>) -> Result<Option<HeaderMap>, OutOfMemory>
+    ensures { IfOk result (λ copy. copy ≡ option_copied headers.entry) }
+{
+    match headers {
+        Some(headers) => Ok(Some(headers.try_clone()?)),
+        None => Ok(None),
+    }
+}
+
+/// A subject of a text, where there is one.
+pub fn copy_subject(alloc: Global, text: Option<&str>) -> Result<Option<Subject>, OutOfMemory>
+    ensures { IfOk result (λ copy. copy ≡ option_copied text.entry) }
+{
+    match text {
+        Some(text) => Ok(Some(Subject::new(alloc, text)?)),
+        None => Ok(None),
+    }
+}
+
+/// A copy of a text, where there is one.
+pub fn copy_text(alloc: Global, text: Option<&str>) -> Result<Option<Text>, OutOfMemory>
+    ensures { IfOk result (λ copy. copy ≡ option_copied text.entry) }
+{
+    match text {
+        Some(text) => Ok(Some(Text::from_str(alloc, text)?)),
+        None => Ok(None),
+    }
+}
+
+/// A copy of a body.
+pub fn copy_payload(alloc: Global, payload: &[u8]) -> Result<Bytes, OutOfMemory>
+    ensures { IfOk result (λ copy. copy ≡ payload.now) }
+{
+    Ok(Bytes::copy_from_slice(alloc, payload)?)
+}

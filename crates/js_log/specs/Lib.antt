@@ -1,0 +1,15 @@
+pub mod LatestEntries
+pub mod RunProjection
+pub mod LogTable
+pub mod WorkedRuns
+pub mod Events
+pub mod RelayReader
+pub mod LogCopy
+pub mod Projection
+pub mod ProjectionPlaces
+pub mod ProjectionCauses
+pub mod Mirror
+pub mod MirrorHoles
+pub mod MirrorMerge
+pub mod MirrorJoin
+pub mod MirrorCauses

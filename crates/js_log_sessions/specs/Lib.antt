@@ -1,0 +1,5 @@
+pub mod Bookmark
+pub mod Runs
+pub mod GaplessSessions
+pub mod SessionReplay
+pub mod Error

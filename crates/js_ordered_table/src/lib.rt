@@ -1,0 +1,43 @@
+//! The ordered consumer as a table: what it is made of, what each event does to it, row by row, and what is proved of every run.
+//!
+//! An ordered consumer reads a stream in order. Where a message is missing, its heartbeats stop or the server has lost it, it is
+//! made anew behind the last message that it handed out. The table in `specs/` is its whole behaviour: a row takes the consumer and
+//! what happened, and answers the consumer after it, what it puts out, and the rows that follow at once. What is proved of the
+//! table holds for whoever follows it: where the server is honest, what is handed out has no gap; the consumer numbers of one inbox
+//! are 1, 2, 3 and so on; and each step makes the consumer anew at most once.
+//!
+//! The module [`transitions`] has the rows as code, one function each. A function is told what its row met, takes no memory and
+//! always succeeds. The replay (js_ordered) and the polled readers (js_ordered_stream) pass the same functions. In `specs/` and
+//! `proofs/` stands also what a polled reader does with them, in one poll and in all polls from its opening on.
+//! [`worked_runs_leave_no_gap`] is a law: worked runs meet the premises and the conclusion of the theorem on gaps.
+#![tactic(auto)]
+
+mod answer;
+mod consumer;
+mod event;
+mod event_context;
+mod kind;
+mod ordered_core;
+mod place;
+mod refusal;
+mod replay_state;
+mod row;
+mod run;
+mod setup;
+pub mod texts;
+pub mod transitions;
+mod worked;
+
+pub use answer::{Change, RequestOutcome, change_of};
+pub use consumer::{Consumer, Opened, Phase, Recreation, ReplayInput, Stage};
+pub use event::{Event, EventKind};
+pub use event_context::EventContext;
+pub use kind::{PushKind, push_kind};
+pub use ordered_core::{AtEnd, OrderedCore};
+pub use place::{Place, place_of, yield_of};
+pub use refusal::refuse_input;
+pub use replay_state::{ReplayState, next_number};
+pub use row::{Arrival, Row};
+pub use run::{Field, ItemKind, Output, ReplayError, Run, Start, Step};
+pub use setup::{OrderedSetup, Settings};
+pub use worked::worked_runs_leave_no_gap;

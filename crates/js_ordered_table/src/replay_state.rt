@@ -1,0 +1,40 @@
+//! A consumer beside the link of a replay.
+ghost use Rattle.std.specs.Prelude.{◌≡◌, ◌+◌, IfOk};
+
+use crate::consumer::{Consumer, Phase};
+use js_base::{OutOfMemory, replace_with};
+
+/// A consumer beside the link of a replay.
+#[derive(Drop)]
+pub struct ReplayState {
+    pub consumer: Consumer,
+    /// Sends go through.
+    pub link_up: bool,
+    /// The requests so far.
+    pub requests_sent: u64,
+    /// The inboxes so far.
+    pub inboxes_opened: u64,
+}
+
+/// The number after this one.
+///
+/// What is numbered mostly stands among the outputs, so memory ends long before the numbers do.
+pub fn next_number(number: u64) -> Result<u64, OutOfMemory>
+    ensures { IfOk result (λ next. next ≡ number + 1) }
+{
+    match number.checked_add(1) {
+        Some(next) => Ok(next),
+        None => Err(OutOfMemory),
+    }
+}
+
+impl ReplayState {
+    ghost use Rattle.js_ordered_table.specs.Passes.{at};
+
+    /// The consumer is at this phase from now on.
+    pub fn set_phase(&mut self, phase: Phase)
+        ensures { self.new ≡ at phase self.old }
+    {
+        replace_with(&mut self.consumer.phase, phase);
+    }
+}

@@ -1,0 +1,10 @@
+//! The rows of an ordered consumer, in code: each is one function that knows no link and takes no memory. A replay passes them with what its events
+//! bring, a polled reader with what its link answers.
+
+pub mod event;
+pub mod pull;
+pub mod push;
+pub mod recreation;
+mod task;
+
+pub use task::{Heard, Held, Inbox, NextTasks, PassedTask, RowOutput, Task};

@@ -1,0 +1,199 @@
+//! The rows of a pull reader, and what the consumer makes of what its reader tells.
+ghost use Rattle.std.specs.Prelude.{ℕ, ◌≡◌, [], false, None, Option, map};
+ghost use Rattle.js_base.specs.declared.message.Message.{Message as SpecMessage};
+ghost use Rattle.js_json.specs.declared.consumer.info.Info.{Info as SpecInfo};
+ghost use Rattle.js_link.specs.RowInput.{RowInput};
+ghost use Rattle.js_pull.specs.Rows.{ReadsTo, brought, informed_by, rows_with, told_shown};
+ghost use Rattle.js_ordered_table.specs.Tasks.{IsOfStream, StepsTo, at_moment, heard_outputs, heard_row, next_rows, reader_rows, requesting, told_outputs};
+ghost use Rattle.js_pull.specs.Reader as reads;
+ghost use Rattle.js_pull.specs.declared.reader.Row.TheVariants as read;
+ghost use Rattle.js_pull.specs.declared.reader.ReaderOutput.TheVariants as telling;
+ghost use Rattle.js_ordered_table.specs.Arrivals.{told as told_by, with_sent};
+ghost use Rattle.js_ordered_table.specs.Consumer.{Matter, at_phase};
+ghost use Rattle.js_ordered_table.specs.declared.row.Row.TheVariants as row;
+
+use crate::transitions::event;
+use crate::transitions::recreation::set_phase;
+use crate::transitions::task::{Heard, NextTasks, PassedTask, RowOutput, Task};
+use crate::{Consumer, ItemKind, Phase};
+use js_base::{Moment, State};
+use js_pull::{Due, DueRows, MessagesErrorKind, Notice, PassedRow as Read, Reader, Reason};
+
+// ---- rows
+
+// The reader's rows that are left of an event.
+#[inline]
+fn tasks_of(todo: DueRows) -> NextTasks
+    ensures { (m : Matter) → next_rows m result ≡ map row.Read (rows_with (brought m.answer) (brought m.answer) todo) }
+{
+    match todo {
+        DueRows::Nothing => NextTasks::Nothing,
+        DueRows::One(due) => NextTasks::One(Task::Read(due)),
+        DueRows::Two(due, later) => NextTasks::Two(Task::Read(due), Task::Read(later)),
+    }
+}
+
+/// What an event does first, with the connection's change.
+#[inline]
+pub fn begin(reader: &mut Reader, now: Moment, change: Option<State>) -> NextTasks
+    ensures reader { (p : RowInput) → reader.new ≡ (reads.begin_row (at_moment now p) change reader.old).reader }
+    ensures next { (m : Matter) → (p : RowInput) → next_rows m result ≡ map row.Read (reads.begin_row (at_moment now p) change reader.old).next }
+{
+    tasks_of(reader.begin(now, change))
+}
+
+/// A pull request has gone out, or was refused, of which the user is told. The expiry is armed in both cases.
+pub fn ask(reader: &mut Reader, now: Moment, reason: Reason, goes_out: bool) -> Read
+    ensures { (p : RowInput) → (reply : Option SpecMessage) → (message : Option SpecMessage)
+        → ReadsTo reply message (reads.ask (record p { now = now; up = goes_out }) reason reader.old) reader.new result }
+{
+    reader.pass_ask(now, reason, goes_out)
+}
+
+/// Where little is pending a request follows.
+pub fn threshold(reader: &mut Reader) -> Read
+    ensures { (reply : Option SpecMessage) → (message : Option SpecMessage) → ReadsTo reply message (reads.threshold reader.old) reader.new result }
+{
+    reader.pass_threshold()
+}
+
+/// The info was asked for, under this number, or the request was refused.
+pub fn inquire(reader: &mut Reader, now: Moment, failures: u64, request: Option<u64>) -> Read
+    ensures { (p : RowInput) → (reply : Option SpecMessage) → (message : Option SpecMessage)
+        → ReadsTo reply message (reads.inquire (requesting now request p) failures reader.old) reader.new result }
+{
+    reader.pass_inquire(now, failures, request)
+}
+
+/// A try failed: the next one waits, and after the sixth the user is told.
+pub fn fail_inquiry(reader: &mut Reader, now: Moment, failures: u64) -> Read
+    ensures { (p : RowInput) → (reply : Option SpecMessage) → (message : Option SpecMessage)
+        → ReadsTo reply message (reads.fail_inquiry (at_moment now p) failures reader.old) reader.new result }
+{
+    reader.pass_fail_inquiry(now, failures)
+}
+
+/// The answer was read.
+pub fn answered(reader: &mut Reader, failures: u64, informed: Option<Reason>) -> Read
+    ensures { (reply : Option SpecMessage) → (message : Option SpecMessage) → informed ≡ informed_by (reads.info_of_reply reply)
+        → ReadsTo reply message (reads.answered failures (reads.info_of_reply reply) reader.old) reader.new result }
+{
+    reader.pass_answered(failures, informed)
+}
+
+/// After a request has expired another one follows.
+#[inline]
+pub fn check_expiry(reader: &mut Reader, now: Moment) -> Read
+    ensures { (p : RowInput) → (reply : Option SpecMessage) → (message : Option SpecMessage)
+        → ReadsTo reply message (reads.row (at_moment now p) None None read.CheckExpiry reader.old) reader.new result }
+{
+    reader.pass_check_expiry(now)
+}
+
+/// A missing heartbeat is told, and armed anew.
+#[inline]
+pub fn check_silence(reader: &mut Reader, now: Moment) -> Read
+    ensures { (p : RowInput) → (reply : Option SpecMessage) → (message : Option SpecMessage)
+        → ReadsTo reply message (reads.check_silence (at_moment now p) reader.old) reader.new result }
+{
+    reader.pass_check_silence(now)
+}
+
+// ---- what the consumer makes of what its reader tells
+
+/// The reader's row follows.
+#[inline]
+pub fn after(due: Option<Due>) -> NextTasks
+    ensures { (m : Matter) → next_rows m result ≡ reader_rows m due }
+{
+    match due {
+        None => NextTasks::Nothing,
+        Some(due) => NextTasks::One(Task::Read(due)),
+    }
+}
+
+// An item is told, and the reader goes on.
+fn puts(kind: ItemKind, due: Option<Due>) -> PassedTask
+    ensures told { result.told ≡ RowOutput.Tells kind }
+    ensures next { (m : Matter) → next_rows m result.next ≡ reader_rows m due }
+{
+    PassedTask {
+        told: RowOutput::Tells(kind),
+        next: after(due),
+    }
+}
+
+// A recreation starts: the reader's rows fall away.
+fn restarts() -> PassedTask
+    ensures { result ≡ record { told = RowOutput.Nothing; next = NextTasks.One Task.Start } }
+{
+    event::silent_row(NextTasks::One(Task::Start))
+}
+
+// The consumer has ended with an item.
+fn ends(consumer: &mut Consumer, kind: ItemKind, due: Option<Due>) -> PassedTask
+    ensures consumer { consumer.new ≡ at_phase Phase.Ended consumer.old }
+    ensures told { result.told ≡ RowOutput.Tells kind }
+    ensures next { (m : Matter) → next_rows m result.next ≡ reader_rows m due }
+{
+    set_phase(consumer, Phase::Ended);
+    puts(kind, due)
+}
+
+// An error that the reader tells is an item, a recreation, or a mark.
+fn take_error(consumer: &mut Consumer, kind: MessagesErrorKind, due: Option<Due>) -> PassedTask
+    ensures { (m : Matter) → StepsTo m (with_sent [] (reader_rows m due) (told_by (telling.Tells kind) consumer.old)) (told_outputs result.told) consumer.new result.next }
+{
+    match kind {
+        MessagesErrorKind::ConsumerDeleted => restarts(),
+        MessagesErrorKind::NoResponders => restarts(),
+        MessagesErrorKind::PushBasedConsumer => { ends(consumer, ItemKind::PushBasedConsumer, due) }
+        MessagesErrorKind::RequestLimitExceeded => {
+            if consumer.limited {
+                return ends(consumer, ItemKind::RequestLimitExceeded, due);
+            }
+            consumer.limited = true;
+            restarts()
+        }
+        MessagesErrorKind::MissingHeartbeat => {
+            if consumer.missed {
+                return restarts();
+            }
+            consumer.missed = true;
+            event::silent_row(after(due))
+        }
+        MessagesErrorKind::Pull => puts(ItemKind::Pull, due),
+        MessagesErrorKind::Other => puts(ItemKind::Other, due),
+    }
+}
+
+/// What the reader tells without a message.
+pub fn take_notice(consumer: &mut Consumer, notice: Notice, due: Option<Due>) -> PassedTask
+    ensures { (m : Matter) → StepsTo m (with_sent [] (reader_rows m due) (told_by (told_shown notice None) consumer.old)) (told_outputs result.told) consumer.new result.next }
+{
+    match notice {
+        Notice::Nothing => event::silent_row(after(due)),
+        Notice::Hands => event::silent_row(after(due)),
+        Notice::Tells(kind) => take_error(consumer, kind, due),
+    }
+}
+
+/// A message that the reader hands out is yielded where it is the consumer's next one, is told, or shows a gap.
+#[inline]
+pub fn take_message(consumer: &mut Consumer, heard: Heard, due: Option<Due>) -> NextTasks
+    requires { IsOfStream heard }
+    ensures { (m : Matter) → (p : RowInput) → (message : SpecMessage)
+        → StepsTo m (with_sent [] (reader_rows m due) (heard_row p message heard (record consumer.old { missed = false }))) (heard_outputs p.up message heard) consumer.new result }
+{
+    consumer.missed = false;
+    match heard {
+        Heard::Yields(place) => {
+            consumer.accept(place);
+            after(due)
+        }
+        Heard::Gap => NextTasks::One(Task::Start),
+        Heard::Unreadable => after(due),
+        Heard::Beat(_) => NextTasks::Nothing,
+        Heard::OtherStatus => NextTasks::Nothing,
+    }
+}

@@ -1,0 +1,399 @@
+//! The rows of a recreation: the old consumer is deleted, and a new one is made that goes on after the last yield.
+ghost use Rattle.std.specs.Prelude.{ℕ, ◌≡◌, ◌<◌, ◌+◌, [], ◌∷◌, codes, is_some, min};
+ghost use Rattle.js_link.specs.RowInput.{RowInput};
+ghost use Rattle.js_ordered_table.specs.Tasks.{IsAnswered, Listens, StepsTo, at_moment, create_outputs, next_rows, opening_to, requested, requesting, rows_of, subscribed, told_outputs};
+ghost use Rattle.js_pull.specs.Reader.{reply_to, u64_max};
+ghost use Rattle.js_ordered_table.specs.Passes.{input_of, timeout_at, waiting};
+ghost use Rattle.js_ordered_table.specs.Recreation as rows;
+ghost use Rattle.js_ordered_table.specs.Consumer.{Matter, at_phase, silent_row as silent_passed};
+ghost use Rattle.js_ordered_table.specs.Texts as texts_of;
+ghost use Rattle.js_json.specs.declared.consumer.info.Info.{Info as SpecInfo};
+
+use crate::transitions::event::silent_row;
+use crate::transitions::task::{Held, Inbox, NextTasks, PassedTask, RowOutput, Task};
+use crate::{
+    Consumer, EventContext, ItemKind, Opened, OrderedSetup, Phase, Recreation, Stage, texts,
+};
+use js_base::{Boxed, Items, Moment, Text, Timer, replace_with};
+use js_json::consumer::Info;
+use js_pull::{Due, PullSource, Reader, retry_wait};
+use std::alloc::Global;
+use std::mem;
+
+/// The consumer is at this phase from now on.
+pub(crate) fn set_phase(consumer: &mut Consumer, phase: Phase)
+    ensures { consumer.new ≡ record consumer.old { phase = phase } }
+{
+    replace_with(&mut consumer.phase, phase);
+}
+
+// ---- a recreation starts
+
+/// A recreation starts: what is current was dropped, and the first try follows. The name is the next consumer's.
+pub fn pass_start(
+    context: &EventContext<'_>,
+    consumer: &mut Consumer,
+    name: Text,
+    new_name: Text,
+) -> PassedTask
+    requires name { name ≡ texts_of.consumer_name (input_of context.now) (min (consumer.old.core.recreation_count + 1) u64_max) }
+    requires again { new_name ≡ texts_of.consumer_name (input_of context.now) (min (consumer.old.core.recreation_count + 1) u64_max) }
+    ensures { (m : Matter) → StepsTo m (rows.start_row (input_of context.now) consumer.old) (told_outputs result.told) consumer.new result.next }
+{
+    let Ok(start) = consumer.core.restart() else {
+        set_phase(consumer, Phase::Exhausted);
+        return silent_row(NextTasks::Nothing);
+    };
+    let recreation_count = consumer.core.recreation_count;
+    let old_name = mem::replace(&mut consumer.name, name);
+    let recreation = Recreation {
+        old_name,
+        new_name,
+        start,
+        failures: 0,
+        opened: None,
+        stage: Stage::Between,
+    };
+    set_phase(consumer, Phase::Recreates(recreation));
+    PassedTask {
+        told: RowOutput::Recreates {
+            recreation_count,
+            start,
+        },
+        next: NextTasks::One(Task::Try),
+    }
+}
+
+// ---- a try
+
+// The bound on an answer that is waited for from now on.
+fn timeout(context: &EventContext<'_>) -> Timer
+    ensures { result ≡ timeout_at (input_of context.now) context.now.moment }
+{
+    Timer {
+        set: context.moment,
+        wait: texts::recreation_timeout(context.settings),
+    }
+}
+
+/// A try begins: the deletion of the old consumer was asked for with this number, or is passed over.
+pub fn pass_try(
+    context: &EventContext<'_>,
+    consumer: &mut Consumer,
+    mut recreation: Recreation,
+    request: Option<u64>,
+) -> NextTasks
+    ensures { (m : Matter) → (p : RowInput)
+        → StepsTo m (rows.try_row (input_of context.now) (requesting context.now.moment request p) recreation (at_phase (Phase.Recreates recreation) consumer.old))
+        (requested (texts_of.delete_subject (input_of context.now) recreation) (codes "{}") request) consumer.new result }
+{
+    match request {
+        None => {
+            set_phase(consumer, Phase::Recreates(recreation));
+            NextTasks::One(Task::Create)
+        }
+        Some(request) => {
+            recreation.stage = Stage::Deleting {
+                request,
+                timeout: timeout(context),
+            };
+            set_phase(consumer, Phase::Recreates(recreation));
+            NextTasks::Nothing
+        }
+    }
+}
+
+// The arrivals on this inbox are held by the recreation from now on.
+fn hold_on(recreation: &mut Recreation, opened: Option<Opened>)
+    ensures { recreation.new ≡ record recreation.old { opened = opened } }
+{
+    replace_with(&mut recreation.opened, opened);
+}
+
+/// The new consumer is to be asked for. Push has opened its inbox before that, or could not.
+pub fn pass_create(
+    alloc: Global,
+    context: &EventContext<'_>,
+    consumer: &mut Consumer,
+    mut recreation: Recreation,
+    inbox: Option<Inbox>,
+) -> NextTasks
+    ensures { (m : Matter) → (p : RowInput)
+        → StepsTo m (rows.create_row context.now.setup.now (opening_to context.now.moment inbox p) recreation (at_phase (Phase.Recreates recreation) consumer.old))
+        (create_outputs context.now.setup.now inbox) consumer.new result }
+{
+    match context.setup {
+        OrderedSetup::Pull(_) => {
+            drop(inbox);
+            set_phase(consumer, Phase::Recreates(recreation));
+            NextTasks::One(Task::Ask)
+        }
+        OrderedSetup::Push(_) => match inbox {
+            None => {
+                set_phase(consumer, Phase::Recreates(recreation));
+                NextTasks::One(Task::Fail)
+            }
+            Some(Inbox { number, subject }) => {
+                let opened = Opened {
+                    inbox: number,
+                    subject,
+                    held: Items::new(alloc),
+                };
+                hold_on(&mut recreation, Some(opened));
+                set_phase(consumer, Phase::Recreates(recreation));
+                NextTasks::One(Task::Ask)
+            }
+        },
+    }
+}
+
+/// The new consumer was asked for with this number, or could not be.
+pub fn pass_ask(
+    context: &EventContext<'_>,
+    consumer: &mut Consumer,
+    mut recreation: Recreation,
+    request: Option<u64>,
+) -> NextTasks
+    ensures { (m : Matter) → (p : RowInput)
+        → StepsTo m (rows.ask_row (input_of context.now) (requesting context.now.moment request p) recreation (at_phase (Phase.Recreates recreation) consumer.old))
+        (requested (texts_of.create_subject (input_of context.now) recreation) (texts_of.create_body (input_of context.now) recreation) request) consumer.new result }
+{
+    match request {
+        None => {
+            set_phase(consumer, Phase::Recreates(recreation));
+            NextTasks::One(Task::Fail)
+        }
+        Some(request) => {
+            recreation.stage = Stage::Creating {
+                request,
+                timeout: timeout(context),
+            };
+            set_phase(consumer, Phase::Recreates(recreation));
+            NextTasks::Nothing
+        }
+    }
+}
+
+// The recreation waits for its next try, after one more that has failed.
+fn rest(recreation: &mut Recreation, now: Moment)
+    requires { recreation.old.failures < u64.MAX }
+    ensures { recreation.new ≡ waiting now recreation.old }
+{
+    let failures = recreation.failures + 1;
+    recreation.failures = failures;
+    hold_on(recreation, None);
+    recreation.stage = Stage::Waiting {
+        wait: Timer {
+            set: now,
+            wait: retry_wait(failures),
+        },
+    };
+}
+
+/// A try has failed: after more failures than retries an item closes the recreation, otherwise the next try waits.
+pub fn pass_fail(
+    context: &EventContext<'_>,
+    consumer: &mut Consumer,
+    mut recreation: Recreation,
+) -> PassedTask
+    ensures { (m : Matter) → (p : RowInput)
+        → StepsTo m (rows.fail_row (input_of context.now) (at_moment context.now.moment p) recreation (at_phase (Phase.Recreates recreation) consumer.old))
+        (told_outputs result.told) consumer.new result.next }
+{
+    if recreation.failures >= u64::from(context.settings.retries) {
+        drop(recreation);
+        set_phase(consumer, Phase::Idle);
+        return PassedTask {
+            told: RowOutput::Tells(ItemKind::Recreate),
+            next: NextTasks::Nothing,
+        };
+    }
+    rest(&mut recreation, context.moment);
+    set_phase(consumer, Phase::Recreates(recreation));
+    silent_row(NextTasks::Nothing)
+}
+
+// ---- an open recreation
+
+// The deletion looks at its answer before its clock. Either brings the create.
+fn delete_next(context: &EventContext<'_>, timeout: Timer, is_answered: bool) -> NextTasks
+    ensures { (m : Matter) → (p : RowInput) → (request : ℕ) → is_answered ≡ is_some (reply_to request m.answer)
+        → next_rows m result ≡ rows.stage_rows (input_of context.now) (at_moment context.now.moment p) m (Stage.Deleting request timeout) }
+{
+    if is_answered {
+        return NextTasks::One(Task::Create);
+    }
+    if timeout.is_due(context.moment) {
+        return NextTasks::One(Task::Create);
+    }
+    NextTasks::Nothing
+}
+
+// The create looks at its answer before its clock.
+#[tactic(auto, using(std::proofs::lemmas::Grind::common_steps, crate::proofs::PassedRows::create_answered))]
+fn create_next(
+    context: &EventContext<'_>,
+    request: u64,
+    timeout: Timer,
+    is_answered: bool,
+) -> NextTasks
+    ensures { (m : Matter) → (p : RowInput) → is_answered ≡ is_some (reply_to request m.answer)
+        → next_rows m result ≡ rows.stage_rows (input_of context.now) (at_moment context.now.moment p) m (Stage.Creating request timeout) }
+{
+    if is_answered {
+        return NextTasks::One(Task::Answered { request });
+    }
+    if timeout.is_due(context.moment) {
+        return NextTasks::One(Task::Fail);
+    }
+    NextTasks::Nothing
+}
+
+// The next try waits.
+fn wait_next(context: &EventContext<'_>, wait: Timer) -> NextTasks
+    ensures { (m : Matter) → (p : RowInput) → next_rows m result ≡ rows.stage_rows (input_of context.now) (at_moment context.now.moment p) m (Stage.Waiting wait) }
+{
+    if wait.is_due(context.moment) {
+        return NextTasks::One(Task::Try);
+    }
+    NextTasks::Nothing
+}
+
+// What follows where a stage has its answer or not.
+fn stage_next(context: &EventContext<'_>, stage: Stage, is_answered: bool) -> NextTasks
+    ensures { (m : Matter) → (p : RowInput) → IsAnswered m stage is_answered
+        → next_rows m result ≡ rows.stage_rows (input_of context.now) (at_moment context.now.moment p) m stage }
+{
+    match stage {
+        Stage::Between => NextTasks::Nothing,
+        Stage::Deleting { timeout, .. } => delete_next(context, timeout, is_answered),
+        Stage::Creating { request, timeout } => create_next(context, request, timeout, is_answered),
+        Stage::Waiting { wait } => wait_next(context, wait),
+    }
+}
+
+/// An open recreation goes on where what it waits for has come: an answer, or its time.
+pub fn pass_await(
+    context: &EventContext<'_>,
+    consumer: &mut Consumer,
+    recreation: Recreation,
+    is_answered: bool,
+) -> NextTasks
+    ensures { (m : Matter) → (p : RowInput) → IsAnswered m recreation.stage is_answered
+        → StepsTo m (silent_passed (at_phase (Phase.Recreates recreation) consumer.old) (rows.stage_rows (input_of context.now) (at_moment context.now.moment p) m recreation.stage))
+        [] consumer.new result }
+{
+    let next = stage_next(context, recreation.stage, is_answered);
+    set_phase(consumer, Phase::Recreates(recreation));
+    next
+}
+
+// ---- an answer to the create
+
+// Push needs a subject that is delivered to.
+fn has_subject(setup: &OrderedSetup, info: &Info) -> bool
+    ensures { result ≡ rows.has_subject setup.now info.now }
+{
+    match setup {
+        OrderedSetup::Pull(_) => true,
+        OrderedSetup::Push(_) => info.config.deliver_subject.is_some(),
+    }
+}
+
+// A create was answered: well or not.
+fn answered(setup: &OrderedSetup, info: Option<Boxed<Info>>) -> Task
+    ensures { (m : Matter) → rows_of m result ≡ rows.answered setup.now info ∷ [] }
+{
+    match info {
+        None => Task::Fail,
+        Some(info) => {
+            if has_subject(setup, info.get()) {
+                Task::Succeed(info)
+            } else {
+                Task::Fail
+            }
+        }
+    }
+}
+
+/// The reply to a create was read.
+pub fn pass_answered(
+    context: &EventContext<'_>,
+    consumer: &mut Consumer,
+    recreation: Recreation,
+    info: Option<Boxed<Info>>,
+) -> NextTasks
+    ensures { (m : Matter)
+        → StepsTo m (silent_passed (at_phase (Phase.Recreates recreation) consumer.old) (rows.answered context.now.setup.now info ∷ [])) [] consumer.new result }
+{
+    let task = answered(context.setup, info);
+    set_phase(consumer, Phase::Recreates(recreation));
+    NextTasks::One(task)
+}
+
+/// A create was answered well: pull reads the inbox that was opened, or could not be. The source knows no inbox yet.
+pub fn pass_succeed_pull(
+    context: &EventContext<'_>,
+    consumer: &mut Consumer,
+    recreation: Recreation,
+    mut source: PullSource,
+    inbox: Option<Inbox>,
+) -> NextTasks
+    ensures { (m : Matter) → (p : RowInput) → (info : SpecInfo) → source ≡ texts_of.source_of (input_of context.now) consumer.old.core.recreation_count 0 [] info
+        → StepsTo m (rows.succeed_pull (input_of context.now) (opening_to context.now.moment inbox p) info (at_phase (Phase.Recreates recreation) consumer.old))
+        (subscribed inbox) consumer.new result }
+{
+    match inbox {
+        None => {
+            drop(source);
+            set_phase(consumer, Phase::Recreates(recreation));
+            NextTasks::One(Task::Fail)
+        }
+        Some(Inbox { number, subject }) => {
+            drop(recreation);
+            source.inbox = number;
+            source.subject = subject;
+            set_phase(consumer, Phase::Pulls(Reader::new(source)));
+            NextTasks::Two(Task::Read(Due::Threshold), Task::Read(Due::Arm))
+        }
+    }
+}
+
+/// Push's inbox becomes the current one: what was held is heard, and then the heartbeat is armed.
+pub fn pass_succeed_push(
+    context: &EventContext<'_>,
+    consumer: &mut Consumer,
+    mut recreation: Recreation,
+) -> Option<Held>
+    ensures { (p : RowInput)
+        → Listens (rows.succeed_push (at_moment context.now.moment p) recreation.opened (at_phase (Phase.Recreates recreation) consumer.old)) consumer.new result }
+{
+    match recreation.opened.take() {
+        None => {
+            set_phase(consumer, Phase::Recreates(recreation));
+            None
+        }
+        Some(
+            Opened {
+                inbox,
+                held: messages,
+                ..
+            },
+        ) => {
+            let phase = Phase::Pushes {
+                inbox,
+                heartbeat_timer: Timer {
+                    set: context.moment,
+                    wait: 10_000_000_000,
+                },
+            };
+            set_phase(consumer, phase);
+            drop(recreation);
+            Some(Held {
+                inbox,
+                messages,
+                place: 0,
+            })
+        }
+    }
+}

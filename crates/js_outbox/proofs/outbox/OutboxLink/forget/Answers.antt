@@ -1,9 +1,0 @@
-use Rattle.js_outbox.specs.Numbered.{at}
-use Rattle.js_outbox.specs.Outbox.{all_told, numbers_of, outbox_view}
-use Rattle.js_outbox.proofs.Views.{forgets}
-use Rattle.js_outbox.proofs.outbox.OutboxLink.forget.Goals as goal
-
-pub returns-clause-view : goal.returns-clause-view
-returns-clause-view c =
-    let o = c.args.self.now in
-    forgets (outbox_view o) (numbers_of o) o.requests.next c.remove.new.self.next c.args.request.0 (at o.requests) (at c.remove.new.self) (all_told o.outgoing.items) c.remove.ensures.next c.remove.ensures.values

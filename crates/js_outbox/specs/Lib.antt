@@ -1,9 +1,0 @@
-pub mod Numbered
-pub mod Queues
-pub mod Inboxes
-pub mod Requests
-pub mod Numerals
-pub mod Wire
-pub mod Outbox
-pub mod Calls
-pub mod Opening

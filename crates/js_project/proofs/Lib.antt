@@ -1,4 +1,0 @@
-mod Worked
-pub mod Rising
-pub mod Placed
-pub mod Shown

@@ -1,9 +1,0 @@
-pub mod Tries
-pub mod Flights
-pub mod Queue
-pub mod Wakes
-pub mod Steps
-pub mod Rests
-pub mod Polls
-pub mod Told
-pub mod Confirms

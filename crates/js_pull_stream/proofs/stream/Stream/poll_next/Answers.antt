@@ -1,5 +1,0 @@
-use Rattle.js_pull_stream.proofs.Sleeping.{poll_sleeps}
-use Rattle.js_pull_stream.proofs.stream.Stream.poll_next.Goals as goal
-
-pub returns-clause-sleeps : goal.returns-clause-sleeps
-returns-clause-sleeps g c = λ alone. poll_sleeps _ _ _ _ _ _ c.poll.ensures alone

@@ -1,4 +1,0 @@
-pub mod Stream
-pub mod Held
-pub mod Turns
-pub mod Wakes

@@ -1,5 +1,0 @@
-use Rattle.js_reader_calls.proofs.Sourcing.{hands_source_on}
-use Rattle.js_reader_calls.proofs.ordered.push.Ordered.poll_next.Goals as goal
-
-pub returns-in-Item-Err-clause-sources : goal.returns-in-Item-Err-clause-sources
-returns-in-Item-Err-clause-sources g c = hands_source_on _ _ _ _ _ _ _ _ c.in-Item-Err.field-0-is c.in-Item-Err.ensures.sources

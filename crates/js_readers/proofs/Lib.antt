@@ -1,0 +1,5 @@
+pub mod BatchReads
+pub mod BatchCounts
+pub mod DefaultLimits
+mod PushPolls
+mod ErrorSources

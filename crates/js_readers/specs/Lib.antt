@@ -1,0 +1,16 @@
+pub mod PullError
+pub mod Builder
+pub mod PullConsumer
+pub mod PullRequest
+pub mod Stream
+pub mod BatchItem
+pub mod Batch
+pub mod BatchRuns
+pub mod Sequence
+pub mod PullCalls
+pub mod PushError
+pub mod PushRows
+pub mod PushMessages
+pub mod PushCalls
+pub mod OrderedOpening
+pub mod OrderedPolls

@@ -1,0 +1,134 @@
+//! An ordered pull consumer: the call that reads it, and what reads it.
+ghost use Rattle.std.specs.Prelude.{◌≡◌, ◌<◌, ◌^◌, ℕ, IfOk};
+ghost use Rattle.js_base.specs.Clock.{has_come};
+ghost use Rattle.js_json.specs.declared.pull.OrderedConfig.{OrderedConfig};
+ghost use Rattle.js_link.specs.Meets.{Meets};
+ghost use Rattle.js_call_consumers.specs.declared.consumer.Consumer.{Consumer};
+ghost use Rattle.js_ordered_stream.specs.Inbox.{ClosesInbox, inbox_of};
+ghost use Rattle.js_ordered_stream.specs.Opening.{IsGaplessPull, input_of_pull, position_of_pull};
+ghost use Rattle.js_ordered_stream.specs.Ordered.{IsGivenKind};
+ghost use Rattle.js_ordered_table.specs.Poll.{IsPoll};
+ghost use Rattle.js_ordered_table.specs.Timers.{SleepsIfLeftAlone, phase_due};
+ghost use Rattle.js_readers.specs.OrderedOpening.{OpensPull};
+ghost use Rattle.js_readers.specs.OrderedPolls.{PollsWithSource, given_answer};
+ghost use Rattle.js_readers.specs.Stream.{IsTimed};
+
+use crate::ordered::settings::settings_of;
+use crate::pull::{StreamError, message_timeout, stream_error_kind};
+use js_base::{Error, Moment, Nanos, Next};
+use js_call_consumers::OrderedPullConsumer;
+use js_link::{InboxId, Link};
+use js_message::Message;
+use js_ordered_stream::OrderedError;
+use std::alloc::Global;
+
+/// The messages of an ordered pull consumer, in order and without a gap. It makes its consumer anew where a message is missing.
+///
+/// Its messages want no acknowledgement. One that is let go leaves its inbox open, to which the server goes on delivering: `close` lets go
+/// of it and closes its inbox.
+#[derive(Drop)]
+#[must_use = "messages come by polls"]
+pub struct Ordered {
+    reader: js_ordered_stream::pull::Ordered,
+    /// How long a double ack of its messages waits, in nanoseconds.
+    timeout: Nanos,
+}
+
+/// The calls of an ordered pull consumer.
+pub trait OrderedPullCalls: Drop {
+    /// The consumer that is read.
+    ghost reads: { Self → Consumer OrderedConfig };
+
+    /// Opens an inbox, and what reads the consumer there: it asks for messages from its first poll on, and makes its consumer anew where a message is
+    /// missing. Its requests go where those of the consumer's scope go, and wait as long. However it is polled from then on, what it yields is gapless
+    /// where the server is honest. A double ack of its messages waits as long as the scope says, or five seconds.
+    ///
+    /// `Other` comes where the link failed, and `OutOfMemory` where memory ran out. Nothing was sent then.
+    fn messages<L: Link>(self, alloc: Global, link: &mut L) -> Result<Ordered, StreamError>
+        ensures opens { OpensPull result (reads self) (L.view link.old) (L.view link.new) }
+        ensures gapless { IfOk result (λ ordered. IsGaplessPull ordered.reader) };
+}
+
+impl Ordered {
+    /// The inbox that is open for it: the one that it reads, or the one of the consumer that is being made. It has another one each time its
+    /// consumer was made anew, and none in between and at its end.
+    ///
+    /// One that ends with `RequestLimitExceeded` or `PushBasedConsumer` leaves its inbox open at the link, and names it no more: what asks
+    /// before the poll can close it.
+    pub fn inbox(&self) -> Option<InboxId>
+        ensures { result ≡ inbox_of (position_of_pull self.now.reader).consumer.phase }
+    {
+        self.reader.inbox()
+    }
+
+    /// Lets go of it, and closes its inbox, where it has one: what lies in it is lost. The server's consumer is not deleted: it goes when
+    /// nobody has asked for messages for its inactive threshold.
+    pub fn close<L: Link>(self, link: &mut L)
+        ensures { ClosesInbox (inbox_of (position_of_pull self.reader).consumer.phase) (L.view link.old) (L.view link.new) }
+    {
+        self.reader.close(link);
+    }
+
+    /// Reads the next message or error, as the reader below does (`js_ordered_stream::pull::Ordered::poll_next`): it waits after a turn in
+    /// which nothing came. Its messages tell their place by `info`. They want no acknowledgement; where one is double-acked, it waits for the
+    /// answer as long as the scope of the consumer says, or five seconds.
+    ///
+    /// The source of an error of kind `RequestLimitExceeded` is the server's description, where it sent one. No other error has a source.
+    ///
+    /// After `Pending` it may be left alone until something comes for it or `wakes_at` has come: a poll before that does nothing.
+    /// What comes is a message in its inbox, the end of its inbox, an answer that it waits for, and a change of the connection.
+    pub fn poll_next<L: Link>(
+        &mut self,
+        alloc: Global,
+        link: &mut L,
+        now: Moment,
+    ) -> Next<Result<Message, OrderedError>>
+        ensures given { input_of_pull self.new.reader ≡ input_of_pull self.old.reader }
+        ensures polls { IsPoll (input_of_pull self.old.reader) Meets now (position_of_pull self.old.reader) (position_of_pull self.new.reader) (L.view link.old) (L.view link.new) (given_answer result) }
+        ensures sources { PollsWithSource (input_of_pull self.old.reader) now (position_of_pull self.old.reader) (position_of_pull self.new.reader) (L.view link.old) (L.view link.new) result }
+        ensures kinds { IsGivenKind result }
+        ensures sleeps { SleepsIfLeftAlone (input_of_pull self.old.reader) now (position_of_pull self.old.reader) (position_of_pull self.new.reader) (L.view link.old) (L.view link.new) (given_answer result) }
+        ensures timed { IsTimed self.old.timeout result }
+        ensures kept { self.new.timeout ≡ self.old.timeout }
+    {
+        match self.reader.poll_next(alloc, link, now) {
+            Next::Pending => Next::Pending,
+            Next::Item(Ok(message)) => Next::Item(Ok(Message {
+                message,
+                timeout: self.timeout,
+            })),
+            Next::Item(Err(error)) => Next::Item(Err(error)),
+            Next::End => Next::End,
+            Next::OutOfMemory => Next::OutOfMemory,
+        }
+    }
+
+    /// The first moment at which it has something to do by itself, where there is one: a timer of its reader is due, or while its consumer
+    /// is made anew the answer that it waits for is overdue, or its next try is due. One that has neither an inbox nor a consumer that is
+    /// being made begins one at once. One that has ended has no such moment.
+    pub fn wakes_at(&self) -> Option<Moment>
+        ensures { (now : ℕ) → now < 2 ^ 64 → has_come result now ≡ phase_due now (position_of_pull self.now.reader).consumer.phase }
+    {
+        self.reader.wakes_at()
+    }
+}
+
+impl OrderedPullCalls for OrderedPullConsumer {
+    ghost reads = { λ consumer. consumer };
+
+    fn messages<L: Link>(self, alloc: Global, link: &mut L) -> Result<Ordered, StreamError> {
+        let timeout = message_timeout(&self.scope);
+        let settings = settings_of(alloc, self.scope, link.request_timeout());
+        let opened = js_ordered_stream::pull::Ordered::open(
+            alloc,
+            link,
+            settings,
+            self.config,
+            self.info,
+        );
+        match opened {
+            Ok(reader) => Ok(Ordered { reader, timeout }),
+            Err(error) => Err(Error::new(stream_error_kind(error))),
+        }
+    }
+}

@@ -1,0 +1,30 @@
+//! The calls of a pull consumer: streams that ask again and again, single batches, and batches one after the other.
+//!
+//! What is asked for stands in one table, by the builder (`specs/Builder.antt`): what was set, and else the default of the builder's row.
+
+mod batch;
+mod batch_item;
+mod builder;
+mod calls;
+mod consumer;
+mod error;
+mod opening;
+mod request;
+mod sequence;
+mod settings;
+mod stream;
+
+pub use batch::{Batch, batches_keep_their_number, ended_batches_stay_ended};
+pub use batch_item::BatchItemError;
+pub use builder::{BatchBuilder, Builder, FetchBuilder, StreamBuilder};
+pub use calls::PullCalls;
+pub use consumer::message_timeout;
+pub use error::{
+    BatchError, BatchErrorKind, BatchRequestError, BatchRequestErrorKind, StreamError,
+    StreamErrorKind, stream_error_kind,
+};
+pub use js_message::Message;
+pub use js_pull::{MessagesError, MessagesErrorKind};
+pub use sequence::Sequence;
+pub use settings::defaults_keep_limits;
+pub use stream::Stream;

@@ -1,0 +1,280 @@
+//! The calls that change a bucket of keys.
+ghost use Rattle.std.specs.Prelude.{◌≡◌, IfOk};
+ghost use Rattle.js_store.specs.Origins.{stream_name};
+ghost use Rattle.js_call_streams.specs.Update.{Updates};
+ghost use Rattle.js_json_streams.specs.declared.stream.config.Config.{Config};
+ghost use Rattle.js_store.specs.Update.{changed_names, changed_store, changes_kind, create_or_update_row, CreatesOrUpdatesBucket, CreatesOrUpdatesStream, update_row, UpdatesBucket, UpdatesStream};
+
+use crate::config::{BucketConfig, stream_of};
+use crate::error::{
+    CreateKeyValueError, CreateKeyValueErrorKind, UpdateKeyValueError, UpdateKeyValueErrorKind,
+};
+use crate::kv;
+use crate::level::{AfterLevel, AskLevel, IfAllowed, after_level};
+use crate::outcome::{BucketCall, Outcome};
+use crate::store::{Store, StoreNames, answered_names, store_of};
+use js_base::{Error, OutOfMemory, Source, Text, TryClone, all_3, both};
+use js_call::{ApiScope, Then};
+use js_call_streams::{
+    CreateOrUpdateStream, CreateStreamError, CreateStreamErrorKind, StreamHandle, UpdateStream,
+    UpdateStreamError, create_or_update_stream, update_stream,
+};
+use js_json_streams::stream;
+use js_json_streams::stream::Info;
+use std::alloc::Global;
+
+/// The bucket of keys that is changed: its name, and what is known of its stream before it answers.
+#[derive(Drop)]
+pub struct ChangedBucket {
+    bucket: Text,
+    scope: ApiScope,
+    stream_name: Text,
+}
+
+impl ChangedBucket {
+    fn named(alloc: Global, scope: &ApiScope, bucket: &Text) -> Result<ChangedBucket, OutOfMemory>
+        ensures { IfOk result (λ changed. changed ≡ record { bucket = bucket.now; scope = scope.now; stream_name = stream_name bucket.now }) }
+    {
+        let (stream_name, bucket, scope) = all_3(
+            kv::stream_name(alloc, bucket.as_str()),
+            bucket.try_clone(),
+            scope.try_clone(),
+        )?;
+        Ok(ChangedBucket {
+            bucket,
+            scope,
+            stream_name,
+        })
+    }
+
+    fn names(&self, alloc: Global, info: &Info) -> Result<StoreNames, OutOfMemory>
+        ensures { IfOk result (λ names. names ≡ changed_names self.now info.now) }
+    {
+        let api = self.scope.prefix.as_str();
+        answered_names(alloc, api, self.bucket.as_str(), &info.config)
+    }
+
+    fn into_store(self, info: Info, names: StoreNames) -> Store
+        ensures { result ≡ changed_store self info names }
+    {
+        let ChangedBucket {
+            bucket,
+            scope,
+            stream_name,
+        } = self;
+        let stream = StreamHandle {
+            scope,
+            name: stream_name,
+            info,
+            kept: None,
+        };
+        store_of(bucket, names, stream)
+    }
+}
+
+// The bucket that is changed, and what its stream is changed to. The one refusal is want of memory.
+fn changed<C: BucketConfig>(
+    alloc: Global,
+    scope: &ApiScope,
+    config: C,
+) -> Result<(ChangedBucket, stream::Config), OutOfMemory>
+    ensures { IfOk result (λ changed. (changed.0 ≡ record { bucket = C.bucket config; scope = scope.now; stream_name = stream_name (C.bucket config) }) × (changed.1 ≡ C.stream config)) }
+{
+    let changed = ChangedBucket::named(alloc, scope, config.bucket());
+    both(changed, stream_of(alloc, config))
+}
+
+/// What a stream is changed to.
+trait Change: Drop {
+    ghost change: { Self → Config };
+
+    /// The call that asks for it. The one refusal is want of memory.
+    fn call(&self, alloc: Global, scope: &ApiScope) -> Result<UpdateStream, OutOfMemory>
+        ensures { IfOk result (λ update. Updates scope.now (change self.now) update) };
+}
+
+impl Change for stream::Config {
+    ghost change = { λ config. config };
+
+    fn call(&self, alloc: Global, scope: &ApiScope) -> Result<UpdateStream, OutOfMemory> {
+        update_stream(alloc, scope, self)
+    }
+}
+
+// The call that asks for a change. The one refusal is want of memory.
+fn update_to<C: Change>(
+    alloc: Global,
+    scope: &ApiScope,
+    change: C,
+) -> Result<UpdateStream, OutOfMemory>
+    ensures { IfOk result (λ update. Updates scope.now (C.change change) update) }
+{
+    change.call(alloc, scope)
+}
+
+/// The row of the second call of `update_key_value`.
+#[derive(Drop)]
+pub struct UpdatingBucket {
+    changed: ChangedBucket,
+}
+
+/// The second call of `update_key_value`.
+pub type UpdateBucket = BucketCall<UpdateStream, Info, UpdateStreamError, UpdatingBucket>;
+
+/// The state of `update_key_value`.
+pub type UpdateKeyValue = Then<AskLevel, UpdateBucket, IfAllowed>;
+
+// What a stream that was not changed means where it is a bucket's.
+fn changes_kind(kind: &CreateStreamErrorKind) -> UpdateKeyValueErrorKind
+    ensures { result ≡ changes_kind kind.now }
+{
+    match kind {
+        CreateStreamErrorKind::NotFound => UpdateKeyValueErrorKind::NotFound,
+        _ => UpdateKeyValueErrorKind::JetStream,
+    }
+}
+
+impl Outcome<Info, UpdateStreamError> for UpdatingBucket {
+    type Needs = StoreNames;
+
+    type Answer = Result<Store, UpdateKeyValueError>;
+
+    ghost table = { update_row };
+
+    fn refusal(&self) -> Option<Result<Store, UpdateKeyValueError>> {
+        None
+    }
+
+    fn needs(&self, alloc: Global, given: &Info) -> Result<StoreNames, OutOfMemory> {
+        self.changed.names(alloc, given)
+    }
+
+    fn accept(self, given: Info, needs: StoreNames) -> Result<Store, UpdateKeyValueError> {
+        Ok(self.changed.into_store(given, needs))
+    }
+
+    fn refuse(
+        self,
+        error: UpdateStreamError,
+        source: Source,
+    ) -> Result<Store, UpdateKeyValueError> {
+        let kind = changes_kind(error.kind());
+        drop(error);
+        drop(self);
+        Err(Error::with_source(kind, source))
+    }
+}
+
+/// The row of the second call of `create_or_update_key_value`.
+#[derive(Drop)]
+pub struct CreatingOrUpdatingBucket {
+    changed: ChangedBucket,
+}
+
+/// The second call of `create_or_update_key_value`.
+pub type CreateOrUpdateBucket = BucketCall<
+    CreateOrUpdateStream,
+    Info,
+    CreateStreamError,
+    CreatingOrUpdatingBucket,
+>;
+
+/// The state of `create_or_update_key_value`.
+pub type CreateOrUpdateKeyValue = Then<AskLevel, CreateOrUpdateBucket, IfAllowed>;
+
+impl Outcome<Info, CreateStreamError> for CreatingOrUpdatingBucket {
+    type Needs = StoreNames;
+
+    type Answer = Result<Store, CreateKeyValueError>;
+
+    ghost table = { create_or_update_row };
+
+    fn refusal(&self) -> Option<Result<Store, CreateKeyValueError>> {
+        None
+    }
+
+    fn needs(&self, alloc: Global, given: &Info) -> Result<StoreNames, OutOfMemory> {
+        self.changed.names(alloc, given)
+    }
+
+    fn accept(self, given: Info, needs: StoreNames) -> Result<Store, CreateKeyValueError> {
+        Ok(self.changed.into_store(given, needs))
+    }
+
+    fn refuse(
+        self,
+        error: CreateStreamError,
+        source: Source,
+    ) -> Result<Store, CreateKeyValueError> {
+        drop(error);
+        drop(self);
+        Err(Error::with_source(CreateKeyValueErrorKind::JetStream, source))
+    }
+}
+
+impl AfterLevel for UpdatingBucket {
+    type Call = UpdateBucket;
+
+    ghost asks = { UpdatesStream };
+
+    fn ask(
+        alloc: Global,
+        scope: &ApiScope,
+        config: kv::Config,
+    ) -> Result<UpdateBucket, OutOfMemory> {
+        let (changed, stream) = changed(alloc, scope, config)?;
+        let asked = update_to(alloc, scope, stream)?;
+        Ok(BucketCall::new(UpdatingBucket { changed }, asked))
+    }
+}
+
+/// Changes a bucket of keys: it asks how far the server's API goes, and then, in the same poll, for the change of the bucket's stream as
+/// `update_stream` does. What a stream's configuration does not name is reset by it.
+///
+/// The one refusal here is want of memory; others come from the polls. `InvalidStoreName` and then `TooLongHistory` come from the first,
+/// and nothing is sent. `JetStream` comes where the account was not told, and `LimitMarkersNotSupported` where markers are asked for and
+/// its level is below 1; the change is not asked for then. `NotFound` comes where the server knows no stream of that bucket, and
+/// `JetStream` where it was not changed for another reason. These but `LimitMarkersNotSupported` have the server's error as their source, or the text of the
+/// error of `query_account` or `update_stream`.
+pub fn update_key_value(
+    alloc: Global,
+    scope: &ApiScope,
+    config: kv::Config,
+) -> Result<UpdateKeyValue, OutOfMemory>
+    ensures { IfOk result (λ calls. UpdatesBucket scope.now config calls) }
+{
+    after_level::<UpdatingBucket>(alloc, scope, config)
+}
+
+impl AfterLevel for CreatingOrUpdatingBucket {
+    type Call = CreateOrUpdateBucket;
+
+    ghost asks = { CreatesOrUpdatesStream };
+
+    fn ask(
+        alloc: Global,
+        scope: &ApiScope,
+        config: kv::Config,
+    ) -> Result<CreateOrUpdateBucket, OutOfMemory> {
+        let (changed, stream) = changed(alloc, scope, config)?;
+        let asked = create_or_update_stream(alloc, scope, stream)?;
+        Ok(BucketCall::new(CreatingOrUpdatingBucket { changed }, asked))
+    }
+}
+
+/// Changes a bucket of keys, and makes it where it is not there: it asks how far the server's API goes, and then, in the same poll, for the
+/// bucket's stream as `create_or_update_stream` does.
+///
+/// The one refusal here is want of memory; others come from the polls. `InvalidStoreName` and then `TooLongHistory` come from the first,
+/// and nothing is sent. `JetStream` comes where the account was not told, or where the stream was neither changed nor made; and
+/// `LimitMarkersNotSupported` where markers are asked for and the account's level is below 1, so that the stream is not asked for. `JetStream` has the
+/// server's error as its source, or the text of the error of `query_account` or `create_or_update_stream`.
+pub fn create_or_update_key_value(
+    alloc: Global,
+    scope: &ApiScope,
+    config: kv::Config,
+) -> Result<CreateOrUpdateKeyValue, OutOfMemory>
+    ensures { IfOk result (λ calls. CreatesOrUpdatesBucket scope.now config calls) }
+{
+    after_level::<CreatingOrUpdatingBucket>(alloc, scope, config)
+}

@@ -1,4 +1,0 @@
-use Rattle.js_stream_calls.proofs.get.get_stream.Goals as goal
-
-pub returns : goal.returns
-returns c = rw c.in_ok-row.ensures at c.call_on.ensures

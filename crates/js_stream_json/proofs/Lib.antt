@@ -1,3 +1,0 @@
-mod Back
-mod Parts
-mod Written

@@ -1,5 +1,0 @@
-use Rattle.js_table.proofs.ReaderSteps.{steps_read}
-use Rattle.js_table.proofs.passing.reading.answered.Goals as goal
-
-pub returns : goal.returns
-returns c = λ reply message is. steps_read _ _ _ (λ met. c.pass_answered.ensures reply met is) reply message

@@ -1,5 +1,0 @@
-use Rattle.js_table.proofs.ReaderSteps.{inquired}
-use Rattle.js_table.proofs.passing.reading.inquire.Goals as goal
-
-pub returns : goal.returns
-returns c = λ p reply message. inquired c.args.now c.args.request c.args.failures c.args.reader.now _ c.pass_inquire.result c.pass_inquire.ensures p reply message

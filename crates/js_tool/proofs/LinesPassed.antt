@@ -1,0 +1,116 @@
+-- Line after line: what was passed, its text, and what the lines that are left say.
+use Rattle.std.proofs.Common.{◌≡◌, ℕ, ◌+◌, ◌≤◌, Bool, List, [], ◌∷◌, ◌++◌, length, flat_map, refl, sym, ap, ◌∙◌, append_assoc, append-nil}
+use Rattle.std.specs.Prelude.{Result, Ok, Err, IfOk}
+use Rattle.js_ordered_table.specs.declared.consumer.ReplayInput.{ReplayInput}
+use Rattle.js_ordered.specs.declared.incremental_replay.IncrementalReplay.{IncrementalReplay}
+use Rattle.js_ordered_table.specs.declared.event.Event.{Event}
+use Rattle.js_ordered_table.specs.declared.run.Output.{Output}
+use Rattle.js_ordered.specs.IncrementalReplay.{HasCome, last}
+use Rattle.js_ordered_table.specs.Fold.{fold}
+use Rattle.js_ordered_table.proofs.Promises.{fold_replays}
+use Rattle.js_tool.specs.declared.program.ReplayOutcome.{ReplayOutcome}
+use Rattle.js_tool.specs.declared.program.ReplayOutcome.TheVariants as outcome
+use Rattle.js_tool.specs.declared.progress.Progress.{Progress}
+use Rattle.js_tool_transcript.specs.declared.transcript.Transcript.{Transcript}
+use Rattle.js_tool_transcript.specs.declared.transcript.setup.Setup.{Setup}
+use Rattle.js_tool_transcript.specs.declared.transcript.Unread.{Unread}
+use Rattle.js_tool_transcript.specs.declared.transcript.Unread.TheVariants as unread
+use Rattle.js_tool.specs.Program.{IsOutcome}
+use Rattle.js_tool_transcript.specs.TranscriptReplay.{replay_input}
+use Rattle.js_tool.specs.Progress.{HasPassed, PassesTo, StopsOn, IsOutcomeOn, IsOutcomeTo}
+use Rattle.js_tool_transcript.specs.Text.{text_so_far, output_text, last_line, run_text}
+use Rattle.js_tool_transcript.specs.Transcript.{read_after, ◌>>=◌, events_from, with_lines, transcript}
+use Rattle.js_tool.proofs.Called.{done_outcome, refused_outcome}
+use Rattle.js_tool_transcript.proofs.RunText.{text_on, text_ends}
+use Rattle.js_tool_transcript.proofs.LinesRead.{whole}
+
+-- ---- the text
+
+-- so it is there after one more
+pub text_passes : (g : ReplayInput) (start : ℕ) (es : List Event) (e : Event) (old : Progress) (number : ℕ) (replay : IncrementalReplay) (outputs : List Output) (text : List ℕ)
+    → HasPassed g start es old → HasCome g start (es ++ e ∷ []) replay → number ≡ replay.count → outputs ≡ replay.outputs → text ≡ old.text.items ++ flat_map (output_text number) outputs
+    → text ≡ text_so_far (fold g start (es ++ e ∷ []))
+text_passes g start es e old number replay outputs text passed come counted put says =
+    says
+    ∙ ap (λ (before : List ℕ). before ++ flat_map (output_text number) outputs) passed.text
+    ∙ ap (λ (n : ℕ). text_so_far (fold g start es) ++ flat_map (output_text n) outputs) (counted ∙ come.count)
+    ∙ ap (λ (last : List Output). text_so_far (fold g start es) ++ flat_map (output_text (length (es ++ e ∷ []))) last) (put ∙ come.outputs)
+    ∙ sym (text_on g start es e)
+
+-- and so the whole text is there at the end
+pub text_done : (g : ReplayInput) (start : ℕ) (es : List Event) (p : Progress) (ended : Bool) (number : ℕ) (text : List ℕ) → HasPassed g start es p → ended ≡ (fold g start es).ended → number ≡ p.replay.value.count
+    → text ≡ p.text.items ++ last_line ended number → text ≡ run_text (fold g start es)
+text_done g start es p ended number text passed ends counted says =
+    says
+    ∙ ap (λ (before : List ℕ). before ++ last_line ended number) passed.text
+    ∙ ap (λ (b : Bool). text_so_far (fold g start es) ++ last_line b number) ends
+    ∙ ap (λ (n : ℕ). text_so_far (fold g start es) ++ last_line (fold g start es).ended n) (counted ∙ passed.replay.count)
+    ∙ sym (text_ends g start es)
+
+-- ---- lines
+
+-- at first all lines are left
+pub passes_none : (p : Progress) (lines : List (List ℕ)) → PassesTo p lines p lines
+passes_none p lines = λ g start es passed. (es, passed, λ more. refl)
+
+-- some more were passed
+pub passes_more : (first old new : Progress) (lines front left : List (List ℕ)) → PassesTo first lines old (front ++ left) → PassesTo old front new [] → PassesTo first lines new left
+passes_more first old new lines front left before passes = λ g start es passed.
+    let (some, was, so_far) = before g start es passed in
+    let (all, is, onward) = passes g start some was in
+    (all, is, λ more. so_far more ∙ ap (read_after some) (append_assoc front left more) ∙ onward (left ++ more))
+
+-- or it stopped
+pub stops_more : (first old : Progress) (lines front left : List (List ℕ)) (e : Unread) → PassesTo first lines old (front ++ left) → StopsOn old front e → StopsOn first lines e
+stops_more first old lines front left unread.OutOfMemory before stops = tt
+stops_more first old lines front left (unread.BadLine n) before stops = λ g start es passed more.
+    let (some, was, so_far) = before g start es passed in
+    so_far more ∙ ap (read_after some) (append_assoc front left more) ∙ stops g start some was (left ++ more)
+
+-- ---- the outcome
+
+answered : (setup : Setup) (es : List Event) (answer : ReplayOutcome) (reading : Result (List Event) ℕ) → reading ≡ Ok es → IsOutcomeOn (replay_input setup) setup.start es answer
+    → IsOutcomeTo (reading >>= λ events. Ok (record { setup = setup; events = events })) answer
+answered setup es answer reading reads replies = rw reads replies
+
+all_passed : (setup : Setup) (first new : Progress) (lines : List (List ℕ)) (answer : ReplayOutcome) → HasPassed (replay_input setup) setup.start [] first → PassesTo first lines new []
+    → ((g : ReplayInput) (start : ℕ) (es : List Event) → HasPassed g start es new → IsOutcomeOn g start es answer) → IsOutcomeTo (with_lines setup lines) answer
+all_passed setup first new lines answer opened passes replies =
+    let (es, passed, reads) = passes (replay_input setup) setup.start [] opened in
+    answered setup es answer (events_from 2 lines) (whole lines ∙ reads [] ∙ ap Ok (append-nil es)) (replies (replay_input setup) setup.start es passed)
+
+-- where all lines were passed the outcome is that of their events
+pub concludes : {E : Type 0} (setup : Setup) (first new : Progress) (lines : List (List ℕ)) (result : Result ReplayOutcome E) → HasPassed (replay_input setup) setup.start [] first → PassesTo first lines new []
+    → ((g : ReplayInput) (start : ℕ) (es : List Event) → HasPassed g start es new → IfOk result (λ answer. IsOutcomeOn g start es answer)) → IfOk result (λ answer. IsOutcomeTo (with_lines setup lines) answer)
+concludes setup first new lines (Ok answer) opened passes replies = all_passed setup first new lines answer opened passes replies
+concludes setup first new lines (Err e) opened passes replies = tt
+
+unread_line : (setup : Setup) (n : ℕ) (reading : Result (List Event) ℕ) → reading ≡ Err n
+    → IsOutcomeTo (reading >>= λ events. Ok (record { setup = setup; events = events })) (outcome.BadLine n)
+unread_line setup n reading fails = rw fails refl
+
+-- and where one does not read, the outcome is its number
+pub one_stops : (setup : Setup) (first : Progress) (lines : List (List ℕ)) (n : ℕ) → HasPassed (replay_input setup) setup.start [] first → StopsOn first lines (unread.BadLine n)
+    → IsOutcomeTo (with_lines setup lines) (outcome.BadLine n)
+one_stops setup first lines n opened stops = unread_line setup n (events_from 2 lines) (whole lines ∙ stops (replay_input setup) setup.start [] opened [])
+
+outcome_on : (bytes : List ℕ) (t : Transcript) (answer : ReplayOutcome) → length bytes ≤ 67_108_864 → transcript bytes ≡ Ok t → IsOutcomeOn (replay_input t.setup) t.setup.start t.events answer → IsOutcome bytes answer
+outcome_on bytes t (outcome.Done text) within reads (accepted, says) =
+    done_outcome bytes t (fold (replay_input t.setup) t.setup.start t.events) text.items within reads (fold_replays (replay_input t.setup) t.setup.start t.events (fold (replay_input t.setup) t.setup.start t.events) accepted refl) says
+outcome_on bytes t (outcome.Refused text) within reads (refusal, refuses, says) = refused_outcome bytes t refusal text.items within reads refuses says
+outcome_on bytes t (outcome.BadLine line) within reads never = absurd never
+
+unread_as : (bytes : List ℕ) (n : ℕ) (answer : ReplayOutcome) → length bytes ≤ 67_108_864 → transcript bytes ≡ Err n → IsOutcomeTo (Err n) answer → IsOutcome bytes answer
+unread_as bytes n (outcome.BadLine line) within reads same = record { within = within; by = reads ∙ ap Err same }
+unread_as bytes n (outcome.Done text) within reads never = absurd never
+unread_as bytes n (outcome.Refused text) within reads never = absurd never
+
+outcome_to : (bytes : List ℕ) (answer : ReplayOutcome) (read : Result Transcript ℕ) → length bytes ≤ 67_108_864 → transcript bytes ≡ read → IsOutcomeTo read answer → IsOutcome bytes answer
+outcome_to bytes answer (Ok t) within reads replies = outcome_on bytes t answer within reads replies
+outcome_to bytes answer (Err n) within reads replies = unread_as bytes n answer within reads replies
+
+-- the outcome of what the bytes say is the outcome of the bytes
+pub result_to : {E : Type 0} (bytes : List ℕ) (result : Result ReplayOutcome E) (read : Result Transcript ℕ) → length bytes ≤ 67_108_864 → transcript bytes ≡ read
+    → IfOk result (λ answer. IsOutcomeTo read answer) → IfOk result (λ answer. IsOutcome bytes answer)
+result_to bytes (Ok answer) read within reads replies = outcome_to bytes answer read within reads replies
+result_to bytes (Err e) read within reads replies = tt

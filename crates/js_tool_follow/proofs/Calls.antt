@@ -1,0 +1,120 @@
+-- Call after call: what was read, written and passed on.
+use Rattle.std.proofs.Common.{◌≡◌, ℕ, zero, suc, ◌+◌, ◌-◌, ◌<◌, ◌==◌, Bool, true, false, List, [], ◌∷◌, ◌++◌, length, take, drop, get_or, if◌then◌else◌, Option, Some, None, Result, Ok, refl, sym, ap, subst, ◌∙◌, arith, append-nil, append_assoc, add-one}
+use Rattle.std.proofs.lemmas.Bool.{false_from_ne_true}
+use Rattle.std.proofs.lemmas.List.{take_rest}
+use Rattle.std.proofs.Math.Seq.{take-add}
+use Rattle.js_tool_follow.specs.declared.incoming_lines.Incoming.{Incoming}
+use Rattle.js_tool_follow.specs.declared.incoming_lines.Incoming.TheVariants as incoming
+use Rattle.js_tool_follow.specs.declared.peer.Turn.{Turn}
+use Rattle.js_tool_follow.specs.declared.peer.Turn.TheVariants as turn
+use Rattle.js_tool_follow.specs.IncomingLines.{HasNoFeed, IsFirstFeed}
+use Rattle.js_tool_follow.specs.Punctuality.{whole_lines, IsCaughtUp, IsPunctual, Holds, TurnsSoFar, HearsNext}
+use Rattle.js_tool_follow.specs.Standing.{answered}
+use Rattle.js_tool_follow.specs.Peer.{Dialogue, Reads, Writes, Takes, bytes_of, heard}
+
+-- ---- whole lines
+
+none_whole : (bytes : List ℕ) → HasNoFeed bytes (length bytes) → whole_lines bytes ≡ []
+none_whole [] none = refl
+none_whole (b ∷ bytes) none =
+    let other = false_from_ne_true (b == 10) (none 0 (omega arith)) in
+    rw (other, none_whole bytes (λ k lt. none (suc k) (omega arith))) refl
+
+whole_cut : (bytes more : List ℕ) (i : ℕ) → i < length bytes → (get_or bytes i 0 == 10) ≡ true → ((k : ℕ) → k < i → (get_or bytes k 0 == 10) ≡ true → ⊥)
+    → whole_lines (bytes ++ more) ≡ take i bytes ∷ whole_lines (drop (i + 1) bytes ++ more)
+whole_cut [] more i lt here below = absurd (omega arith)
+whole_cut (b ∷ bytes) more zero lt here below = rw here refl
+whole_cut (b ∷ bytes) more (suc i) lt here below =
+    let other = false_from_ne_true (b == 10) (below 0 (omega arith)) in
+    rw (other, whole_cut bytes more i (omega arith) here (λ k h. below (suc k) (omega arith)), add-one, add-one) refl
+
+-- ---- a call more
+
+holds_on : (before after : Option (List Turn)) (call : Turn) (P Q : List Turn → Type 0) → Takes before after call → ((turns : List Turn) → P turns → Q (call ∷ turns)) → Holds before P → Holds after Q
+holds_on None after call P Q takes on p = absurd p
+holds_on (Some before) None call P Q takes on p = absurd takes
+holds_on (Some before) (Some after) call P Q takes on p = subst Q (sym takes) (on before p)
+
+pub holds_as : (turns : Option (List Turn)) (P Q : List Turn → Type 0) → ((turns : List Turn) → P turns → Q turns) → Holds turns P → Holds turns Q
+holds_as None P Q so p = absurd p
+holds_as (Some turns) P Q so p = so turns p
+
+pub is_punctual : (lines : List (List ℕ)) (held before passed : List ℕ) (turns : Option (List Turn)) → Holds turns (TurnsSoFar lines held before passed) → Holds turns IsPunctual
+is_punctual lines held before passed turns has = holds_as turns (TurnsSoFar lines held before passed) IsPunctual (λ t h. h.punctual) has
+
+-- bytes were taken
+pub wrote : (lines : List (List ℕ)) (held before passed bytes : List ℕ) (old new : Option (List Turn)) → Takes old new (turn.Wrote bytes)
+    → Holds old (TurnsSoFar lines held before passed) → Holds new (TurnsSoFar lines held (before ++ bytes) passed)
+wrote lines held before passed bytes old new takes has =
+    holds_on old new (turn.Wrote bytes) (TurnsSoFar lines held before passed) (TurnsSoFar lines held (before ++ bytes) passed) takes
+    (λ turns h. record { punctual = h.punctual; cut = h.cut; written = ap (λ (w : List ℕ). w ++ bytes) h.written; flushed = h.flushed }) has
+
+pub wrote_punctually : (bytes : List ℕ) (old new : Option (List Turn)) → Takes old new (turn.Wrote bytes) → Holds old IsPunctual → Holds new IsPunctual
+wrote_punctually bytes old new takes has = holds_on old new (turn.Wrote bytes) IsPunctual IsPunctual takes (λ turns h. h) has
+
+-- where no whole line is held all was answered
+caught_up : (lines : List (List ℕ)) (held : List ℕ) (turns : List Turn) → HasNoFeed held (length held) → TurnsSoFar lines held (answered lines) (answered lines) turns → IsCaughtUp turns
+caught_up lines held turns none h =
+    let all : whole_lines (heard turns) ≡ lines =
+    ap whole_lines (sym (append-nil (heard turns))) ∙ h.cut [] ∙ ap (λ (b : List ℕ). lines ++ whole_lines b) (append-nil held)
+    ∙ ap (λ (more : List (List ℕ)). lines ++ more) (none_whole held none) ∙ append-nil lines in
+    h.flushed ∙ ap answered (sym all)
+
+-- so more is read in time
+pub read_on : (lines : List (List ℕ)) (held bytes new_held : List ℕ) (old new : Option (List Turn)) → Takes old new (turn.Read bytes) → HasNoFeed held (length held) → new_held ≡ held ++ bytes
+    → Holds old (TurnsSoFar lines held (answered lines) (answered lines)) → Holds new (TurnsSoFar lines new_held (answered lines) (answered lines))
+read_on lines held bytes new_held old new takes none is has =
+    subst (λ (h : List ℕ). Holds new (TurnsSoFar lines h (answered lines) (answered lines))) (sym is)
+    (holds_on old new (turn.Read bytes) (TurnsSoFar lines held (answered lines) (answered lines)) (TurnsSoFar lines (held ++ bytes) (answered lines) (answered lines)) takes
+    (λ turns h. record {
+      punctual = (caught_up lines held turns none h, h.punctual);
+      cut = λ more. ap whole_lines (append_assoc (heard turns) bytes more) ∙ h.cut (bytes ++ more) ∙ ap (λ (b : List ℕ). lines ++ whole_lines b) (sym (append_assoc held bytes more));
+      written = h.written;
+      flushed = h.flushed;
+    }) has)
+
+pub read_punctually : (lines : List (List ℕ)) (held bytes : List ℕ) (old new : Option (List Turn)) → Takes old new (turn.Read bytes) → HasNoFeed held (length held)
+    → Holds old (TurnsSoFar lines held (answered lines) (answered lines)) → Holds new IsPunctual
+read_punctually lines held bytes old new takes none has =
+    holds_on old new (turn.Read bytes) (TurnsSoFar lines held (answered lines) (answered lines)) IsPunctual takes (λ turns h. (caught_up lines held turns none h, h.punctual)) has
+
+-- a line more is cut off what is held
+pub cut_on : (lines : List (List ℕ)) (held line left before passed : List ℕ) (i : ℕ) (turns : Option (List Turn)) → IsFirstFeed held i → line ≡ take i held → left ≡ drop (i + 1) held
+    → Holds turns (TurnsSoFar lines held before passed) → Holds turns (TurnsSoFar (lines ++ line ∷ []) left before passed)
+cut_on lines held line left before passed i turns found cut rest has =
+    holds_as turns (TurnsSoFar lines held before passed) (TurnsSoFar (lines ++ line ∷ []) left before passed) (λ t h. record {
+      punctual = h.punctual;
+      cut = λ more. h.cut more ∙ ap (λ (l : List (List ℕ)). lines ++ l) (whole_cut held more i found.within found.here found.before)
+          ∙ ap (λ (l : List ℕ). lines ++ (l ∷ whole_lines (drop (i + 1) held ++ more))) (sym cut)
+          ∙ ap (λ (r : List ℕ). lines ++ (line ∷ whole_lines (r ++ more))) (sym rest)
+          ∙ sym (append_assoc lines (line ∷ []) (whole_lines (left ++ more)));
+      written = h.written;
+      flushed = h.flushed;
+    }) has
+
+-- at the end nothing more is read
+heard_end : (E : Type 0) (lines : List (List ℕ)) (line held : List ℕ) (turns : Option (List Turn)) (some : Bool) → Holds turns IsPunctual → HearsNext {E = E} lines (Ok (if some then incoming.Last else incoming.End)) line held turns
+heard_end E lines line held turns true punctual = punctual
+heard_end E lines line held turns false punctual = punctual
+
+pub heard_last : (E : Type 0) (lines : List (List ℕ)) (line held : List ℕ) (turns : Option (List Turn)) (next : Incoming) (some : Bool) → next ≡ (if some then incoming.Last else incoming.End) → Holds turns IsPunctual
+    → HearsNext {E = E} lines (Ok next) line held turns
+heard_last E lines line held turns next some is punctual =
+    subst (λ (n : Incoming). HearsNext {E = E} lines (Ok n) line held turns) (sym is) (heard_end E lines line held turns some punctual)
+
+-- whatever a read comes to
+pub reads_punctually : {E : Type 0} (old new : Dialogue) (result : Result ℕ E) (buf : List ℕ) (lines : List (List ℕ)) (held : List ℕ) → Reads old new result buf → HasNoFeed held (length held)
+    → Holds old.turns (TurnsSoFar lines held (answered lines) (answered lines)) → Holds new.turns IsPunctual
+reads_punctually old new result buf lines held reads none has = read_punctually lines held (bytes_of result buf) old.turns new.turns reads.call none has
+
+pub writes_punctually : {E : Type 0} (old new : Dialogue) (result : Result ℕ E) (piece : List ℕ) → Writes old new result piece → Holds old.turns IsPunctual → Holds new.turns IsPunctual
+writes_punctually old new result piece writes was = wrote_punctually (bytes_of result piece) old.turns new.turns writes.call was
+
+-- a piece more of a text was taken
+pub wrote_more : (lines : List (List ℕ)) (held before passed text : List ℕ) (at n : ℕ) (old new : Option (List Turn)) → Takes old new (turn.Wrote (take n (take (length text - at) (drop at text))))
+    → Holds old (TurnsSoFar lines held (before ++ take at text) passed) → Holds new (TurnsSoFar lines held (before ++ take (at + n) text) passed)
+wrote_more lines held before passed text at n old new takes has =
+    let piece : take at text ++ take n (take (length text - at) (drop at text)) ≡ take (at + n) text =
+    ap (λ (rest : List ℕ). take at text ++ take n rest) (take_rest text at) ∙ sym (take-add at n text) in
+    subst (λ (t : List ℕ). Holds new (TurnsSoFar lines held t passed)) (append_assoc before (take at text) (take n (take (length text - at) (drop at text))) ∙ ap (λ (t : List ℕ). before ++ t) piece)
+    (wrote lines held (before ++ take at text) passed (take n (take (length text - at) (drop at text))) old new takes has)

@@ -1,0 +1,9 @@
+mod LineAnswers
+mod LinesReceived
+mod ConversationEnds
+mod Calls
+mod Runs
+mod LinesTold
+mod TurnOutcomes
+mod ValidInput
+mod Worked

@@ -1,0 +1,21 @@
+use Rattle.std.proofs.Common.{◌≡◌, ◌+◌, ◌∙◌, ℕ, length, ap, rules}
+use Rattle.js_tool_transcript.specs.TranscriptReplay.{replay_input}
+use Rattle.js_tool_follow.proofs.LineAnswers.{event_so, unread_so}
+use Rattle.js_tool_follow.proofs.answer.Listener.hear.Goals as goal
+
+pub returns-in-Err-BadLine : goal.returns-in-Err-BadLine
+returns-in-Err-BadLine c = λ lines told.
+    let same : c.count.result ≡ c.args.self.now.replay.value.count = search rules in
+    let counted : c.count.result ≡ length told.es = same ∙ told.come.count in
+    let number : c.in-Some.number ≡ length told.es + 2 = c.in-Some.ensures.1 ∙ ap (λ (n : ℕ). n + 2) counted in
+    let fails = rw c.in-Err-BadLine.field-0-is at c.in-Err-BadLine.ensures in
+    unread_so lines c.args.line.now c.bad_line.result.text.items told.setup told.es _ c.in-Some.number c.bad_line.result.ending _ told.stands number fails c.bad_line.ensures.0 (rw c.in-Err-BadLine.line-is at c.bad_line.ensures.1)
+
+pub returns-in-Ok-passed : goal.returns-in-Ok-passed
+returns-in-Ok-passed c = λ lines told.
+    let same : c.count.result ≡ c.args.self.now.replay.value.count = search rules in
+    let counted : c.count.result ≡ length told.es = same ∙ told.come.count in
+    let number : c.in-Some.number ≡ length told.es + 2 = c.in-Some.ensures.1 ∙ ap (λ (n : ℕ). n + 2) counted in
+    let lent : c.deref_mut.result.now ≡ c.args.self.now.replay.value = search rules in
+    let come = c.in-Ok-passed.ensures.passed (replay_input told.setup) told.setup.start told.es (rw lent told.come) in
+    event_so c.answer.result lines c.args.line.now told.setup told.es c.in-Ok.event c.in-Some.number _ told.stands number c.in-Ok.ensures come (c.answer.ensures told.setup _ come)

@@ -1,0 +1,45 @@
+//! What is written to a peer, and passed on at once.
+
+ghost use Rattle.std.specs.Prelude.{◌≡◌, ◌++◌, ℕ, List, OnOk, OnErr};
+ghost use Rattle.std.specs.Io.KnownBytes.{Appends};
+ghost use Rattle.js_tool_io.specs.Causes.{Rose, AppendsPrefix};
+ghost use Rattle.js_tool_follow.specs.Punctuality.{Holds, TurnsSoFar, IsPunctual};
+ghost use Rattle.js_tool_follow.specs.Peer.{HasWritten};
+
+use crate::peer::Peer;
+use js_tool_io::Failed;
+
+// Writes all of the text. Where that fails, a front of it was written.
+fn write_all<P: Peer>(peer: &mut P, text: &[u8]) -> Result<(), Failed>
+    ensures ok { OnOk result (Appends (P.view peer.old).taken (P.view peer.new).taken text.now) }
+    ensures err { OnErr result (AppendsPrefix (P.view peer.old).taken (P.view peer.new).taken text.now) }
+    ensures cause { OnErr result (Rose (P.view peer.old).write_faults (P.view peer.new).write_faults) }
+    ensures said { (lines : List (List ℕ)) → (held before passed : List ℕ) → Holds (P.view peer.old).turns (TurnsSoFar lines held before passed)
+        → OnOk result (Holds (P.view peer.new).turns (TurnsSoFar lines held (before ++ text.now) passed)) }
+    ensures punctual { Holds (P.view peer.old).turns IsPunctual → Holds (P.view peer.new).turns IsPunctual }
+    ensures writes { HasWritten (P.view peer.old) (P.view peer.new) }
+{
+    let mut at = 0;
+    while at < text.len() {
+        let count = peer.write(&text[at..])?;
+        if count == 0 {
+            return Err(Failed);
+        }
+        at += count;
+    }
+    Ok(())
+}
+
+/// Writes all of the text and passes it on. Where that fails, a front of it was written.
+pub(crate) fn write_flushed<P: Peer>(peer: &mut P, text: &[u8]) -> Result<(), Failed>
+    ensures ok { OnOk result (Appends (P.view peer.old).taken (P.view peer.new).taken text.now) }
+    ensures err { OnErr result (AppendsPrefix (P.view peer.old).taken (P.view peer.new).taken text.now) }
+    ensures cause { OnErr result (Rose (P.view peer.old).write_faults (P.view peer.new).write_faults) }
+    ensures said { (lines : List (List ℕ)) → (held before passed : List ℕ) → Holds (P.view peer.old).turns (TurnsSoFar lines held before passed)
+        → OnOk result (Holds (P.view peer.new).turns (TurnsSoFar lines held (before ++ text.now) (before ++ text.now))) }
+    ensures punctual { Holds (P.view peer.old).turns IsPunctual → Holds (P.view peer.new).turns IsPunctual }
+    ensures writes { HasWritten (P.view peer.old) (P.view peer.new) }
+{
+    write_all(peer, text)?;
+    peer.flush()
+}

@@ -1,0 +1,36 @@
+//! Whoever sends lines and waits for their text.
+
+ghost use Rattle.std.specs.Prelude.{◌≡◌};
+ghost use Rattle.js_tool_follow.specs.Peer.{Dialogue, Reads, Writes, Flushes};
+
+use js_base::Items;
+use js_tool_io::Failed;
+
+/// One call of a [`Peer`].
+#[derive(Drop)]
+pub enum Turn {
+    /// These bytes were read.
+    Read(Items<u8>),
+    /// These bytes were taken.
+    Wrote(Items<u8>),
+    /// All that was taken before was passed on.
+    Flushed,
+}
+
+/// Whoever sends lines and waits for their text: where bytes come from and go to, by turns.
+pub trait Peer {
+    /// What is left to be read, what was taken, and the calls, as far as the peer tells them; and how often it has failed.
+    ghost view: { Self → Dialogue };
+
+    /// Reads some bytes into the front of the buffer, and answers how many. 0 for a buffer that is not empty is the end.
+    fn read(&mut self, buf: &mut [u8]) -> Result<usize, Failed>
+        ensures { Reads (view self.old) (view self.new) result buf.new };
+
+    /// Takes some bytes off the front of the piece, and answers how many. 0 of a piece that is not empty is a fault.
+    fn write(&mut self, piece: &[u8]) -> Result<usize, Failed>
+        ensures { Writes (view self.old) (view self.new) result piece.now };
+
+    /// Passes on all that was taken, so that whoever waits for it has it.
+    fn flush(&mut self) -> Result<(), Failed>
+        ensures { Flushes (view self.old) (view self.new) result };
+}

@@ -1,0 +1,12 @@
+pub mod Lists
+pub mod Numbers
+pub mod Replies
+pub mod Infos
+pub mod Follows
+pub mod Events
+pub mod Runs
+pub mod Play
+pub mod HonestServer
+pub mod WholeRun
+pub mod Tallies
+pub mod AddedEvents

@@ -1,0 +1,4 @@
+pub mod Episode
+pub mod Transcript
+pub mod Server
+pub mod Summary

@@ -1,0 +1,61 @@
+//! What the consumer of a generated transcript is made with.
+ghost use Rattle.std.specs.Prelude.{◌≡◌, IfOk};
+ghost use Rattle.js_tool_generate.specs.Transcript as transcript;
+
+use crate::texts;
+use js_base::{OutOfMemory, Text, both};
+use js_json::consumer::Info;
+use js_json::{Response, pull, response_as};
+use js_ordered_table::{OrderedSetup, ReplayInput, Settings};
+use std::alloc::Global;
+
+// All at their defaults.
+fn settings(alloc: Global) -> Result<Settings, OutOfMemory>
+    ensures { IfOk result (λ settings. settings ≡ transcript.settings) }
+{
+    let (api_prefix, inbox_prefix) = both(
+        Text::from_str(alloc, "$JS.API"),
+        Text::from_str(alloc, "_INBOX.t"),
+    )?;
+    Ok(Settings {
+        api_prefix,
+        inbox_prefix,
+        context_timeout: None,
+        request_timeout: Some(10_000_000_000),
+        retries: 4_294_967_295,
+    })
+}
+
+// What the server tells of the first consumer.
+fn first_info(alloc: Global) -> Result<Info, OutOfMemory>
+    ensures { IfOk result (λ info. info ≡ transcript.replay_input.first) }
+{
+    let text = texts::info(alloc, "gen")?;
+    let answer = response_as(alloc, text.as_bytes());
+    drop(text);
+    match answer {
+        Ok(Response::Ok(info)) => Ok(info),
+        // The text is an info, so only memory can be missing.
+        other => {
+            drop(other);
+            Err(OutOfMemory)
+        }
+    }
+}
+
+/// The settings, the setup and the first consumer of every generated transcript: an ordered pull consumer of all messages,
+/// with the name `gen`.
+///
+/// # Errors
+///
+/// Want of memory.
+pub fn replay_input(alloc: Global) -> Result<ReplayInput, OutOfMemory>
+    ensures { IfOk result (λ input. input ≡ transcript.replay_input) }
+{
+    let (settings, first) = both(settings(alloc), first_info(alloc))?;
+    Ok(ReplayInput {
+        settings,
+        setup: OrderedSetup::Pull(pull::OrderedConfig::new(alloc)),
+        first,
+    })
+}

@@ -1,0 +1,15 @@
+mod Answered
+mod AppliedEntries
+mod JoinedSessions
+mod LogsShown
+mod ValidNames
+mod OtherKeys
+mod YieldsPassed
+mod LinesLeft
+mod SessionsReported
+mod SessionRuns
+mod EventLines
+mod FilledMirrors
+mod TextSoFar
+mod Worked
+mod WorkedSessions

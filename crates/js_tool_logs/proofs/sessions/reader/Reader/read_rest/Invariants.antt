@@ -1,0 +1,9 @@
+use Rattle.std.proofs.Common.{length}
+use Rattle.js_tool_logs.proofs.LinesLeft.{HasRead}
+use Rattle.js_tool_logs.proofs.sessions.reader.Reader.read_rest.Given as goal
+
+abbrev pub invariant-loop-said : goal.invariant-loop-said
+invariant-loop-said l = HasRead l.initial.self l.self
+
+abbrev pub decreases-loop-said : goal.decreases-loop-said
+decreases-loop-said l = length l.self.lines.left

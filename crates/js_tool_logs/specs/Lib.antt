@@ -1,0 +1,13 @@
+pub mod Command
+pub mod Yields
+pub mod LogTexts
+pub mod Report
+pub mod Relay
+pub mod Answer
+pub mod LogPromises
+pub mod SessionLine
+pub mod SessionInput
+pub mod SessionTexts
+pub mod SessionReport
+pub mod SessionProgress
+pub mod Sessions

@@ -1,0 +1,20 @@
+//! The words over logs and over sessions: `project`, `mirror`, `relay` and `sessions`. All other words are handed to js_tool.
+//!
+//! For the words over logs a transcript is replayed line by line, and what it hands out is kept and nothing else. Then the last
+//! message of each subject is written, or all messages with their holes, or the transcript of a consumer that is sent them again.
+//! Where the server was honest, the table is that of its own log, a mirror shows that log, and who replays the written transcript
+//! reads the same log. `sessions` writes what each session came to, or the line of the first refusal.
+#![tactic(auto)]
+
+mod answer;
+mod command;
+mod mirror;
+mod program;
+mod project;
+mod relay;
+mod report;
+mod sessions;
+mod yields;
+
+pub use js_tool::Status;
+pub use program::{run, run_plain};

@@ -1,0 +1,37 @@
+//! What the word `sessions` makes of the lines of sessions. They are read one after another, replayed, and written as text.
+
+ghost use Rattle.std.specs.Prelude.{◌≡◌};
+ghost use Rattle.js_tool_logs.specs.SessionInput.{sessions as sessions_in};
+ghost use Rattle.js_tool_logs.specs.Sessions.{as_report as as_report_in, report_of, Joins};
+ghost use Rattle.js_tool_logs.specs.Report.{Reports};
+
+mod line;
+mod reader;
+mod refusal;
+mod report;
+mod session;
+
+use crate::report::Report;
+use js_tool_io::Pieces;
+use js_tool_transcript::Unread;
+use report::{SessionsReport, sessions_report};
+use std::alloc::Global;
+
+fn as_report(made: SessionsReport) -> Report
+    ensures { result ≡ as_report_in made }
+{
+    match made {
+        SessionsReport::Done(text) => Report::Done(text),
+        SessionsReport::Refused(line) => Report::Refused(line),
+    }
+}
+
+/// What the sessions that the bytes say call for, from a bookmark on.
+pub(crate) fn report_on_sessions(alloc: Global, next: u64, bytes: Pieces) -> Result<Report, Unread>
+    ensures { Reports (report_of next) (Joins next) (sessions_in bytes) result }
+{
+    match sessions_report(alloc, next, bytes) {
+        Ok(made) => Ok(as_report(made)),
+        Err(unread) => Err(unread),
+    }
+}

@@ -1,0 +1,47 @@
+//! The lines of sessions, one after another, with their numbers.
+
+ghost use Rattle.std.specs.Prelude.{◌≡◌};
+ghost use Rattle.js_tool_logs.specs.SessionProgress.{ReadsNext, ReadsRest};
+
+use crate::sessions::line::{Said, said_line};
+use js_base::OutOfMemory;
+use js_ordered_table::next_number;
+use js_tool_io::{Lines, Pieces};
+use js_tool_transcript::{Payloads, Unread};
+use std::alloc::Global;
+
+/// The lines that are left, and the number of the last that was read.
+#[derive(Drop)]
+pub(crate) struct Reader {
+    pub(crate) lines: Lines,
+    pub(crate) number: u64,
+    pub(crate) payloads: Payloads,
+}
+
+impl Reader {
+    /// What the next line says, if one is left. Once none was left, none is.
+    pub(crate) fn next(&mut self, alloc: Global) -> Result<Option<Said>, Unread>
+        ensures { ReadsNext self.old self.new result }
+    {
+        if !self.lines.read(alloc) {
+            self.lines = Lines::new(alloc, Pieces::new(alloc));
+            return Ok(None);
+        }
+        self.number = match next_number(self.number) {
+            Ok(number) => number,
+            Err(OutOfMemory) => return Err(Unread::OutOfMemory),
+        };
+        let said = said_line(alloc, &mut self.payloads, self.number, self.lines.line())?;
+        Ok(Some(said))
+    }
+
+    /// Reads all lines that are left, and lets go what they say.
+    pub(crate) fn read_rest(&mut self, alloc: Global) -> Result<(), Unread>
+        ensures { ReadsRest self.old result }
+    {
+        while let Some(said) = self.next(alloc)? {
+            drop(said);
+        }
+        Ok(())
+    }
+}

@@ -1,0 +1,25 @@
+-- What the lines of a transcript are read as, by those that are read first.
+use Rattle.std.proofs.Common.{◌≡◌, ℕ, ◌+◌, List, [], ◌∷◌, ◌++◌, refl, sym, ap, ◌∙◌, append-nil}
+use Rattle.std.specs.Prelude.{Result, Ok, Err}
+use Rattle.js_ordered_table.specs.declared.event.Event.{Event}
+use Rattle.js_tool_transcript.specs.declared.transcript.setup.Setup.{Setup}
+use Rattle.js_tool_io.specs.Lines.{lines_of}
+use Rattle.js_tool_transcript.specs.Setup.{setup_line}
+use Rattle.js_tool_transcript.specs.Transcript.{read_after, ◌>>=◌, numbered, events_from, with_lines, after_lines, transcript, transcript_of}
+
+read_whole : (reading : Result (List Event) ℕ) → after_lines [] reading ≡ reading
+read_whole (Ok events) = refl
+read_whole (Err n) = refl
+
+-- all lines are those behind none
+pub whole : (lines : List (List ℕ)) → events_from 2 lines ≡ read_after [] (lines ++ [])
+whole lines = sym (ap (λ (all : List (List ℕ)). events_from 2 all) (append-nil lines)) ∙ sym (read_whole (events_from 2 (lines ++ [])))
+
+-- they say what their lines say
+pub of_lines : (bytes line : List ℕ) (lines : List (List ℕ)) → lines_of bytes ≡ line ∷ lines → transcript bytes ≡ transcript_of (line ∷ lines)
+unfolding transcript
+of_lines bytes line lines cut = ap transcript_of cut
+
+-- a setup, and the lines after it
+pub with_setup : (bytes line : List ℕ) (lines : List (List ℕ)) (setup : Setup) → lines_of bytes ≡ line ∷ lines → numbered 1 (setup_line line) ≡ Ok setup → transcript bytes ≡ with_lines setup lines
+with_setup bytes line lines setup cut reads = of_lines bytes line lines cut ∙ ap (λ (r : Result Setup ℕ). r >>= λ setup. with_lines setup lines) reads

@@ -1,0 +1,13 @@
+pub mod Members
+pub mod Setup
+pub mod Message
+pub mod Event
+pub mod Compact
+pub mod Transcript
+pub mod Text
+pub mod TranscriptReplay
+pub mod RelaySetupData
+pub mod RelayConfig
+pub mod RelayConfigText
+pub mod RelayText
+pub mod RelayTranscript

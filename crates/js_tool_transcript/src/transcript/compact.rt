@@ -1,0 +1,118 @@
+//! Lines in their shortest form, which most lines of a long transcript are. They are read with no JSON value between.
+
+ghost use Rattle.std.specs.Prelude.{◌≡◌, ◌≤◌, ◌<◌, ◌^◌, ◌++◌, ◌∷◌, length, decimal, codes, IfSome};
+ghost use Rattle.json.specs.Print.{escape};
+ghost use Rattle.js_tool_transcript.specs.Compact.{IsPlain, SaysCompact, arrival_rest};
+
+use crate::text::plain_front;
+use itoa::Buffer;
+use std::str::from_utf8;
+
+/// What a line in its shortest form says.
+#[derive(Clone, Copy)]
+pub(crate) enum CompactLine<'l> {
+    /// `{"at":1}`
+    Tick { at: u64 },
+    /// `{"at":1,"arrival":{"inbox":0,"reply":"r","payload":"p"}}`
+    Arrival { at: u64, arrival: PlainArrival<'l> },
+}
+
+/// What an arrival says that has these keys in this order, and no escape in its texts.
+#[derive(Clone, Copy)]
+pub(crate) struct PlainArrival<'l> {
+    pub(crate) inbox: u64,
+    pub(crate) reply: &'l str,
+    pub(crate) payload: &'l str,
+}
+
+/// What a line says that is a bare tick, or an arrival with a reply and a payload alone. Its front is read once, and its texts are found to be UTF-8 once.
+pub(crate) fn compact_line(line: &[u8]) -> Option<CompactLine<'_>>
+    ensures { IfSome result (SaysCompact line.now) }
+{
+    let (at, rest) = number_after(line, b"{\"at\":")?;
+    if rest == b"}".as_slice() {
+        return Some(CompactLine::Tick { at });
+    }
+    let arrival = plain_arrival(rest)?;
+    Some(CompactLine::Arrival { at, arrival })
+}
+
+// What follows the moment of an arrival.
+fn plain_arrival(rest: &[u8]) -> Option<PlainArrival<'_>>
+    ensures rest { IfSome result (λ a. rest.now ≡ arrival_rest a.inbox a.reply.now a.payload.now) }
+    ensures plain { IfSome result (λ a. IsPlain a.reply.now a.payload.now) }
+    ensures small { IfSome result (λ a. a.inbox < 2 ^ 64) }
+{
+    let (inbox, rest) = number_after(rest, b",\"arrival\":{\"inbox\":")?;
+    let (reply, rest) = text_after(rest, b",\"reply\":\"")?;
+    let (payload, rest) = text_after(rest, b",\"payload\":\"")?;
+    if rest == b"}}".as_slice() {
+        return Some(PlainArrival {
+            inbox,
+            reply,
+            payload,
+        });
+    }
+    None
+}
+
+// What follows a word.
+fn after<'l>(text: &'l [u8], word: &[u8]) -> Option<&'l [u8]>
+    ensures { IfSome result (λ rest. text.now ≡ word.now ++ rest.now) }
+{
+    if text.len() < word.len() {
+        return None;
+    }
+    let (front, rest) = text.split_at(word.len());
+    if front == word {
+        return Some(rest);
+    }
+    None
+}
+
+// A number in its shortest form behind a word, and what follows it.
+fn number_after<'l>(text: &'l [u8], word: &[u8]) -> Option<(u64, &'l [u8])>
+    ensures text { IfSome result (λ p. text.now ≡ word.now ++ (decimal p.0 ++ p.1.now)) }
+    ensures small { IfSome result (λ p. p.0 < 2 ^ 64) }
+{
+    let behind = after(text, word)?;
+    let (number, end) = digits_front(behind);
+    let (digits, rest) = behind.split_at(end);
+    let mut buffer = Buffer::new();
+    if buffer.format(number).as_bytes() == digits {
+        return Some((number, rest));
+    }
+    None
+}
+
+// The number of the digits at the front, if it is not too large, and how many they are.
+fn digits_front(text: &[u8]) -> (u64, usize)
+    ensures { result.1 ≤ length text.now }
+{
+    let mut number: u64 = 0;
+    let mut count = 0;
+    for byte in text {
+        if !byte.is_ascii_digit() {
+            return (number, count);
+        }
+        let digit = byte.wrapping_sub(b'0') as u64;
+        number = number.wrapping_mul(10).wrapping_add(digit);
+        count += 1;
+    }
+    (number, count)
+}
+
+// A text without escapes behind a word, and what follows its quote.
+fn text_after<'l>(text: &'l [u8], word: &[u8]) -> Option<(&'l str, &'l [u8])>
+    ensures { IfSome result (λ p. (text.now ≡ word.now ++ (p.0.now ++ 34 ∷ p.1.now)) × (escape p.0.now ≡ p.0.now)) }
+{
+    let behind = after(text, word)?;
+    let end = plain_front(behind);
+    if end < behind.len() && behind[end] == b'"' {
+        return match from_utf8(&behind[..end]) {
+            Ok(plain) => Some((plain, &behind[end + 1..])),
+            Err(_) => None,
+        };
+    }
+    None
+}

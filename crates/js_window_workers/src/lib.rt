@@ -1,0 +1,14 @@
+//! Workers that take permits of one publish window and give them back, each in a thread of its own where threads can be made. The
+//! program's word `window` runs them.
+//!
+//! The counts that are answered are those of the workers' own calls. Each worker passes a gate once, after its first take and
+//! before it gives a permit back: there whoever runs them can hold it.
+#![tactic(auto)]
+
+mod gate;
+mod worker;
+mod workers;
+
+pub use gate::{Gate, Open};
+pub use worker::{Ended, take_calls};
+pub use workers::{WindowCounts, run_window};

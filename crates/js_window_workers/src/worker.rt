@@ -1,0 +1,91 @@
+//! One worker: it takes permits of a window and gives each back.
+ghost use Rattle.std.specs.Prelude.{◌≡◌, ◌<◌, ◌+◌, None, option_map};
+ghost use Rattle.js_window_workers.specs.Worker.{TookCalls, PassedGate, IsReady, HasEnded};
+
+use crate::gate::{Gate, GatePassage};
+use js_window::{Pass, Take, Window};
+use std::sync::Wait;
+
+/// A worker that has not begun: its pass and its number.
+#[derive(Drop)]
+pub struct Job {
+    pub pass: Pass,
+    pub worker: u64,
+}
+
+/// A worker that has ended: its pass, how many of its takes got a permit, and how many found none free.
+#[derive(Drop)]
+pub struct Ended {
+    pub pass: Pass,
+    pub got: u64,
+    pub full: u64,
+}
+
+/// Takes a permit so many times, and gives each back before the next take. Answers how many takes got a permit, and
+/// how many found none free. The pass is one of this window's.
+///
+/// After the first take, and before any permit is given back, it calls the gate once with the worker's number, which
+/// the gate has to admit. With 0 calls it never calls the gate.
+pub fn take_calls<R: Wait, G: Gate>(
+    rt: &R,
+    window: &Window,
+    pass: &mut Pass,
+    calls: u64,
+    worker: u64,
+    gate: &G,
+) -> (u64, u64)
+    requires own { pass.old.window ≡ window.now }
+    requires admitted { G.admits gate.now worker }
+    ensures sum { result.0 + result.1 ≡ calls }
+    ensures calls { TookCalls result.0 result.1 pass.old pass.new }
+    ensures called { 0 < calls → G.passed gate.now worker }
+{
+    take_by(rt, window, pass, calls, worker, &mut GatePassage::new(gate))
+}
+
+// The same by a passage of the gate, which keeps the caller as it was when it passed.
+fn take_by<R: Wait, G: Gate>(
+    rt: &R,
+    window: &Window,
+    pass: &mut Pass,
+    calls: u64,
+    worker: u64,
+    passage: &mut GatePassage<G>,
+) -> (u64, u64)
+    requires own { pass.old.window ≡ window.now }
+    requires new { passage.old.passed ≡ None }
+    requires admitted { G.admits passage.old.gate.now worker }
+    ensures sum { result.0 + result.1 ≡ calls }
+    ensures calls { TookCalls result.0 result.1 pass.old pass.new }
+    ensures called { 0 < calls → G.passed passage.old.gate.now worker }
+    ensures gate { PassedGate calls pass.old (option_map (λ s. s.value) passage.new.passed) }
+{
+    let mut got = 0;
+    let mut full = 0;
+    for call in 0..calls {
+        let taken = window.take(rt, pass);
+        if call == 0 {
+            passage.pass_gate(worker, pass);
+        }
+        match taken {
+            Take::Got(permit) => {
+                window.give(rt, pass, permit);
+                got += 1;
+            }
+            Take::Full => full += 1,
+        }
+    }
+    (got, full)
+}
+
+/// The whole of one worker's calls.
+pub fn work<R: Wait, G: Gate>(rt: &R, window: &Window, job: Job, calls: u64, gate: &G) -> Ended
+    requires ready { IsReady window.now job }
+    requires admitted { G.admits gate.now job.worker }
+    ensures ended { HasEnded window.now calls result }
+    ensures called { 0 < calls → G.passed gate.now job.worker }
+{
+    let Job { mut pass, worker } = job;
+    let (got, full) = take_calls(rt, window, &mut pass, calls, worker, gate);
+    Ended { pass, got, full }
+}

@@ -1,6 +1,0 @@
-use Rattle.std.proofs.Common.{◌≡◌, ◌++◌, drop}
-use Rattle.js_logs.specs.Yielded.{yielded}
-use Rattle.js_words.proofs.gathering.add_yields.Given as goal
-
-abbrev pub invariant-loop-output : goal.invariant-loop-output
-invariant-loop-output l = l.entries ++ yielded (drop l.output-index l.outputs) ≡ l.initial.entries ++ yielded l.outputs
