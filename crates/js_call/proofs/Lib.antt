@@ -1,1 +1,2 @@
 pub mod Sleeps
+pub mod RefusedRequest

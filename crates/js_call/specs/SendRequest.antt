@@ -1,7 +1,7 @@
 -- A request whose answer is not waited for.
-use Rattle.std.specs.Prelude.{ℕ, ◌≡◌, Option, Some, None, List, Result, Ok, Err}
+use Rattle.std.specs.Prelude.{ℕ, ◌≡◌, ◌⊎◌, Option, Some, None, List, Result, Ok, Err}
 use Rattle.js_base.specs.declared.subject.Subject.{Subject}
-use Rattle.js_link.specs.LinkView.{LinkView, HasRisen}
+use Rattle.js_link.specs.LinkView.{LinkView, HasRisen, past_fresh}
 use Rattle.js_link.specs.Calls.{NamesOf, Publishes}
 use Rattle.js_link.specs.declared.link.LinkError.{LinkError}
 use Rattle.js_link.specs.declared.link.LinkError.TheVariants.{Failed}
@@ -29,17 +29,22 @@ pub record SendsRequestTo (reply : List ℕ) (scope : ApiScope) (subject : List 
   pub names : RepliesOf (Ok reply) request.inbox old between
   pub publishes : Publishes (under scope.prefix subject) (Some reply) request.headers (body_of request.payload) between new
 
--- nothing has changed, but that a fresh subject may have been named
-abbrev pub NamesAtMost : LinkView → LinkView → Type 0
-NamesAtMost old new = new ≡ record old { numbers = new.numbers }
+-- nothing has changed, but that one fresh subject may have been named, and that only where the request names no inbox
+abbrev pub NamesAtMostOne : Option (List ℕ) → LinkView → LinkView → Type 0
+NamesAtMostOne (Some inbox) old new = new ≡ old
+NamesAtMostOne None old new = (new ≡ old) ⊎ (new ≡ record old { numbers = past_fresh old.numbers })
 
--- nothing was sent: the link failed, and has changed nothing but what it counts and names
-pub record SendFails (old new : LinkView) : Type 0 where
+-- nothing was sent: the link failed, and has changed nothing but the count of its failures and the fresh subject that comes next
+pub record SendFails (inbox : Option (List ℕ)) (old new : LinkView) : Type 0 where
   pub risen : HasRisen old.faults new.faults
-  pub same : NamesAtMost (record old { faults = new.faults }) new
+  pub same : NamesAtMostOne inbox (record old { faults = new.faults }) new
+
+-- nothing was sent, for this reason
+abbrev pub RefusesRequest : SendError → Option (List ℕ) → LinkView → LinkView → Type 0
+RefusesRequest LinkFailed inbox old new = SendFails inbox old new
+RefusesRequest OutOfMemory inbox old new = NamesAtMostOne inbox old new
 
 -- what `send_request` does
 abbrev pub SendsRequest : Result (Unit {0}) SendError → ApiScope → List ℕ → RawRequest → LinkView → LinkView → Type 0
 SendsRequest (Ok _) scope subject request old new = (reply : List ℕ) × SendsRequestTo reply scope subject request old new
-SendsRequest (Err LinkFailed) scope subject request old new = SendFails old new
-SendsRequest (Err OutOfMemory) scope subject request old new = NamesAtMost old new
+SendsRequest (Err e) scope subject request old new = RefusesRequest e request.inbox old new

@@ -24,7 +24,8 @@ pub trait ApiCall: Drop {
     fn refusal(&self) -> Option<Self::Answer>
         ensures { result ≡ table.refused self.now };
 
-    /// Reads a reply's body.
+    /// Reads a reply's body. Fails with the `ReadError` that the call's row has for a body that does not read, and with
+    /// `OutOfMemory` if memory runs out.
     fn read(alloc: Global, payload: &[u8]) -> Result<Self::Reply, ReadError>
         ensures { table.reads payload.now result };
 

@@ -56,7 +56,7 @@ impl ApiCall for AskingValue {
 }
 
 impl ApiScope {
-    /// A request under the prefix with that body. The one refusal is want of memory.
+    /// A request under the prefix with that body. Fails with `OutOfMemory` if memory runs out, and with nothing else.
     pub fn request(
         &self,
         alloc: Global,

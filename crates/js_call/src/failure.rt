@@ -34,7 +34,7 @@ impl Failure {
         format!(in alloc; "{self}")
     }
 
-    /// Its text as the source of an error. The one refusal is want of memory.
+    /// Its text as the source of an error. Fails with `OutOfMemory` if memory runs out, and with nothing else.
     pub fn to_source(self, alloc: Global) -> Result<Source, OutOfMemory>
         ensures { IfOk result (λ source. source ≡ failure_source self) }
     {

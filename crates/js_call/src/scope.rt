@@ -54,7 +54,7 @@ impl ApiScope {
     }
 
     /// The scope by which a lost consumer is made anew. Its timeout is the context's; it has none where only the connection has
-    /// one, and else ten seconds. The one refusal is want of memory.
+    /// one, and else ten seconds. Fails with `OutOfMemory` if memory runs out, and with nothing else.
     pub fn recovery_context(&self, connection: Option<Nanos>) -> Result<ApiScope, OutOfMemory>
         ensures { IfOk result (λ scope. scope ≡ record self.now { timeout = recovery_timeout self.now.timeout connection }) }
     {
@@ -72,7 +72,8 @@ impl ApiScope {
     /// A request under the prefix with that body, which tests neither its subject nor the size of its body: the caller knows that
     /// they are good. So it never answers `InvalidSubject`, and its `Other` never comes from the body's size.
     ///
-    /// The poll that sends it is pending, and the answer and the clock are looked at from the next poll on. The one refusal is want of memory.
+    /// The poll that sends it is pending, and the answer and the clock are looked at from the next poll on. Fails with
+    /// `OutOfMemory` if memory runs out, and with nothing else.
     pub fn call(&self, alloc: Global, subject: &str, body: &Value) -> Result<RawCall, OutOfMemory>
         ensures { IfOk result (λ call. Calling self.now subject.now (view body.now) false call) }
     {
@@ -84,8 +85,8 @@ impl ApiScope {
         })
     }
 
-    /// A request under the prefix with that body, which tests its subject and its body's size before it is sent. The one refusal
-    /// is want of memory.
+    /// A request under the prefix with that body, which tests its subject and its body's size before it is sent. Fails with
+    /// `OutOfMemory` if memory runs out, and with nothing else.
     pub fn ask(&self, alloc: Global, subject: &str, body: Bytes) -> Result<RawCall, OutOfMemory>
         ensures { IfOk result (λ call. call ≡ asking self.now subject.now body) }
     {
@@ -99,8 +100,8 @@ impl ApiScope {
         })
     }
 
-    /// A request under the prefix on the words of a call and a name, as `STREAM.INFO` and `events`, with that body. The one
-    /// refusal is want of memory.
+    /// A request under the prefix on the words of a call and a name, as `STREAM.INFO` and `events`, with that body. Fails with
+    /// `OutOfMemory` if memory runs out, and with nothing else.
     pub fn ask_named(
         &self,
         alloc: Global,
@@ -114,7 +115,8 @@ impl ApiScope {
         self.ask(alloc, subject.as_str(), body)
     }
 
-    /// A request on that subject, which stands for itself, without the prefix. The one refusal is want of memory.
+    /// A request on that subject, which stands for itself, without the prefix. Fails with `OutOfMemory` if memory runs out, and
+    /// with nothing else.
     pub fn raw_request(
         &self,
         alloc: Global,

@@ -50,8 +50,10 @@ fn reply_subject<L: Link>(
 impl ApiScope {
     /// Publishes the request under the prefix. Its answer goes to the request's inbox, or else to a fresh subject of the link.
     ///
-    /// `LinkFailed` comes only where the link failed in this call. Where it is refused, nothing was sent, and nothing has changed but that a fresh
-    /// subject may have been named.
+    /// Fails with `LinkFailed` if the link failed in this call, and with `OutOfMemory` if memory runs out. Then nothing was
+    /// sent, and nothing has changed but that the link has counted its failure, and that one fresh subject may have been named where
+    /// the request has no inbox.
+    #[tactic(auto, using(crate::proofs::RefusedRequest::named_none, crate::proofs::RefusedRequest::no_reply, crate::proofs::RefusedRequest::not_published))]
     pub fn send_request<L: Link>(
         &self,
         alloc: Global,
@@ -69,7 +71,13 @@ impl ApiScope {
             inbox,
         } = request;
         let held = (subject, headers, body_of(payload));
-        let (held, reply) = both(Ok(held), reply_subject(alloc, link, inbox))?;
+        let reply = match reply_subject(alloc, link, inbox) {
+            Ok(reply) => reply,
+            Err(error) => {
+                drop(held);
+                return Err(SendError::from(error));
+            }
+        };
         let (subject, headers, body) = &held;
         let sent = link.publish(
             alloc,

@@ -21,14 +21,17 @@ pub trait ConsumerCalls<T: Drop> {
     /// The consumer that is asked for.
     ghost known: { Self → Consumer T };
 
-    /// Asks the server what it knows of the consumer. The errors are those of `get_info`.
+    /// Asks the server what it knows of the consumer. Fails with `AllocFailed`, which has the consumer, if memory runs out; the
+    /// polls return the errors of `get_info`.
     fn info(self, alloc: Global) -> Result<InfoCall<T>, AllocFailed<Consumer<T>>>
         ensures asks { IfOk result (λ call. call ≡ refreshing (known self)) }
         ensures back { IfErr result (λ refused. refused.value ≡ known self) };
 
     /// Sets the consumer back, so that it goes on with the message of that sequence of the stream. Where none is named the request says 0,
-    /// which leaves the place to the server. A server that knows no reset does not answer: `Request` or `TimedOut`. A sequence that the
-    /// consumer may not go to is `JetStream`, with error code 10204.
+    /// which leaves the place to the server.
+    ///
+    /// Fails with `AllocFailed`, which has the consumer, if memory runs out; other errors come from the polls. A server that knows no
+    /// reset does not answer: `Request` or `TimedOut`. A sequence that the consumer may not go to is `JetStream`, with error code 10204.
     fn reset(self, alloc: Global, seq: Option<u64>) -> Result<Reset<T>, AllocFailed<Consumer<T>>>
         ensures asks { IfOk result (λ call. call ≡ resetting seq (known self)) }
         ensures back { IfErr result (λ refused. refused.value ≡ known self) };

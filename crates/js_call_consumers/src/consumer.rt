@@ -48,11 +48,11 @@ impl<T> Consumer<T> {
         &self.info
     }
 
-    /// Asks the server what it knows of the consumer; what was told last stays as it is. The one refusal here is want of memory;
-    /// others come from the polls. A consumer that is gone is `NotFound`, or `TimedOut` where no server answers for it any more; one whose stream is gone
-    /// is `StreamNotFound`, and one that is offline `Offline`; their source is the server's error. `JetStream` holds another one. `InvalidName` comes
-    /// where the whole subject is none, `NoResponders` where nobody answers, and `Request` where the request has no reply for another reason or its reply
-    /// does not read.
+    /// Asks the server what it knows of the consumer; what was told last stays as it is. Fails with `OutOfMemory` if memory runs
+    /// out; other errors come from the polls. A consumer that is gone is `NotFound`, or `TimedOut` where no server answers for it
+    /// any more; one whose stream is gone is `StreamNotFound`, and one that is offline `Offline`; their source is the server's
+    /// error. `JetStream` holds another one. `InvalidName` comes where the whole subject is none, `NoResponders` where nobody
+    /// answers, and `Request` where the request has no reply for another reason or its reply does not read.
     pub fn get_info(&self, alloc: Global) -> Result<GetInfo, OutOfMemory>
         ensures { IfOk result (λ call. call ≡ asking_info self.now.scope self.now.info) }
     {

@@ -169,12 +169,12 @@ fn create<C: FromConsumer, K: CreateKind>(
 /// Makes a consumer on a stream. Where one of that name is there, the server changes it to that configuration as far as it can be
 /// changed, and else answers an error.
 ///
-/// The one refusal here is want of memory; others come from the polls. A configuration with an instant outside the years 0 to
-/// 9999 (a start by time, a pause) has no text: that is `Request`, whose source names the key, and nothing is sent. `JetStream` holds the server's
-/// error, and `Other` comes where the consumer that was made is of another kind. `TimedOut` comes where the timeout is due, and `Request` where the
-/// request has no reply for another reason or its reply does not read; these have that error's text as the source. The stream's name
-/// and the configuration's stand in the subject of the request as they are, and the server takes the word between two dots as the
-/// name: a consumer that is to be named `x.y` becomes `x`.
+/// Fails with `OutOfMemory` if memory runs out; other errors come from the polls. A configuration with an instant outside the
+/// years 0 to 9999 (a start by time, a pause) has no text: that is `Request`, whose source names the key, and nothing is sent.
+/// `JetStream` holds the server's error, and `Other` comes where the consumer that was made is of another kind. `TimedOut` comes
+/// where the timeout is due, and `Request` where the request has no reply for another reason or its reply does not read; these
+/// have that error's text as the source. The stream's name and the configuration's stand in the subject of the request as they
+/// are, and the server takes the word between two dots as the name: a consumer that is to be named `x.y` becomes `x`.
 pub fn create_consumer_on_stream<C: FromConsumer>(
     alloc: Global,
     scope: &ApiScope,
@@ -186,9 +186,11 @@ pub fn create_consumer_on_stream<C: FromConsumer>(
     create(alloc, scope, config, stream)
 }
 
-/// Makes a consumer on a stream, and is refused with `AlreadyExists` where one of that name with another configuration is there;
-/// one with the same configuration is answered as it is. The hazards and refusals are else those of `create_consumer_on_stream`.
-/// Servers before 2.10 know no action, and change the consumer that is there.
+/// Makes a consumer on a stream. One of that name that is there with the same configuration is answered as it is. Servers before
+/// 2.10 know no action, and change the consumer that is there.
+///
+/// Fails with `OutOfMemory` if memory runs out; other errors come from the polls. `AlreadyExists` comes where a consumer of that name
+/// with another configuration is there. The other errors, and the hazards, are those of `create_consumer_on_stream`.
 pub fn create_consumer_strict_on_stream<C: FromConsumer>(
     alloc: Global,
     scope: &ApiScope,
@@ -200,8 +202,10 @@ pub fn create_consumer_strict_on_stream<C: FromConsumer>(
     create(alloc, scope, config, stream)
 }
 
-/// Changes the consumer of that name that is on the stream, and is refused with `DoesNotExist` where none is. The hazards and
-/// refusals are else those of `create_consumer_on_stream`.
+/// Changes the consumer of that name that is on the stream.
+///
+/// Fails with `OutOfMemory` if memory runs out; other errors come from the polls. `DoesNotExist` comes where the stream has no
+/// consumer of that name. The other errors, and the hazards, are those of `create_consumer_on_stream`.
 pub fn update_consumer_on_stream<C: FromConsumer>(
     alloc: Global,
     scope: &ApiScope,

@@ -72,9 +72,10 @@ fn deleting_row(
 
 /// Deletes a consumer of a stream.
 ///
-/// The one refusal here is want of memory; others come from the polls. `InvalidName` comes from the first where the consumer's name is none that
-/// one may have, and `Other` where the stream's is; nothing is sent then. `JetStream` holds the server's error. `TimedOut` comes where the timeout is
-/// due, and `Request` where the request has no reply for another reason or its reply does not read; these have that error's text as the source.
+/// Fails with `OutOfMemory` if memory runs out; other errors come from the polls. `InvalidName` comes from the first where the
+/// consumer's name is none that one may have, and `Other` where the stream's is; nothing is sent then. `JetStream` holds the
+/// server's error. `TimedOut` comes where the timeout is due, and `Request` where the request has no reply for another reason or
+/// its reply does not read; these have that error's text as the source.
 ///
 /// Those that read the consumer are told by the server, or by nobody: an acknowledgement of one of its messages is taken still, and a
 /// pull request meets silence.

@@ -96,10 +96,11 @@ fn getting_row<T>(
 
 /// Gets a consumer of a stream as one of that kind.
 ///
-/// The one refusal here is want of memory; others come from the polls. `InvalidName` comes from the first where one of the names is none that a consumer,
-/// or a stream, may have, and nothing is sent. A consumer of another kind is `InvalidConsumerType`, whose source says why. `JetStream` holds the server's
-/// error. `TimedOut` comes where the timeout is due, and `Request` where the request has no reply for another reason or its reply does not read; these
-/// have that error's text as the source.
+/// Fails with `OutOfMemory` if memory runs out; other errors come from the polls. `InvalidName` comes from the first where one of
+/// the names is none that a consumer, or a stream, may have, and nothing is sent. A consumer of another kind is
+/// `InvalidConsumerType`, whose source says why. `JetStream` holds the server's error. `TimedOut` comes where the timeout is due,
+/// and `Request` where the request has no reply for another reason or its reply does not read; these have that error's text as the
+/// source.
 pub fn get_consumer_from_stream<T: FromConsumer>(
     alloc: Global,
     scope: &ApiScope,

@@ -1,3 +1,4 @@
+pub mod HasText
 pub mod UnwrittenMember
 pub mod KeptAsRead
 mod OverlayTexts

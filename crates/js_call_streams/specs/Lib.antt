@@ -1,3 +1,4 @@
+pub mod Written
 pub mod Error
 pub mod Refusal
 pub mod Places

@@ -1,11 +1,11 @@
 -- The pages of a list: how each is asked for, and what its reply means.
-use Rattle.std.specs.Prelude.{ℕ, ◌≡◌, Option, Some, None, List, [], ◌∷◌, reverse, codes, Result, Ok, Err}
-use Rattle.serde_json.specs.Data.{Data}
+use Rattle.std.specs.Prelude.{ℕ, ◌≡◌, Option, Some, None, List, [], ◌∷◌, reverse, codes, Result, Ok, Err, refl}
+use Rattle.serde_json.specs.Data.{Data, object}
 use Rattle.js_base.specs.Error.{caused}
 use Rattle.js_base.specs.declared.error.Error.{Error}
 use Rattle.js_codes.specs.Errors.{api_source}
 use Rattle.js_json_members.specs.Member.{Reads, float_free}
-use Rattle.js_json_members.specs.Rows.{text_of}
+use Rattle.js_json_members.specs.Rows.{text_of, object_of, with_row, always, or_null}
 use Rattle.js_json_members.specs.declared.error.ReadError.{ReadError}
 use Rattle.js_json.specs.Response.{response_of}
 use Rattle.js_json.specs.declared.response.Response.{Response}
@@ -19,6 +19,7 @@ use Rattle.js_call.specs.declared.scope.ApiScope.{ApiScope}
 use Rattle.js_call.specs.Call.{calling}
 use Rattle.js_call.specs.Scope.{asking}
 use Rattle.js_call.specs.Table.{Table, reads_as}
+use Rattle.js_call_streams.specs.Written.{HasJson}
 use Rattle.js_call_streams.specs.declared.page.AskingPage.{AskingPage}
 
 -- how the pages of a list are asked for: by which words, and by which body at an offset
@@ -39,6 +40,15 @@ infos_list = record {
   words = codes "STREAM.LIST";
   request = λ offset. list_request_value (record { offset = offset });
 }
+
+-- each page of either list has a request
+pub names_are_asked : (offset : ℕ) → HasJson (names_list.request offset)
+unfolding names_request_value object_of with_row always or_null
+names_are_asked offset = (object _, refl)
+
+pub infos_are_asked : (offset : ℕ) → HasJson (infos_list.request offset)
+unfolding list_request_value object_of with_row always
+infos_are_asked offset = (object _, refl)
 
 -- the items of a page, of which a server may leave out all
 abbrev pub items_of : {A : Type 0} → Option (List A) → List A

@@ -17,6 +17,10 @@ use Rattle.js_call_streams.specs.Create.{IsTextOf}
 use Rattle.js_call_streams.specs.Overlay.{is_same, over}
 use Rattle.js_call_streams.specs.Update.{updating}
 
+-- the value is what is written of the configuration, and no float stands in it
+abbrev pub IsWrittenOf : Config → Data → Type 0
+IsWrittenOf config value = (config_value config ≡ Ok value) × (has_float value ≡ false)
+
 -- what is sent, by whether the configuration is written as before: what was kept, or else what is written now over it
 abbrev pub SentBy : Bool → List ℕ → Data → Data → List ℕ → Type 0
 SentBy true kept before after body = body ≡ kept

@@ -55,10 +55,10 @@ impl ApiCall for QueryingAccount {
 /// Asks what the account of this connection uses of JetStream, what it may use, and how far its server's API goes (NATS docs,
 /// "JetStream API", `$JS.API.INFO`).
 ///
-/// The one refusal here is want of memory; others come from the polls. `JetStream` holds the server's error. `JetStreamUnavailable`
-/// comes where nobody answers, `TimedOut` where the timeout is due, and `Other` where the request has no reply for another reason or its
-/// reply does not read; these have that error's text as the source. An account of a server before 2.7 does not read, since it does not
-/// say what is set aside: the source is then `reserved_memory: missing`.
+/// Fails with `OutOfMemory` if memory runs out; other errors come from the polls. `JetStream` holds the server's error.
+/// `JetStreamUnavailable` comes where nobody answers, `TimedOut` where the timeout is due, and `Other` where the request has no
+/// reply for another reason or its reply does not read; these have that error's text as the source. An account of a server before
+/// 2.7 does not read, since it does not say what is set aside: the source is then `reserved_memory: missing`.
 pub fn query_account(alloc: Global, scope: &ApiScope) -> Result<QueryAccount, OutOfMemory>
     ensures { IfOk result (λ call. call ≡ querying scope.now) }
 {

@@ -6,11 +6,12 @@ use crate::error::{CreateStreamError, api_error, create_failure};
 use crate::handle::StreamHandle;
 use crate::places::{Placing, two_places};
 use crate::refusal::create_refusal;
+use crate::written::body_of;
 use bytes::Bytes;
 use js_base::{Error, OutOfMemory, Source, Text, TryClone, both};
 use js_call::{ApiCall, ApiScope, Call, Failure, RawCall};
 use js_json::{Response, response_as};
-use js_json_members::{ReadError, ToValue};
+use js_json_members::ReadError;
 use js_json_streams::stream::{Config, Info};
 use std::alloc::Global;
 
@@ -69,14 +70,12 @@ impl ApiCall for CreatingStream {
     }
 }
 
-/// The text of a configuration. Each one has a text, so what is refused here is want of memory.
-pub(crate) fn body_of(alloc: Global, config: &Config) -> Result<Bytes, OutOfMemory>
+/// The text of a configuration.
+#[tactic(auto, using(crate::proofs::HasText::config_written))]
+pub(crate) fn config_body(alloc: Global, config: &Config) -> Result<Bytes, OutOfMemory>
     ensures { IfOk result (λ body. IsTextOf config.now body) }
 {
-    match config.to_text(alloc) {
-        Ok(text) => Ok(Bytes::from_string(text)?),
-        Err(_) => Err(OutOfMemory),
-    }
+    body_of(alloc, config)
 }
 
 /// A request on the words of a call and the configuration's name, whose body is the configuration.
@@ -88,7 +87,7 @@ pub(crate) fn config_request(
 ) -> Result<RawCall, OutOfMemory>
     ensures { IfOk result (λ asked. AsksWith scope.now words.now config.now asked) }
 {
-    let body = body_of(alloc, config)?;
+    let body = config_body(alloc, config)?;
     scope.ask_named(alloc, words, config.name.as_str(), body)
 }
 
@@ -134,7 +133,7 @@ pub(crate) fn create<C: Placing>(
 ///
 /// The server answers a stream that has that name and configuration already, and refuses another configuration as `JetStream`.
 ///
-/// The one refusal here is want of memory; others come from the polls. `EmptyStreamName`, `InvalidStreamName` and
+/// Fails with `OutOfMemory` if memory runs out; other errors come from the polls. `EmptyStreamName`, `InvalidStreamName` and
 /// `DomainAndExternalSet` come from the first, and nothing is sent. The other errors are those of `update_stream`.
 pub fn create_stream(
     alloc: Global,

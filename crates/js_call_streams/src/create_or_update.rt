@@ -132,8 +132,8 @@ fn update_or_create<C: Placing>(
 /// Changes a stream, and makes it as `create_stream` does where the server answers that it is not there, in the same poll. Where it
 /// is there, what `Config` does not name is reset, as by `update_stream`.
 ///
-/// The one refusal here is want of memory; those of the name come from the first poll, and nothing is sent. The other errors are those
-/// of `update_stream` and then of `create_stream`.
+/// Fails with `OutOfMemory` if memory runs out; the errors of the name come from the first poll, and nothing is sent. The other
+/// errors are those of `update_stream` and then of `create_stream`.
 pub fn create_or_update_stream(
     alloc: Global,
     scope: &ApiScope,

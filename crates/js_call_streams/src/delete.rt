@@ -55,7 +55,7 @@ impl ApiCall for DeletingStream {
 
 /// Deletes a stream with all its messages and consumers.
 ///
-/// The one refusal here is want of memory; others come from the polls, as those of `get_stream`.
+/// Fails with `OutOfMemory` if memory runs out; other errors come from the polls, as those of `get_stream`.
 pub fn delete_stream(
     alloc: Global,
     scope: &ApiScope,

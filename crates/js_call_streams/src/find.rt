@@ -5,11 +5,12 @@ ghost use Rattle.js_call_streams.specs.Find.{find_row, find_refusal, found, Find
 
 use crate::list_error::{GetStreamByNameError, GetStreamByNameErrorKind};
 use crate::rest::first_of;
+use crate::written::body_of;
 use bytes::Bytes;
 use js_base::{Error, OutOfMemory, Source, Text, both, is_valid_subject};
 use js_call::{ApiCall, ApiScope, Call, Failure};
 use js_json::{Response, response_as};
-use js_json_members::{ReadError, ToValue};
+use js_json_members::ReadError;
 use js_json_streams::stream::{NamesRequest, Page};
 use std::alloc::Global;
 
@@ -72,6 +73,7 @@ impl ApiCall for SearchingStream {
 }
 
 // The body of the request for the first page of the names of streams that store a subject.
+#[tactic(auto, using(crate::proofs::HasText::names_request_written))]
 fn find_body(alloc: Global, subject: &str) -> Result<Bytes, OutOfMemory>
     ensures { IfOk result (λ body. text_of (finding_request subject.now) ≡ Ok body) }
 {
@@ -79,19 +81,16 @@ fn find_body(alloc: Global, subject: &str) -> Result<Bytes, OutOfMemory>
         offset: 0,
         subject: Some(Text::from_str(alloc, subject)?),
     };
-    let text = request.to_text(alloc);
+    let body = body_of(alloc, &request);
     drop(request);
-    match text {
-        Ok(text) => Ok(Bytes::from_string(text)?),
-        Err(_) => Err(OutOfMemory),
-    }
+    body
 }
 
 /// Finds the name of the stream that stores a subject: the first item of the list of such streams.
 ///
-/// The one refusal here is want of memory; others come from the polls. `InvalidSubject` comes from the first, and nothing is sent.
-/// `NotFound` comes where no stream stores the subject. `Request` has as its source the server's error, or the text of the
-/// request's or the reply's.
+/// Fails with `OutOfMemory` if memory runs out; other errors come from the polls. `InvalidSubject` comes from the first, and
+/// nothing is sent. `NotFound` comes where no stream stores the subject. `Request` has as its source the server's error, or the
+/// text of the request's or the reply's.
 pub fn stream_by_subject(
     alloc: Global,
     scope: &ApiScope,

@@ -77,9 +77,9 @@ fn getting_row(alloc: Global, scope: &ApiScope, name: &str) -> Result<GettingStr
 
 /// Gets a stream with what the server knows of it. The handle keeps the configuration as it was sent, every member of it.
 ///
-/// The one refusal here is want of memory; others come from the polls. `EmptyName` and `InvalidStreamName` come from the first, and
-/// nothing is sent. `JetStream` holds the server's error. `Request` comes where the request has no reply or its reply does not read, and
-/// has that error's text as the source: so a timeout and an absent JetStream are told apart.
+/// Fails with `OutOfMemory` if memory runs out; other errors come from the polls. `EmptyName` and `InvalidStreamName` come from
+/// the first, and nothing is sent. `JetStream` holds the server's error. `Request` comes where the request has no reply or its
+/// reply does not read, and has that error's text as the source: so a timeout and an absent JetStream are told apart.
 pub fn get_stream(alloc: Global, scope: &ApiScope, name: &str) -> Result<GetStream, OutOfMemory>
     ensures { IfOk result (λ call. call ≡ getting scope.now name.now) }
 {
@@ -99,8 +99,10 @@ fn bare_handle(alloc: Global, scope: &ApiScope, name: &str) -> Result<StreamHand
     })
 }
 
-/// A handle of a stream of that name, without asking the server whether it is there. An empty name is `EmptyName`, another
-/// that no stream may have `InvalidStreamName`, and want of memory `OutOfMemory`.
+/// Returns a handle of a stream of that name, without asking the server whether it is there.
+///
+/// Fails with `EmptyName` if the name is empty, with `InvalidStreamName` if it is another that no stream may have, and with
+/// `OutOfMemory` if memory runs out.
 pub fn get_stream_no_info(
     alloc: Global,
     scope: &ApiScope,

@@ -126,8 +126,8 @@ fn find_or_create<C: Placing>(
 /// Gets a stream, and makes it as `create_stream` does where the server answers code 404, in the same poll. A stream that is there is
 /// given as it is, whatever the configuration says.
 ///
-/// The one refusal here is want of memory; those of the name come from the first poll, and nothing is sent. The other errors are those
-/// of `create_stream`.
+/// Fails with `OutOfMemory` if memory runs out; the errors of the name come from the first poll, and nothing is sent. The other
+/// errors are those of `create_stream`.
 pub fn get_or_create_stream(
     alloc: Global,
     scope: &ApiScope,

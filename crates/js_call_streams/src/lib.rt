@@ -29,6 +29,7 @@ mod refusal;
 mod rest;
 mod update;
 mod update_kept;
+mod written;
 
 pub use account::{QueryAccount, QueryingAccount, query_account};
 pub use account_error::{AccountError, AccountErrorKind};

@@ -1,8 +1,9 @@
 //! What is listed page by page.
-ghost use Rattle.std.specs.Prelude.{◌≡◌, string_bytes};
+ghost use Rattle.std.specs.Prelude.{◌≡◌, ℕ, string_bytes};
 ghost use Rattle.js_json_members.specs.Member.{GivesAs};
 ghost use Rattle.js_json_members.specs.Rows.{text_of};
-ghost use Rattle.js_call_streams.specs.Page.{Lists, names_list, infos_list};
+ghost use Rattle.js_call_streams.specs.Written.{HasJson};
+ghost use Rattle.js_call_streams.specs.Page.{Lists, names_list, infos_list, names_are_asked, infos_are_asked};
 
 use js_base::Text;
 use js_json_members::{Member, ReadError, ToValue};
@@ -17,14 +18,20 @@ pub trait ListItem: Member {
     fn words() -> &'static str
         ensures { result.now ≡ list.words };
 
-    /// The body of the request for the page that begins at an offset.
+    /// The body of the request for the page that begins at an offset. Fails with `OutOfMemory` if memory runs out, and with nothing
+    /// else.
     fn request_text(alloc: Global, offset: u64) -> Result<String, ReadError>
         ensures { GivesAs string_bytes result (text_of (list.request offset)) };
+
+    /// Each page has a request.
+    ghost is_asked: { (offset : ℕ) → HasJson (list.request offset) };
 }
 
 /// The names of all streams.
 impl ListItem for Text {
     ghost list = { names_list };
+
+    ghost is_asked = { names_are_asked };
 
     fn words() -> &'static str {
         "STREAM.NAMES"
@@ -44,6 +51,8 @@ impl ListItem for Text {
 /// What the server knows of all streams.
 impl ListItem for Info {
     ghost list = { infos_list };
+
+    ghost is_asked = { infos_are_asked };
 
     fn words() -> &'static str {
         "STREAM.LIST"

@@ -161,15 +161,16 @@ impl<T: ListItem> Listing<T> {
     {}
 }
 
-/// Lists the names of all streams, page by page: nothing is sent before the first poll. The one refusal is want of memory.
+/// Lists the names of all streams, page by page: nothing is sent before the first poll. Fails with `OutOfMemory` if memory runs
+/// out, and with nothing else.
 pub fn stream_names(alloc: Global, scope: &ApiScope) -> Result<StreamNames, OutOfMemory>
     ensures { IfOk result (λ list. list ≡ fresh scope.now) }
 {
     Listing::new(alloc, scope)
 }
 
-/// Lists what the server knows of all streams, page by page: nothing is sent before the first poll. The one refusal is want of
-/// memory.
+/// Lists what the server knows of all streams, page by page: nothing is sent before the first poll. Fails with `OutOfMemory` if
+/// memory runs out, and with nothing else.
 pub fn streams(alloc: Global, scope: &ApiScope) -> Result<Streams, OutOfMemory>
     ensures { IfOk result (λ list. list ≡ fresh scope.now) }
 {

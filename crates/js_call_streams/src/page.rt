@@ -5,6 +5,7 @@ ghost use Rattle.js_call_streams.specs.Page.{page_row, page_in, AsksPage};
 
 use crate::list_error::{StreamsError, StreamsErrorKind};
 use crate::list_item::ListItem;
+use crate::written::written;
 use bytes::Bytes;
 use js_base::{Error, OutOfMemory, Source};
 use js_call::{ApiCall, ApiScope, Call, Failure};
@@ -55,13 +56,11 @@ impl<T: ListItem> ApiCall for AskingPage<T> {
 fn page_body<T: ListItem>(alloc: Global, offset: u64) -> Result<Bytes, OutOfMemory>
     ensures { IfOk result (λ body. text_of (T.list.request offset) ≡ Ok body) }
 {
-    match T::request_text(alloc, offset) {
-        Ok(text) => Ok(Bytes::from_string(text)?),
-        Err(_) => Err(OutOfMemory),
-    }
+    let text = written(T::request_text(alloc, offset))?;
+    Ok(Bytes::from_string(text)?)
 }
 
-/// The request for the page that begins at an offset. The one refusal is want of memory.
+/// The request for the page that begins at an offset. Fails with `OutOfMemory` if memory runs out, and with nothing else.
 pub(crate) fn page_call<T: ListItem>(
     alloc: Global,
     scope: &ApiScope,

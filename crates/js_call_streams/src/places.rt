@@ -51,7 +51,7 @@ fn domain_text(alloc: Global, domain: &str) -> Result<String, AllocError>
     format!(in alloc; "$JS.{domain}.API")
 }
 
-/// What the subjects of the API begin with in a domain. The one refusal is want of memory.
+/// What the subjects of the API begin with in a domain. Fails with `OutOfMemory` if memory runs out, and with nothing else.
 pub fn domain_prefix(alloc: Global, domain: &str) -> Result<Text, OutOfMemory>
     ensures { IfOk result (λ prefix. prefix ≡ domain_prefix_in domain.now) }
 {

@@ -68,10 +68,10 @@ impl ApiCall for UpdatingStream {
 /// `subject_transforms` of a mirror or a source. `update_stream_keeping` keeps them. A change that the server does not allow, as of a
 /// mirror that had a start time, is refused by it.
 ///
-/// The one refusal here is want of memory; others come from the polls. `EmptyStreamName` and `InvalidStreamName` come from the first,
-/// and nothing is sent. `NotFound` comes where the server does not know the stream, and has its error as the source; another
-/// error of the server is `JetStream`. `TimedOut`, `JetStreamUnavailable`, `InvalidStreamName` (the whole subject is none) and
-/// `Response` (the link failed, or the reply does not read) have the request's or the reply's error as the source.
+/// Fails with `OutOfMemory` if memory runs out; other errors come from the polls. `EmptyStreamName` and `InvalidStreamName` come
+/// from the first, and nothing is sent. `NotFound` comes where the server does not know the stream, and has its error as the
+/// source; another error of the server is `JetStream`. `TimedOut`, `JetStreamUnavailable`, `InvalidStreamName` (the whole subject
+/// is none) and `Response` (the link failed, or the reply does not read) have the request's or the reply's error as the source.
 pub fn update_stream(
     alloc: Global,
     scope: &ApiScope,

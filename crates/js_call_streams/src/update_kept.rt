@@ -3,13 +3,14 @@ ghost use Rattle.std.specs.Prelude.{◌≡◌, false, IfOk};
 ghost use Rattle.serde_json.specs.View.{view};
 ghost use Rattle.serde_json.specs.Written.{compact_text};
 ghost use Rattle.js_call_streams.specs.Overlay.{is_same, over as over_in};
-ghost use Rattle.js_call_streams.specs.UpdateKept.{SentBy, KeepsIn, SendsKept, AsksKeeping, UpdatesKeeping, SendsBack};
+ghost use Rattle.js_call_streams.specs.UpdateKept.{IsWrittenOf, SentBy, KeepsIn, SendsKept, AsksKeeping, UpdatesKeeping, SendsBack};
 
-use crate::create::body_of;
+use crate::create::config_body;
 use crate::handle::StreamHandle;
 use crate::kept::Kept;
 use crate::overlay::{is_same, over};
 use crate::update::{UpdateStream, updating_row};
+use crate::written::written;
 use bytes::Bytes;
 use js_base::{OutOfMemory, both};
 use js_call::{ApiScope, Call, RawCall};
@@ -79,7 +80,14 @@ fn sent_body(
     }
 }
 
-// The body of an update to that configuration. Each configuration has a text, so what is refused here is want of memory.
+// What is written of a configuration.
+fn config_value(alloc: Global, config: &Config) -> Result<Value, OutOfMemory>
+    ensures { IfOk result (λ value. IsWrittenOf config.now (view value)) }
+{
+    written(config.to_value(alloc))
+}
+
+// The body of an update to that configuration.
 #[tactic(auto, using(crate::proofs::KeptAsRead::keeps_in))]
 fn keeping_body(
     alloc: Global,
@@ -89,15 +97,11 @@ fn keeping_body(
 ) -> Result<Bytes, OutOfMemory>
     ensures { IfOk result (λ body. KeepsIn kept.now.text read.now config.now body) }
 {
-    match both(read.to_value(alloc), config.to_value(alloc)) {
-        Ok((before, after)) => {
-            let body = sent_body(alloc, kept, &before, &after);
-            drop(before);
-            drop(after);
-            body
-        }
-        Err(_) => Err(OutOfMemory),
-    }
+    let (before, after) = both(config_value(alloc, read), config_value(alloc, config))?;
+    let body = sent_body(alloc, kept, &before, &after);
+    drop(before);
+    drop(after);
+    body
 }
 
 // The same for a handle: one that kept nothing asks with the configuration alone.
@@ -109,7 +113,7 @@ fn body_for(
     ensures { IfOk result (λ body. SendsKept handle.now.kept handle.now.info.config config.now body) }
 {
     match &handle.kept {
-        None => body_of(alloc, config),
+        None => config_body(alloc, config),
         Some(kept) => keeping_body(alloc, kept, &handle.info.config, config),
     }
 }
@@ -150,7 +154,7 @@ fn update_call(
 /// The scope is to be that of the handle: the stream of that name in another one gets what was read here. What was changed
 /// on the server since the handle was made is overwritten.
 ///
-/// The refusals are those of `update_stream`.
+/// Fails with `OutOfMemory` if memory runs out; the polls return the errors of `update_stream`.
 #[tactic(auto, using(crate::proofs::KeptAsRead::unchanged_call))]
 pub fn update_stream_keeping(
     alloc: Global,

@@ -133,7 +133,7 @@ impl PublishAckFuture {
     }
 
     /// From here on nobody awaits the ack: `reap` looks after it, and its clock begins anew at the first `reap` that looks at it. It
-    /// takes no memory. A reply that was kept is dropped: the ack is then settled when it is due.
+    /// takes no memory. A reply that was kept is dropped: no second answer comes, so the first `reap` that looks at the ack settles it.
     pub fn detach(self, context: &mut Context)
         requires { IsAwaitedBy self context.old }
         ensures awaited { context.new.awaited + 1 ≡ context.old.awaited }

@@ -1,8 +1,8 @@
 //! How a context is built.
-ghost use Rattle.std.specs.Prelude.{◌≡◌, IfOk, Some, codes};
+ghost use Rattle.std.specs.Prelude.{◌≡◌, ◌<◌, ◌^◌, IfOk, Some, codes};
 ghost use Rattle.js_call_streams.specs.Places.{domain_prefix as domain_prefix_in};
 ghost use Rattle.js_context.specs.Builder.{Builds, IsBuilder, capacity_of, refusal_of, scope_of, settings_of};
-ghost use Rattle.js_context.specs.Context.{usual_scope, usual_settings};
+ghost use Rattle.js_context.specs.Context.{IsNew, usual_scope, usual_settings};
 
 use crate::build_error::BuildError;
 use crate::context::{Context, Settings};
@@ -159,6 +159,21 @@ impl<P: ToAssign> ContextBuilder<P> {
     pub fn build<R: Wait>(self, rt: &R, alloc: Global) -> Result<Context, BuildError>
         ensures { Builds (refusal_of (capacity_of self)) result (scope_of self) (capacity_of self) (settings_of self) }
     {
+        match refusal(self.capacity) {
+            Some(error) => {
+                drop(self);
+                Err(error)
+            }
+            None => Ok(self.open(rt, alloc)?),
+        }
+    }
+
+    /// The context of 1 to `u32::MAX` permits. The one refusal is want of memory.
+    pub(crate) fn open<R: Wait>(self, rt: &R, alloc: Global) -> Result<Context, OutOfMemory>
+        requires least { 0 < capacity_of self }
+        requires most { capacity_of self < 2 ^ 32 }
+        ensures { IfOk result (λ context. IsNew (scope_of self) (capacity_of self) (settings_of self) context) }
+    {
         let ContextBuilder {
             scope,
             capacity,
@@ -166,13 +181,7 @@ impl<P: ToAssign> ContextBuilder<P> {
             prefix_to_assign,
         } = self;
         drop(prefix_to_assign);
-        match refusal(capacity) {
-            Some(error) => {
-                drop(scope);
-                Err(error)
-            }
-            None => Ok(Context::open(rt, alloc, scope, capacity, settings)?),
-        }
+        Context::open(rt, alloc, scope, capacity, settings)
     }
 }
 

@@ -11,7 +11,6 @@ ghost use Rattle.js_context.specs.AckWait.{Settles};
 ghost use Rattle.js_context.specs.Wakes.{is_one_due};
 ghost use Rattle.js_context.specs.declared.context.Detached.{Detached};
 
-use crate::build_error::BuildError;
 use crate::builder::ContextBuilder;
 use crate::wakes::clock_end;
 use js_base::{Moment, Nanos, OutOfMemory, TryClone, earlier};
@@ -72,16 +71,6 @@ impl Model for Context {
     ghost invariant = { λ c. IsContext c.window c.pass c.awaited c.detached };
 }
 
-// What a build came to whose capacity was good.
-fn unless_memory(built: Result<Context, BuildError>) -> Result<Context, OutOfMemory>
-    ensures { IfOk result (λ context. built ≡ Ok context) }
-{
-    match built {
-        Ok(context) => Ok(context),
-        Err(_) => Err(OutOfMemory),
-    }
-}
-
 // A window of so many permits, all free, that contexts may share, with its first pass.
 fn shared_window<R: Wait>(
     rt: &R,
@@ -110,29 +99,25 @@ impl Context {
     pub fn new<R: Wait>(rt: &R, alloc: Global) -> Result<Context, OutOfMemory>
         ensures { IfOk result (λ context. IsUsual (codes "$JS.API") context) }
     {
-        unless_memory(ContextBuilder::new(alloc)?.build(rt, alloc))
+        ContextBuilder::new(alloc)?.open(rt, alloc)
     }
 
     /// A context of a domain: its prefix is `$JS.{domain}.API`, and all else as of `new`. The one refusal is want of memory.
     pub fn with_domain<R: Wait>(rt: &R, alloc: Global, domain: &str) -> Result<Context, OutOfMemory>
         ensures { IfOk result (λ context. IsUsual (domain_prefix domain.now) context) }
     {
-        unless_memory(
-            ContextBuilder::new(alloc)?
-                .domain(alloc, domain)?
-                .build(rt, alloc),
-        )
+        ContextBuilder::new(alloc)?
+            .domain(alloc, domain)?
+            .open(rt, alloc)
     }
 
     /// A context with that prefix, and all else as of `new`. The one refusal is want of memory.
     pub fn with_prefix<R: Wait>(rt: &R, alloc: Global, prefix: &str) -> Result<Context, OutOfMemory>
         ensures { IfOk result (λ context. IsUsual prefix.now context) }
     {
-        unless_memory(
-            ContextBuilder::new(alloc)?
-                .api_prefix(alloc, prefix)?
-                .build(rt, alloc),
-        )
+        ContextBuilder::new(alloc)?
+            .api_prefix(alloc, prefix)?
+            .open(rt, alloc)
     }
 
     /// A context with a window of 1 to `u32::MAX` permits, all free. The one refusal is want of memory.
@@ -270,10 +255,7 @@ impl Context {
         ensures ok { IfOk result (λ taken. Takes taken self.old self.new) }
     {
         // Each ack that is awaited keeps a place in the list, so that `detach` needs no memory.
-        let more = match self.awaited.checked_add(1) {
-            Some(more) => more,
-            None => return Err(OutOfMemory),
-        };
+        let more = self.awaited + 1;
         self.detached.reserve(more)?;
         match self.window.take(rt, &mut self.pass) {
             Take::Got(permit) => {

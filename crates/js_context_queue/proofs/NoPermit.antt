@@ -1,8 +1,9 @@
 -- A try of a message that lacks a permit gets none, whatever the context does with one that waits.
-use Rattle.std.proofs.Common.{◌≡◌, Bool, true, false, refl, ap, subst}
+use Rattle.std.proofs.Common.{◌≡◌, Bool, true, false, inl, inr, refl, ap, subst}
 use Rattle.js_base.specs.Error.{plain}
 use Rattle.js_base.specs.declared.error.Error.{Error}
 use Rattle.js_link.specs.LinkView.{LinkView}
+use Rattle.js_link.specs.Calls.{RefusedSend}
 use Rattle.js_link.specs.declared.link.LinkError.{LinkError}
 use Rattle.js_link.specs.declared.link.LinkError.TheVariants as link
 use Rattle.js_message.specs.declared.publish_message.OutboundMessage.{OutboundMessage}
@@ -14,7 +15,7 @@ use Rattle.js_context.specs.declared.publish_error.PublishErrorKind.{PublishErro
 use Rattle.js_context.specs.declared.publish_error.PublishErrorKind.TheVariants as kind
 use Rattle.js_context.specs.declared.sending.Attempt.{Attempt}
 use Rattle.js_context.specs.declared.sending.Attempt.TheVariants.{Barred, NoRoom, Full, Unsent, Went}
-use Rattle.js_context_queue.specs.SendAttempt.{GetsNone, GetsNoneIfFull}
+use Rattle.js_context_queue.specs.SendAttempt.{GetsNone, GetsNoneIfFull, IsTriedInVain}
 use Rattle.js_context_queue.specs.declared.send_attempt.SendResult.{SendResult}
 use Rattle.js_context_queue.specs.declared.send_attempt.SendResult.TheVariants as tried
 
@@ -50,3 +51,13 @@ has_none m met c d old new tries = λ lacks.
 pub unsent_has_none : (m : OutboundMessage) (error is : LinkError) (c d : ContextView) (old new : LinkView) → error ≡ is → Attempts m (Unsent error) c d old new → GetsNoneIfFull m (tried_of (Unsent is)) c d old new
 unsent_has_none m error is c d old new same tries =
     has_none m (Unsent is) c d old new (subst (λ (e : LinkError). Attempts m (Unsent e) c d old new) same tries)
+
+-- a message that found no permit, or a link that failed, was tried in vain
+pub full_in_vain : (m : OutboundMessage) (c d : ContextView) (old new : LinkView) → Attempts m Full c d old new → IsTriedInVain m c d old new
+full_in_vain m c d old new (makes, same, link, sendable) = record { sendable = sendable; found = inl ((makes, same), link) }
+
+pub unsent_in_vain : (m : OutboundMessage) (error : LinkError) (c d : ContextView) (old new : LinkView) → error ≡ link.Failed → Attempts m (Unsent error) c d old new → IsTriedInVain m c d old new
+unsent_in_vain m error c d old new is (gives, refused, sendable) = record {
+  sendable = sendable;
+  found = inr (gives, subst (λ (e : LinkError). RefusedSend e old new) is refused);
+}

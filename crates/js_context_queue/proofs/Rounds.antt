@@ -127,44 +127,45 @@ rests_all k now old new before after r all = (
   r.same ∙ ap (λ (f : List InFlight). record old { in_flight = f }) (round_all k old.in_flight new.in_flight r.in_flight all),
 )
 
--- ---- acks whose clocks have begun
+-- ---- acks that were looked at
 
--- the last so many of these requests are there
-pub record LastSent (k n : ℕ) (waits : List (Option OpenRequest)) : Type 0 where
+-- the last so many of these requests are so
+pub record LastAre (P : Option OpenRequest → Type 0) (k n : ℕ) (waits : List (Option OpenRequest)) : Type 0 where
   pub front : List (Option OpenRequest)
   pub back : List (Option OpenRequest)
   pub is : waits ≡ front ++ back
   pub count : length front + k ≡ n
-  pub sent : All IsSent back
+  pub are : All P back
 
 waits-length : (in_flight : List InFlight) → length (waits_of in_flight) ≡ length in_flight
 waits-length [] = refl
 waits-length (x ∷ in_flight) = omega (arith, waits-length in_flight)
 
-pub last_none : (in_flight : List InFlight) → LastSent 0 (length in_flight) (waits_of in_flight)
-last_none in_flight = record { front = waits_of in_flight; back = []; is = sym (append-nil (waits_of in_flight)); count = omega (arith, waits-length in_flight); sent = All-nil IsSent }
+pub last_none : (P : Option OpenRequest → Type 0) (in_flight : List InFlight) → LastAre P 0 (length in_flight) (waits_of in_flight)
+last_none P in_flight = record { front = waits_of in_flight; back = []; is = sym (append-nil (waits_of in_flight)); count = omega (arith, waits-length in_flight); are = All-nil P }
 
-last_by : (k n : ℕ) (waits then front back more : List (Option OpenRequest)) (first known : Option OpenRequest) → waits ≡ front ++ back → length front + k ≡ n → All IsSent back → k < n → waits ≡ first ∷ more
-    → then ≡ more ++ known ∷ [] → IsSent known → LastSent (k + 1) n then
-last_by k n waits then [] back more first known is count sent below was after one = absurd (omega (arith, count, below))
-last_by k n waits then (f ∷ front) back more first known is count sent below was after one = record {
+last_by : (P : Option OpenRequest → Type 0) (k n : ℕ) (waits then front back more : List (Option OpenRequest)) (first known : Option OpenRequest) → waits ≡ front ++ back → length front + k ≡ n → All P back → k < n
+    → waits ≡ first ∷ more → then ≡ more ++ known ∷ [] → P known → LastAre P (k + 1) n then
+last_by P k n waits then [] back more first known is count are below was after one = absurd (omega (arith, count, below))
+last_by P k n waits then (f ∷ front) back more first known is count are below was after one = record {
   front = front;
   back = back ++ known ∷ [];
   is = after ∙ ap (λ (w : List (Option OpenRequest)). w ++ known ∷ []) (tails first f more (front ++ back) (sym was ∙ is)) ∙ append_assoc front back (known ∷ []);
   count = omega (arith, count);
-  sent = All-push IsSent back known sent one;
+  are = All-push P back known are one;
 }
 
-pub last_more : (k n : ℕ) (q r : QueueView) → LastSent k n (waits_of q.in_flight) → k < n → GoesOn Made q r → LastSent (k + 1) n (waits_of r.in_flight)
-last_more k n q r l below (first, next, more, was, after, one) =
-    last_by k n (waits_of q.in_flight) (waits_of r.in_flight) l.front l.back (waits_of more) (ack_waits_for first.future) (ack_waits_for next.future) l.is l.count l.sent below (ap waits_of was) (ap waits_of after ∙ waits-push more next) one
+pub last_more : (P : Option OpenRequest → Type 0) (k n : ℕ) (in_flight then more : List InFlight) (first next : InFlight) → LastAre P k n (waits_of in_flight) → k < n → in_flight ≡ first ∷ more → then ≡ more ++ next ∷ []
+    → P (ack_waits_for next.future) → LastAre P (k + 1) n (waits_of then)
+last_more P k n in_flight then more first next l below was after one =
+    last_by P k n (waits_of in_flight) (waits_of then) l.front l.back (waits_of more) (ack_waits_for first.future) (ack_waits_for next.future) l.is l.count l.are below (ap waits_of was) (ap waits_of after ∙ waits-push more next) one
 
-last_in : (k n : ℕ) (waits front back : List (Option OpenRequest)) → waits ≡ front ++ back → length front + k ≡ n → All IsSent back → k ≡ n → All IsSent waits
-last_in k n waits [] back is count sent all = subst (λ (w : List (Option OpenRequest)). All IsSent w) (sym is) sent
-last_in k n waits (f ∷ front) back is count sent all = absurd (omega (arith, count, all))
+last_in : (P : Option OpenRequest → Type 0) (k n : ℕ) (waits front back : List (Option OpenRequest)) → waits ≡ front ++ back → length front + k ≡ n → All P back → k ≡ n → All P waits
+last_in P k n waits [] back is count are all = subst (λ (w : List (Option OpenRequest)). All P w) (sym is) are
+last_in P k n waits (f ∷ front) back is count are all = absurd (omega (arith, count, all))
 
-pub last_all : (k n : ℕ) (waits : List (Option OpenRequest)) → LastSent k n waits → k ≡ n → All IsSent waits
-last_all k n waits l all = last_in k n waits l.front l.back l.is l.count l.sent all
+pub last_all : (P : Option OpenRequest → Type 0) (k n : ℕ) (waits : List (Option OpenRequest)) → LastAre P k n waits → k ≡ n → All P waits
+last_all P k n waits l all = last_in P k n waits l.front l.back l.is l.count l.are all
 
 -- the step that ends the looks
 pub clocks_at : (step : StepResult) (q r : QueueView) → (step ≡ Made → ⊥) → GoesOn step q r → HaveClocks step r

@@ -5,5 +5,6 @@ pub mod Wakes
 pub mod Steps
 pub mod LeftAlone
 pub mod QueuePoll
+pub mod Pending
 pub mod AnswerOutcome
 pub mod Confirm

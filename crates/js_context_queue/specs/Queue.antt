@@ -1,5 +1,5 @@
 -- A queue of messages that are published, and what each of its calls does.
-use Rattle.std.specs.Prelude.{ℕ, ◌≡◌, ◌<◌, ◌++◌, ◌==◌, List, [], ◌∷◌, map, count_by, All}
+use Rattle.std.specs.Prelude.{ℕ, ◌≡◌, ◌≢◌, ◌<◌, ◌++◌, ◌==◌, List, [], ◌∷◌, map, count_by, All}
 use Rattle.js_base.specs.declared.turn.Next.{Next}
 use Rattle.js_base.specs.declared.turn.Next.TheVariants as next
 use Rattle.js_context.specs.Context.{ContextView}
@@ -46,12 +46,12 @@ pub record Keeps (old new : QueueView) : Type 0 where
   pub next : new.next ≡ old.next
   pub send_timeout : new.send_timeout ≡ old.send_timeout
 
--- the end comes once no message is left
+-- where no outcome is handed out, the end comes exactly if no message is left
 abbrev pub EndsEmpty : Next Published → QueueView → Type 0
 EndsEmpty next.End q = open_tags q ≡ []
 EndsEmpty (next.Item published) q = Unit {0}
-EndsEmpty next.Pending q = Unit {0}
-EndsEmpty next.OutOfMemory q = Unit {0}
+EndsEmpty next.Pending q = open_tags q ≢ []
+EndsEmpty next.OutOfMemory q = open_tags q ≢ []
 
 -- its acks are awaited by its context, and each tag that it gave is below the next
 pub record IsQueue (c : ContextView) (unsent : List Unsent) (in_flight : List InFlight) (next : ℕ) : Type 0 where

@@ -1,5 +1,5 @@
 -- One try to send a message.
-use Rattle.std.specs.Prelude.{◌≡◌, ◌+◌, None}
+use Rattle.std.specs.Prelude.{◌≡◌, ◌+◌, ◌⊎◌, ⊤, None}
 use Rattle.js_base.specs.Error.{plain}
 use Rattle.js_base.specs.declared.error.Error.{Error}
 use Rattle.js_link.specs.LinkView.{LinkView}
@@ -7,7 +7,7 @@ use Rattle.js_link.specs.Calls.{FailsToSend}
 use Rattle.js_message.specs.declared.publish_message.OutboundMessage.{OutboundMessage}
 use Rattle.js_context.specs.Context.{ContextView, Takes}
 use Rattle.js_context.specs.AckFuture.{IsAwaitedBy}
-use Rattle.js_context.specs.Sending.{IsBarred, IsSendable, LacksPermit, SendsUnder}
+use Rattle.js_context.specs.Sending.{IsBarred, IsSendable, LacksPermit, SendsUnder, TakesAndGives}
 use Rattle.js_context.specs.declared.ack_future.PublishAckFuture.{PublishAckFuture}
 use Rattle.js_context.specs.declared.publish_error.PublishErrorKind.{PublishErrorKind}
 use Rattle.js_context.specs.declared.publish_error.PublishErrorKind.TheVariants as kind
@@ -62,6 +62,18 @@ Tries m (Went future) c d old new = SendsIt m future c d old new
 Tries m (Stays why) c d old new = SendsNone c d old new × IsPrevented why m c d old new
 Tries m (Fails error) c d old new = SendsNone c d old new × IsLost m error old
 Tries m NoMemory c d old new = SendsNone c d old new
+
+-- one try to send the message, which can be sent: no permit was free, or one was taken and given back since the link failed
+pub record IsTriedInVain (m : OutboundMessage) (c d : ContextView) (old new : LinkView) : Type 0 where
+  pub sendable : IsSendable m old
+  pub found : (Takes None c d × (new ≡ old)) ⊎ (TakesAndGives c d × FailsToSend old new)
+
+-- a message that stays was tried in vain
+abbrev pub StaysTried : OutboundMessage → SendResult → ContextView → ContextView → LinkView → LinkView → Type 0
+StaysTried m (Stays why) c d old new = IsTriedInVain m c d old new
+StaysTried m (Went future) c d old new = ⊤
+StaysTried m (Fails error) c d old new = ⊤
+StaysTried m NoMemory c d old new = ⊤
 
 -- no permit was free and a later try may send it, or memory ran out before that
 abbrev pub GetsNone : SendResult → ContextView → ContextView → Type 0

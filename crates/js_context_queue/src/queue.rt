@@ -7,6 +7,7 @@ ghost use Rattle.js_context_queue.specs.Queue.{EachHasOne, EndsEmpty, Keeps, han
 ghost use Rattle.js_context_queue.specs.InFlight.{Detaches};
 ghost use Rattle.js_context_queue.specs.QueuePoll.{IsLeftOf, Polls, Runs, handed_out, place};
 ghost use Rattle.js_context_queue.specs.Steps.{Looks, TriesFirst, brought, outcome_of};
+ghost use Rattle.js_context_queue.specs.Pending.{LooksAtEach, LooksOnInVain, PendsInVain, StaysInVain, TriesInOrder};
 ghost use Rattle.js_context_queue.specs.Wakes.{is_first_over, queue_due};
 ghost use Rattle.js_context_queue.specs.LeftAlone.{GoesOn, HaveClocks, IsQuiet, LooksAtNothing, LooksInVain, LooksOnAtNothing, QueuePends, SendsNothing, SleepsIfLeftAlone};
 
@@ -97,7 +98,7 @@ impl PublishQueue {
         }
     }
 
-    /// Puts a message behind the others. A refusal is want of memory, and the message is let go.
+    /// Puts a message behind the others. A refusal is want of memory, or of a tag after `u64::MAX` pushes, and the message is let go.
     pub fn push(&mut self, message: OutboundMessage, now: Moment) -> Result<Tag, OutOfMemory>
         ensures tag { IfOk result (λ tag. tag.0 ≡ self.old.next) }
         ensures fresh { times self.old.next (open_tags self.old) ≡ 0 }
@@ -131,8 +132,7 @@ impl PublishQueue {
         ensures ok { OnOk result (self.new ≡ record self.old { unsent = self.old.unsent ++ record { tag = record { 0 = self.old.next }; message = outbound subject.now payload.now None; since = now } ∷ []; next = self.old.next + 1 }) }
         ensures err { OnErr result (self.new ≡ self.old) }
     {
-        // Opened also where no message is made: the tag that is given next is a new one.
-        let _next = self.next;
+        self.unsent.reserve(1)?;
         let subject = Subject::new(alloc, subject)?;
         let payload = Bytes::copy_from_slice(alloc, payload)?;
         self.push(OutboundMessage::new(subject, payload, None), now)
@@ -144,7 +144,9 @@ impl PublishQueue {
     /// can't be sent is over at once: `Other` where its subject is none, `MaxPayloadExceeded` where it is longer than the link sends. One that could be sent is
     /// over at the poll that fails to send it when it has waited for the queue's `send_timeout`: `MaxAckPending` where no permit was free, `Other` where the link failed.
     ///
-    /// `Pending` comes where no outcome is known and messages are left, `End` where none is left.
+    /// `Pending` comes where no outcome is known and messages are left, `End` where none is left. Before it is pending, a poll has looked at each ack in flight:
+    /// the link waits for the answer, and its clock is not due. And it has tried the first message that it leaves unsent, after it sent those before it: no
+    /// permit was free, or the link failed, and the message's time is not over.
     ///
     /// After `Pending`, where each message was sent, or those in flight hold all permits of the window, it may be left alone until an answer to one has come,
     /// the request of one is gone, or `wakes_at` has come: a poll before that sends nothing, hands out nothing, and leaves the queue what it was, though its
@@ -165,6 +167,7 @@ impl PublishQueue {
         ensures keeps { Keeps self.old self.new }
         ensures sleeps { SleepsIfLeftAlone now self.old self.new (L.view link.old) (L.view link.new) result }
         ensures pends { QueuePends result self.new }
+        ensures pending { PendsInVain now result (place self.old (L.view link.old)) (place self.new (L.view link.new)) }
     {
         match self.send(rt, alloc, link, now) {
             StepResult::Over(published) => Next::Item(published),
@@ -188,6 +191,7 @@ impl PublishQueue {
         ensures keeps { Keeps self.old self.new }
         ensures sleeps { LooksOnAtNothing now result self.old self.new (L.view link.old) (L.view link.new) }
         ensures pends { QueuePends result self.new }
+        ensures pending { LooksOnInVain now result self.old self.new (L.view link.old) (L.view link.new) }
     {
         match self.look(rt, alloc, link, now) {
             StepResult::Over(published) => Next::Item(published),
@@ -243,7 +247,7 @@ impl PublishQueue {
         ensures nothing { handed result ≡ [] }
         ensures quiet { IsQuiet result self.now }
     {
-        if self.unsent.is_empty() && self.in_flight.is_empty() {
+        if self.unsent_len() == 0 && self.in_flight() == 0 {
             Next::End
         } else {
             Next::Pending
@@ -262,6 +266,7 @@ impl PublishQueue {
         ensures runs { Runs now (brought result) (place self.old (L.view link.old)) (place self.new (L.view link.new)) }
         ensures keeps { Keeps self.old self.new }
         ensures sleeps { SendsNothing now result self.old self.new (L.view link.old) (L.view link.new) }
+        ensures tried { TriesInOrder now result (place self.old (L.view link.old)) (place self.new (L.view link.new)) }
     {
         let count = self.unsent_len();
         for tried in 0..count {
@@ -284,6 +289,7 @@ impl PublishQueue {
         ensures sends { TriesFirst now result self.old self.new (L.view link.old) (L.view link.new) }
         ensures keeps { Keeps self.old self.new }
         ensures sleeps { SendsNothing now result self.old self.new (L.view link.old) (L.view link.new) }
+        ensures stays { StaysInVain now result self.old self.new (L.view link.old) (L.view link.new) }
     {
         if self.in_flight.reserve(1).is_err() {
             return StepResult::NoMemory;
@@ -331,6 +337,7 @@ impl PublishQueue {
         ensures keeps { Keeps self.old self.new }
         ensures sleeps { LooksAtNothing now result self.old self.new (L.view link.old) (L.view link.new) }
         ensures clocks { HaveClocks result self.new }
+        ensures looked { LooksAtEach now result self.old self.new (L.view link.old) (L.view link.new) }
     {
         let count = self.in_flight();
         for looked in 0..count {

@@ -1,6 +1,6 @@
 //! One try to send a message.
 ghost use Rattle.js_link.specs.LinkView.{LinkView};
-ghost use Rattle.js_context_queue.specs.SendAttempt.{GetsNoneIfFull, Tries};
+ghost use Rattle.js_context_queue.specs.SendAttempt.{GetsNoneIfFull, StaysTried, Tries};
 
 use js_base::Error;
 use js_context::{Attempt, Context, PublishAckFuture, PublishError, PublishErrorKind};
@@ -31,6 +31,7 @@ pub(crate) fn try_to_send<R: Wait, L: Link>(
 ) -> SendResult
     ensures tries { Tries message.now result context.old context.new (L.view link.old) (L.view link.new) }
     ensures full { GetsNoneIfFull message.now result context.old context.new (L.view link.old) (L.view link.new) }
+    ensures stays { StaysTried message.now result context.old context.new (L.view link.old) (L.view link.new) }
 {
     match js_context::try_to_send(message, rt, alloc, context, link) {
         Attempt::Went(future) => SendResult::Went(future),

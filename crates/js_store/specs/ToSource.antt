@@ -1,5 +1,5 @@
 -- Where a refusal on a bucket comes from.
-use Rattle.std.specs.Prelude.{ℕ, ◌≡◌, Option, Some, None, List, ◌++◌, codes, refl}
+use Rattle.std.specs.Prelude.{ℕ, ◌≡◌, ⊤, Option, Some, None, List, ◌++◌, codes, refl}
 use Rattle.js_base.specs.Error.{kind_of, source_of, source_text, plain, caused}
 use Rattle.js_base.specs.declared.error.Error.{Error}
 use Rattle.js_base.specs.declared.error.Source.{Source}
@@ -36,26 +36,26 @@ abbrev pub or_text : Option Source → List ℕ → Source
 or_text None text = source.Text text
 or_text (Some sent) text = sent
 
--- what is printed of a stream that was not got or not deleted, and where a refusal comes from that stands on it
-abbrev pub get_error_text : Error GetStreamErrorKind → List ℕ
-get_error_text error = text_with (get_text (kind_of error)) (source_of error)
+-- what an error tells, by the server's error that its kind may hold, and by the kind's text: the server's error, and else what is printed
+abbrev pub told_by : {K : Type 0} → (K → Option ApiError) → (K → List ℕ) → Error K → Source
+told_by held text error = or_text (sent_by (held (kind_of error)) (source_of error)) (text_with (text (kind_of error)) (source_of error))
 
+-- where a refusal comes from that stands on a stream that was not got or not deleted
 abbrev pub get_told : Error GetStreamErrorKind → Source
-get_told error = or_text (sent_by (get_held (kind_of error)) (source_of error)) (get_error_text error)
+get_told error = told_by get_held get_text error
 
 -- the same of one that was not made or not changed
-abbrev pub create_error_text : Error CreateStreamErrorKind → List ℕ
-create_error_text error = text_with (create_text (kind_of error)) (source_of error)
-
 abbrev pub create_told : Error CreateStreamErrorKind → Source
-create_told error = or_text (sent_by (create_held (kind_of error)) (source_of error)) (create_error_text error)
+create_told error = told_by create_held create_text error
 
 -- the same of an account that was not told
-abbrev pub account_error_text : Error AccountErrorKind → List ℕ
-account_error_text error = text_with (account_text (kind_of error)) (source_of error)
-
 abbrev pub account_told : Error AccountErrorKind → Source
-account_told error = or_text (sent_by (account_held (kind_of error)) (source_of error)) (account_error_text error)
+account_told error = told_by account_held account_text error
+
+-- what an error tells of which this is printed; an error of which nothing is known to be printed may tell any text
+abbrev pub TellsPrinted : Option Source → Option (List ℕ) → Source → Type 0
+TellsPrinted sent None source = ⊤
+TellsPrinted sent (Some text) source = source ≡ or_text sent text
 
 -- the server's error is told by its numbers, held or as a source, and a timeout by its text
 absent_stream_is_told : (description : Option (List ℕ)) → get_told (plain (gets.JetStream (record { code = 404; err_code = record { 0 = 10059 }; description = description }))) ≡ Api 404 10059 description

@@ -24,17 +24,21 @@ use std::alloc::Global;
 
 /// What makes calls on buckets.
 ///
-/// Each hands out a state, and refuses for want of memory alone; what else it refuses comes from the state's first poll, before anything
-/// is sent. The functions of the same names say which errors come and when.
+/// Each returns a state, or fails with `OutOfMemory`. What else it refuses comes from the state's first poll, before anything is sent.
+/// The functions of the same names say which errors come and when.
 pub trait StoreCalls {
     /// Where its requests go, and how long they are waited for.
     ghost stores_by: { Self → ApiScope };
 
     /// Gets a bucket of keys, and where its values are.
+    ///
+    /// Fails with `OutOfMemory` if memory runs out; the state's polls return the errors of the function `get_key_value`.
     fn get_key_value(&self, alloc: Global, bucket: &str) -> Result<GetKeyValue, OutOfMemory>
         ensures { IfOk result (λ call. call ≡ getting_bucket (stores_by self.now) bucket.now) };
 
     /// Makes a bucket of keys: asks how far the server's API goes, and then for the bucket's stream.
+    ///
+    /// Fails with `OutOfMemory` if memory runs out; the state's polls return the errors of the function `create_key_value`.
     fn create_key_value(
         &self,
         alloc: Global,
@@ -43,6 +47,8 @@ pub trait StoreCalls {
         ensures { IfOk result (λ calls. CreatesBucket (stores_by self.now) config calls) };
 
     /// Changes a bucket of keys: asks how far the server's API goes, and then for the change of the bucket's stream.
+    ///
+    /// Fails with `OutOfMemory` if memory runs out; the state's polls return the errors of the function `update_key_value`.
     fn update_key_value(
         &self,
         alloc: Global,
@@ -51,6 +57,8 @@ pub trait StoreCalls {
         ensures { IfOk result (λ calls. UpdatesBucket (stores_by self.now) config calls) };
 
     /// Changes a bucket of keys, and makes it where it is not there.
+    ///
+    /// Fails with `OutOfMemory` if memory runs out; the state's polls return the errors of the function `create_or_update_key_value`.
     fn create_or_update_key_value(
         &self,
         alloc: Global,
@@ -59,10 +67,14 @@ pub trait StoreCalls {
         ensures { IfOk result (λ calls. CreatesOrUpdatesBucket (stores_by self.now) config calls) };
 
     /// Deletes a bucket of keys with all its values.
+    ///
+    /// Fails with `OutOfMemory` if memory runs out; the state's polls return the errors of the function `delete_key_value`.
     fn delete_key_value(&self, alloc: Global, bucket: &str) -> Result<DeleteKeyValue, OutOfMemory>
         ensures { IfOk result (λ call. call ≡ deleting_bucket (stores_by self.now) bucket.now) };
 
     /// Makes a bucket of objects.
+    ///
+    /// Fails with `OutOfMemory` if memory runs out; the state's polls return the errors of the function `create_object_store`.
     fn create_object_store(
         &self,
         alloc: Global,
@@ -71,10 +83,14 @@ pub trait StoreCalls {
         ensures { IfOk result (λ call. CreatesObjects (stores_by self.now) config call) };
 
     /// Gets a bucket of objects.
+    ///
+    /// Fails with `OutOfMemory` if memory runs out; the state's polls return the errors of the function `get_object_store`.
     fn get_object_store(&self, alloc: Global, bucket: &str) -> Result<GetObjectStore, OutOfMemory>
         ensures { IfOk result (λ call. call ≡ getting_objects (stores_by self.now) bucket.now) };
 
     /// Deletes a bucket of objects with all its objects.
+    ///
+    /// Fails with `OutOfMemory` if memory runs out; the state's polls return the errors of the function `delete_object_store`.
     fn delete_object_store(&self, alloc: Global, bucket: &str) -> Result<DeleteObjects, OutOfMemory>
         ensures { IfOk result (λ call. call ≡ deleting_objects (stores_by self.now) bucket.now) };
 }

@@ -26,7 +26,8 @@ pub(crate) trait BucketConfig: Drop {
     fn bucket(&self) -> &Text
         ensures { result.now ≡ bucket self.now };
 
-    /// What takes memory, for which the streams that it copies are moved out of it. The one refusal is want of memory.
+    /// What takes memory, for which the streams that it copies are moved out of it. Fails with `OutOfMemory` if memory runs out,
+    /// and with nothing else.
     fn take_names(&mut self, alloc: Global) -> Result<Self::Names, OutOfMemory>
         ensures { IfOk result (λ names. with self.new names ≡ stream self.old) };
 
@@ -35,7 +36,7 @@ pub(crate) trait BucketConfig: Drop {
         ensures { result ≡ with self names };
 }
 
-/// The configuration of the stream that a bucket is. The one refusal is want of memory.
+/// The configuration of the stream that a bucket is. Fails with `OutOfMemory` if memory runs out, and with nothing else.
 pub(crate) fn stream_of<C: BucketConfig>(
     alloc: Global,
     mut config: C,
@@ -57,7 +58,8 @@ fn create_stream_of<C: BucketConfig>(
     create_stream(alloc, scope, stream_of(alloc, config)?)
 }
 
-/// The bucket's name, and the call that makes the stream which it is. The one refusal is want of memory.
+/// The bucket's name, and the call that makes the stream which it is. Fails with `OutOfMemory` if memory runs out, and with
+/// nothing else.
 pub(crate) fn create_its_stream<C: BucketConfig>(
     alloc: Global,
     scope: &ApiScope,

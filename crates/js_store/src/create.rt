@@ -95,11 +95,12 @@ impl AfterLevel for CreatingBucket {
 /// Makes a bucket of keys: it asks how far the server's API goes, and then, in the same poll, for the bucket's stream as `create_stream`
 /// does. A server has a bucket of that name and configuration already answers it, and refuses another configuration.
 ///
-/// The one refusal here is want of memory; others come from the polls. `InvalidStoreName` and then `TooLongHistory` come from the first,
-/// and nothing is sent. `JetStream` comes where the account was not told, and `LimitMarkersNotSupported` where markers are asked for and
-/// its level is below 1; the stream is not asked for then. `TimedOut` comes where the timeout of the stream's request is due, and
-/// `BucketCreate` where the stream was not made for another reason. These but `LimitMarkersNotSupported` have the server's error as their
-/// source, or the text of the error of `query_account` or `create_stream`.
+/// Fails with `OutOfMemory` if memory runs out; other errors come from the polls. `InvalidStoreName` and then `TooLongHistory`
+/// come from the first, and nothing is sent. `JetStream` comes where the account was not told, and `LimitMarkersNotSupported`
+/// where markers are asked for and its level is below 1; the stream is not asked for then. `TimedOut` comes where the timeout of
+/// the stream's request is due, and `BucketCreate` where the stream was not made for another reason. These but
+/// `LimitMarkersNotSupported` have the server's error as their source, or the text of the error of `query_account` or
+/// `create_stream`.
 pub fn create_key_value(
     alloc: Global,
     scope: &ApiScope,

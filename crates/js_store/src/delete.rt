@@ -68,8 +68,8 @@ pub(crate) fn delete_named(
 
 /// Deletes a bucket of keys with all its values.
 ///
-/// The one refusal here is want of memory; others come from the polls. `InvalidStoreName` comes from the first, and nothing is sent.
-/// `JetStream` has the server's error as its source, or the text of the error of `delete_stream`.
+/// Fails with `OutOfMemory` if memory runs out; other errors come from the polls. `InvalidStoreName` comes from the first, and
+/// nothing is sent. `JetStream` has the server's error as its source, or the text of the error of `delete_stream`.
 pub fn delete_key_value(
     alloc: Global,
     scope: &ApiScope,

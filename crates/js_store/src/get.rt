@@ -99,9 +99,9 @@ pub(crate) fn get_named(
 
 /// Gets a bucket of keys, and where its values are.
 ///
-/// The one refusal here is want of memory; others come from the polls. `InvalidStoreName` comes from the first where the name is none, and
-/// nothing is sent; later it tells that the stream of that name keeps no value of a key, and is no bucket. `GetBucket` has the server's
-/// error as its source, or the text of the error of `get_stream`.
+/// Fails with `OutOfMemory` if memory runs out; other errors come from the polls. `InvalidStoreName` comes from the first where
+/// the name is none, and nothing is sent; later it tells that the stream of that name keeps no value of a key, and is no bucket.
+/// `GetBucket` has the server's error as its source, or the text of the error of `get_stream`.
 pub fn get_key_value(
     alloc: Global,
     scope: &ApiScope,

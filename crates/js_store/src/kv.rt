@@ -276,8 +276,8 @@ impl BucketConfig for Config {
 }
 
 impl Config {
-    /// The configuration of the stream that the bucket is, `KV_{bucket}`, whatever the bucket's name and history. It takes in all keys,
-    /// `$KV.{bucket}.>`, unless it copies other buckets. The one refusal is want of memory.
+    /// The configuration of the stream that the bucket is, `KV_{bucket}`, whatever the bucket's name and history. It takes in all
+    /// keys, `$KV.{bucket}.>`, unless it copies other buckets. Fails with `OutOfMemory` if memory runs out, and with nothing else.
     pub fn into_stream_config(self, alloc: Global) -> Result<stream::Config, OutOfMemory>
         ensures { IfOk result (λ stream. stream ≡ stream_config self) }
     {

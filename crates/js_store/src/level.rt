@@ -86,13 +86,13 @@ pub(crate) trait AfterLevel: Drop {
     /// What the call is, by the scope and the configuration.
     ghost asks: { ApiScope → Config → Self.Call → Type 0 };
 
-    /// The call, which is not sent. The one refusal is want of memory.
+    /// The call, which is not sent. Fails with `OutOfMemory` if memory runs out, and with nothing else.
     fn ask(alloc: Global, scope: &ApiScope, config: kv::Config) -> Result<Self::Call, OutOfMemory>
         ensures { IfOk result (λ call. asks scope.now config call) };
 }
 
-/// The calls that ask how far the server's API goes, and then for the bucket's stream where the level allows the markers that are asked
-/// for. Neither is sent here. The one refusal is want of memory.
+/// The calls that ask how far the server's API goes, and then for the bucket's stream where the level allows the markers that are
+/// asked for. Neither is sent here. Fails with `OutOfMemory` if memory runs out, and with nothing else.
 pub(crate) fn after_level<M: AfterLevel>(
     alloc: Global,
     scope: &ApiScope,

@@ -76,7 +76,7 @@ fn stream_text(alloc: Global, bucket: &str) -> Result<String, AllocError>
     format!(in alloc; "OBJ_{bucket}")
 }
 
-/// The name of the stream that a bucket of objects is. The one refusal is want of memory.
+/// The name of the stream that a bucket of objects is. Fails with `OutOfMemory` if memory runs out, and with nothing else.
 pub fn stream_name(alloc: Global, bucket: &str) -> Result<Text, OutOfMemory>
     ensures { IfOk result (λ name. name ≡ stream_name_in bucket.now) }
 {
@@ -156,8 +156,9 @@ impl BucketConfig for Config {
 }
 
 impl Config {
-    /// The configuration of the stream that the bucket is, `OBJ_{bucket}`, whatever the bucket's name. It takes in the chunks of objects,
-    /// `$O.{bucket}.C.>`, and what is known of them, `$O.{bucket}.M.>`. The one refusal is want of memory.
+    /// The configuration of the stream that the bucket is, `OBJ_{bucket}`, whatever the bucket's name. It takes in the chunks of
+    /// objects, `$O.{bucket}.C.>`, and what is known of them, `$O.{bucket}.M.>`. Fails with `OutOfMemory` if memory runs out, and
+    /// with nothing else.
     pub fn into_stream_config(self, alloc: Global) -> Result<stream::Config, OutOfMemory>
         ensures { IfOk result (λ stream. stream ≡ stream_config self) }
     {

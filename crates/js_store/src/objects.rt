@@ -84,8 +84,8 @@ impl Outcome<StreamHandle<Info>, GetStreamError> for GettingObjects {
 
 /// Gets a bucket of objects.
 ///
-/// The one refusal here is want of memory; others come from the polls. `InvalidBucketName` comes from the first, and nothing is sent.
-/// `GetStore` has the server's error as its source, or the text of the error of `get_stream`.
+/// Fails with `OutOfMemory` if memory runs out; other errors come from the polls. `InvalidBucketName` comes from the first, and
+/// nothing is sent. `GetStore` has the server's error as its source, or the text of the error of `get_stream`.
 pub fn get_object_store(
     alloc: Global,
     scope: &ApiScope,
@@ -169,8 +169,9 @@ impl Outcome<StreamHandle<Info>, CreateStreamError> for CreatingObjects {
 /// Makes a bucket of objects. A server that has a bucket of that name and configuration already answers it, and refuses another
 /// configuration.
 ///
-/// The one refusal here is want of memory; others come from the polls. `InvalidStoreName` comes from the first, and nothing is sent.
-/// `BucketCreate` has the server's error as its source, or the text of the error of `create_stream`, also where that is a timeout.
+/// Fails with `OutOfMemory` if memory runs out; other errors come from the polls. `InvalidStoreName` comes from the first, and
+/// nothing is sent. `BucketCreate` has the server's error as its source, or the text of the error of `create_stream`, also where
+/// that is a timeout.
 pub fn create_object_store(
     alloc: Global,
     scope: &ApiScope,
@@ -217,8 +218,8 @@ impl Outcome<DeleteStatus, DeleteStreamError> for DeletingObjects {
 /// Deletes a bucket of objects with all its objects. It tests no name of a bucket: one that no stream may have is refused as
 /// `delete_stream` refuses it, before anything is sent.
 ///
-/// The one refusal here is want of memory; others come from the polls. `GetStore` has the server's error as its source, or the text of
-/// the error of `delete_stream`.
+/// Fails with `OutOfMemory` if memory runs out; other errors come from the polls. `GetStore` has the server's error as its source,
+/// or the text of the error of `delete_stream`.
 pub fn delete_object_store(
     alloc: Global,
     scope: &ApiScope,

@@ -12,7 +12,7 @@ fn stream_text(alloc: Global, bucket: &str) -> Result<String, AllocError>
     format!(in alloc; "KV_{bucket}")
 }
 
-/// The name of the stream that a bucket of keys is. The one refusal is want of memory.
+/// The name of the stream that a bucket of keys is. Fails with `OutOfMemory` if memory runs out, and with nothing else.
 pub fn stream_name(alloc: Global, bucket: &str) -> Result<Text, OutOfMemory>
     ensures { IfOk result (λ name. name ≡ stream_name_in bucket.now) }
 {

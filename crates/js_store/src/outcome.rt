@@ -26,7 +26,7 @@ pub trait Outcome<X, E>: Drop {
     fn refusal(&self) -> Option<Self::Answer>
         ensures { result ≡ table.refused self.now };
 
-    /// What has to be made of what is given. The one refusal is want of memory.
+    /// What has to be made of what is given. Fails with `OutOfMemory` if memory runs out, and with nothing else.
     fn needs(&self, alloc: Global, given: &X) -> Result<Self::Needs, OutOfMemory>
         ensures { IfOk result (λ needs. needs ≡ table.needs self.now given.now) };
 

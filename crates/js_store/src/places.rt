@@ -104,7 +104,8 @@ fn mirrored(alloc: Global, api: &str, bucket: &str, mirror: &Source) -> Result<P
     }
 }
 
-/// Where the values of a bucket are, by the prefix of the API and the mirror that its stream is. The one refusal is want of memory.
+/// Where the values of a bucket are, by the prefix of the API and the mirror that its stream is. Fails with `OutOfMemory` if
+/// memory runs out, and with nothing else.
 pub(crate) fn places_of(
     alloc: Global,
     api: &str,

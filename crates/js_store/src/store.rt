@@ -44,7 +44,8 @@ pub struct StoreNames {
     pub(crate) places: Places,
 }
 
-/// Those of a bucket by the configuration of its stream that was answered. The one refusal is want of memory.
+/// Those of a bucket by the configuration of its stream that was answered. Fails with `OutOfMemory` if memory runs out, and with
+/// nothing else.
 pub(crate) fn answered_names(
     alloc: Global,
     api: &str,

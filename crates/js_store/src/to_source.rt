@@ -1,19 +1,22 @@
 //! Where a refusal on a bucket comes from: the error of the call that it stands on.
-ghost use Rattle.std.specs.Prelude.{◌≡◌, IfOk, string_bytes, option_copied};
+ghost use Rattle.std.specs.Prelude.{◌≡◌, IfOk, option_copied};
+ghost use Rattle.js_base.specs.Error.{kind_of, source_of, printed};
 ghost use Rattle.js_base.specs.declared.error.Source.{Source};
-ghost use Rattle.js_store.specs.ToSource.{sent_by, described_in, account_error_text, create_error_text, get_error_text};
+ghost use Rattle.js_store.specs.ToSource.{sent_by, described_in, TellsPrinted};
 
 use js_base::{Error, OutOfMemory, Source, Text, TryClone};
 use js_call_streams::{AccountError, CreateStreamError, GetStreamError};
 use js_codes::errors;
-use std::alloc::{AllocError, Global};
+use std::alloc::Global;
+use std::fmt;
 
 /// An error of a call, as the source of the error of one that stands on it.
 pub trait ToSource: Drop {
     /// The server's error where one was sent, and else the error's text.
     ghost told: { Self → Source };
 
-    /// The server's error where one was sent, and else the error's text. The one refusal is want of memory.
+    /// The server's error where one was sent, and else the error's text. Fails with `OutOfMemory` if memory runs out, and with
+    /// nothing else.
     fn to_source(&self, alloc: Global) -> Result<Source, OutOfMemory>
         ensures { IfOk result (λ source. source ≡ told self.now) };
 }
@@ -50,22 +53,19 @@ fn sent(
     }
 }
 
-fn get_error_text(alloc: Global, error: &GetStreamError) -> Result<String, AllocError>
-    ensures { IfOk result (λ text. string_bytes text ≡ get_error_text error.now) }
+// What an error tells whose kind holds this error of the server's.
+#[tactic(auto, using(crate::proofs::Printed::tells_sent, crate::proofs::Printed::tells_text))]
+fn told<K: fmt::Display>(
+    alloc: Global,
+    held: Option<&errors::Error>,
+    error: &Error<K>,
+) -> Result<Source, OutOfMemory>
+    ensures { IfOk result (λ source. TellsPrinted (sent_by (option_copied held.entry) (source_of error.now)) (printed (K.output (kind_of error.now)) (source_of error.now)) source) }
 {
-    format!(in alloc; "{error}")
-}
-
-fn create_error_text(alloc: Global, error: &CreateStreamError) -> Result<String, AllocError>
-    ensures { IfOk result (λ text. string_bytes text ≡ create_error_text error.now) }
-{
-    format!(in alloc; "{error}")
-}
-
-fn account_error_text(alloc: Global, error: &AccountError) -> Result<String, AllocError>
-    ensures { IfOk result (λ text. string_bytes text ≡ account_error_text error.now) }
-{
-    format!(in alloc; "{error}")
+    match sent(held, error.source())? {
+        Some(source) => Ok(source),
+        None => Ok(Source::Text(Text::from(format!(in alloc; "{error}")?))),
+    }
 }
 
 impl ToSource for GetStreamError {
@@ -73,11 +73,9 @@ impl ToSource for GetStreamError {
 
     ghost told = { get_told };
 
+    #[tactic(auto, using(crate::proofs::Printed::told_as_printed))]
     fn to_source(&self, alloc: Global) -> Result<Source, OutOfMemory> {
-        match sent(self.kind().api_error(), self.source())? {
-            Some(source) => Ok(source),
-            None => Ok(Source::Text(Text::from(get_error_text(alloc, self)?))),
-        }
+        told(alloc, self.kind().api_error(), self)
     }
 }
 
@@ -86,11 +84,9 @@ impl ToSource for CreateStreamError {
 
     ghost told = { create_told };
 
+    #[tactic(auto, using(crate::proofs::Printed::told_as_printed))]
     fn to_source(&self, alloc: Global) -> Result<Source, OutOfMemory> {
-        match sent(self.kind().api_error(), self.source())? {
-            Some(source) => Ok(source),
-            None => Ok(Source::Text(Text::from(create_error_text(alloc, self)?))),
-        }
+        told(alloc, self.kind().api_error(), self)
     }
 }
 
@@ -99,10 +95,8 @@ impl ToSource for AccountError {
 
     ghost told = { account_told };
 
+    #[tactic(auto, using(crate::proofs::Printed::told_as_printed))]
     fn to_source(&self, alloc: Global) -> Result<Source, OutOfMemory> {
-        match sent(self.kind().api_error(), self.source())? {
-            Some(source) => Ok(source),
-            None => Ok(Source::Text(Text::from(account_error_text(alloc, self)?))),
-        }
+        told(alloc, self.kind().api_error(), self)
     }
 }

@@ -72,7 +72,8 @@ impl ChangedBucket {
     }
 }
 
-// The bucket that is changed, and what its stream is changed to. The one refusal is want of memory.
+// The bucket that is changed, and what its stream is changed to. Fails with `OutOfMemory` if memory runs out, and with nothing
+// else.
 fn changed<C: BucketConfig>(
     alloc: Global,
     scope: &ApiScope,
@@ -88,7 +89,7 @@ fn changed<C: BucketConfig>(
 trait Change: Drop {
     ghost change: { Self → Config };
 
-    /// The call that asks for it. The one refusal is want of memory.
+    /// The call that asks for it. Fails with `OutOfMemory` if memory runs out, and with nothing else.
     fn call(&self, alloc: Global, scope: &ApiScope) -> Result<UpdateStream, OutOfMemory>
         ensures { IfOk result (λ update. Updates scope.now (change self.now) update) };
 }
@@ -101,7 +102,7 @@ impl Change for stream::Config {
     }
 }
 
-// The call that asks for a change. The one refusal is want of memory.
+// The call that asks for a change. Fails with `OutOfMemory` if memory runs out, and with nothing else.
 fn update_to<C: Change>(
     alloc: Global,
     scope: &ApiScope,
@@ -231,11 +232,11 @@ impl AfterLevel for UpdatingBucket {
 /// Changes a bucket of keys: it asks how far the server's API goes, and then, in the same poll, for the change of the bucket's stream as
 /// `update_stream` does. What a stream's configuration does not name is reset by it.
 ///
-/// The one refusal here is want of memory; others come from the polls. `InvalidStoreName` and then `TooLongHistory` come from the first,
-/// and nothing is sent. `JetStream` comes where the account was not told, and `LimitMarkersNotSupported` where markers are asked for and
-/// its level is below 1; the change is not asked for then. `NotFound` comes where the server knows no stream of that bucket, and
-/// `JetStream` where it was not changed for another reason. These but `LimitMarkersNotSupported` have the server's error as their source, or the text of the
-/// error of `query_account` or `update_stream`.
+/// Fails with `OutOfMemory` if memory runs out; other errors come from the polls. `InvalidStoreName` and then `TooLongHistory`
+/// come from the first, and nothing is sent. `JetStream` comes where the account was not told, and `LimitMarkersNotSupported`
+/// where markers are asked for and its level is below 1; the change is not asked for then. `NotFound` comes where the server knows
+/// no stream of that bucket, and `JetStream` where it was not changed for another reason. These but `LimitMarkersNotSupported`
+/// have the server's error as their source, or the text of the error of `query_account` or `update_stream`.
 pub fn update_key_value(
     alloc: Global,
     scope: &ApiScope,
@@ -265,10 +266,11 @@ impl AfterLevel for CreatingOrUpdatingBucket {
 /// Changes a bucket of keys, and makes it where it is not there: it asks how far the server's API goes, and then, in the same poll, for the
 /// bucket's stream as `create_or_update_stream` does.
 ///
-/// The one refusal here is want of memory; others come from the polls. `InvalidStoreName` and then `TooLongHistory` come from the first,
-/// and nothing is sent. `JetStream` comes where the account was not told, or where the stream was neither changed nor made; and
-/// `LimitMarkersNotSupported` where markers are asked for and the account's level is below 1, so that the stream is not asked for. `JetStream` has the
-/// server's error as its source, or the text of the error of `query_account` or `create_or_update_stream`.
+/// Fails with `OutOfMemory` if memory runs out; other errors come from the polls. `InvalidStoreName` and then `TooLongHistory`
+/// come from the first, and nothing is sent. `JetStream` comes where the account was not told, or where the stream was neither
+/// changed nor made; and `LimitMarkersNotSupported` where markers are asked for and the account's level is below 1, so that the
+/// stream is not asked for. `JetStream` has the server's error as its source, or the text of the error of `query_account` or
+/// `create_or_update_stream`.
 pub fn create_or_update_key_value(
     alloc: Global,
     scope: &ApiScope,

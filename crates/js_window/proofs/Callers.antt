@@ -9,7 +9,7 @@ use Rattle.js_window.specs.declared.history.Entry.{Entry}
 use Rattle.js_window.specs.declared.rule.View.{View}
 use Rattle.js_window.specs.Caller.{WindowId, Caller, Continues, Holds, Makes, Watches, Splits, Joins, held}
 use Rattle.js_window.specs.History.{got_in, given_in, out_after, entry, calls_by, MayFollow}
-use Rattle.js_window.specs.Rule.{number_of, capacity_of, caller_of, copy_of, newcomer, longer, joined}
+use Rattle.js_window.specs.Rule.{number_of, capacity_of, caller_of, copy_of, newcomer, longer, joined, ComesAfter}
 use Rattle.js_window.specs.Steps.{IsPass, IsUnnumbered, IsCaller, SeesMore, Adds, Opened, Named, Recalled}
 use Rattle.js_window.proofs.Histories.{got_in-append, given_in-append, out_after-push-full, out_after-push-all_free, own-given_in-le-got_in}
 use Rattle.js_window.proofs.Prefixes.{prefix-refl, prefix-trans}
@@ -126,6 +126,12 @@ numbered t u v w same new told =
       fresh = ap (λ k. calls_by k w.seen) (same_number n.0 (capacity_of v) w n.2.pass) ∙ n.3;
     }
 
+-- its number comes after that of the pass that it was split from
+pub numbered_later : (v w : View) → IsUnnumbered (capacity_of v) v → Named v [] [] w → ComesAfter v.origin (number_of w)
+numbered_later v w new told =
+    let n = told (capacity_of v) new in
+    subst (λ k. ComesAfter v.origin k) (sym (same_number n.0 (capacity_of v) w n.2.pass)) n.4
+
 -- the pass that a split gives, seen from the pass that was split
 pub splits : (p q : Caller) (t s : TableId) (v copy : View) → caller_of t v ≡ p → s ≡ t → copy ≡ copy_of v → Splits (caller_of s copy) q → Splits p q
 splits p q t s v copy is same copied new = record {
@@ -136,6 +142,13 @@ splits p q t s v copy is same copied new = record {
   holds_none = new.holds_none;
   fresh = new.fresh;
 }
+
+-- and its number is above that one's
+pub splits_later : (p : Caller) (t : TableId) (v copy : View) (number : ℕ) → caller_of t v ≡ p → copy ≡ copy_of v → IsCaller (number_of v) (capacity_of v) v → ComesAfter copy.origin number → p.number < number
+splits_later p t v copy number is copied c after =
+    let origin : copy.origin ≡ Some (number_of v) = ap (λ (z : View). z.origin) copied ∙ c.pass.bears in
+    let later : number_of v < number = subst (λ o. ComesAfter o number) origin after in
+    subst (λ (z : Caller). z.number < number) is later
 
 -- a pass that no step changed is the caller that it was
 pub stays : (p : Caller) (t u : TableId) (v w : View) → caller_of t v ≡ p → IsCaller (number_of v) (capacity_of v) v → u ≡ t → w ≡ v → Continues p (caller_of u w)

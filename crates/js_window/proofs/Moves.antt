@@ -12,7 +12,7 @@ use Rattle.js_window.specs.declared.rule.Standing.{Standing}
 use Rattle.js_window.specs.declared.rule.Standing.TheVariants.{Live, Ended, Spent}
 use Rattle.js_window.specs.declared.rule.View.{View}
 use Rattle.js_window.specs.History.{entry, out_after, got_in, given_in, calls_by, MayFollow, IsLegal}
-use Rattle.js_window.specs.Rule.{BearsPlace, KnowsCapacity, IsLive, Stands, IsOneHistory, free_in, capacity_in}
+use Rattle.js_window.specs.Rule.{BearsPlace, ComesAfter, KnowsCapacity, IsLive, Stands, IsOneHistory, free_in, capacity_in}
 use Rattle.js_window.specs.Steps.{IsPass, IsCaller, SeesMore, Adds, IsFree}
 use Rattle.js_window.proofs.Histories.{calls_by-push-own, calls_by-push-other, legal-push, legal-prefix}
 use Rattle.js_window.proofs.Prefixes.{prefix-refl, prefix-push, prefix-trans, below_length}
@@ -24,6 +24,7 @@ still_stands Live log later capacity place u p same t = record {
   seen = prefix-trans u.seen log later t.seen p;
   knows = t.knows;
   bears = t.bears;
+  after = t.after;
   own = same ∙ t.own;
   own_seen = t.own_seen;
   joined_own = t.joined_own;
@@ -95,6 +96,7 @@ module _ (x : List ℕ) (views : List View) (r : IsOneHistory x views) (place : 
               seen = prefix-refl r.log;
               knows = mine.knows;
               bears = mine.bears;
+              after = mine.after;
               own = mine.own;
               own_seen = mine.own;
               joined_own = prefix-trans v.joined_own v.seen r.log mine.joined_own mine.seen;
@@ -136,6 +138,7 @@ module _ (x : List ℕ) (views : List View) (r : IsOneHistory x views) (place : 
               seen = prefix-refl log;
               knows = mine.knows;
               bears = elim_bears v.number (v.mine ++ e ∷ []) number p.bears (known_number number p.live p.bears);
+              after = mine.after;
               own = own;
               own_seen = own;
               joined_own = prefix-trans v.joined_own v.seen log mine.joined_own grown;
@@ -163,9 +166,9 @@ module _ (x : List ℕ) (views : List View) (r : IsOneHistory x views) (place : 
       elim_bears o l n is e = subst (λ (z : Option ℕ). BearsPlace z place l) (sym is) e
 
   -- what the pass had seen is a beginning of the history, and so are the lists that it keeps from a join
-  pub recalls : (w : View) → w.standing ≡ Live → w.capacity ≡ v.capacity → w.seen ≡ v.seen → w.mine ≡ v.mine → w.joined_own ≡ v.joined_own → w.joined_other ≡ v.joined_other → v.standing ≡ Live
+  pub recalls : (w : View) → w.standing ≡ Live → w.origin ≡ v.origin → w.capacity ≡ v.capacity → w.seen ≡ v.seen → w.mine ≡ v.mine → w.joined_own ≡ v.joined_own → w.joined_other ≡ v.joined_other → v.standing ≡ Live
       → (capacity : ℕ) → v.capacity ≡ Some capacity → w.number ≡ Some place → IsOneHistory x (set views place w) × IsCaller place capacity w
-  recalls w w_live w_capacity w_seen w_mine w_own w_other live capacity knows bears =
+  recalls w w_live w_origin w_capacity w_seen w_mine w_own w_other live capacity knows bears =
       let mine = living live in
       let open_now = known_capacity capacity live knows in
       let seen : IsPrefix w.seen r.log = subst (λ l. IsPrefix l r.log) (sym w_seen) mine.seen in
@@ -175,6 +178,7 @@ module _ (x : List ℕ) (views : List View) (r : IsOneHistory x views) (place : 
               seen = seen;
               knows = subst (λ o. KnowsCapacity o (capacity_in x)) (sym w_capacity) mine.knows;
               bears = subst (λ o. BearsPlace o place w.mine) (sym bears) refl;
+              after = subst (λ o. ComesAfter o place) (sym w_origin) mine.after;
               own = mine.own ∙ sym w_mine;
               own_seen = own_seen;
               joined_own = subst (λ (z : List Entry × List Entry). IsPrefix z.0 z.1) (λ i. (sym w_own i, sym w_seen i)) mine.joined_own;

@@ -34,6 +34,7 @@ begins = record {
       seen = prefix-refl [];
       knows = refl;
       bears = refl;
+      after = tt;
       own = refl;
       own_seen = refl;
       joined_own = prefix-refl [];
@@ -58,6 +59,7 @@ opens place capacity positive x views r at =
               seen = prefix-refl [];
               knows = (refl, positive);
               bears = refl;
+              after = tt;
               own = refl;
               own_seen = refl;
               joined_own = prefix-refl [];
@@ -77,7 +79,7 @@ names place v capacity new x views r at =
     let mine = living x views r place v at new.live in
     let none_made : v.mine ≡ [] = subst (λ o. BearsPlace o place v.mine) new.bears_none mine.bears in
     let cap = known_capacity x views r place v at in
-    let t = recalls x views r place v at w new.live refl refl refl refl refl new.live capacity new.knows refl in (
+    let t = recalls x views r place v at w new.live refl refl refl refl refl refl new.live capacity new.knows refl in (
       w,
       t.0,
       λ c told. (
@@ -85,6 +87,7 @@ names place v capacity new x views r at =
         refl,
         subst (λ (z : ℕ). IsCaller place z w) ((cap capacity new.live new.knows).0 ∙ sym (cap c told.live told.knows).0) t.1,
         mine.own_seen ∙ none_made,
+        mine.after,
       ),
     )
 
@@ -93,7 +96,7 @@ recalling place v number capacity p x views r at =
     let mine = living x views r place v at p.live in
     let cap = known_capacity x views r place v at in
     let is_place : number ≡ place = known_number x views r place v at number p.live p.bears in
-    let t = recalls x views r place v at v p.live refl refl refl refl refl p.live capacity p.knows (p.bears ∙ ap Some is_place) in (
+    let t = recalls x views r place v at v p.live refl refl refl refl refl refl p.live capacity p.knows (p.bears ∙ ap Some is_place) in (
       v,
       t.0,
       λ n c q. (

@@ -1,5 +1,5 @@
 -- A split and a join of passes keep the rule.
-use Rattle.std.proofs.Common.{◌≡◌, ◌≢◌, ℕ, List, [], ◌∷◌, length, set, Some, refl, sym, ap, ◌∙◌, subst, inl, inr, ⊎_elim, arith, length-set, length-append}
+use Rattle.std.proofs.Common.{◌≡◌, ◌≢◌, ℕ, ◌<◌, List, [], ◌∷◌, length, set, Some, refl, sym, ap, ◌∙◌, subst, inl, inr, ⊎_elim, arith, length-set, length-append}
 use mathlib.Core.Option.{some, some-injective}
 use mathlib.Core.List.{IsPrefix}
 use mathlib.Core.Logic.{dite}
@@ -12,19 +12,21 @@ use Rattle.js_window.specs.declared.rule.Standing.{Standing}
 use Rattle.js_window.specs.declared.rule.Standing.TheVariants.{Live}
 use Rattle.js_window.specs.declared.rule.View.{View}
 use Rattle.js_window.specs.History.{out_after, calls_by, IsLegal}
-use Rattle.js_window.specs.Rule.{copy_of, ended, joined, spent, IsLive, Stands, IsOneHistory, capacity_in}
+use Rattle.js_window.specs.Rule.{copy_of, ended, joined, spent, ComesAfter, IsLive, Stands, IsOneHistory, capacity_in}
 use Rattle.js_window.specs.Steps.{IsPass}
 use Rattle.js_window.proofs.Histories.{calls_by-between, calls_by-none_before, own-given_in-le-got_in}
 use Rattle.js_window.proofs.Prefixes.{prefix-nil, longer_prefix, longer_whole, at_end, below_length}
-use Rattle.js_window.proofs.Moves.{living, known_capacity, still_longest}
+use Rattle.js_window.proofs.Moves.{living, known_capacity, known_number, still_longest}
 
 -- a copy of the view begins, with the place after all others; the view itself stays or ends
-forks : (place : ℕ) (v left : View) (capacity : ℕ) → v.standing ≡ Live → v.capacity ≡ Some capacity → left.seen ≡ v.seen
+forks : (place : ℕ) (v left : View) (number capacity : ℕ) → IsPass number capacity v → left.seen ≡ v.seen
     → ((log : List Entry) (c : ℕ) → IsLegal c log → IsLive log c place v → Stands left.standing log c place left)
     → Forks IsOneHistory place v left (copy_of v)
-forks place v left capacity live knows same stands x views r at =
-    let mine = living x views r place v at live in
-    let positive = (known_capacity x views r place v at capacity live knows).1 in
+forks place v left number capacity p same stands x views r at =
+    let mine = living x views r place v at p.live in
+    let positive = (known_capacity x views r place v at capacity p.live p.knows).1 in
+    let is_place : number ≡ place = known_number x views r place v at number p.live p.bears in
+    let here : place < length views = below_length views place v at in
     let lefts : List View = set views place left in
     let long : length lefts ≡ length views = length-set views place left in
     let top = still_longest x views r place v at left same in
@@ -44,6 +46,7 @@ forks place v left capacity live knows same stands x views r at =
             seen = mine.seen;
             knows = mine.knows;
             bears = refl;
+            after = subst (λ o. ComesAfter o j) (sym p.bears) (let later : number < j = omega (arith, t.0, is_place, here, long) in later);
             own = none;
             own_seen = calls_by-none_before j v.seen r.log mine.seen none;
             joined_own = prefix-nil v.seen;
@@ -55,11 +58,11 @@ forks place v left capacity live knows same stands x views r at =
     }
 
 pub copies : (place : ℕ) (v : View) (number capacity : ℕ) → IsPass number capacity v → Forks IsOneHistory place v v (copy_of v)
-copies place v number capacity p = forks place v v capacity p.live p.knows refl (λ log c legal mine. subst (λ (s : Standing). Stands s log c place v) (sym p.live) mine)
+copies place v number capacity p = forks place v v number capacity p refl (λ log c legal mine. subst (λ (s : Standing). Stands s log c place v) (sym p.live) mine)
 
 -- a pass that holds no permit may end
 pub cuts_off : (place : ℕ) (v : View) (number capacity : ℕ) → IsPass number capacity v → out_after v.mine ≡ 0 → Forks IsOneHistory place v (ended v) (copy_of v)
-cuts_off place v number capacity p holds_none = forks place v (ended v) capacity p.live p.knows refl (λ log c legal mine. record {
+cuts_off place v number capacity p holds_none = forks place v (ended v) number capacity p refl (λ log c legal mine. record {
   seen = mine.seen;
   holds_none = let le = own-given_in-le-got_in c log place legal in let none : out_after (calls_by place log) ≡ 0 = ap out_after mine.own ∙ holds_none in omega arith;
 })
@@ -73,6 +76,7 @@ joined_stands log capacity place v w live mine theirs =
       seen = l.0;
       knows = mine.knows;
       bears = mine.bears;
+      after = mine.after;
       own = mine.own;
       own_seen = calls_by-between place v.seen (joined v w).seen log l.1 l.0 (mine.own ∙ sym mine.own_seen) ∙ mine.own_seen;
       joined_own = l.1;

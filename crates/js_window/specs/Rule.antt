@@ -1,5 +1,5 @@
 -- The rule that the cell of a window keeps at each step: all callers have seen beginnings of one legal history, and permits are neither made nor lost.
-use Rattle.std.specs.Prelude.{◌≡◌, ℕ, ◌+◌, ◌<◌, ◌≤◌, List, [], length, slice_index, sum_by, Option, Some, None, if◌then◌else◌, nat_lt}
+use Rattle.std.specs.Prelude.{◌≡◌, ℕ, ◌+◌, ◌<◌, ◌≤◌, ⊤, List, [], length, slice_index, sum_by, Option, Some, None, if◌then◌else◌, nat_lt}
 use Rattle.std.specs.Option.{unwrap_or}
 use mathlib.Core.Option.{some}
 use mathlib.Core.List.{IsPrefix}
@@ -34,11 +34,11 @@ caller_of table v = record { window = record { table = table; capacity = capacit
 
 -- the view of the first pass of a closed cell
 abbrev pub newcomer : View
-newcomer = record { standing = Live; number = None; capacity = None; seen = []; mine = []; joined_own = []; joined_other = [] }
+newcomer = record { standing = Live; number = None; origin = None; capacity = None; seen = []; mine = []; joined_own = []; joined_other = [] }
 
 -- the view that a split gives: it has seen as much, and has no number yet
 abbrev pub copy_of : View → View
-copy_of v = record { standing = Live; number = None; capacity = v.capacity; seen = v.seen; mine = []; joined_own = []; joined_other = [] }
+copy_of v = record { standing = Live; number = None; origin = v.number; capacity = v.capacity; seen = v.seen; mine = []; joined_own = []; joined_other = [] }
 
 -- the view, which makes no call any more
 abbrev pub ended : View → View
@@ -54,12 +54,17 @@ joined v w = record v { seen = longer v.seen w.seen; joined_own = v.seen; joined
 
 -- the view that a join leaves of the other
 abbrev pub spent : View
-spent = record { standing = Spent; number = None; capacity = None; seen = []; mine = []; joined_own = []; joined_other = [] }
+spent = record { standing = Spent; number = None; origin = None; capacity = None; seen = []; mine = []; joined_own = []; joined_other = [] }
 
 -- the number that a view bears is that of its place; a view without one has made no call
 abbrev pub BearsPlace : Option ℕ → ℕ → List Entry → Type 0
 BearsPlace None place mine = mine ≡ []
 BearsPlace (Some number) place mine = number ≡ place
+
+-- a view that was split from another one has a place after that one's
+abbrev pub ComesAfter : Option ℕ → ℕ → Type 0
+ComesAfter None place = ⊤
+ComesAfter (Some origin) place = origin < place
 
 -- the capacity that a view knows is the cell's; a view that knows none stands only while the cell is closed
 abbrev pub KnowsCapacity : Option ℕ → ℕ → Type 0
@@ -71,6 +76,7 @@ pub record IsLive (log : List Entry) (capacity place : ℕ) (v : View) : Type 0 
   pub seen : IsPrefix v.seen log
   pub knows : KnowsCapacity v.capacity capacity
   pub bears : BearsPlace v.number place v.mine
+  pub after : ComesAfter v.origin place
   pub own : calls_by place log ≡ v.mine
   pub own_seen : calls_by place v.seen ≡ v.mine
   pub joined_own : IsPrefix v.joined_own v.seen

@@ -7,7 +7,7 @@ use Rattle.js_window.specs.declared.history.Entry.{Entry}
 use Rattle.js_window.specs.declared.rule.Standing.TheVariants.{Live}
 use Rattle.js_window.specs.declared.rule.View.{View}
 use Rattle.js_window.specs.History.{entry, out_after, calls_by, IsLegal}
-use Rattle.js_window.specs.Rule.{free_in, capacity_in}
+use Rattle.js_window.specs.Rule.{free_in, capacity_in, ComesAfter}
 
 -- a live view that bears this number and knows this capacity
 pub record IsPass (number capacity : ℕ) (v : View) : Type 0 where
@@ -48,11 +48,11 @@ IsFree capacity words w = free_in words + out_after w.seen ≡ capacity
 abbrev pub Opened : View → List ℕ → List ℕ → View → Type 0
 Opened v before after w = w ≡ record v { capacity = Some (capacity_in after) }
 
--- a look by a view without a number: it gets a number that no call that it has seen bears
+-- a look by a view without a number: it gets a number that no call that it has seen bears, and that comes after the one it was split from
 abbrev pub Named : View → List ℕ → List ℕ → View → Type 0
 Named v before after w =
     (capacity : ℕ) → IsUnnumbered capacity v
-    → (number : ℕ) × (w ≡ record v { number = Some number }) × IsCaller number capacity w × (calls_by number w.seen ≡ [])
+    → (number : ℕ) × (w ≡ record v { number = Some number }) × IsCaller number capacity w × (calls_by number w.seen ≡ []) × ComesAfter v.origin number
 
 -- a look after a join: both lists that the join kept begin what the view has seen
 abbrev pub Recalled : View → List ℕ → List ℕ → View → Type 0

@@ -24,6 +24,10 @@ pub enum Standing {
 pub struct View {
     pub standing: Standing,
     pub number: Option<u64>,
+
+    /// The number of the pass that it was split from.
+    pub origin: Option<u64>,
+
     pub capacity: Option<u64>,
 
     /// The beginning of the history that it has seen.

@@ -2,7 +2,7 @@
 ghost use Rattle.std.specs.Prelude.{◌≡◌, ◌<◌, ◌^◌, IfOk, []};
 ghost use Rattle.crossbeam_utils.specs.Seq.{cell_view};
 ghost use Rattle.js_window.specs.Caller.{held, Continues, Makes, Splits, Joins};
-ghost use Rattle.js_window.specs.Rule.{capacity_of, caller_of};
+ghost use Rattle.js_window.specs.Rule.{capacity_of, caller_of, ComesAfter};
 ghost use Rattle.js_window.specs.Steps.{IsUnnumbered};
 
 mod steps;
@@ -152,12 +152,14 @@ impl Window {
         found[0] == found[1]
     }
 
-    /// A pass for another caller, which has seen as much as this one and holds no permit. This pass stays as it is.
+    /// A pass for another caller, which has seen as much as this one and holds no permit. Its number is above this one's. This
+    /// pass stays as it is.
     pub fn split<R: Wait>(&self, rt: &R, pass: &mut Pass) -> Pass
         requires { pass.old.window ≡ self.now }
         ensures same { pass.new ≡ pass.old }
         ensures legal { Continues pass.old pass.new }
         ensures new { Splits pass.old result }
+        ensures later { pass.old.number < result.number }
     {
         let seat = self.cell.split_pass::<Copies>(&mut pass.seat);
         numbered(rt, &self.cell, seat)
@@ -181,8 +183,9 @@ impl Window {
 // A pass on a seat that has no number yet. A look gives it that of its place.
 fn numbered<R: Wait>(rt: &R, cell: &Cell, mut seat: WindowPass) -> Pass
     requires cell { seat.table_id ≡ cell.now.table.shared.table_id }
-    requires new { IsUnnumbered (capacity_of (cell_view seat)) (cell_view seat) }
-    ensures { Splits (caller_of seat.table_id (cell_view seat)) result }
+    requires unnumbered { IsUnnumbered (capacity_of (cell_view seat)) (cell_view seat) }
+    ensures new { Splits (caller_of seat.table_id (cell_view seat)) result }
+    ensures later { ComesAfter (cell_view seat).origin result.number }
 {
     cell.load_as::<Names, R>(rt, &mut seat);
     Pass { seat }

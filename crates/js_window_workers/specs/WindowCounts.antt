@@ -1,5 +1,5 @@
 -- What the counts of a run tell.
-use Rattle.std.specs.Prelude.{◌≡◌, ℕ, List, All, length, sum_by}
+use Rattle.std.specs.Prelude.{◌≡◌, ◌<◌, ℕ, List, All, AllPairs, length, sum_by}
 use mathlib.Core.List.{IsPrefix}
 use Rattle.js_window.specs.declared.history.Call.TheVariants.{AllFree}
 use Rattle.js_window.specs.Caller.{WindowId, Caller, Makes}
@@ -7,11 +7,12 @@ use Rattle.js_window_workers.specs.declared.worker.Ended.{Ended}
 use Rattle.js_window_workers.specs.declared.workers.WindowCounts.{WindowCounts}
 use Rattle.js_window_workers.specs.Worker.{HasEnded}
 
--- the counts are those of so many workers on this window, and whether all permits were free is what the caller that has seen all of them was last answered
+-- the counts are those of so many workers on this window, each of which is a caller of its own, and whether all permits were free is what the caller that has seen all of them was last answered
 pub record Counts (window : WindowId) (threads calls : ℕ) (last : Caller) (counts : WindowCounts) : Type 0 where
   pub workers : List Ended
   pub many : length workers ≡ threads
   pub each : All (HasEnded window calls) workers
+  pub apart : AllPairs (λ a b. a.pass.number < b.pass.number) workers
   pub got : counts.got ≡ sum_by (λ e. e.got) workers
   pub full : counts.full ≡ sum_by (λ e. e.full) workers
   pub joined : Caller

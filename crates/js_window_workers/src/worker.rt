@@ -1,6 +1,6 @@
 //! One worker: it takes permits of a window and gives each back.
 ghost use Rattle.std.specs.Prelude.{◌≡◌, ◌<◌, ◌+◌, None, option_map};
-ghost use Rattle.js_window_workers.specs.Worker.{TookCalls, PassedGate, IsReady, HasEnded};
+ghost use Rattle.js_window_workers.specs.Worker.{TookCalls, PassedGate, AdmitsAfterTake, IsReady, HasEnded};
 
 use crate::gate::{Gate, GatePassage};
 use js_window::{Pass, Take, Window};
@@ -24,8 +24,9 @@ pub struct Ended {
 /// Takes a permit so many times, and gives each back before the next take. Answers how many takes got a permit, and
 /// how many found none free. The pass is one of this window's.
 ///
-/// After the first take, and before any permit is given back, it calls the gate once with the worker's number, which
-/// the gate has to admit. With 0 calls it never calls the gate.
+/// After the first take, and before any permit is given back, it calls the gate once with the worker's number, which the
+/// gate has to admit by then. With 0 calls it never calls the gate, which need not admit the worker. What the pass has seen
+/// stays legal.
 pub fn take_calls<R: Wait, G: Gate>(
     rt: &R,
     window: &Window,
@@ -35,7 +36,7 @@ pub fn take_calls<R: Wait, G: Gate>(
     gate: &G,
 ) -> (u64, u64)
     requires own { pass.old.window ≡ window.now }
-    requires admitted { G.admits gate.now worker }
+    requires admitted { 0 < calls → AdmitsAfterTake (G.admits gate.now worker) pass.old }
     ensures sum { result.0 + result.1 ≡ calls }
     ensures calls { TookCalls result.0 result.1 pass.old pass.new }
     ensures called { 0 < calls → G.passed gate.now worker }
@@ -54,7 +55,7 @@ fn take_by<R: Wait, G: Gate>(
 ) -> (u64, u64)
     requires own { pass.old.window ≡ window.now }
     requires new { passage.old.passed ≡ None }
-    requires admitted { G.admits passage.old.gate.now worker }
+    requires admitted { 0 < calls → AdmitsAfterTake (G.admits passage.old.gate.now worker) pass.old }
     ensures sum { result.0 + result.1 ≡ calls }
     ensures calls { TookCalls result.0 result.1 pass.old pass.new }
     ensures called { 0 < calls → G.passed passage.old.gate.now worker }
@@ -81,8 +82,9 @@ fn take_by<R: Wait, G: Gate>(
 /// The whole of one worker's calls.
 pub fn work<R: Wait, G: Gate>(rt: &R, window: &Window, job: Job, calls: u64, gate: &G) -> Ended
     requires ready { IsReady window.now job }
-    requires admitted { G.admits gate.now job.worker }
+    requires admitted { 0 < calls → AdmitsAfterTake (G.admits gate.now job.worker) job.pass }
     ensures ended { HasEnded window.now calls result }
+    ensures number { result.pass.number ≡ job.pass.number }
     ensures called { 0 < calls → G.passed gate.now job.worker }
 {
     let Job { mut pass, worker } = job;

@@ -2,13 +2,14 @@
 ghost use Rattle.std.specs.Prelude.{◌≡◌, ◌+◌, ◌*◌, ◌<◌, ◌≤◌, ◌^◌, ℕ, IfOk, OnOk, All, vec_len, sum_by};
 ghost use mathlib.Core.List.{IsPrefix};
 ghost use Rattle.js_window_workers.specs.WindowCounts.{Counts, CountsOfRun};
-ghost use Rattle.js_window_workers.specs.Worker.{AreNumbered, EachPassed, IsReady, HasEnded};
+ghost use Rattle.js_window_workers.specs.Worker.{AdmitsEach, AreNumbered, EachPassed, HaveOwnPasses, IsReady, HasEnded};
 
 use crate::gate::Gate;
 use crate::worker::{Ended, Job, work};
 use js_base::OutOfMemory;
 use js_window::{Pass, Window};
 use std::alloc::Global;
+use std::mem::replace;
 use std::sync::Wait;
 use std::thread;
 use std::thread::Threads;
@@ -23,10 +24,11 @@ pub struct WindowCounts {
 }
 
 /// Runs 1 to 8 workers, numbered from 0, on a window of their own with 1 to `u32::MAX` permits. Each makes so many
-/// calls, at most 100,000, as [`take_calls`](crate::take_calls) does. When all have ended, joins their passes and
-/// asks once whether all permits are free. With at least one call each worker passes the gate.
+/// calls, at most 100,000, as [`take_calls`](crate::take_calls) does, by a pass of its own. When all have ended, joins their
+/// passes and asks once whether all permits are free. With at least one call each worker passes the gate.
 ///
-/// A worker for which no thread can be made runs on the caller. The one refusal is want of memory.
+/// A worker for which no thread can be made runs on the caller. Fails with `OutOfMemory` if memory runs out, and with nothing
+/// else.
 pub fn run_window<R: Threads + Wait + Sync, G: Gate + Sync>(
     rt: &R,
     alloc: Global,
@@ -38,7 +40,7 @@ pub fn run_window<R: Threads + Wait + Sync, G: Gate + Sync>(
     requires capacity { (0 < capacity) × (capacity < 2 ^ 32) }
     requires threads { (0 < threads) × (threads ≤ 8) }
     requires calls { calls ≤ 100000 }
-    requires gate { (worker : ℕ) → worker < threads → G.admits gate.now worker }
+    requires gate { 0 < calls → AdmitsEach (G.admits gate.now) threads }
     ensures sum { IfOk result (λ counts. counts.got + counts.full ≡ threads * calls) }
     ensures run { IfOk result (CountsOfRun capacity threads calls) }
     ensures gate { IfOk result (λ _. 0 < calls → EachPassed (G.passed gate.now) threads) }
@@ -59,7 +61,7 @@ fn run_on<R: Threads + Wait + Sync, G: Gate + Sync>(
 ) -> Result<WindowCounts, OutOfMemory>
     requires own { first.old.window ≡ window.now }
     requires small { (threads ≤ 8) × (calls ≤ 100000) }
-    requires gate { (worker : ℕ) → worker < threads → G.admits gate.now worker }
+    requires gate { 0 < calls → AdmitsEach (G.admits gate.now) threads }
     ensures sum { IfOk result (λ counts. counts.got + counts.full ≡ threads * calls) }
     ensures counts { IfOk result (Counts window.now threads calls first.new) }
     ensures gate { IfOk result (λ _. 0 < calls → EachPassed (G.passed gate.now) threads) }
@@ -69,8 +71,9 @@ fn run_on<R: Threads + Wait + Sync, G: Gate + Sync>(
         rt,
         jobs,
         &|job: Job| -> Ended
-            requires { IsReady window.now job × G.admits gate.now job.worker }
+            requires { IsReady window.now job × (0 < calls → G.admits gate.now job.worker) }
             ensures ended { HasEnded window.entry.now calls result }
+            ensures number { result.pass.number ≡ job.pass.number }
             ensures gate { 0 < calls → G.passed gate.entry.now job.worker }
         { work(rt, window, job, calls, gate) },
     )?;
@@ -83,7 +86,7 @@ fn run_on<R: Threads + Wait + Sync, G: Gate + Sync>(
     })
 }
 
-// A job for each worker, with a pass of its own.
+// A job for each worker, with a pass of its own. Each is split from the one before it, whose number is below its own.
 fn ready<R: Wait>(
     rt: &R,
     alloc: Global,
@@ -96,13 +99,17 @@ fn ready<R: Wait>(
     ensures ready { IfOk result (λ jobs. All (IsReady window.now) jobs.items) }
     ensures small { IfOk result (λ jobs. All (λ job. job.worker < threads) jobs.items) }
     ensures numbers { IfOk result (λ jobs. AreNumbered jobs.items) }
+    ensures apart { IfOk result (λ jobs. HaveOwnPasses jobs.items) }
     ensures first { OnOk result (first.new ≡ first.old) }
 {
     let mut jobs = Vec::new(alloc);
+    let mut next = window.split(rt, first);
     for worker in 0..threads {
-        let pass = window.split(rt, first);
+        let later = window.split(rt, &mut next);
+        let pass = replace(&mut next, later);
         jobs.push(Job { pass, worker })?;
     }
+    drop(next);
     Ok(jobs)
 }
 

@@ -1,13 +1,29 @@
-use Rattle.std.proofs.Common.{◌≡◌, ℕ, ◌+◌, Option, Some, option_map, arith, sym, subst, ◌∙◌}
+use Rattle.std.proofs.Common.{◌≡◌, ℕ, ◌+◌, Option, Some, option_map, arith, rules, refl, sym, subst, ◌∙◌}
 use Rattle.js_window.specs.Caller.{Caller}
 use Rattle.js_window_workers.specs.declared.gate.GatePassage.{GatePassage}
 use Rattle.js_window_workers.specs.Worker.{TookCalls, PassedGate}
-use Rattle.js_window_workers.proofs.Takes.{took_got, took_full, passed_first, passed_before}
+use Rattle.js_window_workers.proofs.Takes.{first_take, took_none, took_got, took_full, passed_first, passed_before}
 use Rattle.js_window_workers.proofs.worker.take_by.Goals as goal
 use Rattle.js_window_workers.proofs.worker.take_by.Goals.{in-Got, in-Full, then-call-eq0, else-call-eq0}
 
 pub give-requires-clause-holds : goal.give-requires-clause-holds
 give-requires-clause-holds g c = let h = c.in-Got.ensures.call.holds in omega arith
+
+pub pass_gate-requires-clause-admitted : goal.pass_gate-requires-clause-admitted
+pass_gate-requires-clause-admitted g c =
+    let i = c.loop-call.invariant in
+    subst (λ gate. g.G.Gate.admits gate.now c.args.worker) (sym i.passage)
+    (c.requires.admitted (search rules) c.take-taken.new.pass (first_take c.args.pass.now c.loop-call.pass c.take-taken.new.pass c.take-taken.result (i.start c.if-call-eq0.true) c.take-taken.ensures.call))
+
+pub loop-call-init : goal.loop-call-init
+loop-call-init g c = record {
+  sum = refl;
+  took = took_none c.args.pass.now;
+  start = λ none. refl;
+  called = λ some. absurd (omega arith);
+  passage = refl;
+  gate = search rules;
+}
 
 pub loop-call-preserved : goal.loop-call-preserved
 loop-call-preserved g c =

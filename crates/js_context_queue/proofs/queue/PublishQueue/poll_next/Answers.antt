@@ -6,6 +6,8 @@ use Rattle.js_context_queue.specs.Steps.{outcome_of}
 use Rattle.js_context_queue.proofs.Counts.{each_then}
 use Rattle.js_context_queue.proofs.StepRuns.{polls_of, runs_left, runs_then}
 use Rattle.js_context_queue.proofs.Sleep.{first_early, sleeps_on}
+use Rattle.js_context_queue.proofs.Tried.{all_tried, pends_in_vain, unsent_left}
+use Rattle.js_context_queue.specs.QueuePoll.{place}
 use Rattle.js_context_queue.proofs.queue.PublishQueue.poll_next.Goals as goal
 
 pub returns-in-Made-clause-each : goal.returns-in-Made-clause-each
@@ -54,3 +56,18 @@ pub returns-in-NoMemory-clause-sleeps : goal.returns-in-NoMemory-clause-sleeps
 returns-in-NoMemory-clause-sleeps g c = λ alone.
     let (none, link, stays) = c.in-NoMemory.ensures.sleeps alone.sends_none (first_early _ _ _ alone) in
     record { quiet = tt; link = link; same = stays }
+
+pub returns-in-NoMemory-clause-end : goal.returns-in-NoMemory-clause-end
+returns-in-NoMemory-clause-end g c = unsent_left c.send.new.self c.in-NoMemory.ensures.tried
+
+pub returns-in-Made-clause-pending : goal.returns-in-Made-clause-pending
+returns-in-Made-clause-pending g c =
+    let first = place c.args.self.now (g.L.Link.view c.args.link.now) in
+    let mid = place c.send.new.self (g.L.Link.view c.send.new.link) in
+    pends_in_vain c.args.now c.look_on.result first mid (place c.look_on.new.self (g.L.Link.view c.look_on.new.link)) (all_tried c.args.now first mid c.in-Made.ensures.tried) c.look_on.ensures.pending
+
+pub returns-in-Stays-clause-pending : goal.returns-in-Stays-clause-pending
+returns-in-Stays-clause-pending g c =
+    let first = place c.args.self.now (g.L.Link.view c.args.link.now) in
+    let mid = place c.send.new.self (g.L.Link.view c.send.new.link) in
+    pends_in_vain c.args.now c.look_on-in-Stays.result first mid (place c.look_on-in-Stays.new.self (g.L.Link.view c.look_on-in-Stays.new.link)) c.in-Stays.ensures.tried c.look_on-in-Stays.ensures.pending

@@ -23,12 +23,12 @@ numbered-pass-requires g c =
     let told = c.swap_as.ensures in
     record {
       cell = told.cell.0 ∙ made.0;
-      new = opened_is_unnumbered c.args.capacity _ _ made.1 told.rule;
+      unnumbered = opened_is_unnumbered c.args.capacity _ _ made.1 told.rule;
     }
 
 pub returns-clause-own : goal.returns-clause-own
 returns-clause-own g c =
-    of_new_window c.numbered-pass.result c.in_ok-cell.cell.table.shared.table_id c.swap_as.new.pass.table_id c.args.capacity (cell_view c.in_ok-cell.seat) (cell_view c.swap_as.new.pass) (c.swap_as.ensures.cell.0 ∙ c.in_ok-cell.ensures.0) c.swap_as.ensures.rule c.numbered-pass.ensures
+    of_new_window c.numbered-pass.result c.in_ok-cell.cell.table.shared.table_id c.swap_as.new.pass.table_id c.args.capacity (cell_view c.in_ok-cell.seat) (cell_view c.swap_as.new.pass) (c.swap_as.ensures.cell.0 ∙ c.in_ok-cell.ensures.0) c.swap_as.ensures.rule c.numbered-pass.ensures.new
 
 pub returns-clause-seen : goal.returns-clause-seen
-returns-clause-seen g c = c.numbered-pass.ensures.seen ∙ ap (λ (v : View). v.seen) c.swap_as.ensures.rule ∙ ap (λ (v : View). v.seen) c.in_ok-cell.ensures.1
+returns-clause-seen g c = c.numbered-pass.ensures.new.seen ∙ ap (λ (v : View). v.seen) c.swap_as.ensures.rule ∙ ap (λ (v : View). v.seen) c.in_ok-cell.ensures.1

@@ -3,7 +3,7 @@ use Rattle.crossbeam_utils.specs.Seq.{cell_view}
 use Rattle.js_window.specs.declared.rule.View.{View}
 use Rattle.js_window.specs.Rule.{number_of, capacity_of, caller_of}
 use Rattle.js_window.specs.Steps.{IsCaller}
-use Rattle.js_window.proofs.Callers.{same_table, copy_is_unnumbered, splits, stays}
+use Rattle.js_window.proofs.Callers.{same_table, copy_is_unnumbered, splits, splits_later, stays}
 use Rattle.js_window.proofs.Seats.{copies}
 use Rattle.js_window.proofs.Totals.{forks_kept}
 use Rattle.js_window.proofs.window.Window.split.Goals as goal
@@ -16,7 +16,7 @@ numbered-requires g c =
     let given = c.split_pass-seat.ensures.given in
     record {
       cell = given.0 ∙ same_table _ _ _ _ _ (cell_view c.pass.inside.seat) c.pass.view_is c.requires c.self.view_is;
-      new = copy_is_unnumbered (cell_view c.pass.inside.seat) _ given.1 c.pass.invariant;
+      unnumbered = copy_is_unnumbered (cell_view c.pass.inside.seat) _ given.1 c.pass.invariant;
     }
 
 pub invariant_of-pass : goal.invariant_of-pass
@@ -31,4 +31,7 @@ returns-clause-legal g c = let kept = c.split_pass-seat.ensures.kept in stays _ 
 pub returns-clause-new : goal.returns-clause-new
 returns-clause-new g c =
     let given = c.split_pass-seat.ensures.given in
-    splits _ _ _ _ (cell_view c.pass.inside.seat) _ c.pass.view_is given.0 given.1 c.numbered.ensures
+    splits _ _ _ _ (cell_view c.pass.inside.seat) _ c.pass.view_is given.0 given.1 c.numbered.ensures.new
+
+pub returns-clause-later : goal.returns-clause-later
+returns-clause-later g c = splits_later _ _ (cell_view c.pass.inside.seat) _ _ c.pass.view_is c.split_pass-seat.ensures.given.1 c.pass.invariant c.numbered.ensures.later
