@@ -27,7 +27,7 @@ use Rattle.js_ordered_table.specs.declared.row.Row.TheVariants as row
 use Rattle.js_ordered_table.specs.declared.run.Output.{Output}
 use Rattle.js_ordered_table.specs.declared.setup.OrderedSetup.{OrderedSetup}
 use Rattle.js_ordered_table.specs.declared.setup.OrderedSetup.TheVariants.{Pull, Push}
-use Rattle.js_ordered_table.specs.declared.event_context.EventContext.{EventContext}
+use Rattle.js_ordered.specs.declared.event_context.EventContext.{EventContext}
 use Rattle.js_ordered_table.specs.declared.replay_state.ReplayState.{ReplayState}
 use Rattle.js_ordered_table.specs.Fold.{Ran, after, and_then, is_over, is_request, is_subscribe, pass_each, passing, stays}
 use Rattle.js_ordered_table.specs.Invariant.{IsPull, IsPush}

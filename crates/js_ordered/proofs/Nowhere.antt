@@ -7,7 +7,7 @@ use Rattle.js_link.specs.RowInput.{RowInput}
 use Rattle.js_ordered_table.specs.declared.transitions.task.NextTasks.{NextTasks}
 use Rattle.js_ordered_table.specs.declared.transitions.task.Task.{Task}
 use Rattle.js_ordered_table.specs.declared.transitions.task.Task.TheVariants as task
-use Rattle.js_ordered.specs.Driven.{IsTry, Leads, PassesTo}
+use Rattle.js_ordered.specs.Driven.{IsTry, Leads, PassesTo, matter_now}
 use Rattle.js_ordered_table.specs.Tasks.{answered_rows, rows_of}
 use Rattle.js_pull.specs.declared.reader.Reader.{Reader}
 use Rattle.js_pull.specs.declared.reader.Row.{Row as PullRow}
@@ -20,10 +20,10 @@ use Rattle.js_ordered_table.specs.declared.consumer.Recreation.{Recreation}
 use Rattle.js_ordered_table.specs.declared.row.Row.{Row}
 use Rattle.js_ordered_table.specs.declared.row.Row.TheVariants as row
 use Rattle.js_ordered_table.specs.declared.run.Output.{Output}
-use Rattle.js_ordered_table.specs.declared.event_context.EventContext.{EventContext}
+use Rattle.js_ordered.specs.declared.event_context.EventContext.{EventContext}
 use Rattle.js_ordered_table.specs.declared.replay_state.ReplayState.{ReplayState}
 use Rattle.js_ordered_table.specs.Fold.{after, and_then, passing, stays}
-use Rattle.js_ordered_table.specs.Passes.{at, matter_now}
+use Rattle.js_ordered_table.specs.Passes.{at}
 use Rattle.js_ordered_table.specs.Consumer.{Matter, silent_row}
 use Rattle.js_ordered_table.specs.Table.{row_at}
 use Rattle.js_ordered.proofs.Driving.{idle_row}

@@ -3,15 +3,15 @@ use Rattle.std.proofs.Common.{◌≡◌, ℕ, List, [], ◌∷◌, ◌++◌, Opt
 use Rattle.std.specs.Prelude.{option_to_list, Result, Ok, Err}
 use Rattle.js_ordered_table.specs.declared.transitions.task.NextTasks.{NextTasks}
 use Rattle.js_ordered_table.specs.declared.transitions.task.Task.{Task}
-use Rattle.js_ordered.specs.Driven.{IsLeft, Leads, LeadsOn, PassesTo, left_rows}
+use Rattle.js_ordered.specs.Driven.{IsLeft, Leads, LeadsOn, PassesTo, left_rows, matter_now}
 use Rattle.js_ordered_table.specs.Tasks.{next_rows}
 use Rattle.js_ordered_table.specs.declared.consumer.ReplayInput.{ReplayInput}
 use Rattle.js_ordered_table.specs.declared.row.Row.{Row}
 use Rattle.js_ordered_table.specs.declared.run.Output.{Output}
-use Rattle.js_ordered_table.specs.declared.event_context.EventContext.{EventContext}
+use Rattle.js_ordered.specs.declared.event_context.EventContext.{EventContext}
 use Rattle.js_ordered_table.specs.declared.replay_state.ReplayState.{ReplayState}
 use Rattle.js_ordered_table.specs.Fold.{after, and_then, pass_each}
-use Rattle.js_ordered_table.specs.Passes.{matter_now, ran}
+use Rattle.js_ordered_table.specs.Passes.{ran}
 use Rattle.js_ordered_table.specs.Consumer.{Matter}
 use Rattle.js_ordered.proofs.Driving.{}
 

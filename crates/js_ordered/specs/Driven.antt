@@ -18,19 +18,23 @@ use Rattle.js_ordered_table.specs.Arrivals.{told as told_by, with_sent}
 use Rattle.js_ordered_table.specs.declared.row.Row.{Row}
 use Rattle.js_ordered_table.specs.declared.row.Row.TheVariants.{Hear}
 use Rattle.js_ordered_table.specs.declared.run.Output.{Output}
-use Rattle.js_ordered_table.specs.declared.event_context.EventContext.{EventContext}
+use Rattle.js_ordered.specs.declared.event_context.EventContext.{EventContext}
 use Rattle.js_ordered_table.specs.declared.replay_state.ReplayState.{ReplayState}
-use Rattle.js_ordered_table.specs.Fold.{and_then, is_request, is_subscribe, pass_each}
-use Rattle.js_ordered_table.specs.Passes.{input_of, matter_now, ran}
+use Rattle.js_ordered_table.specs.Fold.{and_then, is_request, is_subscribe, matter_of, pass_each}
+use Rattle.js_ordered_table.specs.Passes.{input_of, ran}
 use Rattle.js_ordered_table.specs.Consumer.{Matter}
+
+-- what happens to the consumer now
+abbrev pub matter_now : EventContext → Matter
+matter_now context = matter_of context.what.now
 
 -- passing the rest, after what was put out so far, comes to what passing the whole would have come to
 abbrev pub Leads : ReplayInput → ℕ → Matter → List Row → ReplayState → List Output → List Row → ReplayState → List Output → Type 0
 Leads g now m rows w earlier rest u later = and_then earlier (pass_each (ran g now m) rows w) ≡ and_then later (pass_each (ran g now m) rest u)
 
--- the same in a turn
+-- the same at an event
 abbrev pub LeadsOn : EventContext → List Row → ReplayState → List Output → List Row → ReplayState → List Output → Type 0
-LeadsOn context rows w earlier rest u later = Leads (input_of context) context.moment (matter_now context) rows w earlier rest u later
+LeadsOn context rows w earlier rest u later = Leads (input_of context.consumer) context.consumer.moment (matter_now context) rows w earlier rest u later
 
 -- rows were passed up to those that follow, or there was no memory and all is as it was
 abbrev pub PassesTo : {E : Type 0} → EventContext → List Row → ReplayState → ReplayState → List Output → List Output → Result NextTasks E → Type 0

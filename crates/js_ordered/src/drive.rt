@@ -3,9 +3,9 @@
 //! What a row needs takes memory before the row changes anything. So after want of memory the rows that are left, with what was put out so far, come to
 //! what the whole event comes to.
 ghost use Rattle.std.specs.Prelude.{◌≡◌, ◌+◌, ◌≤◌, ◌++◌, ◌∷◌, [], OnErr, OnOk, vec_capacity, vec_len};
-ghost use Rattle.js_ordered.specs.Driven.{IsLeft, IsTry, LeadsOn, PassesTo, first_held, first_rows, left_rows};
+ghost use Rattle.js_ordered.specs.Driven.{IsLeft, IsTry, LeadsOn, PassesTo, first_held, first_rows, left_rows, matter_now};
 ghost use Rattle.js_ordered_table.specs.Tasks.{heard_rows, hearings_of, next_rows, rows_of};
-ghost use Rattle.js_ordered_table.specs.Passes.{at, matter_now};
+ghost use Rattle.js_ordered_table.specs.Passes.{at};
 ghost use Rattle.js_ordered_table.specs.Recreation.{message_on};
 ghost use Rattle.js_ordered_table.specs.Consumer.{Matter};
 ghost use Rattle.js_ordered_table.specs.declared.row.Row.TheVariants as row;
@@ -18,11 +18,12 @@ pub(crate) mod recreation;
 pub(crate) mod success;
 
 use crate::drive::give::tell;
+use crate::event_context::EventContext;
 use crate::task_stack::TaskStack;
 use js_base::OutOfMemory;
 use js_ordered_table::transitions::event::{is_over, pass_event};
 use js_ordered_table::transitions::{Held, NextTasks, PassedTask, Task};
-use js_ordered_table::{EventContext, Output, Phase, Recreation, ReplayState, change_of};
+use js_ordered_table::{Output, Phase, Recreation, ReplayState, change_of};
 use std::alloc::Global;
 use std::mem;
 
@@ -107,7 +108,7 @@ fn event(
         return NextTasks::Nothing;
     }
     let PassedTask { told, next } = pass_event(
-        context,
+        &context.consumer,
         &mut state.consumer,
         change_of(context.what),
     );

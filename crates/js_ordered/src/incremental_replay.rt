@@ -8,6 +8,7 @@ ghost use Rattle.js_ordered_table.specs.declared.consumer.ReplayInput.{ReplayInp
 ghost use Rattle.js_ordered_table.specs.declared.event.Event as events;
 
 use crate::drive::pass_left;
+use crate::event_context::EventContext;
 use crate::replay::{is_exhausted, link_after, open};
 use crate::task_stack::TaskStack;
 use js_base::{Items, Moment, OutOfMemory, replace_with};
@@ -15,8 +16,8 @@ use js_json::consumer::Info;
 use js_ordered_table::transitions::Task;
 use js_ordered_table::transitions::event::is_over;
 use js_ordered_table::{
-    Event, EventContext, EventKind, OrderedSetup, Output, ReplayError, ReplayState, Settings,
-    next_number, refuse_input,
+    ConsumerContext, Event, OrderedSetup, Output, ReplayError, ReplayState, Settings, next_number,
+    refuse_input,
 };
 use std::alloc::Global;
 use std::mem;
@@ -76,13 +77,11 @@ impl<'a> IncrementalReplay<'a> {
     ) -> Result<IncrementalReplay<'a>, OutOfMemory>
         ensures { IfOk result (λ replay. HasCome (record { settings = settings.now; setup = setup.now; first = first.now }) start [] replay) }
     {
-        let tick = EventKind::Tick;
-        let context = EventContext {
+        let context = ConsumerContext {
             settings,
             setup,
             first,
             moment: start,
-            what: &tick,
         };
         let mut outputs = Vec::new(alloc);
         let mut todo = TaskStack::new(alloc);
@@ -141,11 +140,14 @@ impl<'a> IncrementalReplay<'a> {
         ensures rested { OnOk result (self.new.todo.tasks.items ≡ []) }
         ensures refused { OnErr result (rest_of_replay event.now self.new ≡ rest_of_replay event.now self.old) }
     {
-        let context = EventContext {
+        let consumer = ConsumerContext {
             settings: self.settings,
             setup: self.setup,
             first: self.first,
             moment: event.at,
+        };
+        let context = EventContext {
+            consumer,
             what: &event.what,
         };
         let mut outputs = mem::replace(&mut self.outputs, Items::new(alloc)).into_vec();
@@ -218,17 +220,13 @@ impl<'a> IncrementalReplay<'a> {
     fn refuse_given(&self) -> Option<ReplayError>
         ensures { result ≡ refused_at (replay_given self.now) self.now.moment [] }
     {
-        let tick = EventKind::Tick;
-        let context = EventContext {
+        let context = ConsumerContext {
             settings: self.settings,
             setup: self.setup,
             first: self.first,
             moment: self.moment,
-            what: &tick,
         };
-        let refusal = refuse_input(&context, &[]);
-        drop(tick);
-        refusal
+        refuse_input(&context, &[])
     }
 
     /// Whether the consumer has ended, where no more events come.

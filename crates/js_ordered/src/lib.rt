@@ -7,6 +7,7 @@
 #![tactic(auto)]
 
 mod drive;
+mod event_context;
 mod incremental_replay;
 mod replay;
 mod task_stack;

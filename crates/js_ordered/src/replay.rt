@@ -5,9 +5,9 @@ ghost use Rattle.js_ordered_table.specs.Invariant.{IsPull};
 ghost use Rattle.js_ordered_table.specs.Passes.{at, first_reader_of, input_of};
 ghost use Rattle.js_ordered_table.specs.Refusal.{is_exhausted, refuse_end, refuse_input};
 ghost use Rattle.js_ordered_table.specs.Replay.{IsAnswer, IsFolded, IsValid};
-ghost use Rattle.js_ordered_table.specs.declared.event.EventKind.TheVariants.{Tick};
 
 use crate::drive::pass_left;
+use crate::event_context::EventContext;
 use crate::task_stack::TaskStack;
 use js_base::{Items, Moment, OutOfMemory, State, TryClone};
 use js_json::consumer::Info;
@@ -15,7 +15,7 @@ use js_ordered_table::transitions::event::is_over;
 use js_ordered_table::transitions::push::listen;
 use js_ordered_table::transitions::{NextTasks, Task};
 use js_ordered_table::{
-    Consumer, Event, EventContext, EventKind, OrderedCore, OrderedSetup, Output, Phase,
+    Consumer, ConsumerContext, Event, EventKind, OrderedCore, OrderedSetup, Output, Phase,
     ReplayError, ReplayState, Run, Settings, Step, refuse_input, texts,
 };
 use js_pull::{Due, Reader};
@@ -24,7 +24,7 @@ use std::alloc::Global;
 // ---- the opening
 
 // The reader of the first inbox.
-fn first_reader(alloc: Global, context: &EventContext<'_>) -> Result<Reader, OutOfMemory>
+fn first_reader(alloc: Global, context: &ConsumerContext<'_>) -> Result<Reader, OutOfMemory>
     ensures { IfOk result (λ reader. reader ≡ first_reader_of (input_of context.now)) }
 {
     let subject = texts::inbox_subject(alloc, context, 0)?;
@@ -32,7 +32,7 @@ fn first_reader(alloc: Global, context: &EventContext<'_>) -> Result<Reader, Out
 }
 
 // Nothing was asked or yielded yet, and no inbox is read.
-fn first_state(context: &EventContext<'_>) -> Result<ReplayState, OutOfMemory>
+fn first_state(context: &ConsumerContext<'_>) -> Result<ReplayState, OutOfMemory>
     ensures { IfOk result (λ state. state ≡ at Phase.Idle (fold.first_state (input_of context.now) context.now.moment)) }
 {
     let name = context.first.name.try_clone()?;
@@ -54,7 +54,7 @@ fn first_state(context: &EventContext<'_>) -> Result<ReplayState, OutOfMemory>
 // The opening of pull, which asks at once and arms its heartbeat.
 fn open_pull(
     alloc: Global,
-    context: &EventContext<'_>,
+    context: &ConsumerContext<'_>,
     state: &mut ReplayState,
     todo: &mut TaskStack,
     outputs: &mut Vec<Output>,
@@ -63,7 +63,6 @@ fn open_pull(
     requires rested { todo.old.tasks.items ≡ [] }
     requires empty { outputs.old.items ≡ [] }
     requires first { state.old ≡ at Phase.Idle (fold.first_state (input_of context.now) context.now.moment) }
-    requires tick { context.now.what.now ≡ Tick }
     ensures state { OnOk result (state.new ≡ (fold.opening (input_of context.now) context.now.moment).state) }
     ensures outputs { OnOk result (outputs.new.items ≡ (fold.opening (input_of context.now) context.now.moment).outputs) }
     ensures rested { OnOk result (todo.new.tasks.items ≡ []) }
@@ -72,7 +71,13 @@ fn open_pull(
     state.set_phase(Phase::Pulls(reader));
     todo.make_room()?;
     todo.put(NextTasks::Two(Task::Read(Due::Threshold), Task::Read(Due::Arm)));
-    pass_left(alloc, context, state, todo, outputs)?;
+    // These rows see what an event shows in which only time passes: nothing has come yet.
+    let tick = EventKind::Tick;
+    let opening = EventContext {
+        consumer: *context,
+        what: &tick,
+    };
+    pass_left(alloc, &opening, state, todo, outputs)?;
     Ok(())
 }
 
@@ -80,11 +85,10 @@ fn open_pull(
 #[tactic(auto, using(std::proofs::lemmas::Grind::common_steps, crate::proofs::ReplayRuns::opening_listens))]
 pub(crate) fn open(
     alloc: Global,
-    context: &EventContext<'_>,
+    context: &ConsumerContext<'_>,
     todo: &mut TaskStack,
     outputs: &mut Vec<Output>,
 ) -> Result<ReplayState, OutOfMemory>
-    requires tick { context.now.what.now ≡ Tick }
     requires rested { todo.old.tasks.items ≡ [] }
     requires empty { outputs.old.items ≡ [] }
     ensures state { IfOk result (λ state. state ≡ (fold.opening (input_of context.now) context.now.moment).state) }
@@ -124,7 +128,7 @@ pub(crate) fn link_after(what: &EventKind, was: bool) -> bool
 // One event is passed at its moment, with the link as it then stands.
 fn pass(
     alloc: Global,
-    context: &EventContext<'_>,
+    context: &ConsumerContext<'_>,
     event: &Event,
     state: &mut ReplayState,
     todo: &mut TaskStack,
@@ -137,11 +141,14 @@ fn pass(
     ensures rested { OnOk result (todo.new.tasks.items ≡ []) }
 {
     state.link_up = link_after(&event.what, state.link_up);
-    let context = EventContext {
+    let consumer = ConsumerContext {
         settings: context.settings,
         setup: context.setup,
         first: context.first,
         moment: event.at,
+    };
+    let context = EventContext {
+        consumer,
         what: &event.what,
     };
     todo.make_room()?;
@@ -164,7 +171,7 @@ fn take_step(outputs: &mut Vec<Output>) -> Result<Step, OutOfMemory>
 
 fn step(
     alloc: Global,
-    context: &EventContext<'_>,
+    context: &ConsumerContext<'_>,
     event: &Event,
     state: &mut ReplayState,
     todo: &mut TaskStack,
@@ -201,7 +208,7 @@ fn steps_for(alloc: Global, events: &[Event]) -> Result<Items<Step>, OutOfMemory
 #[tactic(auto, using(crate::proofs::ReplayRuns::goes_first, crate::proofs::ReplayRuns::goes_no_further, crate::proofs::ReplayRuns::steps_all, crate::proofs::ReplayRuns::state_last, crate::proofs::ReplayRuns::none_refused))]
 fn put_steps(
     alloc: Global,
-    context: &EventContext<'_>,
+    context: &ConsumerContext<'_>,
     state: &mut ReplayState,
     todo: &mut TaskStack,
     outputs: &mut Vec<Output>,
@@ -236,7 +243,7 @@ fn put_steps(
 // The steps of a list of events, one for each.
 fn steps_of(
     alloc: Global,
-    context: &EventContext<'_>,
+    context: &ConsumerContext<'_>,
     state: &mut ReplayState,
     todo: &mut TaskStack,
     outputs: &mut Vec<Output>,
@@ -265,7 +272,7 @@ fn steps_of(
 #[tactic(auto, using(crate::proofs::ReplayRuns::run_folded, crate::proofs::ReplayRuns::end_folded))]
 fn run_from(
     alloc: Global,
-    context: &EventContext<'_>,
+    context: &ConsumerContext<'_>,
     state: &mut ReplayState,
     todo: &mut TaskStack,
     outputs: &mut Vec<Output>,
@@ -295,12 +302,11 @@ fn run_from(
 #[tactic(auto, using(crate::proofs::ReplayRuns::end_folded))]
 fn run_over(
     alloc: Global,
-    context: &EventContext<'_>,
+    context: &ConsumerContext<'_>,
     todo: &mut TaskStack,
     outputs: &mut Vec<Output>,
     events: &[Event],
 ) -> Result<Run, ReplayError>
-    requires tick { context.now.what.now ≡ Tick }
     requires accepted { refuse_input (input_of context.now) context.now.moment events.now ≡ None }
     requires rested { todo.old.tasks.items ≡ [] }
     requires empty { outputs.old.items ≡ [] }
@@ -313,8 +319,7 @@ fn run_over(
 }
 
 // The run of the events of input that is not refused.
-fn run(alloc: Global, context: &EventContext<'_>, events: &[Event]) -> Result<Run, ReplayError>
-    requires tick { context.now.what.now ≡ Tick }
+fn run(alloc: Global, context: &ConsumerContext<'_>, events: &[Event]) -> Result<Run, ReplayError>
     requires accepted { refuse_input (input_of context.now) context.now.moment events.now ≡ None }
     ensures { IsFolded (input_of context.now) context.now.moment events.now result }
 {
@@ -328,8 +333,11 @@ fn run(alloc: Global, context: &EventContext<'_>, events: &[Event]) -> Result<Ru
 
 // The run, or the refusal that applies.
 #[tactic(auto, using(crate::proofs::ReplayRuns::input_folded))]
-fn replay(alloc: Global, context: &EventContext<'_>, events: &[Event]) -> Result<Run, ReplayError>
-    requires { context.now.what.now ≡ Tick }
+fn replay(
+    alloc: Global,
+    context: &ConsumerContext<'_>,
+    events: &[Event],
+) -> Result<Run, ReplayError>
     ensures { IsFolded (input_of context.now) context.now.moment events.now result }
 {
     if let Some(refusal) = refuse_input(context, events) {
@@ -378,13 +386,11 @@ pub fn replay_ordered(
     ensures valid { IsValid (record { settings = settings.now; setup = setup.now; first = first.now }) start events.now
         → IfErr result (λ refusal. refusal ≡ ReplayError.OutOfMemory) }
 {
-    let tick = EventKind::Tick;
-    let context = EventContext {
+    let context = ConsumerContext {
         settings,
         setup,
         first,
         moment: start,
-        what: &tick,
     };
     replay(alloc, &context, events)
 }

@@ -6,3 +6,5 @@ mod PushRows
 mod NextRow
 mod Strides
 mod Opening
+mod Elsewhere
+mod LeftRows

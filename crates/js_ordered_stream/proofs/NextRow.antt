@@ -24,7 +24,7 @@ use Rattle.js_ordered_stream.specs.declared.rows.RowItem.TheVariants as hands
 use Rattle.js_ordered_stream.specs.declared.rows.Stepped.{Stepped}
 use Rattle.js_ordered_stream.specs.declared.rows.Stop.{Stop}
 use Rattle.js_ordered_stream.specs.declared.rows.Stop.TheVariants as stop
-use Rattle.js_ordered_stream.specs.Rows.{Fits, IfAlone, IfError, IsPlain, ReadsNone, PassesRow, PassesRows, Steps, handed_list, has_message, is_rested, later_of, left_rows, message_in, met_row, read_in, seen_after, seen_by, todo_rows}
+use Rattle.js_ordered_stream.specs.Rows.{FirstStands, Fits, IfAlone, IfError, IsPlain, ReadsNone, PassesRow, PassesRows, Steps, handed_list, has_message, is_left, is_rested, later_of, left_rows, message_in, met_row, read_in, seen_after, seen_by, todo_rows}
 use Rattle.js_ordered_stream.specs.Ordered.{IsNext, PassesFirst, PassesNext, ComesTo, is_spent, step_met, stirring, outcome_by, silent_by}
 use Rattle.js_ordered_table.specs.declared.consumer.Consumer.{Consumer}
 use Rattle.js_ordered_table.specs.declared.consumer.ReplayInput.{ReplayInput}
@@ -53,14 +53,20 @@ rested left b is e = by_todo left.todo (sym is ∙ e)
 
 -- this task comes first
 abbrev IsFirst : TaskQueue → Task → Type 0
-IsFirst t one = ((m : Matter) → todo_rows m t ≡ rows_of m one ++ later_of m t) × ((m u : Matter) → later_of m t ≡ later_of u t) × Fits t
+IsFirst t one =
+    ((m : Matter) → todo_rows m t ≡ rows_of m one ++ later_of m t) × ((m u : Matter) → later_of m t ≡ later_of u t) × Fits t × ((m : Matter) → FirstStands m t → is_left (rows_of m one) ≡ true)
+
+-- what is not idle stands for a row
+stood : (left : Bool) → not left ≡ false → left ≡ true
+stood true e = refl
+stood false e = sym e
 
 pub first_one : (t : TaskQueue) (one : Task) → t ≡ todo.One one → IsFirst t one
-first_one t one is = subst (λ (x : TaskQueue). IsFirst x one) (sym is) ((λ m. sym (append-nil (rows_of m one))), (λ m u. refl), tt)
+first_one t one is = subst (λ (x : TaskQueue). IsFirst x one) (sym is) ((λ m. sym (append-nil (rows_of m one))), (λ m u. refl), tt, λ m stands. stood (is_left (rows_of m one)) stands)
 
 pub first_two : (t : TaskQueue) (one later : Task) (plain : Bool) → t ≡ todo.Two one later → IsPlain later plain → plain ≡ true → IsFirst t one
 first_two t one later plain is same plain_is =
-    subst (λ (x : TaskQueue). IsFirst x one) (sym is) ((λ m. refl), subst (λ (b : Bool). IsPlain later b) plain_is same, tt)
+    subst (λ (x : TaskQueue). IsFirst x one) (sym is) ((λ m. refl), subst (λ (b : Bool). IsPlain later b) plain_is same, tt, λ m stands. stood (is_left (rows_of m one)) stands)
 
 -- ---- a task that comes next
 
@@ -156,3 +162,11 @@ next_closed g now left c d new v u kept (one, first_is, later_is, (same, closing
 pub next_lacks : (g : ReplayInput) (now : ℕ) (left after : RemainingRows) (c d : Consumer) (v u : LinkView) (kept : Seen) → PassesFirst g now left c d v u kept (Err stop.OutOfMemory) → after ≡ left
     → (place d (left_rows after) ≡ place c (left_rows left)) × (u ≡ v)
 next_lacks g now left after c d v u kept (same, view) stays = (ap (λ (x : Consumer). place x (left_rows after)) same ∙ ap (λ (l : RemainingRows). place c (left_rows l)) stays, view)
+
+-- ---- tasks that stand for no row are let go
+
+-- the same rows are left at the same place
+pub settled : (g : ReplayInput) (now : ℕ) (left kept : RemainingRows) (c : Consumer) (new : Position) (v u : LinkView) (turned : RowOutcome) (message : Option Message) → left_rows kept ≡ left_rows left
+    → ComesTo turned message g now (place c (left_rows kept)) new v u → ComesTo turned message g now (place c (left_rows left)) new v u
+settled g now left kept c new v u turned message same comes =
+    subst (λ (rows : List Row). ComesTo turned message g now (place c rows) new v u) same comes

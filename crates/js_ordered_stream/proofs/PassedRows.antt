@@ -381,11 +381,17 @@ told_boxed reply read found (Err e) is tells same = tt
 told_boxed reply read found (Ok info) is tells same = subst (λ r. IfOk r (λ x. x ≡ info_of_reply read)) same tells ∙ ap info_of_reply is
 
 -- what a reply tells, to the request that it answers
-pub reply_told : {E : Type 0} (request : ℕ) (seen : Seen) (reply : Reply) (told : Result (Option Info) E) → seen ≡ sight.Reply reply → reply.request ≡ request
+pub reply_told : {E : Type 0} (request : ℕ) (seen : Seen) (reply : Reply) (told : Result (Option Info) E) → seen ≡ sight.Reply reply → is_some (reply_to request (answer_in seen)) ≡ true
     → IfOk told (λ info. info ≡ info_of_reply reply.message) → IfOk told (λ info. option_map info_of_reply (reply_to request (answer_in seen)) ≡ Some info)
-reply_told request seen reply (Err e) is same tells = tt
-reply_told request seen reply (Ok info) is same tells =
+reply_told request seen reply (Err e) is met tells = tt
+reply_told request seen reply (Ok info) is met tells =
     ap (λ (s : Seen). option_map info_of_reply (reply_to request (answer_in s))) is
-    ∙ ap (λ (n : ℕ). option_map info_of_reply (if request == n then Some reply.message else None)) same
-    ∙ ap (λ (b : Bool). option_map info_of_reply (if b then Some reply.message else None)) (eqb_same request)
+    ∙ by_test (request == reply.request) (sym (ap (λ (s : Seen). is_some (reply_to request (answer_in s))) is) ∙ met)
     ∙ ap (λ (i : Option Info). Some i) (sym tells)
+  where
+    unmet : false ≡ true → ⊥
+    unmet e = cc
+
+    by_test : (b : Bool) → is_some (if b then Some reply.message else None) ≡ true → option_map info_of_reply (if b then Some reply.message else None) ≡ Some (info_of_reply reply.message)
+    by_test true e = refl
+    by_test false e = absurd (unmet e)

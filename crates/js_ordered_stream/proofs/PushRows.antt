@@ -42,6 +42,8 @@ use Rattle.js_ordered_table.specs.Table.{push_rows}
 use Rattle.js_ordered_table.specs.Poll.{poll_wish_at}
 use Rattle.js_ordered_table.specs.Walk.{handed}
 use Rattle.js_ordered_table.specs.Wishes.{beat_wish, matter_of}
+use Rattle.js_ordered_stream.proofs.KeptSeen.{row_alone}
+use Rattle.js_ordered_stream.proofs.LeftRows.{heard_here}
 use Rattle.js_ordered_stream.proofs.ReaderRows.{yields_handed}
 use Rattle.js_ordered_stream.proofs.RowMet.{IsOther, if_error, moment_met, untaken}
 use Rattle.js_ordered_table.proofs.Walk.{arrives_here, eqb_same}
@@ -220,11 +222,9 @@ unanswered number message heard known v is none heard_is =
     (Unasked, subst (λ (w : Wish). Meets w Unasked v v) (asks_nothing number message heard known is none heard_is) refl)
 
 -- what was taken is heard
-pub heard_alone : (g : ReplayInput) (now inbox current : ℕ) (seen kept : Seen) (unheard : Option ℕ) (message : Message) (c d : Consumer) (done : Stepped) (v u : LinkView) → seen ≡ sight.Message unheard message
-    → unheard ≡ Some current → inbox ≡ current → PassesRow g now (row.Hear (record { inbox = inbox; message = message })) c d v u kept (Ok done)
-    → PassesRows g now (heard_rows inbox (message_on inbox (arrival_in seen))) c d v u kept (Ok done)
-heard_alone g now inbox current seen kept unheard message c d done v u is on same passes =
-    let here : seen ≡ unheard_on inbox (Some message) =
-    is ∙ ap (λ (o : Option ℕ). sight.Message o message) on ∙ ap (λ (i : ℕ). sight.Message (Some i) message) (sym same) in
-    subst (λ (s : Seen). PassesRows g now (heard_rows inbox (message_on inbox (arrival_in s))) c d v u kept (Ok done)) (sym here)
-    (subst (λ (o : Option Message). PassesRows g now (heard_rows inbox o) c d v u kept (Ok done)) (sym (taken_here inbox message)) passes)
+pub heard_alone : (g : ReplayInput) (now inbox : ℕ) (seen kept : Seen) (unheard : Option ℕ) (message : Message) (c d : Consumer) (result : Result Stepped Stop) (v u : LinkView) → seen ≡ sight.Message unheard message
+    → is_some (message_on inbox (arrival_in seen)) ≡ true → PassesRow g now (row.Hear (record { inbox = inbox; message = message })) c d v u kept result
+    → PassesRows g now (heard_rows inbox (message_on inbox (arrival_in seen))) c d v u kept result
+heard_alone g now inbox seen kept unheard message c d result v u is there passes =
+    subst (λ (o : Option Message). PassesRows g now (heard_rows inbox o) c d v u kept result) (sym (heard_here inbox seen unheard message is there))
+    (row_alone g now (row.Hear (record { inbox = inbox; message = message })) c d v u kept result passes)

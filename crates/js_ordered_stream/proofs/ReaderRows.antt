@@ -1,6 +1,6 @@
 -- A row of a pull reader that was passed over a link, with what the consumer makes of what the reader tells.
 use Rattle.std.proofs.Common.{◌≡◌, ℕ, Bool, false, List, [], ◌∷◌, ◌++◌, map, Option, Some, None, refl, sym, ap, ◌∙◌, subst}
-use Rattle.std.specs.Prelude.{is_some, Result, Ok, IfOk, if◌then◌else◌}
+use Rattle.std.specs.Prelude.{is_some, Result, Ok, IfOk}
 use Rattle.js_base.specs.declared.message.Message.{Message}
 use Rattle.js_link.specs.LinkView.{LinkView}
 use Rattle.js_link.specs.Meets.{Meets}
@@ -23,7 +23,7 @@ use Rattle.js_ordered_stream.specs.declared.rows.RowItem.TheVariants as hands
 use Rattle.js_ordered_stream.specs.declared.rows.Stepped.{Stepped}
 use Rattle.js_ordered_stream.specs.Rows.{PassesRow, TakesIn, answer_in, handed_by_heard, handed_list, has_message, is_something, message_in, read_in}
 use Rattle.js_pull.specs.Reader as pull
-use Rattle.js_pull.specs.Rows.{IsInformed, met_row as reader_met, pin_brought, pin_named, quiet_step, row_list, row_of, told_shown}
+use Rattle.js_pull.specs.Rows.{IsInformed, met_row as reader_met, quiet_step, row_list, row_of, told_shown}
 use Rattle.js_pull.specs.Rows.{StepsTo as ReaderStepsTo}
 use Rattle.js_pull.specs.declared.reader.Reader.{Reader}
 use Rattle.js_pull.specs.declared.reader.ReaderOutput.{ReaderOutput}
@@ -128,11 +128,6 @@ read_passes g now one r s c d met step taken seen done v u meets is_open steps t
     )
 
 -- ---- what a row needs and meets
-
--- no pin is brought where clients are not pinned
-pub no_pin : (pinned : Bool) (message : Option Message) → pinned ≡ false → None ≡ pin_brought pinned message
-no_pin pinned None is = refl
-no_pin pinned (Some message) is = ap (λ (b : Bool). if b then pin_named message message.status else None) (sym is)
 
 pub informed_as : {E : Type 0} (one : Due) (a b : Option Message) (told : Result (Option Reason) E) → a ≡ b → IfOk told (λ reason. IsInformed (row_of a one) reason)
     → IfOk told (λ reason. IsInformed (row_of b one) reason)

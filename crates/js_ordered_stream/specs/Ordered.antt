@@ -1,5 +1,7 @@
 -- Where an ordered stream stands, and what its polls answer.
-use Rattle.std.specs.Prelude.{◌≡◌, ℕ, Bool, true, false, ◌||◌, List, [], Option, Some, None, Result, Ok, Err, codes, is_some, option_map, ⊤}
+use Rattle.std.specs.Prelude.{◌≡◌, ◌<◌, ◌^◌, ℕ, Bool, true, false, not, ◌||◌, ◌&&◌, List, [], ◌∷◌, Option, Some, None, Result, Ok, Err, codes, is_some, option_map, refl, ⊤}
+use Rattle.js_base.specs.Clock.{has_come, is_due}
+use Rattle.js_base.specs.declared.clock.Timer.{Timer}
 use Rattle.js_base.specs.declared.error.Error.{Error}
 use Rattle.js_base.specs.declared.error.Source.{Source}
 use Rattle.js_base.specs.declared.error.Source.TheVariants as source
@@ -10,7 +12,7 @@ use Rattle.js_base.specs.declared.turn.Next.{Next}
 use Rattle.js_base.specs.declared.turn.Next.TheVariants as next
 use Rattle.js_link.specs.LinkView.{LinkView}
 use Rattle.js_link.specs.Meets.{Meets}
-use Rattle.js_link.specs.Wish.{row_input, IsClosing, is_shut}
+use Rattle.js_link.specs.Wish.{row_input, watch_met, IsClosing, is_shut}
 use Rattle.js_link.specs.declared.wish.Met.{Met}
 use Rattle.js_ordered_stream.specs.declared.error.OrderedErrorKind.{OrderedErrorKind}
 use Rattle.js_ordered_stream.specs.declared.error.OrderedErrorKind.TheVariants as error
@@ -24,15 +26,20 @@ use Rattle.js_ordered_stream.specs.declared.remaining_rows.Seen.{Seen}
 use Rattle.js_ordered_stream.specs.declared.rows.Stepped.{Stepped}
 use Rattle.js_ordered_stream.specs.declared.rows.Stop.{Stop}
 use Rattle.js_ordered_stream.specs.declared.rows.Stop.TheVariants as stop
-use Rattle.js_ordered_stream.specs.Rows.{Fits, PassesRow, later_of, left_rows, seen_by}
+use Rattle.js_ordered_stream.specs.Rows.{Fits, PassesRow, is_left, later_of, left_rows, seen_by}
 use Rattle.js_ordered_table.specs.OrderedCore.{new_core}
-use Rattle.js_ordered_table.specs.Consumer.{Matter}
+use Rattle.js_ordered_table.specs.Consumer.{Matter, at_phase}
+use Rattle.js_ordered_table.specs.Fold.{is_over}
+use Rattle.js_ordered_table.specs.Timers.{IsLeftAlone, IsUnread, StandsStill, phase_due}
 use Rattle.js_pull.specs.Poll.{description_of}
 use Rattle.js_ordered_table.specs.declared.consumer.Consumer.{Consumer}
 use Rattle.js_ordered_table.specs.declared.consumer.ReplayInput.{ReplayInput}
 use Rattle.js_ordered_table.specs.declared.consumer.Phase.{Phase}
-use Rattle.js_ordered_table.specs.declared.consumer.Phase.TheVariants.{Exhausted}
+use Rattle.js_ordered_table.specs.declared.consumer.Phase.TheVariants.{Exhausted, Recreates}
+use Rattle.js_ordered_table.specs.declared.consumer.Recreation.{Recreation}
+use Rattle.js_ordered_table.specs.declared.consumer.Stage.TheVariants.{Between, Deleting}
 use Rattle.js_ordered_table.specs.declared.row.Row.{Row}
+use Rattle.js_ordered_table.specs.declared.row.Row.TheVariants.{Try}
 use Rattle.js_ordered_table.specs.declared.run.ItemKind.{ItemKind}
 use Rattle.js_ordered_table.specs.declared.run.ItemKind.TheVariants as item
 use Rattle.js_ordered_table.specs.declared.setup.Settings.{Settings}
@@ -207,3 +214,23 @@ first_at configured name phase = record {
 -- a recreation is tried as often as a number counts
 abbrev pub with_retries : Settings → Settings
 with_retries settings = record settings { retries = 4294967295 }
+
+-- ---- when it has something to do by itself
+
+-- a row is left, or a timer of its consumer is due; one that has ended has nothing to do
+abbrev pub something_due : ℕ → Position → Bool
+something_due now at = not (is_over at.consumer.phase) && (is_left at.todo || phase_due now at.consumer.phase)
+
+-- worked: the request that deletes the old consumer is still to be sent, at any moment, though no timer is set
+worked_try : (now : ℕ) (c : Consumer) (r : Recreation) → something_due now (record { consumer = at_phase (Recreates (record r { stage = Between })) c; todo = Try ∷ [] }) ≡ true
+worked_try now c r = refl
+
+-- worked: once it was sent, nothing is to be done before the answer to it is overdue
+worked_sent : (now request : ℕ) (timeout : Timer) (c : Consumer) (r : Recreation)
+    → something_due now (record { consumer = at_phase (Recreates (record r { stage = Deleting request timeout })) c; todo = [] }) ≡ is_due timeout now
+worked_sent now request timeout c r = refl
+
+-- before this moment it may be left alone, where the connection stands and nothing has come for it
+abbrev pub SleepsUntil : ReplayInput → Option ℕ → Position → Type 0
+SleepsUntil g wakes at =
+    (now : ℕ) (v : LinkView) → now < 2 ^ 64 → has_come wakes now ≡ false → StandsStill g.setup at.consumer.connection (watch_met v.watch) → IsUnread at.consumer.phase v → IsLeftAlone g now at v

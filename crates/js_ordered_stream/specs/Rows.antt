@@ -1,5 +1,5 @@
 -- The rows that are left of a turn, as the code keeps them, and what a function says that passes one over a link.
-use Rattle.std.specs.Prelude.{◌≡◌, ℕ, Bool, true, false, List, [], ◌∷◌, ◌++◌, Option, Some, None, IfSome, is_some, ◌==◌, length, Result, Ok, Err, ⊤, if◌then◌else◌}
+use Rattle.std.specs.Prelude.{◌≡◌, ℕ, Bool, true, false, List, [], ◌∷◌, ◌++◌, Option, Some, None, IfSome, is_some, not, ◌==◌, length, Result, Ok, Err, ⊤, if◌then◌else◌}
 use Rattle.js_base.specs.declared.message.Message.{Message}
 use Rattle.js_link.specs.LinkView.{LinkView}
 use Rattle.js_link.specs.Meets.{Meets}
@@ -12,6 +12,7 @@ use Rattle.js_ordered_table.specs.declared.transitions.task.Heard.{Heard}
 use Rattle.js_ordered_table.specs.declared.transitions.task.Heard.TheVariants as hears
 use Rattle.js_ordered_table.specs.declared.transitions.task.Inbox.{Inbox}
 use Rattle.js_ordered_table.specs.declared.transitions.task.Task.{Task}
+use Rattle.js_ordered_table.specs.declared.transitions.task.Task.TheVariants as tasks
 use Rattle.js_ordered_table.specs.Tasks.{StepsTo, next_rows, rows_of}
 use Rattle.js_ordered_stream.specs.declared.remaining_rows.First.{First}
 use Rattle.js_ordered_stream.specs.declared.remaining_rows.First.TheVariants as first
@@ -108,6 +109,11 @@ todo_rows m (todo.One one) = rows_of m one
 todo_rows m (todo.Two one second) = rows_of m one ++ rows_of m second
 todo_rows m (todo.Three one second third) = rows_of m one ++ (rows_of m second ++ rows_of m third)
 
+-- a row is left
+abbrev pub is_left : List Row → Bool
+is_left [] = false
+is_left (row ∷ rows) = true
+
 -- what is left after the next row
 abbrev pub later_of : Matter → TaskQueue → List Row
 later_of m todo.Nothing = []
@@ -126,6 +132,17 @@ abbrev pub is_rested : TaskQueue → Bool
 is_rested todo.Nothing = true
 is_rested _ = false
 
+-- the first task stands for no row
+abbrev pub is_first_idle : Matter → TaskQueue → Bool
+is_first_idle m todo.Nothing = false
+is_first_idle m (todo.One one) = not (is_left (rows_of m one))
+is_first_idle m (todo.Two one second) = not (is_left (rows_of m one))
+is_first_idle m (todo.Three one second third) = not (is_left (rows_of m one))
+
+-- the first task stands for a row, where there is one
+abbrev pub FirstStands : Matter → TaskQueue → Type 0
+FirstStands m left = is_first_idle m left ≡ false
+
 -- there is room for what follows the next row
 abbrev pub Fits : TaskQueue → Type 0
 Fits (todo.Three one second third) = ⊥
@@ -141,11 +158,23 @@ abbrev pub IsPlain : Task → Bool → Type 0
 IsPlain one true = (m u : Matter) → rows_of m one ≡ rows_of u one
 IsPlain one false = ⊤
 
+-- a row of an open recreation
+abbrev pub IsTry : Task → Type 0
+IsTry tasks.Try = ⊤
+IsTry tasks.Create = ⊤
+IsTry tasks.Ask = ⊤
+IsTry tasks.Await = ⊤
+IsTry (tasks.Answered request) = ⊤
+IsTry (tasks.Succeed info) = ⊤
+IsTry tasks.Fail = ⊤
+IsTry other = ⊥
+
 -- the next row, after which the others stay the same
 abbrev pub FirstOf : First → TaskQueue → Type 0
 FirstOf first.Rests left = left ≡ todo.Nothing
 FirstOf (first.Next task) left =
     ((m : Matter) → todo_rows m left ≡ rows_of m task.now ++ later_of m left) × ((m u : Matter) → later_of m left ≡ later_of u left) × Fits left
+    × ((m : Matter) → FirstStands m left → is_left (rows_of m task.now) ≡ true)
 FirstOf first.Blocked left = ⊤
 
 -- ---- a row is passed
@@ -230,7 +259,7 @@ AsksNothing due true = (reply : Option Message) → (r : Reader) → (pull.wish 
 AsksNothing due false = ⊤
 
 abbrev pub MeetsReader : Result ReadMet Stop → PullRow → Reader → LinkView → LinkView → Type 0
-MeetsReader (Ok read) one r before after = IsReadMet read one r before after × (r.source.pinned ≡ false)
+MeetsReader (Ok read) one r before after = IsReadMet read one r before after
 MeetsReader (Err stop.Closed) one r before after = IsClosing Meets (pull.wish one r) true before after
 MeetsReader (Err stop.OutOfMemory) one r before after = after ≡ before
 

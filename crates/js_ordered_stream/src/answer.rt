@@ -1,5 +1,5 @@
 //! What the answer to a create tells, as a recreation reads it.
-ghost use Rattle.std.specs.Prelude.{◌≡◌, IfOk, Ok, Some, option_map};
+ghost use Rattle.std.specs.Prelude.{◌≡◌, IfOk, Ok, Some, is_some, option_map, true};
 ghost use Rattle.js_ordered_stream.specs.Rows.{answer_in};
 ghost use Rattle.js_pull.specs.Reader.{info_of_reply as info_in, reply_to};
 
@@ -29,23 +29,18 @@ fn told_by(alloc: Global, message: &Option<Message>) -> Result<Option<Boxed<Info
     boxed(alloc, info_of_reply(alloc, message.as_ref()))
 }
 
-// What the answer to a create tells.
+// What the answer to a create tells, which was met.
 pub(crate) fn info_met(
     alloc: Global,
     request: u64,
     seen: &Seen,
 ) -> Result<Option<Boxed<Info>>, OutOfMemory>
+    requires { is_some (reply_to request (answer_in seen.now)) ≡ true }
     ensures { IfOk result (λ info. option_map info_in (reply_to request (answer_in seen.now)) ≡ Some info) }
 {
     match seen {
-        Seen::Reply(reply) => {
-            if reply.request == request {
-                return told_by(alloc, &reply.message);
-            }
-            Err(OutOfMemory)
-        }
-        // An answer is read only where it was met.
-        Seen::Nothing => Err(OutOfMemory),
-        Seen::Message { .. } => Err(OutOfMemory),
+        Seen::Reply(reply) => told_by(alloc, &reply.message),
+        Seen::Nothing => unreachable!(),
+        Seen::Message { .. } => unreachable!(),
     }
 }

@@ -18,6 +18,7 @@ mod reading;
 mod recreation;
 mod remaining_rows;
 mod rows;
+mod standing;
 mod success;
 mod wakes;
 

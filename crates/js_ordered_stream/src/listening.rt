@@ -1,5 +1,5 @@
 //! The rows by which push reads its inbox, over a link.
-ghost use Rattle.std.specs.Prelude.{◌≡◌, ℕ, [], IfOk, None, OnErr};
+ghost use Rattle.std.specs.Prelude.{◌≡◌, ℕ, [], IfOk, None, OnErr, is_some, true};
 ghost use Rattle.js_link.specs.LinkView.{LinkView};
 ghost use Rattle.js_ordered_table.specs.Tasks.{IsHeard, heard_rows};
 ghost use Rattle.js_ordered_stream.specs.Rows.{AnswersBeat, LooksInto, PassesRow, PassesRows, arrival_in, seen_after};
@@ -11,7 +11,7 @@ ghost use Rattle.js_ordered_table.specs.Wishes as wishes;
 
 use crate::reading::handed_heard;
 use crate::remaining_rows::Seen;
-use crate::rows::{RowItem, Stepped, Stop, ask_for, followed_by, stepped_by};
+use crate::rows::{RowItem, Stepped, Stop, ask_for, followed_by, passed_over, stepped_by};
 use bytes::Bytes;
 use js_base::{Message, OutOfMemory, TryClone, replace_with};
 use js_link::{InboxId, Link, Taken, Wish};
@@ -19,7 +19,7 @@ use js_ordered_table::transitions::push::{
     arrival_next, heard_as, listen, pass_hear, pass_silence,
 };
 use js_ordered_table::transitions::{Heard, NextTasks};
-use js_ordered_table::{Consumer, EventContext, Phase};
+use js_ordered_table::{Consumer, ConsumerContext, Phase};
 use std::alloc::Global;
 
 // ---- what is looked for
@@ -47,9 +47,9 @@ fn look_into<L: Link>(link: &mut L, inbox: u64, seen: &mut Seen) -> Result<Stepp
     }
 }
 
-// Push looks for an arrival. No such row is left where it does not listen.
+// Push looks for an arrival. Where it does not listen, the row does nothing.
 pub(crate) fn look<L: Link>(
-    context: &EventContext<'_>,
+    context: &ConsumerContext<'_>,
     link: &mut L,
     consumer: &Consumer,
     seen: &mut Seen,
@@ -59,13 +59,13 @@ pub(crate) fn look<L: Link>(
 {
     match consumer.phase {
         Phase::Pushes { inbox, .. } => look_into(link, inbox, seen),
-        _ => Err(Stop::OutOfMemory),
+        _ => Ok(passed_over()),
     }
 }
 
-// Push looks at its heartbeat. No such row is left where it does not listen.
+// Push looks at its heartbeat. Where it does not listen, the row does nothing.
 pub(crate) fn look_at_silence(
-    context: &EventContext<'_>,
+    context: &ConsumerContext<'_>,
     consumer: &Consumer,
 ) -> Result<Stepped, Stop>
     ensures { (v : LinkView) → PassesRow (input_of context.now) context.now.moment row.CheckSilence consumer.now consumer.now v v Seen.Nothing result }
@@ -75,12 +75,12 @@ pub(crate) fn look_at_silence(
             heartbeat_timer,
             ..
         } => Ok(stepped_by(pass_silence(context, heartbeat_timer))),
-        _ => Err(Stop::OutOfMemory),
+        _ => Ok(passed_over()),
     }
 }
 
-// Push arms its heartbeat. No such row is left where it does not listen.
-pub(crate) fn arm(context: &EventContext<'_>, consumer: &mut Consumer) -> Result<Stepped, Stop>
+// Push arms its heartbeat. Where it does not listen, the row does nothing.
+pub(crate) fn arm(context: &ConsumerContext<'_>, consumer: &mut Consumer) -> Result<Stepped, Stop>
     ensures { (v : LinkView) → PassesRow (input_of context.now) context.now.moment row.Arm consumer.old consumer.new v v Seen.Nothing result }
 {
     match consumer.phase {
@@ -88,7 +88,7 @@ pub(crate) fn arm(context: &EventContext<'_>, consumer: &mut Consumer) -> Result
             listen(context, consumer, inbox);
             Ok(followed_by(NextTasks::Nothing))
         }
-        _ => Err(Stop::OutOfMemory),
+        _ => Ok(passed_over()),
     }
 }
 
@@ -152,10 +152,10 @@ fn answer<L: Link>(
     Ok(heard)
 }
 
-// Push hears a message that came on this inbox, where it listens there.
+// Push hears a message that came on this inbox. Where it does not listen there, nothing comes of it.
 fn hear_message<L: Link>(
     alloc: Global,
-    context: &EventContext<'_>,
+    context: &ConsumerContext<'_>,
     link: &mut L,
     consumer: &mut Consumer,
     inbox: u64,
@@ -164,7 +164,11 @@ fn hear_message<L: Link>(
     ensures { PassesRow (input_of context.now) context.now.moment (row.Hear (record { inbox = inbox; message = message.now })) consumer.old consumer.new (L.view link.old) (L.view link.new) (Seen.Message None message.now) result }
 {
     if !listens(&consumer.phase, inbox) {
-        return Err(Stop::OutOfMemory);
+        return Ok(Stepped {
+            handed: RowItem::Nothing,
+            looked: true,
+            next: NextTasks::Nothing,
+        });
     }
     let heard = answer(alloc, link, consumer.core.consumer_sequence, message)?;
     Ok(Stepped {
@@ -174,30 +178,23 @@ fn hear_message<L: Link>(
     })
 }
 
-// What was taken from this inbox is heard, and stays in its place. No such row is left where nothing was taken, or where push does not listen.
+// What was taken from this inbox is heard, and stays in its place.
 pub(crate) fn hear<L: Link>(
     alloc: Global,
-    context: &EventContext<'_>,
+    context: &ConsumerContext<'_>,
     link: &mut L,
     consumer: &mut Consumer,
     inbox: u64,
     seen: &mut Seen,
 ) -> Result<Stepped, Stop>
+    requires { is_some (message_on inbox (arrival_in seen.old)) ≡ true }
     ensures passes { PassesRows (input_of context.now) context.now.moment (heard_rows inbox (message_on inbox (arrival_in seen.old))) consumer.old consumer.new (L.view link.old) (L.view link.new) (seen_after result seen.new) result }
     ensures kept { OnErr result (seen.new ≡ seen.old) }
 {
     let Seen::Message { unheard, message } = seen else {
-        return Err(Stop::OutOfMemory);
+        unreachable!()
     };
-    match *unheard {
-        None => Err(Stop::OutOfMemory),
-        Some(current) => {
-            if inbox != current {
-                return Err(Stop::OutOfMemory);
-            }
-            let done = hear_message(alloc, context, link, consumer, inbox, message)?;
-            *unheard = None;
-            Ok(done)
-        }
-    }
+    let done = hear_message(alloc, context, link, consumer, inbox, message)?;
+    *unheard = None;
+    Ok(done)
 }

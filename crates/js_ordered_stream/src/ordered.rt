@@ -1,29 +1,28 @@
 //! An ordered consumer over its link, by pull or by push: it passes row after row, and may stop between any two.
-ghost use Rattle.std.specs.Prelude.{◌≡◌, ◌<◌, ◌^◌, ◌||◌, ◌&&◌, ◌++◌, IfOk, OnErr, false, not, true, ℕ};
+ghost use Rattle.std.specs.Prelude.{◌≡◌, ◌<◌, ◌^◌, ◌||◌, ◌&&◌, ◌++◌, IfOk, OnErr, false, is_some, not, true, ℕ};
 ghost use Rattle.js_link.specs.Meets.{Meets};
 ghost use Rattle.js_ordered_table.specs.Tasks.{next_rows};
 ghost use Rattle.js_ordered_stream.specs.Inbox.{ClosesInbox, inbox_of};
-ghost use Rattle.js_ordered_stream.specs.Rows.{Fits, has_message, kept_if, later_of, left_rows, message_in, read_in, seen_after};
-ghost use Rattle.js_ordered_stream.specs.Ordered.{IsGivenKind, PassesFirst, PollsWithSource, ComesTo, error_kind, first_at, given_to, handing, is_spent as has_no_sequence, poll_answer, position_of, silent_by, source_by, outcome_by, with_retries};
+ghost use Rattle.js_ordered_stream.specs.Rows.{FirstStands, Fits, has_message, kept_if, later_of, left_rows, message_in, read_in, seen_after};
+ghost use Rattle.js_ordered_stream.specs.Ordered.{IsGivenKind, PassesFirst, PollsWithSource, ComesTo, SleepsUntil, error_kind, first_at, given_to, handing, is_spent as has_no_sequence, poll_answer, position_of, silent_by, something_due, source_by, outcome_by, with_retries};
 ghost use Rattle.js_base.specs.Clock.{has_come};
 ghost use Rattle.js_base.specs.Error.{kind_of, source_of};
 ghost use Rattle.js_ordered_table.specs.Fold.{is_over as has_ended};
 ghost use Rattle.js_ordered_table.specs.Passes.{input_of};
 ghost use Rattle.js_ordered_table.specs.Poll.{IsPoll, closed_at, is_reading as reads_inbox};
-ghost use Rattle.js_ordered_table.specs.Timers.{phase_due};
 
 use crate::error::{OrderedError, error_of, limit_error, sequence_end};
 use crate::inbox::{close_inbox, inbox_of};
 use crate::remaining_rows::{First, RemainingRows, Seen, TaskQueue};
 use crate::rows::{RowItem, Stepped, Stop, begin, pass};
-use crate::wakes::phase_end;
+use crate::standing::drop_idle;
+use crate::wakes::wakes_at;
 use js_base::{Boxed, Message, Moment, Next, OutOfMemory, State, Text, replace_with};
 use js_json::consumer::Info;
 use js_link::{InboxId, Link};
 use js_ordered_table::transitions::event::is_over;
 use js_ordered_table::{
-    Consumer, EventContext, EventKind, ItemKind, OrderedCore, OrderedSetup, Phase, ReplayInput,
-    Settings,
+    Consumer, ConsumerContext, ItemKind, OrderedCore, OrderedSetup, Phase, ReplayInput, Settings,
 };
 use std::alloc::Global;
 
@@ -155,12 +154,13 @@ pub(crate) fn given_with(
 // Passes the first of the rows that are left, which read this, and keeps there what it looked at. A turn begins where none is left.
 fn pass_first<L: Link>(
     alloc: Global,
-    context: &EventContext<'_>,
+    context: &ConsumerContext<'_>,
     link: &mut L,
     consumer: &mut Consumer,
     todo: &TaskQueue,
     seen: &mut Seen,
 ) -> Result<Stepped, Stop>
+    requires { FirstStands (read_in seen.old) todo.now }
     ensures passes { PassesFirst (input_of context.now) context.now.moment (record { todo = todo.now; seen = seen.old }) consumer.old consumer.new (L.view link.old) (L.view link.new) (seen_after result seen.new) result }
     ensures kept { OnErr result (seen.new ≡ seen.old) }
 {
@@ -203,9 +203,10 @@ impl Ordered {
 
     // When it has something to do by itself.
     pub(crate) fn wakes_at(&self) -> Option<Moment>
-        ensures { (now : ℕ) → now < 2 ^ 64 → has_come result now ≡ phase_due now (position_of self.now).consumer.phase }
+        ensures value { (now : ℕ) → now < 2 ^ 64 → has_come result now ≡ something_due now (position_of self.now) }
+        ensures sleeps { SleepsUntil (given_to self.now) result (position_of self.now) }
     {
-        phase_end(&self.consumer.phase)
+        wakes_at(&self.consumer, &self.left)
     }
 
     // The inbox that is open for it.
@@ -258,6 +259,7 @@ impl Ordered {
 
     // The message that was taken is handed out.
     fn hand_out(&mut self) -> Next<Result<Message, OrderedError>>
+        requires { is_some (message_in self.old.left.seen) ≡ true }
         ensures given { given_to self.new ≡ given_to self.old }
         ensures place { position_of self.new ≡ position_of self.old }
         ensures answer { result ≡ handing (message_in self.old.left.seen) }
@@ -265,8 +267,7 @@ impl Ordered {
     {
         match self.left.take_message() {
             Some(message) => Next::Item(Ok(message)),
-            // None is handed out that was not taken.
-            None => Next::OutOfMemory,
+            None => unreachable!(),
         }
     }
 
@@ -294,30 +295,27 @@ impl Ordered {
         link: &mut L,
         now: Moment,
     ) -> Result<Stepped, Stop>
+        requires { FirstStands (read_in self.old.left.seen) self.old.left.todo }
         ensures given { given_to self.new ≡ given_to self.old }
         ensures todo { self.new.left.todo ≡ self.old.left.todo }
         ensures kept { OnErr result (self.new.left ≡ self.old.left) }
         ensures passes { PassesFirst (given_to self.old) now self.old.left self.old.consumer self.new.consumer (L.view link.old) (L.view link.new) (seen_after result self.new.left.seen) result }
     {
         let given = self.given.get();
-        let tick = EventKind::Tick;
-        let context = EventContext {
+        let context = ConsumerContext {
             settings: &given.settings,
             setup: &given.setup,
             first: &given.first,
             moment: now,
-            what: &tick,
         };
-        let passed = pass_first(
+        pass_first(
             alloc,
             &context,
             link,
             &mut self.consumer,
             &self.left.todo,
             &mut self.left.seen,
-        );
-        drop(tick);
-        passed
+        )
     }
 
     // A closed inbox ends the stream.
@@ -335,6 +333,7 @@ impl Ordered {
         ensures turns { ComesTo result (message_in self.new.left.seen) (given_to self.old) now (position_of self.old) (position_of self.new) (L.view link.old) (L.view link.new) }
     {
         let was_reading = is_reading(&self.consumer.phase);
+        drop_idle(&mut self.left);
         match self.pass_over(alloc, link, now) {
             Ok(done) => self.settle(done, was_reading),
             Err(Stop::Closed) => {

@@ -3,12 +3,12 @@ ghost use Rattle.std.specs.Prelude.{◌≡◌, ◌<◌, ◌^◌, ℕ, [], IfOk};
 ghost use Rattle.js_link.specs.Meets.{Meets};
 ghost use Rattle.js_ordered_stream.specs.Inbox.{ClosesInbox, inbox_of};
 ghost use Rattle.js_ordered_stream.specs.Opening.{IsGaplessPull, OpensConsumer, OpensOrdered, input_of_pull, position_of_pull};
-ghost use Rattle.js_ordered_stream.specs.Ordered.{IsGivenKind, PollsWithSource, poll_answer};
+ghost use Rattle.js_ordered_stream.specs.Ordered.{IsGivenKind, PollsWithSource, SleepsUntil, poll_answer, something_due};
 ghost use Rattle.js_base.specs.Clock.{has_come};
 ghost use Rattle.js_pull.specs.Reader.{new_reader};
 ghost use Rattle.js_ordered_table.specs.Texts.{source_of};
 ghost use Rattle.js_ordered_table.specs.Poll.{IsPoll};
-ghost use Rattle.js_ordered_table.specs.Timers.{SleepsIfLeftAlone, phase_due};
+ghost use Rattle.js_ordered_table.specs.Timers.{SleepsIfLeftAlone};
 
 use crate::error::OrderedError;
 use crate::ordered;
@@ -18,7 +18,7 @@ use js_json::consumer::Info;
 use js_json::pull::OrderedConfig;
 use js_link::{InboxId, Link, LinkError};
 use js_ordered_table::{
-    Consumer, EventContext, EventKind, OrderedSetup, Phase, ReplayInput, Settings, texts,
+    Consumer, ConsumerContext, OrderedSetup, Phase, ReplayInput, Settings, texts,
 };
 use js_pull::{PullSource, Reader};
 use std::alloc::Global;
@@ -34,17 +34,13 @@ pub struct Ordered {
 fn first_source(alloc: Global, given: &ReplayInput) -> Result<PullSource, OutOfMemory>
     ensures { IfOk result (λ source. source ≡ source_of given.now 0 0 [] given.now.first) }
 {
-    let tick = EventKind::Tick;
-    let context = EventContext {
+    let context = ConsumerContext {
         settings: &given.settings,
         setup: &given.setup,
         first: &given.first,
         moment: 0,
-        what: &tick,
     };
-    let source = texts::source_without_inbox(alloc, &context, 0, &given.first);
-    drop(tick);
-    source
+    texts::source_without_inbox(alloc, &context, 0, &given.first)
 }
 
 // A reader that reads this inbox, and has read nothing yet.
@@ -118,6 +114,9 @@ impl Ordered {
 
     /// Reads the next message or error. It waits after a turn in which nothing came.
     ///
+    /// Each row that it passes does its one thing at the link (`polls`): so a pull request goes out in the poll that comes to it, or the link
+    /// refuses it.
+    ///
     /// The source of an error of kind `RequestLimitExceeded` is the server's description, where it sent one. No other error has a source.
     ///
     /// After `Pending` it may be left alone until something comes for it or `wakes_at` has come: a poll before that does nothing.
@@ -137,11 +136,15 @@ impl Ordered {
         self.polled.poll_next(alloc, link, now)
     }
 
-    /// The first moment at which it has something to do by itself, where there is one: a timer of its reader is due, or while its consumer
-    /// is made anew the answer that it waits for is overdue, or its next try is due. One that has neither an inbox nor a consumer that is
-    /// being made begins one at once. A stream that has ended has no such moment.
+    /// The first moment at which it has something to do by itself, where there is one: at once where a row is left, else when a timer of its reader is due,
+    /// or while its consumer is made anew the answer that it waits for is overdue, or its next try is due. One that has neither an inbox
+    /// nor a consumer that is being made begins one at once. A stream that has ended has no such moment.
+    ///
+    /// A row is left where a poll stopped before its turn was over. So where there was no memory for the request that deletes the old
+    /// consumer, this is `Some(0)`, though no timer is set, and the next poll sends it.
     pub fn wakes_at(&self) -> Option<Moment>
-        ensures { (now : ℕ) → now < 2 ^ 64 → has_come result now ≡ phase_due now (position_of_pull self.now).consumer.phase }
+        ensures value { (now : ℕ) → now < 2 ^ 64 → has_come result now ≡ something_due now (position_of_pull self.now) }
+        ensures sleeps { SleepsUntil (input_of_pull self.now) result (position_of_pull self.now) }
     {
         self.polled.wakes_at()
     }

@@ -3,10 +3,10 @@ ghost use Rattle.std.specs.Prelude.{◌≡◌, ◌<◌, ◌^◌, IfOk, Some, ℕ
 ghost use Rattle.js_link.specs.Meets.{Meets};
 ghost use Rattle.js_ordered_stream.specs.Inbox.{ClosesInbox, inbox_of};
 ghost use Rattle.js_ordered_stream.specs.Opening.{IsGaplessPush, ListensFirst, OpensPushed, Subscribes, input_of_push, open_text, position_of_push};
-ghost use Rattle.js_ordered_stream.specs.Ordered.{IsGivenKind, PollsWithSource, poll_answer};
+ghost use Rattle.js_ordered_stream.specs.Ordered.{IsGivenKind, PollsWithSource, SleepsUntil, poll_answer, something_due};
 ghost use Rattle.js_base.specs.Clock.{has_come};
 ghost use Rattle.js_ordered_table.specs.Poll.{IsPoll};
-ghost use Rattle.js_ordered_table.specs.Timers.{SleepsIfLeftAlone, phase_due};
+ghost use Rattle.js_ordered_table.specs.Timers.{SleepsIfLeftAlone};
 
 use crate::error::OrderedError;
 use crate::ordered;
@@ -16,9 +16,7 @@ use js_json::consumer::Info;
 use js_json::push::OrderedConfig;
 use js_link::{InboxId, Link, LinkError};
 use js_ordered_table::transitions::push::listen;
-use js_ordered_table::{
-    Consumer, EventContext, EventKind, OrderedSetup, Phase, ReplayInput, Settings,
-};
+use js_ordered_table::{Consumer, ConsumerContext, OrderedSetup, Phase, ReplayInput, Settings};
 use std::alloc::Global;
 use std::{error, fmt};
 
@@ -97,16 +95,13 @@ fn open_consumer<L: Link>(
         Ok(inbox) => {
             let start = given.setup.configured_start();
             let mut consumer = ordered::first_consumer(start, name, Phase::Idle);
-            let tick = EventKind::Tick;
-            let context = EventContext {
+            let context = ConsumerContext {
                 settings: &given.settings,
                 setup: &given.setup,
                 first: &given.first,
                 moment: 0,
-                what: &tick,
             };
             listen(&context, &mut consumer, inbox);
-            drop(tick);
             Ok(consumer)
         }
     }
@@ -150,6 +145,9 @@ impl Ordered {
 
     /// Reads the next message or error. It waits after a turn in which nothing came.
     ///
+    /// Each row that it passes does its one thing at the link (`polls`): so a heartbeat that asks for an answer, as flow control does, gets an
+    /// empty one in the poll that hears it, or the link refuses it.
+    ///
     /// After `Pending` it may be left alone until something comes for it or `wakes_at` has come: a poll before that does nothing.
     /// What comes is a message in its inbox, the end of its inbox, an answer that it waits for, a change of the connection, and the end
     /// of the watcher.
@@ -168,11 +166,15 @@ impl Ordered {
         self.polled.poll_next(alloc, link, now)
     }
 
-    /// The first moment at which it has something to do by itself, where there is one: its heartbeat is missing, or while its consumer is
-    /// made anew the answer that it waits for is overdue, or its next try is due. One that has neither an inbox nor a consumer that is
-    /// being made begins one at once. A stream that has ended has no such moment.
+    /// The first moment at which it has something to do by itself, where there is one: at once where a row is left, else when its heartbeat is missing,
+    /// or while its consumer is made anew the answer that it waits for is overdue, or its next try is due. One that has neither an inbox
+    /// nor a consumer that is being made begins one at once. A stream that has ended has no such moment.
+    ///
+    /// A row is left where a poll stopped before its turn was over. So where there was no memory for the request that deletes the old
+    /// consumer, this is `Some(0)`, though no timer is set, and the next poll sends it.
     pub fn wakes_at(&self) -> Option<Moment>
-        ensures { (now : ℕ) → now < 2 ^ 64 → has_come result now ≡ phase_due now (position_of_push self.now).consumer.phase }
+        ensures value { (now : ℕ) → now < 2 ^ 64 → has_come result now ≡ something_due now (position_of_push self.now) }
+        ensures sleeps { SleepsUntil (input_of_push self.now) result (position_of_push self.now) }
     {
         self.polled.wakes_at()
     }

@@ -1,5 +1,5 @@
 //! The rows of a pull reader over a link, and what the consumer makes of what its reader tells.
-ghost use Rattle.std.specs.Prelude.{◌≡◌, IfOk, None, OnErr, Option, Some, false, true};
+ghost use Rattle.std.specs.Prelude.{◌≡◌, ◌≢◌, IfOk, None, OnErr, Option, Some, false, true};
 ghost use Rattle.js_base.specs.declared.message.Message.{Message as SpecMessage};
 ghost use Rattle.js_link.specs.LinkView.{LinkView};
 ghost use Rattle.js_ordered_table.specs.Tasks.{reader_rows};
@@ -14,13 +14,13 @@ ghost use Rattle.js_ordered_table.specs.Consumer.{Matter};
 ghost use Rattle.js_ordered_table.specs.declared.row.Row.TheVariants as row;
 
 use crate::remaining_rows::{Seen, seen_of};
-use crate::rows::{RowItem, Stepped, Stop, ask_for, followed_by, handed_of};
+use crate::rows::{RowItem, Stepped, Stop, ask_for, followed_by, handed_of, passed_over};
 use js_base::{Message, Moment, OutOfMemory, replace_with};
 use js_link::{InboxId, Link, Met, Taken};
 use js_ordered_table::transitions::pull::{take_message, take_notice};
 use js_ordered_table::transitions::push::heard_from;
 use js_ordered_table::transitions::{Heard, NextTasks, PassedTask};
-use js_ordered_table::{Consumer, EventContext, ItemKind, Phase};
+use js_ordered_table::{Consumer, ConsumerContext, ItemKind, Phase};
 use js_pull::{Due, Notice, PassedRow as Read, Reader, Reason, Spare, informed_of};
 use std::alloc::Global;
 
@@ -64,10 +64,6 @@ fn read_met<L: Link>(
 ) -> Result<ReadMet, Stop>
     ensures { MeetsReader result (row_of (brought (answer_in seen.now)) due) reader.now (L.view link.old) (L.view link.new) }
 {
-    // No ordered reader is pinned: an arrival brings no pin, for which memory would be needed.
-    if reader.source.pinned {
-        return Err(Stop::OutOfMemory);
-    }
     let informed = told_by(alloc, due, seen)?;
     let wish = reader.wish(alloc, due)?;
     let met = ask_for(alloc, link, wish)?;
@@ -187,7 +183,7 @@ fn is_quiet(step: Read) -> bool
 
 // A row is passed that asks its link for nothing.
 fn pass_alone(
-    context: &EventContext<'_>,
+    context: &ConsumerContext<'_>,
     consumer: &mut Consumer,
     due: Due,
 ) -> Result<Stepped, Stop>
@@ -195,7 +191,7 @@ fn pass_alone(
     ensures { (reply : Option SpecMessage) → (v : LinkView) → PassesRow (input_of context.now) context.now.moment (row.Read (row_of reply due)) consumer.old consumer.new v v Seen.Nothing result }
 {
     let Phase::Pulls(reader) = &mut consumer.phase else {
-        return Err(Stop::OutOfMemory);
+        return Ok(passed_over());
     };
     let step = alone(reader, context.moment, due);
     if is_quiet(step) {
@@ -220,9 +216,9 @@ fn hear_taken(reader: &mut Reader, now: Moment, seen: &Seen) -> Read
     }
 }
 
-// The reader looks for an arrival. No such row is left where none reads.
+// The reader looks for an arrival.
 fn pass_arrival<L: Link>(
-    context: &EventContext<'_>,
+    context: &ConsumerContext<'_>,
     link: &mut L,
     consumer: &mut Consumer,
     seen: &mut Seen,
@@ -231,7 +227,7 @@ fn pass_arrival<L: Link>(
     ensures kept { OnErr result (seen.new ≡ seen.old) }
 {
     let Phase::Pulls(reader) = &mut consumer.phase else {
-        return Err(Stop::OutOfMemory);
+        return Ok(passed_over());
     };
     // No ordered reader is pinned: an arrival brings no pin, for which memory would be needed.
     if reader.source.pinned {
@@ -265,20 +261,21 @@ fn pass_arrival<L: Link>(
     }
 }
 
-// A row is passed with what it meets at its link. The reader stays in its place, since it is large.
+// A row is passed with what it meets at its link. The reader stays in its place, since it is large. What arrives is taken elsewhere.
 fn pass_asking<L: Link>(
     alloc: Global,
-    context: &EventContext<'_>,
+    context: &ConsumerContext<'_>,
     link: &mut L,
     consumer: &mut Consumer,
     due: Due,
     seen: &mut Seen,
 ) -> Result<Stepped, Stop>
+    requires { due ≢ Due.CheckArrival }
     ensures passes { PassesRow (input_of context.now) context.now.moment (row.Read (row_of (brought (answer_in seen.old)) due)) consumer.old consumer.new (L.view link.old) (L.view link.new) (seen_after result seen.new) result }
     ensures kept { OnErr result (seen.new ≡ seen.old) }
 {
     let Phase::Pulls(reader) = &mut consumer.phase else {
-        return Err(Stop::OutOfMemory);
+        return Ok(passed_over());
     };
     let found = read_met(alloc, link, reader, due, seen)?;
     let ReadMet { met, informed } = found;
@@ -297,10 +294,10 @@ fn pass_asking<L: Link>(
     })
 }
 
-// A row of a reader is passed. No such row is left where none reads.
+// A row of a reader is passed. Where none reads, it does nothing.
 pub(crate) fn pass_read<L: Link>(
     alloc: Global,
-    context: &EventContext<'_>,
+    context: &ConsumerContext<'_>,
     link: &mut L,
     consumer: &mut Consumer,
     due: Due,

@@ -1,11 +1,12 @@
 //! The rows of a recreation over a link.
-ghost use Rattle.std.specs.Prelude.{◌≡◌, IfOk, OnErr, codes};
+ghost use Rattle.std.specs.Prelude.{◌≡◌, IfOk, OnErr, codes, is_some, true};
 ghost use Rattle.js_link.specs.Meets.{Meets};
 ghost use Rattle.js_link.specs.LinkView.{LinkView};
 ghost use Rattle.js_link.specs.Wish.{GoesAs};
 ghost use Rattle.js_link.specs.declared.wish.Wish.TheVariants.{Requests};
 ghost use Rattle.js_ordered_table.specs.Tasks.{rows_of};
-ghost use Rattle.js_ordered_stream.specs.Rows.{PassesRow, PassesRows, read_in, replied, seen_after};
+ghost use Rattle.js_ordered_stream.specs.Rows.{IsTry, PassesRow, PassesRows, answer_in, is_left, read_in, replied, seen_after};
+ghost use Rattle.js_pull.specs.Reader.{reply_to};
 ghost use Rattle.js_ordered_table.specs.Invariant.{IsPush};
 ghost use Rattle.js_ordered_table.specs.Passes.{input_of};
 ghost use Rattle.js_ordered_table.specs.Texts as texts_of;
@@ -14,7 +15,7 @@ ghost use Rattle.js_ordered_table.specs.Wishes as wishes;
 
 use crate::answer::info_met;
 use crate::remaining_rows::{Seen, seen_of};
-use crate::rows::{RowItem, Stepped, Stop, ask_for, followed_by, stepped_by};
+use crate::rows::{RowItem, Stepped, Stop, ask_for, followed_by, passed_over, stepped_by};
 use crate::success::{inbox_met, succeed};
 use bytes::Bytes;
 use js_base::{OutOfMemory, TryClone, replace_with};
@@ -24,7 +25,7 @@ use js_ordered_table::transitions::recreation::{
 };
 use js_ordered_table::transitions::{NextTasks, Task};
 use js_ordered_table::{
-    Consumer, EventContext, Opened, OrderedSetup, Phase, Recreation, Stage, texts,
+    Consumer, ConsumerContext, Opened, OrderedSetup, Phase, Recreation, Stage, texts,
 };
 use std::alloc::Global;
 use std::mem;
@@ -75,7 +76,7 @@ fn awaited(stage: Stage) -> Wish
 // A recreation starts: the current inbox is given up.
 pub(crate) fn start<L: Link>(
     alloc: Global,
-    context: &EventContext<'_>,
+    context: &ConsumerContext<'_>,
     link: &mut L,
     consumer: &mut Consumer,
 ) -> Result<Stepped, Stop>
@@ -120,7 +121,7 @@ fn number_of(met: Met) -> Option<u64>
 // The deletion of the old consumer is asked for.
 fn try_met<L: Link>(
     alloc: Global,
-    context: &EventContext<'_>,
+    context: &ConsumerContext<'_>,
     link: &mut L,
     recreation: &Recreation,
 ) -> Result<Met, OutOfMemory>
@@ -136,7 +137,7 @@ fn try_met<L: Link>(
 
 fn begin_try<L: Link>(
     alloc: Global,
-    context: &EventContext<'_>,
+    context: &ConsumerContext<'_>,
     link: &mut L,
     consumer: &mut Consumer,
     recreation: Recreation,
@@ -158,7 +159,7 @@ fn begin_try<L: Link>(
 // Push opens its inbox before its create.
 fn create_push<L: Link>(
     alloc: Global,
-    context: &EventContext<'_>,
+    context: &ConsumerContext<'_>,
     link: &mut L,
     consumer: &mut Consumer,
     recreation: Recreation,
@@ -181,7 +182,7 @@ fn create_push<L: Link>(
 // The new consumer is to be asked for.
 fn create<L: Link>(
     alloc: Global,
-    context: &EventContext<'_>,
+    context: &ConsumerContext<'_>,
     link: &mut L,
     consumer: &mut Consumer,
     recreation: Recreation,
@@ -199,7 +200,7 @@ fn create<L: Link>(
 // The new consumer is asked for.
 fn ask_met<L: Link>(
     alloc: Global,
-    context: &EventContext<'_>,
+    context: &ConsumerContext<'_>,
     link: &mut L,
     recreation: &Recreation,
 ) -> Result<Met, OutOfMemory>
@@ -218,7 +219,7 @@ fn ask_met<L: Link>(
 
 fn ask_create<L: Link>(
     alloc: Global,
-    context: &EventContext<'_>,
+    context: &ConsumerContext<'_>,
     link: &mut L,
     consumer: &mut Consumer,
     recreation: Recreation,
@@ -240,7 +241,7 @@ fn ask_create<L: Link>(
 // A try has failed: what it has opened is given up.
 fn fail<L: Link>(
     alloc: Global,
-    context: &EventContext<'_>,
+    context: &ConsumerContext<'_>,
     link: &mut L,
     consumer: &mut Consumer,
     recreation: Recreation,
@@ -276,7 +277,7 @@ fn request_of(stage: Stage) -> u64
 // What an open recreation waits for is looked at.
 fn look_on<L: Link>(
     alloc: Global,
-    context: &EventContext<'_>,
+    context: &ConsumerContext<'_>,
     link: &mut L,
     consumer: &mut Consumer,
     recreation: Recreation,
@@ -303,15 +304,16 @@ fn look_on<L: Link>(
     }
 }
 
-// The answer to a create is read.
+// The answer to a create is read, which was met.
 fn answered(
     alloc: Global,
-    context: &EventContext<'_>,
+    context: &ConsumerContext<'_>,
     consumer: &mut Consumer,
     recreation: Recreation,
     request: u64,
     seen: &Seen,
 ) -> Result<Stepped, Stop>
+    requires { is_some (reply_to request (answer_in seen.now)) ≡ true }
     ensures { (v : LinkView) → PassesRows (input_of context.now) context.now.moment (rows_of (read_in seen.now) (Task.Answered request)) (record consumer.old { phase = Phase.Recreates recreation }) consumer.new v v Seen.Nothing result }
 {
     match info_met(alloc, request, seen) {
@@ -328,13 +330,15 @@ fn answered(
 // A row of the open recreation is passed.
 fn pass_recreating<L: Link>(
     alloc: Global,
-    context: &EventContext<'_>,
+    context: &ConsumerContext<'_>,
     link: &mut L,
     consumer: &mut Consumer,
     recreation: Recreation,
     task: &Task,
     seen: &mut Seen,
 ) -> Result<Stepped, Stop>
+    requires task { IsTry task.now }
+    requires stands { is_left (rows_of (read_in seen.old) task.now) ≡ true }
     ensures passes { PassesRows (input_of context.now) context.now.moment (rows_of (read_in seen.old) task.now) (record consumer.old { phase = Phase.Recreates recreation }) consumer.new (L.view link.old) (L.view link.new) (seen_after result seen.new) result }
     ensures kept { OnErr result (seen.new ≡ seen.old) }
 {
@@ -348,22 +352,29 @@ fn pass_recreating<L: Link>(
         }
         Task::Succeed(info) => succeed(alloc, context, link, consumer, recreation, info.get()),
         Task::Fail => fail(alloc, context, link, consumer, recreation),
-        _ => {
-            keep_open(consumer, recreation);
-            Err(Stop::OutOfMemory)
-        }
+        Task::Event
+        | Task::Start
+        | Task::Hold
+        | Task::CheckArrival
+        | Task::Hear { .. }
+        | Task::HearHeld(_)
+        | Task::CheckSilence
+        | Task::Arm
+        | Task::Read(_) => unreachable!(),
     }
 }
 
-// A row that belongs to an open recreation is passed. No such row is left where none is open.
+// A row that belongs to an open recreation is passed. Where none is open, it does nothing.
 pub(crate) fn pass_open<L: Link>(
     alloc: Global,
-    context: &EventContext<'_>,
+    context: &ConsumerContext<'_>,
     link: &mut L,
     consumer: &mut Consumer,
     task: &Task,
     seen: &mut Seen,
 ) -> Result<Stepped, Stop>
+    requires task { IsTry task.now }
+    requires stands { is_left (rows_of (read_in seen.old) task.now) ≡ true }
     ensures passes { PassesRows (input_of context.now) context.now.moment (rows_of (read_in seen.old) task.now) consumer.old consumer.new (L.view link.old) (L.view link.new) (seen_after result seen.new) result }
     ensures kept { OnErr result (seen.new ≡ seen.old) }
 {
@@ -373,7 +384,7 @@ pub(crate) fn pass_open<L: Link>(
         }
         phase => {
             replace_with(&mut consumer.phase, phase);
-            Err(Stop::OutOfMemory)
+            Ok(passed_over())
         }
     }
 }

@@ -1,9 +1,10 @@
 //! The rows that are left of a turn, and what the last row has looked at.
 ghost use Rattle.std.specs.Option.{option_copied};
-ghost use Rattle.std.specs.Prelude.{◌≡◌, ◌++◌, ◌∷◌, [], map};
+ghost use Rattle.std.specs.Prelude.{◌≡◌, ◌++◌, ◌∷◌, [], is_some, map};
 ghost use Rattle.js_ordered_table.specs.Tasks.{next_rows, rows_of};
-ghost use Rattle.js_ordered_stream.specs.Rows.{FirstOf, Fits, IsPlain, ReadsNone, has_message, is_rested, is_something as has_seen, kept_if, later_list, later_of, left_rows, message_in, read_in, seen_met, todo_rows};
-ghost use Rattle.js_pull.specs.Reader.{opening};
+ghost use Rattle.js_ordered_stream.specs.Rows.{FirstOf, Fits, IsPlain, ReadsNone, answer_in, arrival_in, has_message, is_rested, is_something as has_seen, kept_if, later_list, later_of, left_rows, message_in, read_in, seen_met, todo_rows};
+ghost use Rattle.js_ordered_table.specs.Recreation.{message_on};
+ghost use Rattle.js_pull.specs.Reader.{opening, reply_to};
 ghost use Rattle.js_ordered_table.specs.Consumer.{Matter};
 ghost use Rattle.js_ordered_table.specs.declared.row.Row.TheVariants as row;
 
@@ -156,6 +157,31 @@ impl Seen {
             Seen::Nothing => false,
             Seen::Reply(_) => false,
             Seen::Message { .. } => true,
+        }
+    }
+
+    // It is the answer to this request.
+    pub(crate) fn answers(&self, request: u64) -> bool
+        ensures { result ≡ is_some (reply_to request (answer_in self.now)) }
+    {
+        match self {
+            Seen::Nothing => false,
+            Seen::Reply(reply) => request == reply.request,
+            Seen::Message { .. } => false,
+        }
+    }
+
+    // Push has still to hear it on this inbox.
+    pub(crate) fn is_unheard_on(&self, inbox: u64) -> bool
+        ensures { result ≡ is_some (message_on inbox (arrival_in self.now)) }
+    {
+        match self {
+            Seen::Nothing => false,
+            Seen::Reply(_) => false,
+            Seen::Message { unheard, .. } => match unheard {
+                None => false,
+                Some(current) => inbox == *current,
+            },
         }
     }
 

@@ -1,10 +1,10 @@
 //! One row of the table, passed over a link: what it asks is made first, then its link is asked, and it is passed with what it met.
 //!
 //! Until the link was asked nothing has changed. After that a row takes no memory.
-ghost use Rattle.std.specs.Prelude.{◌≡◌, IfOk, OnErr, Option, false};
+ghost use Rattle.std.specs.Prelude.{◌≡◌, IfOk, OnErr, Option, false, true};
 ghost use Rattle.js_base.specs.declared.message.Message.{Message as SpecMessage};
 ghost use Rattle.js_ordered_table.specs.Tasks.{rows_of, told_outputs};
-ghost use Rattle.js_ordered_stream.specs.Rows.{PassesRow, PassesRows, handed_list, read_in, seen_after};
+ghost use Rattle.js_ordered_stream.specs.Rows.{PassesRow, PassesRows, handed_list, is_left, read_in, seen_after};
 ghost use Rattle.js_ordered_table.specs.Passes.{change_shown, input_of};
 ghost use Rattle.js_ordered_table.specs.declared.row.Row.TheVariants as row;
 ghost use Rattle.js_ordered_table.specs.Walk.{handed};
@@ -20,7 +20,7 @@ use js_base::OutOfMemory;
 use js_link::{Link, Met, Watch, Wish, ask};
 use js_ordered_table::transitions::event::{is_over, pass_event};
 use js_ordered_table::transitions::{NextTasks, PassedTask, RowOutput, Task};
-use js_ordered_table::{Change, Consumer, EventContext, ItemKind};
+use js_ordered_table::{Change, Consumer, ConsumerContext, ItemKind};
 use std::alloc::Global;
 
 /// Why a row was not passed.
@@ -72,6 +72,13 @@ pub(crate) fn followed_by(next: NextTasks) -> Stepped
     }
 }
 
+// A row that does not belong to its phase does nothing, as the table has it.
+pub(crate) fn passed_over() -> Stepped
+    ensures { result ≡ record { handed = RowItem.Nothing; looked = false; next = NextTasks.Nothing } }
+{
+    followed_by(NextTasks::Nothing)
+}
+
 // What is handed out of what a row tells.
 pub(crate) fn handed_of(told: RowOutput) -> RowItem
     ensures { (message : Option SpecMessage) → handed_list result message ≡ handed (told_outputs told) }
@@ -120,15 +127,15 @@ fn change_met(watch: Watch) -> Change
 
 // A turn begins with a look at the connection.
 pub(crate) fn begin<L: Link>(
-    context: &EventContext<'_>,
+    context: &ConsumerContext<'_>,
     link: &mut L,
     consumer: &mut Consumer,
 ) -> Result<Stepped, Stop>
     ensures { PassesRow (input_of context.now) context.now.moment row.Event consumer.old consumer.new (L.view link.old) (L.view link.new) Seen.Nothing result }
 {
-    // No turn of an ended consumer begins.
+    // An ended consumer passes nothing.
     if is_over(&consumer.phase) {
-        return Err(Stop::OutOfMemory);
+        return Ok(passed_over());
     }
     let change = change_met(link.state());
     Ok(stepped_by(pass_event(context, consumer, change)))
@@ -136,15 +143,16 @@ pub(crate) fn begin<L: Link>(
 
 // ---- any row
 
-// The next row is passed. What it looked at takes the place of what it reads.
+// The row that a task stands for is passed. What it looked at takes the place of what it reads.
 pub(crate) fn pass<L: Link>(
     alloc: Global,
-    context: &EventContext<'_>,
+    context: &ConsumerContext<'_>,
     link: &mut L,
     consumer: &mut Consumer,
     task: &Task,
     seen: &mut Seen,
 ) -> Result<Stepped, Stop>
+    requires { is_left (rows_of (read_in seen.old) task.now) ≡ true }
     ensures passes { PassesRows (input_of context.now) context.now.moment (rows_of (read_in seen.old) task.now) consumer.old consumer.new (L.view link.old) (L.view link.new) (seen_after result seen.new) result }
     ensures kept { OnErr result (seen.new ≡ seen.old) }
 {

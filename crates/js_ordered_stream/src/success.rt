@@ -19,7 +19,7 @@ use js_json::consumer::Info;
 use js_link::{Link, Met, Wish};
 use js_ordered_table::transitions::recreation::{pass_succeed_pull, pass_succeed_push};
 use js_ordered_table::transitions::{Inbox, NextTasks, Task};
-use js_ordered_table::{Consumer, EventContext, Opened, OrderedSetup, Recreation, texts};
+use js_ordered_table::{Consumer, ConsumerContext, Opened, OrderedSetup, Recreation, texts};
 use js_pull::PullSource;
 use std::alloc::Global;
 
@@ -49,7 +49,7 @@ struct Reading {
 // Pull's next inbox is opened.
 fn reading_for<L: Link>(
     alloc: Global,
-    context: &EventContext<'_>,
+    context: &ConsumerContext<'_>,
     link: &mut L,
     recreation_count: u64,
     info: &Info,
@@ -71,7 +71,7 @@ fn reading_for<L: Link>(
 // A create was answered well: pull opens its next inbox and reads it, and push listens to the one that it has opened for the create.
 pub(crate) fn succeed<L: Link>(
     alloc: Global,
-    context: &EventContext<'_>,
+    context: &ConsumerContext<'_>,
     link: &mut L,
     consumer: &mut Consumer,
     recreation: Recreation,
@@ -88,7 +88,7 @@ pub(crate) fn succeed<L: Link>(
 // Pull reads its next inbox.
 fn succeed_pull<L: Link>(
     alloc: Global,
-    context: &EventContext<'_>,
+    context: &ConsumerContext<'_>,
     link: &mut L,
     consumer: &mut Consumer,
     recreation: Recreation,
@@ -122,7 +122,7 @@ fn is_bare(opened: &Option<Opened>) -> bool
 
 // Push listens to the inbox that it has opened: what has come there lies in the link, and is the arrival of a later turn.
 fn succeed_push(
-    context: &EventContext<'_>,
+    context: &ConsumerContext<'_>,
     consumer: &mut Consumer,
     recreation: Recreation,
 ) -> Result<Stepped, Stop>

@@ -1,10 +1,17 @@
 //! When an ordered stream has something to do by itself.
-ghost use Rattle.std.specs.Prelude.{◌≡◌, ◌<◌, ◌^◌, ℕ};
+ghost use Rattle.std.specs.Prelude.{◌≡◌, ◌<◌, ◌^◌, ◌++◌, ℕ};
 ghost use Rattle.js_base.specs.Clock.{has_come};
 ghost use Rattle.js_ordered_table.specs.Timers.{phase_due, stage_due};
+ghost use Rattle.js_ordered_stream.specs.Ordered.{something_due};
+ghost use Rattle.js_ordered_stream.specs.Rows.{is_left as has_left, left_rows, read_in};
+ghost use Rattle.js_ordered_table.specs.Tasks.{rows_of};
 
+use crate::remaining_rows::{RemainingRows, Seen, TaskQueue};
+use crate::standing::stands;
 use js_base::Moment;
-use js_ordered_table::{Phase, Stage};
+use js_ordered_table::transitions::Task;
+use js_ordered_table::transitions::event::is_over;
+use js_ordered_table::{Consumer, Phase, Stage};
 
 // When an open recreation has something to do.
 fn stage_end(stage: &Stage) -> Option<Moment>
@@ -18,8 +25,8 @@ fn stage_end(stage: &Stage) -> Option<Moment>
     }
 }
 
-// The first moment at which a consumer has something to do.
-pub(crate) fn phase_end(phase: &Phase) -> Option<Moment>
+// The first moment at which a consumer has something to do that has no row left.
+fn phase_end(phase: &Phase) -> Option<Moment>
     ensures { (now : ℕ) → now < 2 ^ 64 → has_come result now ≡ phase_due now phase.now }
 {
     match phase {
@@ -33,4 +40,42 @@ pub(crate) fn phase_end(phase: &Phase) -> Option<Moment>
         Phase::Ended => None,
         Phase::Exhausted => None,
     }
+}
+
+// One of two tasks stands for a row.
+fn either_stands(one: &Task, second: &Task, seen: &Seen) -> bool
+    ensures { result ≡ has_left (rows_of (read_in seen.now) one.now ++ rows_of (read_in seen.now) second.now) }
+{
+    let first = stands(one, seen);
+    let later = stands(second, seen);
+    first || later
+}
+
+// A row is left.
+fn is_left(left: &RemainingRows) -> bool
+    ensures { result ≡ has_left (left_rows left.now) }
+{
+    match &left.todo {
+        TaskQueue::Nothing => false,
+        TaskQueue::One(one) => stands(one, &left.seen),
+        TaskQueue::Two(one, second) => either_stands(one, second, &left.seen),
+        TaskQueue::Three(one, second, third) => {
+            let first = stands(one, &left.seen);
+            let later = either_stands(second, third, &left.seen);
+            first || later
+        }
+    }
+}
+
+// The first moment at which a consumer has something to do: at once where a row is left. One that has ended has nothing to do.
+pub(crate) fn wakes_at(consumer: &Consumer, left: &RemainingRows) -> Option<Moment>
+    ensures { (now : ℕ) → now < 2 ^ 64 → has_come result now ≡ something_due now (record { consumer = consumer.now; todo = left_rows left.now }) }
+{
+    if is_over(&consumer.phase) {
+        return None;
+    }
+    if is_left(left) {
+        return Some(0);
+    }
+    phase_end(&consumer.phase)
 }

@@ -26,3 +26,4 @@ pub mod Instance
 pub mod Single
 pub mod Walk
 pub mod Sleep
+pub mod CreateBodies

@@ -12,7 +12,7 @@ use Rattle.js_ordered_table.specs.declared.row.Arrival.{Arrival}
 use Rattle.js_ordered_table.specs.declared.consumer.Phase.TheVariants.{Pulls, Pushes, Recreates, Idle, Ended, Exhausted}
 use Rattle.js_ordered_table.specs.declared.consumer.Stage.TheVariants.{Waiting}
 use Rattle.js_ordered_table.specs.Consumer.{Matter, Passed, at_phase}
-use Rattle.js_ordered_table.specs.Fold.{Ran, rank, and_then, pass_each, pass_to, passing, after, matter_of}
+use Rattle.js_ordered_table.specs.Fold.{Ran, rank, and_then, pass_each, pass_to, passing, after}
 use Rattle.js_ordered_table.specs.OrderedCore.{after_yield}
 use Rattle.js_ordered_table.specs.Consumer as state
 use Rattle.js_ordered_table.specs.declared.consumer.Consumer.{Consumer}
@@ -25,16 +25,12 @@ use Rattle.js_message.specs.AckSubject as ack
 use Rattle.js_ordered_table.specs.declared.place.Place.{Place}
 use Rattle.js_ordered_table.specs.declared.answer.RequestOutcome.{RequestOutcome}
 use Rattle.js_ordered_table.specs.declared.answer.RequestOutcome.TheVariants as reply
-use Rattle.js_ordered_table.specs.declared.event_context.EventContext.{EventContext}
+use Rattle.js_ordered_table.specs.declared.consumer_context.ConsumerContext.{ConsumerContext}
 use Rattle.js_ordered_table.specs.declared.replay_state.ReplayState.{ReplayState}
 
 -- what a consumer is made with
-abbrev pub input_of : EventContext → ReplayInput
-input_of turn = record { settings = turn.settings.now; setup = turn.setup.now; first = turn.first.now }
-
--- what happens to it now
-abbrev pub matter_now : EventContext → Matter
-matter_now turn = matter_of turn.what.now
+abbrev pub input_of : ConsumerContext → ReplayInput
+input_of context = record { settings = context.settings.now; setup = context.setup.now; first = context.first.now }
 
 -- what a row and the rows that follow it at once come to
 unfoldable pub ran : ReplayInput → ℕ → Matter → Row → ReplayState → Ran

@@ -14,8 +14,8 @@
 
 mod answer;
 mod consumer;
+mod consumer_context;
 mod event;
-mod event_context;
 mod kind;
 mod ordered_core;
 mod place;
@@ -30,8 +30,8 @@ mod worked;
 
 pub use answer::{Change, RequestOutcome, change_of};
 pub use consumer::{Consumer, Opened, Phase, Recreation, ReplayInput, Stage};
+pub use consumer_context::ConsumerContext;
 pub use event::{Event, EventKind};
-pub use event_context::EventContext;
 pub use kind::{PushKind, push_kind};
 pub use ordered_core::{AtEnd, OrderedCore};
 pub use place::{Place, place_of, yield_of};

@@ -3,8 +3,8 @@ ghost use Rattle.std.specs.Prelude.{◌≡◌};
 ghost use Rattle.js_ordered_table.specs.Passes.{input_of};
 ghost use Rattle.js_ordered_table.specs.Refusal as refusals;
 
+use crate::consumer_context::ConsumerContext;
 use crate::event::Event;
-use crate::event_context::EventContext;
 use crate::run::{Field, ReplayError};
 use crate::setup::OrderedSetup;
 use js_base::{Moment, Text, is_valid_subject};
@@ -48,7 +48,7 @@ fn delivers_validly(setup: &OrderedSetup, subject: &Option<Text>) -> bool
 }
 
 // The first field that fails its test.
-fn bad_field(context: &EventContext<'_>) -> Option<Field>
+fn bad_field(context: &ConsumerContext<'_>) -> Option<Field>
     ensures { result ≡ refusals.bad_field (input_of context.now) }
 {
     if !is_valid_name(context.first.stream_name.as_str()) {
@@ -88,7 +88,7 @@ fn first_early(start: Moment, events: &[Event]) -> Option<u64>
 
 /// The first refusal that needs no replay: no subject, a bad field, or an early event.
 #[tactic(auto, unfolding(crate::specs::Refusal::refuse_input))]
-pub fn refuse_input(context: &EventContext<'_>, events: &[Event]) -> Option<ReplayError>
+pub fn refuse_input(context: &ConsumerContext<'_>, events: &[Event]) -> Option<ReplayError>
     ensures { result ≡ refusals.refuse_input (input_of context.now) context.now.moment events.now }
 {
     if lacks_subject(context.setup, &context.first.config.deliver_subject) {

@@ -1,5 +1,6 @@
 //! A consumer beside the link of a replay.
-ghost use Rattle.std.specs.Prelude.{◌≡◌, ◌+◌, IfOk};
+ghost use Rattle.std.specs.Prelude.{◌≡◌, ◌+◌, IfOk, OnErr};
+ghost use Rattle.js_pull.specs.Reader.{u64_max};
 
 use crate::consumer::{Consumer, Phase};
 use js_base::{OutOfMemory, replace_with};
@@ -18,9 +19,12 @@ pub struct ReplayState {
 
 /// The number after this one.
 ///
-/// What is numbered mostly stands among the outputs, so memory ends long before the numbers do.
+/// # Errors
+///
+/// `OutOfMemory`, where this is the last of all numbers. Who counts one by one does not come there.
 pub fn next_number(number: u64) -> Result<u64, OutOfMemory>
-    ensures { IfOk result (λ next. next ≡ number + 1) }
+    ensures next { IfOk result (λ next. next ≡ number + 1) }
+    ensures last { OnErr result (number ≡ u64_max) }
 {
     match number.checked_add(1) {
         Some(next) => Ok(next),

@@ -1,12 +1,12 @@
 //! Names, subjects, bodies and timeouts of an ordered consumer.
-ghost use Rattle.std.specs.Prelude.{◌≡◌, [], IfOk, Some, decimal, string_bytes, ◌++◌};
+ghost use Rattle.std.specs.Prelude.{◌≡◌, [], IfOk, IsOk, Some, decimal, string_bytes, ◌++◌};
 ghost use Rattle.js_pull.specs.Limits.{body_of};
 ghost use Rattle.js_ordered_table.specs.Passes.{input_of};
 ghost use Rattle.js_ordered_table.specs.Texts as texts;
 ghost use Rattle.js_base.specs.ApiSubject.{under, consumer_api_subject, named_subject};
 
 use crate::consumer::{Opened, Recreation};
-use crate::event_context::EventContext;
+use crate::consumer_context::ConsumerContext;
 use crate::run::Start;
 use crate::setup::{OrderedSetup, Settings};
 use bytes::Bytes;
@@ -15,7 +15,7 @@ use js_base::{
     replace_with, with_word,
 };
 use js_json::consumer::{Action, Config, CreateRequest, DeliverPolicy, Info, IntoConsumerConfig};
-use js_json_members::ToValue;
+use js_json_members::{ReadError, ToValue};
 use js_pull::{PullSource, ordered_batch_config};
 use std::alloc::{AllocError, Global};
 
@@ -121,7 +121,7 @@ fn numbered(alloc: Global, base: &str, mark: &str, number: u64) -> Result<String
 /// The name of the consumer that the recreation with this serial makes.
 pub fn consumer_name(
     alloc: Global,
-    context: &EventContext<'_>,
+    context: &ConsumerContext<'_>,
     recreation_count: u64,
 ) -> Result<Text, OutOfMemory>
     ensures { IfOk result (λ name. name ≡ texts.consumer_name (input_of context.now) recreation_count) }
@@ -132,7 +132,7 @@ pub fn consumer_name(
 /// The subject of the inbox with this number.
 pub fn inbox_subject(
     alloc: Global,
-    context: &EventContext<'_>,
+    context: &ConsumerContext<'_>,
     inbox: u64,
 ) -> Result<Subject, OutOfMemory>
     ensures { IfOk result (λ subject. subject ≡ texts.inbox_subject (input_of context.now) inbox) }
@@ -143,7 +143,7 @@ pub fn inbox_subject(
 // The subject of a request on a consumer, by the words of the call.
 fn consumer_subject(
     alloc: Global,
-    context: &EventContext<'_>,
+    context: &ConsumerContext<'_>,
     words: &str,
     name: &str,
 ) -> Result<Subject, OutOfMemory>
@@ -159,7 +159,7 @@ fn consumer_subject(
 // The subject of a request that names a consumer, and what it reads.
 fn filtered_subject(
     alloc: Global,
-    context: &EventContext<'_>,
+    context: &ConsumerContext<'_>,
     words: &str,
     name: &str,
     filter: &str,
@@ -179,7 +179,7 @@ fn filtered_subject(
 /// The subject of the request that deletes the old consumer.
 pub fn delete_subject(
     alloc: Global,
-    context: &EventContext<'_>,
+    context: &ConsumerContext<'_>,
     recreation: &Recreation,
 ) -> Result<Subject, OutOfMemory>
     ensures { IfOk result (λ subject. subject ≡ texts.delete_subject (input_of context.now) recreation.now) }
@@ -195,7 +195,7 @@ pub fn delete_subject(
 /// The subject of the request that makes the new one.
 pub fn create_subject(
     alloc: Global,
-    context: &EventContext<'_>,
+    context: &ConsumerContext<'_>,
     recreation: &Recreation,
 ) -> Result<Subject, OutOfMemory>
     ensures { IfOk result (λ subject. subject ≡ texts.create_subject (input_of context.now) recreation.now) }
@@ -245,7 +245,7 @@ fn set_up(config: &mut Config, name: Text, start: Start, deliver_subject: Option
 // The setup's configuration with this name, start and inbox. The texts are there already, so that nothing can go wrong beside the configuration.
 fn config_with(
     alloc: Global,
-    context: &EventContext<'_>,
+    context: &ConsumerContext<'_>,
     name: Text,
     start: Start,
     deliver_subject: Option<Text>,
@@ -271,7 +271,7 @@ fn config_with(
 
 fn asked_config(
     alloc: Global,
-    context: &EventContext<'_>,
+    context: &ConsumerContext<'_>,
     recreation: &Recreation,
 ) -> Result<Config, OutOfMemory>
     ensures { IfOk result (λ config. config ≡ texts.asked_config (input_of context.now) recreation.now) }
@@ -288,22 +288,26 @@ fn asked_config(
     }
 }
 
-// The body of a request that is let go.
+// The body of a request that is let go, each member of which has a text.
+#[tactic(auto, using(crate::proofs::CreateBodies::memory_alone))]
 fn request_body<R: ToValue + Drop>(alloc: Global, request: R) -> Result<Bytes, OutOfMemory>
+    requires written { IsOk (R.written request) }
     ensures { IfOk result (λ body. body ≡ body_of (R.written request)) }
 {
     let text = request.to_text(alloc);
     drop(request);
     match text {
         Ok(text) => Ok(Bytes::from_string(text)?),
-        Err(_) => Err(OutOfMemory),
+        Err(ReadError::OutOfMemory) => Err(OutOfMemory),
+        Err(_) => unreachable!(),
     }
 }
 
 /// The body of the request that makes the new consumer.
+#[tactic(auto, using(crate::proofs::CreateBodies::create_written))]
 pub fn create_body(
     alloc: Global,
-    context: &EventContext<'_>,
+    context: &ConsumerContext<'_>,
     recreation: &Recreation,
 ) -> Result<Bytes, OutOfMemory>
     ensures { IfOk result (λ body. body ≡ texts.create_body (input_of context.now) recreation.now) }
@@ -329,7 +333,7 @@ pub fn create_body(
 
 /// Whom the reader of a consumer with this info asks.
 pub fn source_of(
-    context: &EventContext<'_>,
+    context: &ConsumerContext<'_>,
     recreation_count: u64,
     inbox: u64,
     subject: Subject,
@@ -358,7 +362,7 @@ pub fn source_of(
 /// Whom the reader of a consumer with this info asks, but for its inbox.
 pub fn source_without_inbox(
     alloc: Global,
-    context: &EventContext<'_>,
+    context: &ConsumerContext<'_>,
     recreation_count: u64,
     info: &Info,
 ) -> Result<PullSource, OutOfMemory>

@@ -17,13 +17,15 @@ use Rattle.js_pull.specs.declared.reader.Reader.{Reader}
 use Rattle.js_pull.specs.declared.reader.Row.{Row}
 use Rattle.js_pull.specs.declared.reader.MessagesErrorKind.{MessagesErrorKind}
 use Rattle.js_pull.specs.declared.reader.ReaderOutput.TheVariants.{Nothing, Hands, Tells}
-use Rattle.js_pull.specs.Poll.{Position, Stride, PollAnswer, HandsOut, Fails, Waits, Ends, Lacks, walk, step, IsWithin, IsOneEvent, IsQuietEvent, IsAdvance, IsPoll, IsOpen}
-use Rattle.js_pull.specs.Stream.{PassesNext, ClosesAt, BeginsAt, begun, begun_with, is_took, rows_empty}
+use Rattle.js_pull.specs.declared.remaining_rows.RemainingRows.{RemainingRows}
+use Rattle.js_pull.specs.declared.rows.Due.{Due}
+use Rattle.js_pull.specs.Poll.{Position, Stride, PollAnswer, HandsOut, Fails, Waits, Ends, Lacks, walk, step, IsWithin, IsOneEvent, IsQuietEvent, IsAdvance, IsPoll, IsOpen, text_source}
+use Rattle.js_pull.specs.Stream.{PassesNext, ClosesAt, BeginsAt, FirstOf, begun, begun_with, is_took, left_rows}
 use Rattle.js_pull.proofs.Walk.{place, Strode, Walked, no_right, walked_none, walked_more, passes_next, begun_strode, call_hands, call_tells, call_stops, call_closes}
 
-pub none_left : (todo : List Row) → rows_empty todo ≡ true → todo ≡ []
-none_left [] e = refl
-none_left (row ∷ rows) e = cc
+-- nothing is left where there is no next row
+pub none_left : (first : Option Due) (left : RemainingRows) → FirstOf first left → first ≡ None → left_rows left ≡ []
+none_left first left is none = subst (λ (due : Option Due). FirstOf due left) none is
 
 append_some : (xs : List Stride) (s : Stride) → xs ++ s ∷ [] ≡ [] → ⊥
 append_some [] s e = cc
@@ -110,7 +112,7 @@ advance_hands now change message met old at new v u w a p =
     not_waits e = cc
 
 pub advance_tells : (now : ℕ) (change : Option State) (kind : MessagesErrorKind) (text : Option (List ℕ)) (answer : PollAnswer) (met : Met) (old at new : Position) (v u w : LinkView)
-    → answer ≡ Fails kind text
+    → answer ≡ Fails kind (text_source text)
     → Advanced now change old at v u → PassesNext now (Tells kind) text met at new u w → Answered now change old new v w answer
 advance_tells now change kind text answer met old at new v u w is a p =
     let one = passes_next now wishes.Nothing (Tells kind) text met at new u w p in
@@ -119,14 +121,14 @@ advance_tells now change kind text answer met old at new v u w is a p =
       closed = false;
       call = call_tells now wishes.Nothing kind text met old at new v u w a.walked one.strode p.text;
       within = event_more change a.walked.strides one.strode.stride old at a.walked.leads a.event one.busy;
-      ended = no_end (Fails kind text) (λ e. not_end e);
+      ended = no_end (Fails kind (text_source text)) (λ e. not_end e);
       done = λ e. absurd (not_waits e);
     })
   where
-    not_end : Fails kind text ≡ Ends → ⊥
+    not_end : Fails kind (text_source text) ≡ Ends → ⊥
     not_end e = cc
 
-    not_waits : Fails kind text ≡ Waits → ⊥
+    not_waits : Fails kind (text_source text) ≡ Waits → ⊥
     not_waits e = cc
 
 pub advance_done : (now : ℕ) (change : Option State) (old at : Position) (v u : LinkView) → Advanced now change old at v u → at.todo ≡ [] → Answered now change old at v u Waits
@@ -281,7 +283,7 @@ poll_hands now quiet message met old at new v u w p passes =
     not_waits e = cc
 
 pub poll_tells : (now : ℕ) (quiet : Bool) (kind : MessagesErrorKind) (text : Option (List ℕ)) (answer : PollAnswer) (met : Met) (old at new : Position) (v u w : LinkView)
-    → answer ≡ Fails kind text
+    → answer ≡ Fails kind (text_source text)
     → Polled now quiet old at v u → PassesNext now (Tells kind) text met at new u w → Polls now old new v w answer
 poll_tells now quiet kind text answer met old at new v u w is p passes =
     let one = passes_next now Watches (Tells kind) text met at new u w passes in
@@ -294,10 +296,10 @@ poll_tells now quiet kind text answer met old at new v u w is p passes =
       waits = λ e. absurd (not_waits e);
     })
   where
-    not_end : Fails kind text ≡ Ends → ⊥
+    not_end : Fails kind (text_source text) ≡ Ends → ⊥
     not_end e = cc
 
-    not_waits : Fails kind text ≡ Waits → ⊥
+    not_waits : Fails kind (text_source text) ≡ Waits → ⊥
     not_waits e = cc
 
 ends_waits : Ends ≡ Waits → ⊥

@@ -12,8 +12,6 @@ use Rattle.js_pull.specs.declared.reader.PullSource.{PullSource}
 use Rattle.js_pull.specs.declared.reader.Reader.{Reader}
 use Rattle.js_pull.specs.declared.reader.InfoRequest.{InfoRequest}
 use Rattle.js_pull.specs.declared.reader.InfoRequest.TheVariants.{NoInfoRequest, Asked, Resting}
-use Rattle.js_pull.specs.declared.reader.MessagesErrorKind.{MessagesErrorKind}
-use Rattle.js_pull.specs.declared.reader.MessagesErrorKind.TheVariants.{MissingHeartbeat, ConsumerDeleted, Pull, Other, NoResponders, RequestLimitExceeded, PushBasedConsumer}
 use Rattle.js_pull.specs.declared.reader.Row.{Row}
 use Rattle.js_pull.specs.declared.reader.Row.TheVariants.{Begin, Ask, Threshold, Arm, Inquire, FailInfoRequest, CheckInfoRequest, Answered, CheckExpiry, CheckArrival, CheckSilence}
 use Rattle.js_pull.specs.declared.reader.ReaderOutput.{ReaderOutput}
@@ -27,9 +25,9 @@ use Rattle.js_pull.specs.Reader as rows
 use Rattle.js_pull.specs.Rows.{Steps, met_row, row_list, row_of, told_shown}
 use Rattle.js_pull.specs.declared.stream.RowOutcome.{RowOutcome}
 use Rattle.js_pull.specs.declared.stream.RowOutcome.TheVariants as outcome
-use Rattle.js_pull.specs.Poll.{Position, IsOpen, closed_at}
+use Rattle.js_pull.specs.Poll.{Position, IsOpen, closed_at, text_of}
 use Rattle.js_pull.specs.HeldMessage.{seen}
-use Rattle.js_pull.specs.Stream.{PassesNext, PassesAt, ClosesAt, BeginsAt, IsText, begun, text_of, outcome_by}
+use Rattle.js_pull.specs.Stream.{PassesNext, PassesAt, ClosesAt, BeginsAt, IsText, begun, outcome_by}
 use Rattle.js_pull.proofs.Calls.{Advanced, advanced_begun}
 use Rattle.js_pull.proofs.Measure.{begun_source, row_nears}
 use Rattle.js_pull.proofs.HeldMessage.{watch_is_seen}
@@ -52,25 +50,13 @@ with_text : (now : ℕ) (told : ReaderOutput) (text : Option (List ℕ)) (met : 
 with_text now told text met old new v u is p =
     record { row = p.row; later = p.later; todo = p.todo; reader = p.reader; left = p.left; connection = p.connection; is_open = p.is_open; told = p.told; text = is; meets = p.meets }
 
-is_text : (kind : MessagesErrorKind) (o m : Option Message) → o ≡ m → IsText (Tells kind) (text_of kind o) m
-is_text kind o m is = subst (λ (x : Option Message). IsText (Tells kind) (text_of kind o) x) is (by_kind kind o)
-  where
-    by_kind : (kind : MessagesErrorKind) (o : Option Message) → IsText (Tells kind) (text_of kind o) o
-    by_kind RequestLimitExceeded o = refl
-    by_kind MissingHeartbeat o = tt
-    by_kind ConsumerDeleted o = tt
-    by_kind Pull o = tt
-    by_kind Other o = tt
-    by_kind NoResponders o = tt
-    by_kind PushBasedConsumer o = tt
-
 by_told : (now : ℕ) (told : Notice) (o : Option Message) (met : Met) (old new : Position) (v u : LinkView) → o ≡ message_of met
     → Next now (told_shown told o) met old new v u → PassesAt (outcome_by told o) now old new v u
 by_told now notice.Nothing None met old new v u is p = (met, with_text now Nothing None met old new v u tt p, sym (ap is_some is))
 by_told now notice.Nothing (Some message) met old new v u is p = (met, with_text now Nothing None met old new v u tt p, sym (ap is_some is))
 by_told now notice.Hands None met old new v u is p = (met, with_text now Nothing None met old new v u tt p, sym (ap is_some is))
 by_told now notice.Hands (Some message) met old new v u is p = (met, with_text now (Hands message) None met old new v u tt p)
-by_told now (notice.Tells kind) o met old new v u is p = (met, with_text now (Tells kind) (text_of kind o) met old new v u (is_text kind o (message_of met) is) p)
+by_told now (notice.Tells kind) o met old new v u is p = (met, with_text now (Tells kind) (text_of kind o) met old new v u (ap (text_of kind) is) p)
 
 open_unless : (met : Met) → is_shut met ≡ false → IsOpen met
 open_unless Shut e = absurd (never e)

@@ -130,7 +130,7 @@ answers_by (HandsOut message) told ended = absurd (never told)
   where
     never : {t : ReaderOutput} → [] ≡ t ∷ [] → ⊥
     never e = cc
-answers_by (Fails kind text) told ended = absurd (never told)
+answers_by (Fails kind from) told ended = absurd (never told)
   where
     never : {t : ReaderOutput} → [] ≡ t ∷ [] → ⊥
     never e = cc

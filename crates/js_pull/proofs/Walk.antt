@@ -20,14 +20,13 @@ use Rattle.js_pull.specs.declared.reader.Row.TheVariants.{Begin, Ask, Threshold,
 use Rattle.js_pull.specs.declared.reader.InfoRequest.{InfoRequest}
 use Rattle.js_pull.specs.declared.reader.InfoRequest.TheVariants.{NoInfoRequest, Asked, Resting}
 use Rattle.js_pull.specs.declared.reader.MessagesErrorKind.{MessagesErrorKind}
-use Rattle.js_pull.specs.declared.reader.MessagesErrorKind.TheVariants.{MissingHeartbeat, ConsumerDeleted, Pull, Other, NoResponders, RequestLimitExceeded, PushBasedConsumer}
 use Rattle.js_pull.specs.declared.reader.ReaderOutput.{ReaderOutput}
 use Rattle.js_pull.specs.declared.reader.ReaderOutput.TheVariants.{Nothing, Hands, Tells}
 use Rattle.js_pull.specs.Passes.{publishing}
 use Rattle.js_pull.specs.Reader.{wish, answer_of, begin_row, is_asking, begin_change}
 use Rattle.js_pull.specs.Reader as rows
 use Rattle.js_pull.specs.Rows.{met_row}
-use Rattle.js_pull.specs.Poll.{Position, Stride, PollAnswer, HandsOut, Fails, Ends, told_by, walk, step, passed_by, told_list, first_wish, wish_next, closed_at, last_arrival, description_of, HasText, StopsAtFirst, IsOpen, change_met, IsStride, IsMet, IsCall}
+use Rattle.js_pull.specs.Poll.{Position, Stride, PollAnswer, HandsOut, Fails, Ends, told_by, walk, step, passed_by, told_list, first_wish, wish_next, closed_at, last_arrival, text_of, text_source, HasSource, StopsAtFirst, IsOpen, change_met, IsStride, IsMet, IsCall}
 use Rattle.js_pull.specs.Stream.{PassesNext, ClosesAt, IsText, begun_with}
 use Rattle.js_pull.proofs.Ledger.{call_bounded}
 use Rattle.js_pull.proofs.Cases.{if_each}
@@ -231,21 +230,15 @@ walked_more now begins met old at new v u w walked s =
 
 -- ---- calls
 
-has_text : (kind : MessagesErrorKind) (text : Option (List ℕ)) (message : Option Message) (strides : List Stride) → IsText (Tells kind) text message
-    → last_arrival strides ≡ message → HasText (Fails kind text) strides
-has_text RequestLimitExceeded text message strides is last = is ∙ ap description_of (sym last)
-has_text MissingHeartbeat text message strides is last = tt
-has_text ConsumerDeleted text message strides is last = tt
-has_text Pull text message strides is last = tt
-has_text Other text message strides is last = tt
-has_text NoResponders text message strides is last = tt
-has_text PushBasedConsumer text message strides is last = tt
+has_source : (kind : MessagesErrorKind) (text : Option (List ℕ)) (message : Option Message) (strides : List Stride) → IsText (Tells kind) text message
+    → last_arrival strides ≡ message → HasSource (Fails kind (text_source text)) strides
+has_source kind text message strides is last = ap text_source (is ∙ ap (text_of kind) (sym last))
 
 call_last : (now : ℕ) (begins : Wish) (told : ReaderOutput) (answer : PollAnswer) (met : Met) (old at new : Position) (v u w : LinkView)
     → (walked : Walked now begins old at v u) (s : Strode now begins told met at new u w)
-    → told_list told ≡ told_by answer → HasText answer (walked.strides ++ s.stride ∷ [])
+    → told_list told ≡ told_by answer → HasSource answer (walked.strides ++ s.stride ∷ [])
     → IsCall Meets now begins (walked.strides ++ s.stride ∷ []) false old new v w answer
-call_last now begins told answer met old at new v u w walked s same text =
+call_last now begins told answer met old at new v u w walked s same source =
     let at_end = strode_at now begins told met at (walk walked.strides old).position new u w walked.leads s in
     let leads : new ≡ (walk (walked.strides ++ s.stride ∷ []) old).position = at_end.2 ∙ sym (walk_more walked.strides s.stride old) in
     record {
@@ -256,7 +249,7 @@ call_last now begins told answer met old at new v u w walked s same text =
       told = told_more walked.strides s.stride old ∙ ap (λ (xs : List ReaderOutput). xs ++ told_list (passed_by s.stride (walk walked.strides old).position).told) walked.told
           ∙ ap told_list (sym at_end.3) ∙ same;
       stops = stops_more walked.strides s.stride old walked.told;
-      text = text;
+      source = source;
       bounded = call_bounded (walked.strides ++ s.stride ∷ []) false old new leads;
     }
 
@@ -269,22 +262,22 @@ call_hands now begins message met old at new v u w walked s = call_last now begi
 -- an error is told
 pub call_tells : (now : ℕ) (begins : Wish) (kind : MessagesErrorKind) (text : Option (List ℕ)) (met : Met) (old at new : Position) (v u w : LinkView)
     → (walked : Walked now begins old at v u) (s : Strode now begins (Tells kind) met at new u w) → IsText (Tells kind) text (message_of met)
-    → IsCall Meets now begins (walked.strides ++ s.stride ∷ []) false old new v w (Fails kind text)
+    → IsCall Meets now begins (walked.strides ++ s.stride ∷ []) false old new v w (Fails kind (text_source text))
 call_tells now begins kind text met old at new v u w walked s is =
-    call_last now begins (Tells kind) (Fails kind text) met old at new v u w walked s refl
-    (has_text kind text (message_of met) (walked.strides ++ s.stride ∷ []) is (last_more walked.strides s.stride ∙ s.arrival))
+    call_last now begins (Tells kind) (Fails kind (text_source text)) met old at new v u w walked s refl
+    (has_source kind text (message_of met) (walked.strides ++ s.stride ∷ []) is (last_more walked.strides s.stride ∙ s.arrival))
 
 -- a call that stops where it stands
 pub call_stops : (now : ℕ) (begins : Wish) (answer : PollAnswer) (old at : Position) (v u : LinkView) → (walked : Walked now begins old at v u)
-    → [] ≡ told_by answer → HasText answer walked.strides → IsCall Meets now begins walked.strides false old at v u answer
-call_stops now begins answer old at v u walked none text = record {
+    → [] ≡ told_by answer → HasSource answer walked.strides → IsCall Meets now begins walked.strides false old at v u answer
+call_stops now begins answer old at v u walked none source = record {
   leads = walked.leads;
   between = u;
   met = walked.met;
   closing = refl;
   told = walked.told ∙ none;
   stops = stops_silent walked.strides old walked.told;
-  text = text;
+  source = source;
   bounded = call_bounded walked.strides false old at walked.leads;
 }
 
@@ -307,6 +300,6 @@ call_closes now begins old at new v u w walked closes =
       closing = subst (λ (p : Position). IsClosing Meets (wish_next begins p) true u w) walked.leads (closing_at begins at closes.later u w closes.todo closes.meets);
       told = walked.told;
       stops = stops_silent walked.strides old walked.told;
-      text = tt;
+      source = tt;
       bounded = call_bounded walked.strides true old new leads;
     }

@@ -1,6 +1,8 @@
 -- A polled stream: it passes row after row, each as the link then answers. A poll may stop between any two rows, and the next one goes on there.
-use Rattle.std.specs.Prelude.{◌≡◌, ℕ, ◌+◌, ◌*◌, ◌/◌, ◌≤◌, Bool, true, false, ◌↔◌, List, [], ◌∷◌, ◌++◌, Option, Some, None, ⊤, unwrap_or, if◌then◌else◌}
+use Rattle.std.specs.Prelude.{◌≡◌, ℕ, ◌+◌, ◌*◌, ◌/◌, ◌≤◌, Bool, true, false, ◌↔◌, List, [], ◌∷◌, ◌++◌, Option, Some, None, ⊤, option_map, unwrap_or, if◌then◌else◌}
 use Rattle.std.specs.List.{AllByRecursion}
+use Rattle.js_base.specs.declared.error.Source.{Source}
+use Rattle.js_base.specs.declared.error.Source.TheVariants as source
 use Rattle.js_base.specs.declared.message.Message.{Message}
 use Rattle.js_base.specs.declared.message.State.{State}
 use Rattle.js_base.specs.declared.message.State.TheVariants.{Pending, Connected, Disconnected}
@@ -112,16 +114,16 @@ pub record IsBoundedAt (at : Position) : Type 0 where
 
 -- ---- a call of a stream
 
--- what a call answers: a message, an error with the text of its source, that it waits or its event is over, the end, or want of memory
+-- what a call answers: a message, an error with its source, that it waits or its event is over, the end, or want of memory
 pub data PollAnswer : Type 0 where
   HandsOut : Message → PollAnswer
-  Fails : MessagesErrorKind → Option (List ℕ) → PollAnswer
+  Fails : MessagesErrorKind → Option Source → PollAnswer
   Waits Ends Lacks : PollAnswer
 
 -- what an answer hands out
 abbrev pub told_by : PollAnswer → List ReaderOutput
 told_by (HandsOut message) = tells.Hands message ∷ []
-told_by (Fails kind text) = tells.Tells kind ∷ []
+told_by (Fails kind from) = tells.Tells kind ∷ []
 told_by _ = []
 
 -- the message that the last row looked at
@@ -135,10 +137,19 @@ abbrev pub description_of : Option Message → Option (List ℕ)
 description_of None = None
 description_of (Some message) = message.description
 
--- a limit is told with the server's description
-abbrev pub HasText : PollAnswer → List Stride → Type 0
-HasText (Fails error.RequestLimitExceeded text) strides = text ≡ description_of (last_arrival strides)
-HasText _ strides = ⊤
+-- a limit is told with the server's description, and an error of any other kind with no text
+abbrev pub text_of : MessagesErrorKind → Option Message → Option (List ℕ)
+text_of error.RequestLimitExceeded message = description_of message
+text_of kind message = None
+
+-- the source that an error has which is told with this text: the text, where there is one
+abbrev pub text_source : Option (List ℕ) → Option Source
+text_source text = option_map (λ text. source.Text text) text
+
+-- an error has the source of its kind and of the message that the last row looked at
+abbrev pub HasSource : PollAnswer → List Stride → Type 0
+HasSource (Fails kind from) strides = from ≡ text_source (text_of kind (last_arrival strides))
+HasSource _ strides = ⊤
 
 -- no event begins along these rows
 abbrev pub IsWithin : List Stride → Position → Type 0
@@ -212,7 +223,7 @@ pub record IsCall {V : Type 0} (meets : Wish → Met → V → V → Type 0) (no
   pub closing : IsClosing meets (wish_next begins (walk strides old).position) closed between after
   pub told : (walk strides old).told ≡ told_by answer
   pub stops : StopsAtFirst strides old
-  pub text : HasText answer strides
+  pub source : HasSource answer strides
   pub bounded : IsBoundedAt old → IsBoundedAt new
 
 -- `poll_next`: event after event

@@ -1,8 +1,6 @@
 -- What the functions of a stream say, of its position.
 use Rattle.std.specs.Prelude.{◌≡◌, ℕ, Bool, true, false, List, [], ◌∷◌, ◌++◌, Option, Some, None, Result, Ok, Err, unwrap_or, is_some, ⊤}
 use Rattle.js_base.specs.declared.error.Error.{Error}
-use Rattle.js_base.specs.declared.error.Source.{Source}
-use Rattle.js_base.specs.declared.error.Source.TheVariants as source
 use Rattle.js_base.specs.Error.{kind_of, source_of}
 use Rattle.js_base.specs.declared.message.Message.{Message}
 use Rattle.js_base.specs.declared.message.State.{State}
@@ -23,7 +21,6 @@ use Rattle.js_pull.specs.declared.reader.Reader.{Reader}
 use Rattle.js_pull.specs.declared.reader.Row.{Row}
 use Rattle.js_pull.specs.declared.reader.Row.TheVariants.{CheckArrival}
 use Rattle.js_pull.specs.declared.reader.MessagesErrorKind.{MessagesErrorKind}
-use Rattle.js_pull.specs.declared.reader.MessagesErrorKind.TheVariants as error
 use Rattle.js_pull.specs.declared.reader.ReaderOutput.{ReaderOutput}
 use Rattle.js_pull.specs.declared.reader.ReaderOutput.TheVariants as tells
 use Rattle.js_pull.specs.declared.stream.Advance.{Advance}
@@ -33,7 +30,7 @@ use Rattle.js_pull.specs.declared.stream.RowOutcome.{RowOutcome}
 use Rattle.js_pull.specs.declared.stream.RowOutcome.TheVariants as outcome
 use Rattle.js_pull.specs.Passes.{publishing}
 use Rattle.js_pull.specs.Reader.{wish, begin_row, new_reader, opening}
-use Rattle.js_pull.specs.Poll.{Position, PollAnswer, HandsOut, Fails, Waits, Ends, Lacks, IsOpen, change_met, closed_at, description_of, later_rows}
+use Rattle.js_pull.specs.Poll.{Position, PollAnswer, HandsOut, Fails, Waits, Ends, Lacks, IsOpen, change_met, closed_at, later_rows, text_of}
 use Rattle.js_pull.specs.Rows.{met_row, row_of, rows_of, IsInformed, pin_brought}
 use Rattle.js_pull.specs.declared.rows.Due.{Due}
 use Rattle.js_pull.specs.declared.rows.Due.TheVariants as due_of
@@ -97,14 +94,10 @@ pub record IsMeeting (due : Due) (reply : Option Message) (r : Reader) (m : Meet
 abbrev pub is_took : Met → Bool
 is_took met = is_some (message_of met)
 
--- a limit is told with the server's description
+-- an error is told with the text of its kind and of this message
 abbrev pub IsText : ReaderOutput → Option (List ℕ) → Option Message → Type 0
-IsText (tells.Tells error.RequestLimitExceeded) text message = text ≡ description_of message
+IsText (tells.Tells kind) text message = text ≡ text_of kind message
 IsText told text message = ⊤
-
-abbrev pub text_of : MessagesErrorKind → Option Message → Option (List ℕ)
-text_of error.RequestLimitExceeded message = description_of message
-text_of kind message = None
 
 -- what a row comes to, by what it tells and took
 abbrev pub outcome_by : Notice → Option Message → RowOutcome
@@ -145,15 +138,9 @@ PassesAt outcome.OutOfMemory now old new before after = (new ≡ old) × (after 
 
 -- ---- answers
 
--- the text of a source
-abbrev pub source_text : Option Source → Option (List ℕ)
-source_text None = None
-source_text (Some (source.Text text)) = Some text
-source_text (Some (source.Api code err_code description)) = None
-
--- an error with the text of its source
+-- an error with its source
 abbrev pub fails_by : Error MessagesErrorKind → PollAnswer
-fails_by e = Fails (kind_of e) (source_text (source_of e))
+fails_by e = Fails (kind_of e) (source_of e)
 
 -- what `advance` answers
 abbrev pub advance_answer : Advance → PollAnswer

@@ -7,8 +7,8 @@ ghost use Rattle.js_link.specs.Wish.{message_of, watch_met};
 ghost use Rattle.js_pull.specs.Reader.{opening};
 ghost use Rattle.js_pull.specs.Rows.{pin_brought};
 ghost use Rattle.js_pull.specs.declared.rows.Due.TheVariants as due_of;
-ghost use Rattle.js_pull.specs.Poll.{IsAdvance, IsBoundedAt, IsPoll, Fails, change_met, closed_at, description_of, same_state};
-ghost use Rattle.js_pull.specs.Stream.{BeginsAt, FirstOf, IsMeeting, OpensStream, PassesAt, advance_answer, begun, fails_by, poll_answer, position_of, rows_empty, seen_by, text_of, outcome_by};
+ghost use Rattle.js_pull.specs.Poll.{IsAdvance, IsBoundedAt, IsPoll, Fails, change_met, closed_at, description_of, same_state, text_of, text_source};
+ghost use Rattle.js_pull.specs.Stream.{BeginsAt, FirstOf, IsMeeting, OpensStream, PassesAt, advance_answer, begun, fails_by, poll_answer, position_of, rows_empty, seen_by, outcome_by};
 ghost use Rattle.js_base.specs.Clock.{has_come};
 ghost use Rattle.js_pull.specs.Timers.{SleepsIfLeftAlone, timer_due};
 
@@ -21,7 +21,8 @@ use js_json::pull::BatchConfig;
 use js_link::{InboxId, Link, LinkError, Watch};
 use std::alloc::Global;
 
-/// What a stream tells of in place of a message.
+/// What a stream tells of in place of a message. The source of one of kind `RequestLimitExceeded` is the server's description, where it
+/// sent one. No other error has a source.
 pub type MessagesError = Error<MessagesErrorKind>;
 
 /// What a part of an event comes to.
@@ -99,7 +100,7 @@ fn outcome_of(told: Notice, message: Option<Message>) -> RowOutcome
     }
 }
 
-// A limit is told with the server's description.
+// A limit is told with the server's description, and an error of any other kind with no text.
 fn text_of(kind: MessagesErrorKind, message: Option<Message>) -> Option<Text>
     ensures { result ≡ text_of kind message }
 {
@@ -132,7 +133,7 @@ pub fn description_of(message: Option<Message>) -> Option<Text>
 }
 
 fn error_of(kind: MessagesErrorKind, text: Option<Text>) -> MessagesError
-    ensures { fails_by result ≡ Fails kind text }
+    ensures { fails_by result ≡ Fails kind (text_source text) }
 {
     match text {
         None => Error::new(kind),
@@ -289,13 +290,10 @@ impl Stream {
     }
 
     // Passes the next row of an event that has begun.
-    fn pass<L: Link>(&mut self, alloc: Global, link: &mut L, now: Moment) -> RowOutcome
-        requires { rows_empty (position_of self.old).todo ≡ false }
+    fn pass<L: Link>(&mut self, alloc: Global, link: &mut L, now: Moment, due: Due) -> RowOutcome
+        requires { FirstOf (Some due) self.old.left }
         ensures { PassesAt result now (position_of self.old) (position_of self.new) (seen_by self.old (L.view link.old)) (seen_by self.new (L.view link.new)) }
     {
-        let Some(due) = self.left.first() else {
-            return RowOutcome::OutOfMemory;
-        };
         match meet(
             &self.reader,
             &mut self.held,
@@ -321,10 +319,10 @@ impl Stream {
     {
         self.begin(now, change);
         'rows: loop {
-            if self.rests() {
+            let Some(due) = self.left.first() else {
                 return Advance::Done;
-            }
-            match self.pass(alloc, link, now) {
+            };
+            match self.pass(alloc, link, now, due) {
                 RowOutcome::Silent => continue,
                 RowOutcome::Took => continue,
                 RowOutcome::Hands(message) => return Advance::Message(message),
@@ -368,7 +366,7 @@ impl Stream {
     {
         let mut quiet = false;
         'rows: loop {
-            if self.rests() {
+            let Some(due) = self.left.first() else {
                 if self.reader.ended {
                     return Next::End;
                 }
@@ -378,20 +376,17 @@ impl Stream {
                 self.watch(link, now);
                 quiet = true;
                 continue;
-            } else {
-                match self.pass(alloc, link, now) {
-                    RowOutcome::Silent => continue,
-                    RowOutcome::Took => {
-                        quiet = false;
-                        continue;
-                    }
-                    RowOutcome::Hands(message) => return Next::Item(Ok(message)),
-                    RowOutcome::Tells { kind, text } => {
-                        return Next::Item(Err(error_of(kind, text)));
-                    }
-                    RowOutcome::Closed => return Next::End,
-                    RowOutcome::OutOfMemory => return Next::OutOfMemory,
+            };
+            match self.pass(alloc, link, now, due) {
+                RowOutcome::Silent => continue,
+                RowOutcome::Took => {
+                    quiet = false;
+                    continue;
                 }
+                RowOutcome::Hands(message) => return Next::Item(Ok(message)),
+                RowOutcome::Tells { kind, text } => return Next::Item(Err(error_of(kind, text))),
+                RowOutcome::Closed => return Next::End,
+                RowOutcome::OutOfMemory => return Next::OutOfMemory,
             }
         }
     }

@@ -2,4 +2,6 @@ pub mod BatchReads
 pub mod BatchCounts
 pub mod DefaultLimits
 mod PushPolls
-mod ErrorSources
+mod GivenKinds
+mod KeptInboxes
+mod RequestBodies

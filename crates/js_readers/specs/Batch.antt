@@ -78,11 +78,6 @@ abbrev pub inbox_id : Option ℕ → Option InboxId
 inbox_id None = None
 inbox_id (Some inbox) = Some (record { 0 = inbox })
 
--- an inbox that is still open is closed
-abbrev pub ClosesIfOpen : Option ℕ → LinkView → LinkView → Type 0
-ClosesIfOpen None old new = new ≡ old
-ClosesIfOpen (Some inbox) old new = Closes inbox old new
-
 -- ---- it is polled
 
 -- what a poll answers

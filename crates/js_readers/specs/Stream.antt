@@ -2,6 +2,7 @@
 use Rattle.std.specs.Prelude.{ℕ, ◌≡◌, ⊤, None, List, Result, Ok, Err}
 use Rattle.js_base.specs.Error.{plain}
 use Rattle.js_base.specs.declared.error.Error.{Error}
+use Rattle.js_base.specs.declared.message.Message as base
 use Rattle.js_base.specs.declared.turn.Next.{Next}
 use Rattle.js_base.specs.declared.turn.Next.TheVariants as next
 use Rattle.js_json.specs.declared.pull.batch.BatchConfig.{BatchConfig}
@@ -13,8 +14,8 @@ use Rattle.js_link.specs.declared.link.LinkError.TheVariants as link
 use Rattle.js_message.specs.declared.message.Message.{Message}
 use Rattle.js_call_consumers.specs.declared.consumer.Consumer.{Consumer}
 use Rattle.js_pull.specs.declared.reader.MessagesErrorKind.{MessagesErrorKind}
-use Rattle.js_pull.specs.Poll.{PollAnswer, HandsOut, Waits, Ends, Lacks}
-use Rattle.js_pull.specs.Stream.{fails_by, opened_at, position_of}
+use Rattle.js_pull.specs.Poll.{PollAnswer}
+use Rattle.js_pull.specs.Stream.{opened_at, poll_answer, position_of}
 use Rattle.js_readers.specs.declared.pull.error.StreamErrorKind.{StreamErrorKind}
 use Rattle.js_readers.specs.declared.pull.error.StreamErrorKind.TheVariants.{Other, OutOfMemory}
 use Rattle.js_readers.specs.declared.pull.stream.Stream.{Stream}
@@ -45,15 +46,19 @@ abbrev pub OpensMessages : Result Stream (Error StreamErrorKind) → Consumer pu
 OpensMessages (Ok s) c config old new = OpensStreamOf s c config old new
 OpensMessages (Err e) c config old new = RefusesStream e old new
 
--- what `poll_next` answers
-abbrev pub given_answer : Next (Result Message (Error MessagesErrorKind)) → PollAnswer
-given_answer (next.Item (Ok given)) = HandsOut given.message
-given_answer (next.Item (Err e)) = fails_by e
-given_answer next.Pending = Waits
-given_answer next.End = Ends
-given_answer next.OutOfMemory = Lacks
+-- an answer as the reader below gives it: its message, without how long its acknowledgement waits
+abbrev pub untimed : {E : Type 0} → Next (Result Message E) → Next (Result base.Message E)
+untimed (next.Item (Ok given)) = next.Item (Ok given.message)
+untimed (next.Item (Err e)) = next.Item (Err e)
+untimed next.Pending = next.Pending
+untimed next.End = next.End
+untimed next.OutOfMemory = next.OutOfMemory
 
 -- a message that is given waits so long for its answer
 abbrev pub IsTimed : {E : Type 0} → ℕ → Next (Result Message E) → Type 0
 IsTimed timeout (next.Item (Ok given)) = given.timeout ≡ timeout
 IsTimed timeout answer = ⊤
+
+-- what `poll_next` answers
+abbrev pub given_answer : Next (Result Message (Error MessagesErrorKind)) → PollAnswer
+given_answer answer = poll_answer (untimed answer)

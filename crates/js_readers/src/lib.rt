@@ -16,3 +16,4 @@
 pub mod ordered;
 pub mod pull;
 pub mod push;
+mod timed;

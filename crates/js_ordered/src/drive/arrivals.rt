@@ -1,20 +1,21 @@
 //! The arrivals of a pull reader in a replay: the event lends them, and what is put out of one is made before it is heard.
 ghost use Rattle.std.specs.Prelude.{◌≡◌, ◌≢◌, ◌+◌, ◌≤◌, ◌∷◌, ◌↔◌, [], IfOk, OnOk, OnErr, IsTrue, option_to_list, vec_capacity, vec_len};
-ghost use Rattle.js_ordered.specs.Driven.{Arrives, PassesTo};
+ghost use Rattle.js_ordered.specs.Driven.{Arrives, PassesTo, matter_now};
 ghost use Rattle.js_pull.specs.Kind.{pull_kind as kind_of};
 ghost use Rattle.js_ordered_table.specs.Tasks.{IsHeardFrom, heard_outputs};
 ghost use Rattle.js_pull.specs.declared.reader.Row.TheVariants as read;
-ghost use Rattle.js_ordered_table.specs.Passes.{heard, matter_now};
+ghost use Rattle.js_ordered_table.specs.Passes.{heard};
 ghost use Rattle.js_ordered_table.specs.declared.row.Row.TheVariants as row;
 
 use crate::drive::give::put;
 use crate::drive::listening::output_of;
 use crate::drive::reading::finish;
+use crate::event_context::EventContext;
 use js_base::{Message, OutOfMemory};
 use js_ordered_table::transitions::pull::take_message;
 use js_ordered_table::transitions::push::heard_from;
 use js_ordered_table::transitions::{Heard, NextTasks, Task};
-use js_ordered_table::{EventContext, Output, Phase, ReplayState};
+use js_ordered_table::{ConsumerContext, Output, Phase, ReplayState};
 use js_pull::{Due, Kind, Reader, pull_kind};
 use std::alloc::Global;
 
@@ -40,7 +41,7 @@ fn make_ready(state: &ReplayState, message: &Message) -> Result<Brought, OutOfMe
 #[inline]
 fn note(
     alloc: Global,
-    context: &EventContext<'_>,
+    context: &ConsumerContext<'_>,
     reader: &mut Reader,
     message: &Message,
 ) -> Result<(), OutOfMemory>
@@ -71,7 +72,7 @@ fn hear_message(
 {
     match &mut state.consumer.phase {
         Phase::Pulls(reader) => {
-            let Ok(()) = note(alloc, context, reader, message) else {
+            let Ok(()) = note(alloc, &context.consumer, reader, message) else {
                 drop(ready);
                 return Err(OutOfMemory);
             };
@@ -102,7 +103,7 @@ fn hear_status(
 {
     match &mut state.consumer.phase {
         Phase::Pulls(reader) => {
-            let Ok(()) = note(alloc, context, reader, message) else {
+            let Ok(()) = note(alloc, &context.consumer, reader, message) else {
                 return Err(OutOfMemory);
             };
             let step = reader.hear(message);

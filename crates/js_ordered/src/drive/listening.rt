@@ -1,8 +1,8 @@
 //! The rows by which push reads its inbox, in a replay: what arrives is lent by the event, and what is put out of it is made first.
 ghost use Rattle.std.specs.Prelude.{◌≡◌, ◌+◌, ◌≤◌, ◌++◌, ◌∷◌, [], IfOk, List, is_some, option_to_list, vec_capacity, vec_len};
-ghost use Rattle.js_ordered.specs.Driven.{LeadsOn, PassesTo};
+ghost use Rattle.js_ordered.specs.Driven.{LeadsOn, PassesTo, matter_now};
 ghost use Rattle.js_ordered_table.specs.Tasks.{heard_outputs, next_rows};
-ghost use Rattle.js_ordered_table.specs.Passes.{listens_to, matter_now};
+ghost use Rattle.js_ordered_table.specs.Passes.{listens_to};
 ghost use Rattle.js_ordered_table.specs.Fold.{matter_of};
 ghost use Rattle.js_ordered_table.specs.Arrivals.{beat_answer};
 ghost use Rattle.js_ordered_table.specs.Recreation.{message_on};
@@ -10,13 +10,14 @@ ghost use Rattle.js_ordered_table.specs.declared.row.Row.TheVariants as row;
 ghost use Rattle.js_ordered_table.specs.declared.run.Output.{Output as SpecOutput};
 
 use crate::drive::give::{put, tell};
+use crate::event_context::EventContext;
 use bytes::Bytes;
 use js_base::{Message, OutOfMemory, TryClone};
 use js_ordered_table::transitions::push::{
     arrival_next, heard_as, listen, pass_hear, pass_silence,
 };
 use js_ordered_table::transitions::{Heard, NextTasks, PassedTask};
-use js_ordered_table::{EventContext, EventKind, ItemKind, Output, Phase, ReplayState, yield_of};
+use js_ordered_table::{EventKind, ItemKind, Output, Phase, ReplayState, yield_of};
 
 /// The event brings something on this inbox.
 #[inline]
@@ -59,7 +60,7 @@ pub(crate) fn look_at_silence(
             heartbeat_timer,
             ..
         } => {
-            let PassedTask { told, next } = pass_silence(context, heartbeat_timer);
+            let PassedTask { told, next } = pass_silence(&context.consumer, heartbeat_timer);
             tell(told, outputs);
             next
         }
@@ -76,7 +77,7 @@ pub(crate) fn arm(context: &EventContext<'_>, state: &mut ReplayState)
     ensures { (outputs : List SpecOutput) → LeadsOn context.now (row.Arm ∷ []) state.old outputs [] state.new outputs }
 {
     match state.consumer.phase {
-        Phase::Pushes { inbox, .. } => listen(context, &mut state.consumer, inbox),
+        Phase::Pushes { inbox, .. } => listen(&context.consumer, &mut state.consumer, inbox),
         Phase::Pulls(_) => {}
         Phase::Recreates(_) => {}
         Phase::Idle => {}
@@ -154,7 +155,7 @@ pub(crate) fn hear(
     }
     let heard = heard_as(state.consumer.core.consumer_sequence, message);
     let output = output_of(state.link_up, message, heard)?;
-    let next = pass_hear(context, &mut state.consumer, inbox, heard);
+    let next = pass_hear(&context.consumer, &mut state.consumer, inbox, heard);
     put(output, outputs);
     Ok(next)
 }

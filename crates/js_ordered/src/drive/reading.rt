@@ -1,14 +1,13 @@
 //! The rows of a pull reader in a replay: what it sends and what is put out of an arrival is made first.
 ghost use Rattle.std.specs.Prelude.{◌≡◌, ◌+◌, ◌≤◌, ◌∷◌, [], IfOk, List, codes, vec_capacity, vec_len};
 ghost use Rattle.std.specs.Option.{option_copied};
-ghost use Rattle.js_ordered.specs.Driven.{Finishes, LeadsOn, PassesTo};
+ghost use Rattle.js_ordered.specs.Driven.{Finishes, LeadsOn, PassesTo, matter_now};
 ghost use Rattle.js_ordered.specs.Giving.{IsPublishing, IsSending};
 ghost use Rattle.js_ordered_table.specs.Tasks.{next_rows};
 ghost use Rattle.js_pull.specs.Rows.{IsInquired, brought, informed_by, row_of};
 ghost use Rattle.js_pull.specs.Reader.{info_of_reply, info_subject};
 ghost use Rattle.js_pull.specs.declared.reader.Row.TheVariants as read;
 ghost use Rattle.js_ordered_table.specs.Fold.{matter_of};
-ghost use Rattle.js_ordered_table.specs.Passes.{matter_now};
 ghost use Rattle.js_ordered_table.specs.Consumer.{Matter};
 ghost use Rattle.js_ordered_table.specs.declared.row.Row.TheVariants as row;
 ghost use Rattle.js_ordered_table.specs.declared.run.Output.{Output as SpecOutput};
@@ -16,10 +15,11 @@ ghost use Rattle.js_ordered_table.specs.declared.run.Output.{Output as SpecOutpu
 use crate::drive::arrivals::check_arrival;
 use crate::drive::give::{Sending, request_for, send, tell};
 use crate::drive::recreation::has_reply;
+use crate::event_context::EventContext;
 use bytes::Bytes;
 use js_base::{Message, OutOfMemory, TryClone, all_3};
 use js_ordered_table::transitions::{NextTasks, PassedTask, pull};
-use js_ordered_table::{EventContext, EventKind, Output, Phase, ReplayState};
+use js_ordered_table::{EventKind, Output, Phase, ReplayState};
 use js_pull::{Due, InfoRequest, PassedRow as Read, Reader, Reason, check_inquiry, reason_of};
 use std::alloc::Global;
 
@@ -70,11 +70,11 @@ fn ask(
         Phase::Pulls(reader) => match pull_request(alloc, state.link_up, reader) {
             Err(OutOfMemory) => Err(OutOfMemory),
             Ok(None) => {
-                let step = pull::ask(reader, context.moment, reason, false);
+                let step = pull::ask(reader, context.consumer.moment, reason, false);
                 Ok(finish(state, step, outputs))
             }
             Ok(Some(output)) => {
-                pull::ask(reader, context.moment, reason, true);
+                pull::ask(reader, context.consumer.moment, reason, true);
                 outputs.push_reserved(output);
                 Ok(NextTasks::Nothing)
             }
@@ -115,7 +115,7 @@ fn inquire(
         Phase::Pulls(reader) => {
             let request = info_request(alloc, state.link_up, state.requests_sent, reader)?;
             let number = send(&mut state.requests_sent, request, outputs);
-            let step = pull::inquire(reader, context.moment, failures, number);
+            let step = pull::inquire(reader, context.consumer.moment, failures, number);
             Ok(pull::after(step.next))
         }
         _ => Ok(NextTasks::Nothing),
@@ -192,7 +192,7 @@ fn check_info(
     match &state.consumer.phase {
         Phase::Pulls(reader) => {
             let answered = is_answered(context.what, reader.inquiry);
-            let step = check_inquiry(reader.inquiry, context.moment, answered);
+            let step = check_inquiry(reader.inquiry, context.consumer.moment, answered);
             finish(state, step, outputs)
         }
         _ => NextTasks::Nothing,
@@ -211,7 +211,7 @@ fn fail_inquiry(
 {
     match &mut state.consumer.phase {
         Phase::Pulls(reader) => {
-            let step = pull::fail_inquiry(reader, context.moment, failures);
+            let step = pull::fail_inquiry(reader, context.consumer.moment, failures);
             finish(state, step, outputs)
         }
         _ => NextTasks::Nothing,
@@ -232,7 +232,7 @@ fn check_expiry(
 {
     match &mut state.consumer.phase {
         Phase::Pulls(reader) => {
-            let step = pull::check_expiry(reader, context.moment);
+            let step = pull::check_expiry(reader, context.consumer.moment);
             finish(state, step, outputs)
         }
         _ => NextTasks::Nothing,
@@ -251,7 +251,7 @@ fn check_silence(
 {
     match &mut state.consumer.phase {
         Phase::Pulls(reader) => {
-            let step = pull::check_silence(reader, context.moment);
+            let step = pull::check_silence(reader, context.consumer.moment);
             finish(state, step, outputs)
         }
         _ => NextTasks::Nothing,
@@ -282,7 +282,7 @@ fn arm(context: &EventContext<'_>, state: &mut ReplayState)
     ensures { (outputs : List SpecOutput) → LeadsOn context.now (row.Read read.Arm ∷ []) state.old outputs [] state.new outputs }
 {
     if let Phase::Pulls(reader) = &mut state.consumer.phase {
-        reader.arm_silence(context.moment);
+        reader.arm_silence(context.consumer.moment);
     }
 }
 

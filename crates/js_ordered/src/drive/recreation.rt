@@ -1,17 +1,18 @@
 //! The rows of a recreation in a replay: their texts are made first, so that a row for which there is no memory changes nothing.
 ghost use Rattle.std.specs.Prelude.{◌≡◌, ◌+◌, ◌≤◌, ◌∷◌, [], Some, IfOk, OnOk, OnErr, codes, is_some, option_map, vec_capacity, vec_len};
-ghost use Rattle.js_ordered.specs.Driven.{PassesTo};
+ghost use Rattle.js_ordered.specs.Driven.{PassesTo, matter_now};
 ghost use Rattle.js_ordered.specs.Giving.{IsOpening, IsSending};
 ghost use Rattle.js_ordered_table.specs.Tasks.{IsAnswered, answered_rows};
 ghost use Rattle.js_pull.specs.Reader.{info_of_reply as info_in, reply_to};
 ghost use Rattle.js_ordered_table.specs.Fold.{matter_of};
 ghost use Rattle.js_ordered_table.specs.Invariant.{IsPull, IsPush};
-ghost use Rattle.js_ordered_table.specs.Passes.{at, input_of, holding, matter_now};
+ghost use Rattle.js_ordered_table.specs.Passes.{at, input_of, holding};
 ghost use Rattle.js_ordered_table.specs.Recreation.{held_in};
 ghost use Rattle.js_ordered_table.specs.Texts as texts_of;
 ghost use Rattle.js_ordered_table.specs.declared.row.Row.TheVariants as row;
 
 use crate::drive::give::{Opening, Sending, inbox_for, request_for, send, subscribe, tell};
+use crate::event_context::EventContext;
 use bytes::Bytes;
 use js_base::{Boxed, Message, OutOfMemory, Subject, TryClone};
 use js_json::consumer::Info;
@@ -21,7 +22,7 @@ use js_ordered_table::transitions::recreation::{
 };
 use js_ordered_table::transitions::{NextTasks, PassedTask};
 use js_ordered_table::{
-    EventContext, EventKind, Opened, OrderedSetup, Output, Phase, Recreation, ReplayState,
+    ConsumerContext, EventKind, Opened, OrderedSetup, Output, Phase, Recreation, ReplayState,
     RequestOutcome, Stage, texts,
 };
 use js_pull::{PullSource, info_of_reply};
@@ -41,14 +42,14 @@ pub(crate) fn start(
 {
     let name = texts::consumer_name(
         alloc,
-        context,
+        &context.consumer,
         state.consumer.core.recreation_count.saturating_add(1),
     )?;
     let Ok(again) = name.try_clone() else {
         drop(name);
         return Err(OutOfMemory);
     };
-    let PassedTask { told, next } = pass_start(context, &mut state.consumer, name, again);
+    let PassedTask { told, next } = pass_start(&context.consumer, &mut state.consumer, name, again);
     tell(told, outputs);
     Ok(next)
 }
@@ -58,7 +59,7 @@ pub(crate) fn start(
 /// The request that deletes the old consumer, where the link is up.
 fn try_request(
     alloc: Global,
-    context: &EventContext<'_>,
+    context: &ConsumerContext<'_>,
     state: &ReplayState,
     recreation: &Recreation,
 ) -> Result<Option<Sending>, OutOfMemory>
@@ -90,14 +91,14 @@ pub(crate) fn begin_try(
     requires room { vec_len outputs.old + 1 ≤ vec_capacity outputs.old }
     ensures { PassesTo context.now (row.Try ∷ []) (at (Phase.Recreates recreation) state.old) state.new outputs.old.items outputs.new.items result }
 {
-    match try_request(alloc, context, state, &recreation) {
+    match try_request(alloc, &context.consumer, state, &recreation) {
         Err(refused) => {
             keep_open(state, recreation);
             Err(refused)
         }
         Ok(request) => {
             let number = send(&mut state.requests_sent, request, outputs);
-            Ok(pass_try(context, &mut state.consumer, recreation, number))
+            Ok(pass_try(&context.consumer, &mut state.consumer, recreation, number))
         }
     }
 }
@@ -105,7 +106,7 @@ pub(crate) fn begin_try(
 /// The inbox of a push create, where the link is up.
 pub(crate) fn create_inbox(
     alloc: Global,
-    context: &EventContext<'_>,
+    context: &ConsumerContext<'_>,
     state: &ReplayState,
 ) -> Result<Option<Opening>, OutOfMemory>
     ensures { IfOk result (λ opening. IsOpening state.now.link_up state.now.inboxes_opened (texts_of.inbox_subject (input_of context.now) state.now.inboxes_opened) opening) }
@@ -126,18 +127,24 @@ fn create_push(
     recreation: Recreation,
     outputs: &mut Vec<Output>,
 ) -> Result<NextTasks, OutOfMemory>
-    requires push { IsPush context.now.setup.now }
+    requires push { IsPush context.now.consumer.setup.now }
     requires room { vec_len outputs.old + 1 ≤ vec_capacity outputs.old }
     ensures { PassesTo context.now (row.Create ∷ []) (at (Phase.Recreates recreation) state.old) state.new outputs.old.items outputs.new.items result }
 {
-    match create_inbox(alloc, context, state) {
+    match create_inbox(alloc, &context.consumer, state) {
         Err(refused) => {
             keep_open(state, recreation);
             Err(refused)
         }
         Ok(opening) => {
             let inbox = subscribe(&mut state.inboxes_opened, opening, outputs);
-            Ok(pass_create(alloc, context, &mut state.consumer, recreation, inbox))
+            Ok(pass_create(
+                alloc,
+                &context.consumer,
+                &mut state.consumer,
+                recreation,
+                inbox,
+            ))
         }
     }
 }
@@ -150,10 +157,16 @@ fn create_pull(
     recreation: Recreation,
     outputs: &mut Vec<Output>,
 ) -> Result<NextTasks, OutOfMemory>
-    requires pull { IsPull context.now.setup.now }
+    requires pull { IsPull context.now.consumer.setup.now }
     ensures { PassesTo context.now (row.Create ∷ []) (at (Phase.Recreates recreation) state.old) state.new outputs.old.items outputs.new.items result }
 {
-    Ok(pass_create(alloc, context, &mut state.consumer, recreation, None))
+    Ok(pass_create(
+        alloc,
+        &context.consumer,
+        &mut state.consumer,
+        recreation,
+        None,
+    ))
 }
 
 /// The new consumer is to be asked for.
@@ -167,7 +180,7 @@ pub(crate) fn create(
     requires room { vec_len outputs.old + 1 ≤ vec_capacity outputs.old }
     ensures { PassesTo context.now (row.Create ∷ []) (at (Phase.Recreates recreation) state.old) state.new outputs.old.items outputs.new.items result }
 {
-    match context.setup {
+    match context.consumer.setup {
         OrderedSetup::Pull(_) => create_pull(alloc, context, state, recreation, outputs),
         OrderedSetup::Push(_) => create_push(alloc, context, state, recreation, outputs),
     }
@@ -176,7 +189,7 @@ pub(crate) fn create(
 /// The create request, where the link is up.
 fn create_request(
     alloc: Global,
-    context: &EventContext<'_>,
+    context: &ConsumerContext<'_>,
     state: &ReplayState,
     recreation: &Recreation,
 ) -> Result<Option<Sending>, OutOfMemory>
@@ -202,14 +215,14 @@ pub(crate) fn ask(
     requires room { vec_len outputs.old + 1 ≤ vec_capacity outputs.old }
     ensures { PassesTo context.now (row.Ask ∷ []) (at (Phase.Recreates recreation) state.old) state.new outputs.old.items outputs.new.items result }
 {
-    match create_request(alloc, context, state, &recreation) {
+    match create_request(alloc, &context.consumer, state, &recreation) {
         Err(refused) => {
             keep_open(state, recreation);
             Err(refused)
         }
         Ok(request) => {
             let number = send(&mut state.requests_sent, request, outputs);
-            Ok(pass_ask(context, &mut state.consumer, recreation, number))
+            Ok(pass_ask(&context.consumer, &mut state.consumer, recreation, number))
         }
     }
 }
@@ -224,7 +237,7 @@ pub(crate) fn fail(
     requires room { vec_len outputs.old + 1 ≤ vec_capacity outputs.old }
     ensures { PassesTo context.now (row.Fail ∷ []) (at (Phase.Recreates recreation) state.old) state.new outputs.old.items outputs.new.items result }
 {
-    let PassedTask { told, next } = pass_fail(context, &mut state.consumer, recreation);
+    let PassedTask { told, next } = pass_fail(&context.consumer, &mut state.consumer, recreation);
     tell(told, outputs);
     Ok(next)
 }
@@ -264,7 +277,7 @@ pub(crate) fn look_on(
     ensures { PassesTo context.now (row.Await ∷ []) (at (Phase.Recreates recreation) state.old) state.new outputs.old.items outputs.new.items result }
 {
     let answered = is_answered(context.what, recreation.stage);
-    Ok(pass_await(context, &mut state.consumer, recreation, answered))
+    Ok(pass_await(&context.consumer, &mut state.consumer, recreation, answered))
 }
 
 /// What was read, in a box. It is generic, since an info is large.
@@ -320,7 +333,12 @@ pub(crate) fn answered(
                 keep_open(state, recreation);
                 Ok(NextTasks::Nothing)
             }
-            Some(info) => Ok(pass_answered(context, &mut state.consumer, recreation, info)),
+            Some(info) => Ok(pass_answered(
+                &context.consumer,
+                &mut state.consumer,
+                recreation,
+                info,
+            )),
         },
     }
 }

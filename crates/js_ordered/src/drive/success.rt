@@ -7,13 +7,14 @@ ghost use Rattle.js_ordered_table.specs.Consumer.{Matter};
 ghost use Rattle.js_pull.specs.Reader.{info_of_reply as info_in, reply_to};
 ghost use Rattle.js_ordered_table.specs.Fold.{matter_of};
 ghost use Rattle.js_ordered_table.specs.Invariant.{IsPull, IsPush};
-ghost use Rattle.js_ordered_table.specs.Passes.{at, input_of, holding, matter_now};
+ghost use Rattle.js_ordered_table.specs.Passes.{at, input_of, holding};
 ghost use Rattle.js_ordered_table.specs.Recreation.{held_in};
 ghost use Rattle.js_ordered_table.specs.Texts as texts_of;
 ghost use Rattle.js_ordered_table.specs.declared.row.Row.TheVariants as row;
 
 use crate::drive::give::{Opening, Sending, inbox_for, request_for, send, subscribe, tell};
 use crate::drive::recreation::{create_inbox, keep_open};
+use crate::event_context::EventContext;
 use bytes::Bytes;
 use js_base::{Boxed, Items, Message, OutOfMemory, TryClone};
 use js_json::consumer::Info;
@@ -23,7 +24,7 @@ use js_ordered_table::transitions::recreation::{
 };
 use js_ordered_table::transitions::{Held, NextTasks, Task};
 use js_ordered_table::{
-    EventContext, EventKind, Opened, OrderedSetup, Output, Phase, Recreation, ReplayState,
+    ConsumerContext, EventKind, Opened, OrderedSetup, Output, Phase, Recreation, ReplayState,
     RequestOutcome, Stage, texts,
 };
 use js_pull::{PullSource, info_of_reply};
@@ -38,7 +39,7 @@ struct Reading {
 
 fn reading_for(
     alloc: Global,
-    context: &EventContext<'_>,
+    context: &ConsumerContext<'_>,
     state: &ReplayState,
     info: &Info,
 ) -> Result<Reading, OutOfMemory>
@@ -69,18 +70,24 @@ fn succeed_pull(
     info: &Info,
     outputs: &mut Vec<Output>,
 ) -> Result<NextTasks, OutOfMemory>
-    requires pull { IsPull context.now.setup.now }
+    requires pull { IsPull context.now.consumer.setup.now }
     requires room { vec_len outputs.old + 1 ≤ vec_capacity outputs.old }
     ensures { PassesTo context.now (row.Succeed info.now ∷ []) (at (Phase.Recreates recreation) state.old) state.new outputs.old.items outputs.new.items result }
 {
-    match reading_for(alloc, context, state, info) {
+    match reading_for(alloc, &context.consumer, state, info) {
         Err(refused) => {
             keep_open(state, recreation);
             Err(refused)
         }
         Ok(Reading { source, opening }) => {
             let inbox = subscribe(&mut state.inboxes_opened, opening, outputs);
-            Ok(pass_succeed_pull(context, &mut state.consumer, recreation, source, inbox))
+            Ok(pass_succeed_pull(
+                &context.consumer,
+                &mut state.consumer,
+                recreation,
+                source,
+                inbox,
+            ))
         }
     }
 }
@@ -122,7 +129,7 @@ fn succeed_push(
     info: &Info,
     outputs: &mut Vec<Output>,
 ) -> Result<NextTasks, OutOfMemory>
-    requires push { IsPush context.now.setup.now }
+    requires push { IsPush context.now.consumer.setup.now }
     ensures { PassesTo context.now (row.Succeed info.now ∷ []) (at (Phase.Recreates recreation) state.old) state.new outputs.old.items outputs.new.items result }
 {
     match held_box(alloc) {
@@ -131,7 +138,7 @@ fn succeed_push(
             Err(refused)
         }
         Ok(held_box) => {
-            let held = pass_succeed_push(context, &mut state.consumer, recreation);
+            let held = pass_succeed_push(&context.consumer, &mut state.consumer, recreation);
             Ok(held_next(held_box, held))
         }
     }
@@ -149,7 +156,7 @@ pub(crate) fn succeed(
     requires room { vec_len outputs.old + 1 ≤ vec_capacity outputs.old }
     ensures { PassesTo context.now (row.Succeed info.now ∷ []) (at (Phase.Recreates recreation) state.old) state.new outputs.old.items outputs.new.items result }
 {
-    match context.setup {
+    match context.consumer.setup {
         OrderedSetup::Pull(_) => succeed_pull(alloc, context, state, recreation, info, outputs),
         OrderedSetup::Push(_) => succeed_push(alloc, context, state, recreation, info, outputs),
     }

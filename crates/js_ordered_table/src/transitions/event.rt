@@ -11,7 +11,7 @@ ghost use Rattle.js_ordered_table.specs.Table as table;
 use crate::transitions::pull::begin;
 use crate::transitions::recreation::set_phase;
 use crate::transitions::task::{NextTasks, PassedTask, RowOutput, Task};
-use crate::{Change, Consumer, EventContext, ItemKind, OrderedSetup, Phase, Recreation};
+use crate::{Change, Consumer, ConsumerContext, ItemKind, OrderedSetup, Phase, Recreation};
 use js_base::State;
 use js_pull::same_state;
 
@@ -63,7 +63,7 @@ fn recreation_next(recreation: &Recreation) -> NextTasks
 
 // What an event goes on with after the connection, which may have changed for a reader.
 #[inline]
-fn go_on(context: &EventContext<'_>, consumer: &mut Consumer, change: Option<State>) -> NextTasks
+fn go_on(context: &ConsumerContext<'_>, consumer: &mut Consumer, change: Option<State>) -> NextTasks
     ensures { (p : RowInput) → (m : Matter)
         → StepsTo m (goes_on (input_of context.now) (at_moment context.now.moment p) m change consumer.old.phase consumer.old) [] consumer.new result }
 {
@@ -92,7 +92,7 @@ fn is_lost(phase: &Phase, before: State, state: State) -> bool
 }
 
 // The connection is in another state from now on.
-fn change_state(context: &EventContext<'_>, consumer: &mut Consumer, state: State) -> NextTasks
+fn change_state(context: &ConsumerContext<'_>, consumer: &mut Consumer, state: State) -> NextTasks
     ensures { (p : RowInput) → (m : Matter)
         → StepsTo m (table.changed (input_of context.now) (at_moment context.now.moment p) m consumer.old.connection state consumer.old.phase consumer.old) [] consumer.new result }
 {
@@ -106,7 +106,11 @@ fn change_state(context: &EventContext<'_>, consumer: &mut Consumer, state: Stat
 
 /// What an event does first, with what it says of the connection. An ended consumer passes nothing, and is not asked for here.
 #[inline]
-pub fn pass_event(context: &EventContext<'_>, consumer: &mut Consumer, change: Change) -> PassedTask
+pub fn pass_event(
+    context: &ConsumerContext<'_>,
+    consumer: &mut Consumer,
+    change: Change,
+) -> PassedTask
     requires over { has_ended consumer.old.phase ≡ false }
     ensures { (p : RowInput) → (m : Matter) → m.change ≡ change_shown change
         → StepsTo m (table.event_row (input_of context.now) (at_moment context.now.moment p) m consumer.old.phase consumer.old) (told_outputs result.told) consumer.new result.next }

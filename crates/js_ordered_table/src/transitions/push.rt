@@ -12,7 +12,7 @@ ghost use Rattle.js_ordered_table.specs.Table as table;
 use crate::transitions::event::silent_row;
 use crate::transitions::recreation::set_phase;
 use crate::transitions::task::{Heard, NextTasks, PassedTask, RowOutput, Task};
-use crate::{Consumer, EventContext, ItemKind, Phase, PushKind, place_of, push_kind};
+use crate::{Consumer, ConsumerContext, ItemKind, Phase, PushKind, place_of, push_kind};
 use js_base::{Message, Moment, Nanos, Timer};
 
 /// The server is heard at least this often.
@@ -30,7 +30,7 @@ fn armed(now: Moment) -> Timer
 
 /// The consumer listens to this inbox, whose heartbeat is armed.
 #[inline]
-pub fn listen(context: &EventContext<'_>, consumer: &mut Consumer, inbox: u64)
+pub fn listen(context: &ConsumerContext<'_>, consumer: &mut Consumer, inbox: u64)
     ensures { consumer.new ≡ at_phase (Phase.Pushes inbox (reading.armed context.now.moment)) consumer.old }
 {
     let heartbeat_timer = armed(context.moment);
@@ -58,7 +58,7 @@ pub fn arrival_next(inbox: u64, is_there: bool) -> NextTasks
 
 /// A heartbeat that is missing is an item, and a recreation starts.
 #[inline]
-pub fn pass_silence(context: &EventContext<'_>, heartbeat_timer: Timer) -> PassedTask
+pub fn pass_silence(context: &ConsumerContext<'_>, heartbeat_timer: Timer) -> PassedTask
     ensures { (m : Matter) → (p : RowInput) → (c : SpecConsumer)
         → StepsTo m (reading.silence_row (at_moment context.now.moment p) heartbeat_timer c) (told_outputs result.told) c result.next }
 {
@@ -122,7 +122,7 @@ fn beat_next(last: Option<u64>, number: u64) -> NextTasks
 /// An arrival on the current inbox is heard, which arms its heartbeat.
 #[inline]
 pub fn pass_hear(
-    context: &EventContext<'_>,
+    context: &ConsumerContext<'_>,
     consumer: &mut Consumer,
     inbox: u64,
     heard: Heard,

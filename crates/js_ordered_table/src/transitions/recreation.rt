@@ -12,7 +12,7 @@ ghost use Rattle.js_json.specs.declared.consumer.info.Info.{Info as SpecInfo};
 use crate::transitions::event::silent_row;
 use crate::transitions::task::{Held, Inbox, NextTasks, PassedTask, RowOutput, Task};
 use crate::{
-    Consumer, EventContext, ItemKind, Opened, OrderedSetup, Phase, Recreation, Stage, texts,
+    Consumer, ConsumerContext, ItemKind, Opened, OrderedSetup, Phase, Recreation, Stage, texts,
 };
 use js_base::{Boxed, Items, Moment, Text, Timer, replace_with};
 use js_json::consumer::Info;
@@ -31,7 +31,7 @@ pub(crate) fn set_phase(consumer: &mut Consumer, phase: Phase)
 
 /// A recreation starts: what is current was dropped, and the first try follows. The name is the next consumer's.
 pub fn pass_start(
-    context: &EventContext<'_>,
+    context: &ConsumerContext<'_>,
     consumer: &mut Consumer,
     name: Text,
     new_name: Text,
@@ -67,7 +67,7 @@ pub fn pass_start(
 // ---- a try
 
 // The bound on an answer that is waited for from now on.
-fn timeout(context: &EventContext<'_>) -> Timer
+fn timeout(context: &ConsumerContext<'_>) -> Timer
     ensures { result ≡ timeout_at (input_of context.now) context.now.moment }
 {
     Timer {
@@ -78,7 +78,7 @@ fn timeout(context: &EventContext<'_>) -> Timer
 
 /// A try begins: the deletion of the old consumer was asked for with this number, or is passed over.
 pub fn pass_try(
-    context: &EventContext<'_>,
+    context: &ConsumerContext<'_>,
     consumer: &mut Consumer,
     mut recreation: Recreation,
     request: Option<u64>,
@@ -113,7 +113,7 @@ fn hold_on(recreation: &mut Recreation, opened: Option<Opened>)
 /// The new consumer is to be asked for. Push has opened its inbox before that, or could not.
 pub fn pass_create(
     alloc: Global,
-    context: &EventContext<'_>,
+    context: &ConsumerContext<'_>,
     consumer: &mut Consumer,
     mut recreation: Recreation,
     inbox: Option<Inbox>,
@@ -149,7 +149,7 @@ pub fn pass_create(
 
 /// The new consumer was asked for with this number, or could not be.
 pub fn pass_ask(
-    context: &EventContext<'_>,
+    context: &ConsumerContext<'_>,
     consumer: &mut Consumer,
     mut recreation: Recreation,
     request: Option<u64>,
@@ -192,7 +192,7 @@ fn rest(recreation: &mut Recreation, now: Moment)
 
 /// A try has failed: after more failures than retries an item closes the recreation, otherwise the next try waits.
 pub fn pass_fail(
-    context: &EventContext<'_>,
+    context: &ConsumerContext<'_>,
     consumer: &mut Consumer,
     mut recreation: Recreation,
 ) -> PassedTask
@@ -216,7 +216,7 @@ pub fn pass_fail(
 // ---- an open recreation
 
 // The deletion looks at its answer before its clock. Either brings the create.
-fn delete_next(context: &EventContext<'_>, timeout: Timer, is_answered: bool) -> NextTasks
+fn delete_next(context: &ConsumerContext<'_>, timeout: Timer, is_answered: bool) -> NextTasks
     ensures { (m : Matter) → (p : RowInput) → (request : ℕ) → is_answered ≡ is_some (reply_to request m.answer)
         → next_rows m result ≡ rows.stage_rows (input_of context.now) (at_moment context.now.moment p) m (Stage.Deleting request timeout) }
 {
@@ -232,7 +232,7 @@ fn delete_next(context: &EventContext<'_>, timeout: Timer, is_answered: bool) ->
 // The create looks at its answer before its clock.
 #[tactic(auto, using(std::proofs::lemmas::Grind::common_steps, crate::proofs::PassedRows::create_answered))]
 fn create_next(
-    context: &EventContext<'_>,
+    context: &ConsumerContext<'_>,
     request: u64,
     timeout: Timer,
     is_answered: bool,
@@ -250,7 +250,7 @@ fn create_next(
 }
 
 // The next try waits.
-fn wait_next(context: &EventContext<'_>, wait: Timer) -> NextTasks
+fn wait_next(context: &ConsumerContext<'_>, wait: Timer) -> NextTasks
     ensures { (m : Matter) → (p : RowInput) → next_rows m result ≡ rows.stage_rows (input_of context.now) (at_moment context.now.moment p) m (Stage.Waiting wait) }
 {
     if wait.is_due(context.moment) {
@@ -260,7 +260,7 @@ fn wait_next(context: &EventContext<'_>, wait: Timer) -> NextTasks
 }
 
 // What follows where a stage has its answer or not.
-fn stage_next(context: &EventContext<'_>, stage: Stage, is_answered: bool) -> NextTasks
+fn stage_next(context: &ConsumerContext<'_>, stage: Stage, is_answered: bool) -> NextTasks
     ensures { (m : Matter) → (p : RowInput) → IsAnswered m stage is_answered
         → next_rows m result ≡ rows.stage_rows (input_of context.now) (at_moment context.now.moment p) m stage }
 {
@@ -274,7 +274,7 @@ fn stage_next(context: &EventContext<'_>, stage: Stage, is_answered: bool) -> Ne
 
 /// An open recreation goes on where what it waits for has come: an answer, or its time.
 pub fn pass_await(
-    context: &EventContext<'_>,
+    context: &ConsumerContext<'_>,
     consumer: &mut Consumer,
     recreation: Recreation,
     is_answered: bool,
@@ -318,7 +318,7 @@ fn answered(setup: &OrderedSetup, info: Option<Boxed<Info>>) -> Task
 
 /// The reply to a create was read.
 pub fn pass_answered(
-    context: &EventContext<'_>,
+    context: &ConsumerContext<'_>,
     consumer: &mut Consumer,
     recreation: Recreation,
     info: Option<Boxed<Info>>,
@@ -333,7 +333,7 @@ pub fn pass_answered(
 
 /// A create was answered well: pull reads the inbox that was opened, or could not be. The source knows no inbox yet.
 pub fn pass_succeed_pull(
-    context: &EventContext<'_>,
+    context: &ConsumerContext<'_>,
     consumer: &mut Consumer,
     recreation: Recreation,
     mut source: PullSource,
@@ -361,7 +361,7 @@ pub fn pass_succeed_pull(
 
 /// Push's inbox becomes the current one: what was held is heard, and then the heartbeat is armed.
 pub fn pass_succeed_push(
-    context: &EventContext<'_>,
+    context: &ConsumerContext<'_>,
     consumer: &mut Consumer,
     mut recreation: Recreation,
 ) -> Option<Held>

@@ -6,15 +6,16 @@ ghost use Rattle.js_link.specs.Meets.{Meets};
 ghost use Rattle.js_call_consumers.specs.declared.consumer.Consumer.{Consumer};
 ghost use Rattle.js_ordered_stream.specs.Inbox.{ClosesInbox, inbox_of};
 ghost use Rattle.js_ordered_stream.specs.Opening.{IsGaplessPull, input_of_pull, position_of_pull};
-ghost use Rattle.js_ordered_stream.specs.Ordered.{IsGivenKind};
+ghost use Rattle.js_ordered_stream.specs.Ordered.{IsGivenKind, SleepsUntil, something_due};
 ghost use Rattle.js_ordered_table.specs.Poll.{IsPoll};
-ghost use Rattle.js_ordered_table.specs.Timers.{SleepsIfLeftAlone, phase_due};
+ghost use Rattle.js_ordered_table.specs.Timers.{SleepsIfLeftAlone};
 ghost use Rattle.js_readers.specs.OrderedOpening.{OpensPull};
 ghost use Rattle.js_readers.specs.OrderedPolls.{PollsWithSource, given_answer};
 ghost use Rattle.js_readers.specs.Stream.{IsTimed};
 
 use crate::ordered::settings::settings_of;
 use crate::pull::{StreamError, message_timeout, stream_error_kind};
+use crate::timed::timed;
 use js_base::{Error, Moment, Nanos, Next};
 use js_call_consumers::OrderedPullConsumer;
 use js_link::{InboxId, Link};
@@ -91,23 +92,18 @@ impl Ordered {
         ensures timed { IsTimed self.old.timeout result }
         ensures kept { self.new.timeout ≡ self.old.timeout }
     {
-        match self.reader.poll_next(alloc, link, now) {
-            Next::Pending => Next::Pending,
-            Next::Item(Ok(message)) => Next::Item(Ok(Message {
-                message,
-                timeout: self.timeout,
-            })),
-            Next::Item(Err(error)) => Next::Item(Err(error)),
-            Next::End => Next::End,
-            Next::OutOfMemory => Next::OutOfMemory,
-        }
+        timed(self.reader.poll_next(alloc, link, now), self.timeout)
     }
 
-    /// The first moment at which it has something to do by itself, where there is one: a timer of its reader is due, or while its consumer
-    /// is made anew the answer that it waits for is overdue, or its next try is due. One that has neither an inbox nor a consumer that is
-    /// being made begins one at once. One that has ended has no such moment.
+    /// The first moment at which it has something to do by itself, where there is one: at once where a row is left, else when
+    /// a timer of its reader is due, or while its consumer is made anew the answer that it waits for is overdue, or its next try is due. One that
+    /// has neither an inbox nor a consumer that is being made begins one at once. One that has ended has no such moment.
+    ///
+    /// A row is left where a poll stopped before its turn was over. So where there was no memory for the request that deletes the old
+    /// consumer, this is `Some(0)`, though no timer is set, and the next poll sends it.
     pub fn wakes_at(&self) -> Option<Moment>
-        ensures { (now : ℕ) → now < 2 ^ 64 → has_come result now ≡ phase_due now (position_of_pull self.now.reader).consumer.phase }
+        ensures value { (now : ℕ) → now < 2 ^ 64 → has_come result now ≡ something_due now (position_of_pull self.now.reader) }
+        ensures sleeps { SleepsUntil (input_of_pull self.now.reader) result (position_of_pull self.now.reader) }
     {
         self.reader.wakes_at()
     }

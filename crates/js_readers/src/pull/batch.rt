@@ -2,8 +2,9 @@
 ghost use Rattle.std.specs.Prelude.{◌≡◌, ◌<◌, ◌==◌, ◌^◌, ℕ, Some};
 ghost use Rattle.js_link.specs.Calls.{Closes};
 ghost use Rattle.js_base.specs.Clock.{has_come};
+ghost use Rattle.js_ordered_stream.specs.Inbox.{ClosesInbox};
 ghost use Rattle.js_readers.specs.BatchItem.{arrival_of};
-ghost use Rattle.js_readers.specs.Batch.{ClosesIf, ClosesIfOpen, PollsBatch, SleepsIfQuiet, after_message, batch_due, ended, heard, heard_message, inbox_id, new_batch};
+ghost use Rattle.js_readers.specs.Batch.{ClosesIf, PollsBatch, SleepsIfQuiet, after_message, batch_due, ended, heard, heard_message, inbox_id, new_batch};
 ghost use Rattle.js_readers.specs.BatchRuns.{KeepsItsNumber, StaysEnded};
 
 use crate::pull::batch_item::{ArrivalKind, BatchItemError, arrival_of};
@@ -91,7 +92,7 @@ impl Batch {
     /// Lets go of it, and closes its inbox where that is still open: what lies in it is lost. Its request that is open at the server runs
     /// out by itself.
     pub fn close<L: Link>(self, link: &mut L)
-        ensures { ClosesIfOpen self.inbox (L.view link.old) (L.view link.new) }
+        ensures { ClosesInbox (inbox_id self.inbox) (L.view link.old) (L.view link.new) }
     {
         match self.inbox {
             None => {}

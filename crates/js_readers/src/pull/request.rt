@@ -1,16 +1,18 @@
 //! A pull request: what it needs, and how it is sent.
 ghost use Rattle.std.specs.Prelude.{◌≡◌, None, Some, IfOk, codes};
 ghost use Rattle.js_link.specs.Calls.{PublishesOf};
+ghost use Rattle.js_ordered_stream.specs.Inbox.{ClosesInbox};
 ghost use Rattle.js_pull.specs.Limits.{pull_body};
 ghost use Rattle.js_pull.specs.Reader.{api_subject};
 ghost use Rattle.js_readers.specs.PullConsumer.{pull_request};
-ghost use Rattle.js_readers.specs.PullRequest.{OpensFor, opening_fault, publishing_fault};
+ghost use Rattle.js_readers.specs.PullRequest.{AsksFrom, FindsInbox, OpensFor, kept_inbox, opening_fault};
 
 use bytes::Bytes;
 use js_base::{OutOfMemory, Subject, consumer_api_subject, with_word};
 use js_call_consumers::PullConsumer;
 use js_json::pull::BatchConfig;
-use js_link::{Link, LinkError};
+use js_json_members::ReadError;
+use js_link::{InboxId, Link, LinkError};
 use std::alloc::Global;
 
 /// A pull request with its texts: sending it needs no more of them.
@@ -20,12 +22,19 @@ pub(crate) struct PullRequest {
     payload: Bytes,
 }
 
+/// An inbox that is open for what a request asks for.
+#[derive(Drop)]
+pub(crate) struct OpenInbox {
+    pub id: InboxId,
+    pub subject: Subject,
+}
+
 /// Why no inbox waits for the messages of a request.
 #[derive(Clone, Copy)]
 pub(crate) enum OpenFault {
     /// None was opened.
     Subscribe,
-    /// The request was not sent, and the inbox is closed again.
+    /// The request was not sent, and the inbox is closed.
     Pull,
     OutOfMemory,
 }
@@ -39,13 +48,48 @@ fn opening_fault(error: LinkError) -> OpenFault
     }
 }
 
-fn publishing_fault(error: LinkError) -> OpenFault
-    ensures { result ≡ publishing_fault error }
+// The inbox that was kept, or one that is opened. It is kept no longer.
+fn find_inbox<L: Link>(
+    alloc: Global,
+    link: &mut L,
+    kept: &mut Option<OpenInbox>,
+) -> Result<OpenInbox, LinkError>
+    ensures finds { FindsInbox kept.old result (L.view link.old) (L.view link.new) }
+    ensures taken { kept.new ≡ None }
 {
-    match error {
-        LinkError::Failed => OpenFault::Pull,
-        LinkError::OutOfMemory => OpenFault::OutOfMemory,
+    match kept.take() {
+        Some(inbox) => Ok(inbox),
+        None => match link.open_inbox(alloc) {
+            Ok((id, subject)) => Ok(OpenInbox { id, subject }),
+            Err(error) => Err(error),
+        },
     }
+}
+
+// The number of the inbox that is kept.
+pub(crate) fn kept_inbox(kept: &Option<OpenInbox>) -> Option<InboxId>
+    ensures { result ≡ kept_inbox kept.now }
+{
+    match kept {
+        None => None,
+        Some(inbox) => Some(inbox.id),
+    }
+}
+
+// The inbox that is kept is closed.
+pub(crate) fn close_kept<L: Link>(link: &mut L, kept: Option<OpenInbox>)
+    ensures { ClosesInbox (kept_inbox kept) (L.view link.old) (L.view link.new) }
+{
+    if let Some(inbox) = kept {
+        link.unsubscribe(inbox.id);
+    }
+}
+
+// The error of a call that can only lack memory.
+fn memory_error(_error: ReadError) -> OutOfMemory
+    requires { _error ≡ ReadError.OutOfMemory }
+{
+    OutOfMemory
 }
 
 fn body_of(alloc: Global, config: &BatchConfig) -> Result<Bytes, OutOfMemory>
@@ -53,7 +97,8 @@ fn body_of(alloc: Global, config: &BatchConfig) -> Result<Bytes, OutOfMemory>
 {
     match config.request_text(alloc, None) {
         Ok(text) => Ok(Bytes::from_string(text)?),
-        Err(_) => Err(OutOfMemory),
+        // Whatever is asked for can be written.
+        Err(error) => Err(memory_error(error)),
     }
 }
 
@@ -98,20 +143,41 @@ impl PullRequest {
         )
     }
 
-    /// Opens an inbox, and sends the request for what comes to it.
+    /// Sends it for what comes to the inbox that was kept, or to one that is opened.
+    ///
+    /// Where memory ran out, the inbox that is open is kept for the next try. Where the link failed to send, it is closed.
+    pub fn ask<L: Link>(
+        &self,
+        alloc: Global,
+        link: &mut L,
+        kept: &mut Option<OpenInbox>,
+    ) -> Result<u64, OpenFault>
+        ensures { AsksFrom kept.old result self.now kept.new (L.view link.old) (L.view link.new) }
+    {
+        let inbox = match find_inbox(alloc, link, kept) {
+            Ok(inbox) => inbox,
+            Err(error) => return Err(opening_fault(error)),
+        };
+        match self.publish(alloc, link, inbox.subject.as_str()) {
+            Ok(()) => Ok(inbox.id.0),
+            Err(LinkError::Failed) => {
+                link.unsubscribe(inbox.id);
+                Err(OpenFault::Pull)
+            }
+            Err(LinkError::OutOfMemory) => {
+                *kept = Some(inbox);
+                Err(OpenFault::OutOfMemory)
+            }
+        }
+    }
+
+    /// Opens an inbox, and sends the request for what comes to it. No inbox stays open where that fails.
     pub fn open<L: Link>(&self, alloc: Global, link: &mut L) -> Result<u64, OpenFault>
         ensures { OpensFor result self.now (L.view link.old) (L.view link.new) }
     {
-        let (inbox, subject) = match link.open_inbox(alloc) {
-            Ok(opened) => opened,
-            Err(error) => return Err(opening_fault(error)),
-        };
-        match self.publish(alloc, link, subject.as_str()) {
-            Ok(()) => Ok(inbox.0),
-            Err(error) => {
-                link.unsubscribe(inbox);
-                Err(publishing_fault(error))
-            }
-        }
+        let mut kept = None;
+        let asked = self.ask(alloc, link, &mut kept);
+        close_kept(link, kept);
+        asked
     }
 }

@@ -10,6 +10,7 @@ ghost use Rattle.js_readers.specs.Stream.{IsTimed, OpensMessages, given_answer};
 
 use crate::pull::consumer::{info_timeout, is_pinned, message_timeout};
 use crate::pull::error::{StreamError, stream_error_kind};
+use crate::timed::timed;
 use js_base::{Error, Moment, Nanos, Next};
 use js_call_consumers::PullConsumer;
 use js_json::pull::BatchConfig;
@@ -93,16 +94,7 @@ impl Stream {
         ensures timed { IsTimed self.old.timeout result }
         ensures kept { self.new.timeout ≡ self.old.timeout }
     {
-        match self.reader.poll_next(alloc, link, now) {
-            Next::Pending => Next::Pending,
-            Next::Item(Ok(message)) => Next::Item(Ok(Message {
-                message,
-                timeout: self.timeout,
-            })),
-            Next::Item(Err(error)) => Next::Item(Err(error)),
-            Next::End => Next::End,
-            Next::OutOfMemory => Next::OutOfMemory,
-        }
+        timed(self.reader.poll_next(alloc, link, now), self.timeout)
     }
 
     /// The first moment at which one of its timers is due, where one is set. A stream that has ended has none.

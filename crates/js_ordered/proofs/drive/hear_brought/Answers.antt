@@ -1,11 +1,12 @@
 use Rattle.js_ordered_table.specs.Recreation.{message_on}
-use Rattle.js_ordered_table.specs.Passes.{input_of, matter_now}
+use Rattle.js_ordered_table.specs.Passes.{input_of}
+use Rattle.js_ordered.specs.Driven.{matter_now}
 use Rattle.js_ordered.proofs.Driving.{brought_heard, brought_nothing}
 use Rattle.js_ordered.proofs.drive.hear_brought.Goals as goal
 
 pub returns-in-None : goal.returns-in-None
 returns-in-None c =
-    brought_nothing (input_of c.args.context.now) c.args.context.now.moment (matter_now c.args.context.now) c.args.inbox (message_on c.args.inbox (matter_now c.args.context.now).arrival) c.args.state.now c.args.outputs.now.items c.in-None.ensures
+    brought_nothing (input_of c.args.context.now.consumer) c.args.context.now.consumer.moment (matter_now c.args.context.now) c.args.inbox (message_on c.args.inbox (matter_now c.args.context.now).arrival) c.args.state.now c.args.outputs.now.items c.in-None.ensures
 
 pub returns-in-Some : goal.returns-in-Some
 returns-in-Some c =

@@ -1,5 +1,4 @@
-use Rattle.js_ordered.specs.Driven.{LeadsOn, left_rows}
-use Rattle.js_ordered_table.specs.Passes.{matter_now}
+use Rattle.js_ordered.specs.Driven.{LeadsOn, left_rows, matter_now}
 use Rattle.js_ordered.proofs.drive.pass_left.Given as goal
 
 abbrev pub invariant-loop : goal.invariant-loop

@@ -4,6 +4,9 @@ use Rattle.js_ordered_table.specs.Passes.{input_of}
 use Rattle.js_ordered_stream.proofs.NextRow.{begins_first, left_with, passes_first}
 use Rattle.js_ordered_stream.proofs.ordered.pass_first.Goals as goal
 
+pub pass-requires : goal.pass-requires
+pass-requires g c = c.in-Next.ensures.3 (read_in c.args.seen.now) c.requires
+
 pub returns-in-Rests-clause-passes : goal.returns-in-Rests-clause-passes
 returns-in-Rests-clause-passes g c =
     let view = g.L.Link.view in

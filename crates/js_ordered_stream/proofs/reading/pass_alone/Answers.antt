@@ -12,6 +12,7 @@ use Rattle.js_ordered_table.specs.Passes.{input_of}
 use Rattle.js_ordered_table.specs.declared.consumer.Phase.TheVariants.{Pulls}
 use Rattle.js_ordered_table.specs.declared.row.Row.TheVariants as row
 use Rattle.js_ordered_table.specs.Consumer.{at_phase}
+use Rattle.js_ordered_stream.proofs.Elsewhere.{reads_nowhere}
 use Rattle.js_ordered_stream.proofs.ReaderRows.{read_passes, takes_nothing}
 use Rattle.js_ordered_stream.proofs.KeptSeen.{row_at_phase}
 use Rattle.js_ordered_stream.proofs.PassedRows.{meets_as}
@@ -39,3 +40,7 @@ returns-then-is_quiet c = λ reply v.
     row_at_phase given now (row.Read one) (Pulls c.in-Pulls.reader) c.args.consumer.now same v v sight.Nothing (Ok c.followed_by.result) c.in-Pulls.is
     (read_passes given now one c.in-Pulls.reader c.alone-step.new.reader c.args.consumer.now same Unasked c.alone-step.result taken sight.Nothing c.followed_by.result v v
     (meets_as _ _ Unasked v v (sym asks.0) refl) refl (c.alone-step.ensures reply) refl refl refl (takes_nothing (read_by None None) same c.alone-step.result (c.is_quiet.ensures c.if-is_quiet.true)) c.followed_by.ensures)
+
+pub returns-in_default : goal.returns-in_default
+returns-in_default c = λ reply v.
+    reads_nowhere (input_of c.args.context.now) c.args.context.now.moment (row_of reply c.args.due) c.args.consumer.now c.passed_over.result v c.in_default.not-Pulls c.passed_over.ensures

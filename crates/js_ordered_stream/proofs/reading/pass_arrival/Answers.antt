@@ -13,8 +13,9 @@ use Rattle.js_pull.specs.declared.reader.Row.TheVariants as read
 use Rattle.js_ordered_table.specs.Passes.{input_of}
 use Rattle.js_ordered_table.specs.declared.consumer.Phase.TheVariants.{Pulls}
 use Rattle.js_ordered_table.specs.declared.row.Row.TheVariants as row
+use Rattle.js_ordered_stream.proofs.Elsewhere.{reads_nowhere}
 use Rattle.js_ordered_stream.proofs.ReaderRows.{read_passes}
-use Rattle.js_ordered_stream.proofs.KeptSeen.{row_at_phase}
+use Rattle.js_ordered_stream.proofs.KeptSeen.{passes_blind, row_at_phase}
 use Rattle.js_ordered_stream.proofs.reading.pass_arrival.Goals as goal
 
 pub returns-in-Closed-clause-passes : goal.returns-in-Closed-clause-passes
@@ -47,3 +48,12 @@ returns-in-Message-clause-passes g c =
     row_at_phase given now (row.Read read.CheckArrival) (Pulls c.in-Pulls.reader) c.args.consumer.now c.take_in-handed.new.consumer old new seen (Ok done) c.in-Pulls.is
     (read_passes given now read.CheckArrival c.in-Pulls.reader c.hear_taken-step.new.reader c.args.consumer.now c.take_in-handed.new.consumer (Took message) c.hear_taken-step.result c.take_in-handed.result seen done old new
     c.in-Message.ensures refl heard (ap message_in is) (ap has_message is) (ap (λ (s : Seen). brought (answer_in s)) is) (c.take_in-handed.ensures (read_in seen)) (ap (λ b. record done { looked = b }) (sym (ap is_something is))))
+
+pub returns-in_default-clause-passes : goal.returns-in_default-clause-passes
+returns-in_default-clause-passes g c =
+    let v = g.L.Link.view c.args.link.now in
+    let given = input_of c.args.context.now in
+    let now = c.args.context.now.moment in
+    let same = c.args.consumer.now in
+    let one = read.CheckArrival in
+    passes_blind given now (row.Read one) same same v v c.args.seen.now (Ok c.passed_over.result) (reads_nowhere given now one same c.passed_over.result v c.in_default.not-Pulls c.passed_over.ensures)

@@ -21,3 +21,6 @@ returns-then-asks_nothing-clause-passes g c =
     let view = g.L.Link.view c.args.link.now in
     let reply = brought (answer_in c.args.seen.now) in
     passes_blind (input_of c.args.context.now) c.args.context.now.moment (row.Read (row_of reply c.args.due)) c.args.consumer.now c.pass_alone.new.consumer view view c.args.seen.now c.pass_alone.result (c.pass_alone.ensures reply view)
+
+pub pass_asking-requires : goal.pass_asking-requires
+pass_asking-requires g c = c.in_default.not-CheckArrival

@@ -21,11 +21,9 @@ returns g c =
     let view = g.L.Link.view in
     let reply = brought (answer_in c.args.seen.now) in
     let met = c.in_ok-met.met in
-    let asked = wish (row_of reply c.args.due) c.args.reader.now in (
-      record {
-        meets = meets_as _ asked met (view c.args.link.now) (view c.ask_for.new.link) (c.in_ok-wish.ensures reply) c.in_ok-met.ensures.met;
-        is_open = sym c.is_shut.ensures ∙ c.if-is_shut.false;
-        informed = c.in_ok-informed.ensures;
-      },
-      c.if-reader.false,
-    )
+    let asked = wish (row_of reply c.args.due) c.args.reader.now in
+    record {
+      meets = meets_as _ asked met (view c.args.link.now) (view c.ask_for.new.link) (c.in_ok-wish.ensures reply) c.in_ok-met.ensures.met;
+      is_open = sym c.is_shut.ensures ∙ c.if-is_shut.false;
+      informed = c.in_ok-informed.ensures;
+    }

@@ -7,6 +7,7 @@ use Rattle.js_ordered_table.specs.Consumer.{at_phase}
 use Rattle.js_ordered_table.specs.declared.consumer.Phase.TheVariants.{Recreates}
 use Rattle.js_ordered_table.specs.declared.row.Row.TheVariants as row
 use Rattle.js_ordered_stream.proofs.KeptSeen.{blind_alone, blind_rows, row_alone, rows_known}
+use Rattle.js_ordered_stream.proofs.LeftRows.{answer_met}
 use Rattle.js_ordered_stream.proofs.recreation.pass_recreating.Goals as goal
 
 pub returns-in-Try-clause-passes : goal.returns-in-Try-clause-passes
@@ -68,3 +69,6 @@ returns-in-Answered-clause-passes g c =
     let v = g.L.Link.view c.args.link.now in
     rows_known (input_of c.args.context.now) c.args.context.now.moment (read_in c.args.seen.now) c.args.task.now (task.Answered c.in-Answered.request) (at_phase (Recreates c.args.recreation) c.args.consumer.now) c.answered.new.consumer v v (seen_after c.answered.result c.args.seen.now) c.answered.result c.in-Answered.is
     (blind_rows (input_of c.args.context.now) c.args.context.now.moment (rows_of (read_in c.args.seen.now) (task.Answered c.in-Answered.request)) (at_phase (Recreates c.args.recreation) c.args.consumer.now) c.answered.new.consumer v v c.args.seen.now c.answered.result (c.answered.ensures v))
+
+pub answered-requires : goal.answered-requires
+answered-requires g c = answer_met c.args.task.now c.in-Answered.request c.args.seen.now c.in-Answered.is c.requires.stands

@@ -6,6 +6,7 @@ use Rattle.js_pull.specs.Rows.{brought}
 use Rattle.js_pull.specs.Rows.{row_of}
 use Rattle.js_ordered_table.specs.declared.row.Row.TheVariants as row
 use Rattle.js_ordered_stream.proofs.KeptSeen.{blind_alone, row_alone, rows_known}
+use Rattle.js_ordered_stream.proofs.LeftRows.{arrival_met}
 use Rattle.js_ordered_stream.proofs.PassedRows.{hold_passes}
 use Rattle.js_ordered_stream.proofs.rows.pass.Goals as goal
 
@@ -101,3 +102,6 @@ returns-in-Succeed-clause-passes g c = c.pass_open-in-Succeed.ensures.passes
 
 pub returns-in-Fail-clause-passes : goal.returns-in-Fail-clause-passes
 returns-in-Fail-clause-passes g c = c.pass_open-in-Fail.ensures.passes
+
+pub hear-requires : goal.hear-requires
+hear-requires g c = arrival_met c.args.task.now c.in-Hear.inbox c.args.seen.now c.in-Hear.is c.requires

@@ -1,16 +1,16 @@
 use Rattle.std.proofs.Common.{◌≡◌, ℕ, List, Result, subst}
 use Rattle.std.specs.Prelude.{IfOk, codes}
 use Rattle.js_base.specs.declared.memory.OutOfMemory.{OutOfMemory}
-use Rattle.js_ordered_table.specs.declared.event_context.EventContext.{EventContext}
+use Rattle.js_ordered_table.specs.declared.consumer_context.ConsumerContext.{ConsumerContext}
 use Rattle.js_base.specs.ApiSubject.{under, consumer_api_subject}
 use Rattle.js_ordered_table.proofs.texts.delete_subject.Goals as goal
 
 -- the subject speaks of the name that was lent
-of_name : (requests_sent : Result (List ℕ) OutOfMemory) (turn : EventContext) (name lent : List ℕ) → lent ≡ name
-    → IfOk requests_sent (λ subject. subject ≡ under turn.settings.now.api_prefix (consumer_api_subject (codes "CONSUMER.DELETE") turn.first.now.stream_name lent))
-    → IfOk requests_sent (λ subject. subject ≡ under turn.settings.now.api_prefix (consumer_api_subject (codes "CONSUMER.DELETE") turn.first.now.stream_name name))
-of_name requests_sent turn name lent is =
-    subst (λ x. IfOk requests_sent (λ subject. subject ≡ under turn.settings.now.api_prefix (consumer_api_subject (codes "CONSUMER.DELETE") turn.first.now.stream_name x))) is
+of_name : (requests_sent : Result (List ℕ) OutOfMemory) (context : ConsumerContext) (name lent : List ℕ) → lent ≡ name
+    → IfOk requests_sent (λ subject. subject ≡ under context.settings.now.api_prefix (consumer_api_subject (codes "CONSUMER.DELETE") context.first.now.stream_name lent))
+    → IfOk requests_sent (λ subject. subject ≡ under context.settings.now.api_prefix (consumer_api_subject (codes "CONSUMER.DELETE") context.first.now.stream_name name))
+of_name requests_sent context name lent is =
+    subst (λ x. IfOk requests_sent (λ subject. subject ≡ under context.settings.now.api_prefix (consumer_api_subject (codes "CONSUMER.DELETE") context.first.now.stream_name x))) is
 
 -- src/texts.rt
 pub returns : goal.returns

@@ -1,7 +1,7 @@
 use Rattle.std.proofs.Common.{sym, subst, [], ◌∷◌}
 use Rattle.js_pull.specs.declared.reader.Row.TheVariants as read
-use Rattle.js_ordered_table.specs.Passes.{at, input_of, matter_now}
-use Rattle.js_ordered.specs.Driven.{Arrives, Leads}
+use Rattle.js_ordered_table.specs.Passes.{at, input_of}
+use Rattle.js_ordered.specs.Driven.{Arrives, Leads, matter_now}
 use Rattle.js_ordered_table.specs.declared.consumer.Phase.{Phase}
 use Rattle.js_ordered_table.specs.declared.row.Row.TheVariants as row
 use Rattle.js_ordered.proofs.ReadDriving.{leads_silent}
@@ -10,8 +10,8 @@ use Rattle.js_ordered.proofs.drive.arrivals.check_arrival.Goals as goal
 
 pub returns-in-None : goal.returns-in-None
 returns-in-None c =
-    let g = input_of c.args.context.now in
-    let now = c.args.context.now.moment in
+    let g = input_of c.args.context.now.consumer in
+    let now = c.args.context.now.consumer.moment in
     let m = matter_now c.args.context.now in
     let w = c.args.state.now in
     let r = c.in-Pulls.reader in
@@ -21,8 +21,8 @@ returns-in-None c =
 
 pub returns-in_default : goal.returns-in_default
 returns-in_default c =
-    let g = input_of c.args.context.now in
-    let now = c.args.context.now.moment in
+    let g = input_of c.args.context.now.consumer in
+    let now = c.args.context.now.consumer.moment in
     let m = matter_now c.args.context.now in
     let w = c.args.state.now in
     reads_nowhere g now m (read.CheckArrival) w c.args.outputs.now.items c.in_default.not-Pulls

@@ -2,8 +2,8 @@ use Rattle.std.proofs.Common.{subst}
 use Rattle.js_ordered_table.specs.Tasks.{next_rows}
 use Rattle.js_pull.specs.Rows.{brought}
 use Rattle.js_pull.specs.declared.reader.Row.TheVariants as read
-use Rattle.js_ordered_table.specs.Passes.{input_of, matter_now}
-use Rattle.js_ordered.specs.Driven.{Arrives}
+use Rattle.js_ordered_table.specs.Passes.{input_of}
+use Rattle.js_ordered.specs.Driven.{Arrives, matter_now}
 use Rattle.js_ordered_table.specs.declared.consumer.Phase.{Phase}
 use Rattle.js_ordered.proofs.ReadDriving.{leads_status}
 use Rattle.js_ordered.proofs.Nowhere.{reads_here, reads_nowhere}
@@ -11,8 +11,8 @@ use Rattle.js_ordered.proofs.drive.arrivals.hear_status.Goals as goal
 
 pub returns-in-Ok : goal.returns-in-Ok
 returns-in-Ok c =
-    let g = input_of c.args.context.now in
-    let now = c.args.context.now.moment in
+    let g = input_of c.args.context.now.consumer in
+    let now = c.args.context.now.consumer.moment in
     let m = matter_now c.args.context.now in
     let w = c.args.state.now in
     let r = c.in-Pulls.reader in
@@ -23,8 +23,8 @@ returns-in-Ok c =
 
 pub returns-in_default : goal.returns-in_default
 returns-in_default c =
-    let g = input_of c.args.context.now in
-    let now = c.args.context.now.moment in
+    let g = input_of c.args.context.now.consumer in
+    let now = c.args.context.now.consumer.moment in
     let m = matter_now c.args.context.now in
     let w = c.args.state.now in
     reads_nowhere g now m (read.CheckArrival) w c.args.outputs.now.items c.in_default.not-Pulls

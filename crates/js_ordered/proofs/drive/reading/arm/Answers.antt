@@ -1,14 +1,15 @@
 use Rattle.std.proofs.Common.{refl, []}
 use Rattle.js_pull.specs.declared.reader.Row.TheVariants as read
-use Rattle.js_ordered_table.specs.Passes.{input_of, matter_now}
+use Rattle.js_ordered_table.specs.Passes.{input_of}
+use Rattle.js_ordered.specs.Driven.{matter_now}
 use Rattle.js_ordered.proofs.ReadDriving.{leads_armed}
 use Rattle.js_ordered.proofs.Nowhere.{reads_here, reads_nowhere}
 use Rattle.js_ordered.proofs.drive.reading.arm.Goals as goal
 
 pub returns-in-Pulls : goal.returns-in-Pulls
 returns-in-Pulls c = λ outputs.
-    let g = input_of c.args.context.now in
-    let now = c.args.context.now.moment in
+    let g = input_of c.args.context.now.consumer in
+    let now = c.args.context.now.consumer.moment in
     let m = matter_now c.args.context.now in
     let w = c.args.state.now in
     let r = c.in-Pulls.reader in
@@ -16,8 +17,8 @@ returns-in-Pulls c = λ outputs.
 
 pub returns-in_default : goal.returns-in_default
 returns-in_default c = λ outputs.
-    let g = input_of c.args.context.now in
-    let now = c.args.context.now.moment in
+    let g = input_of c.args.context.now.consumer in
+    let now = c.args.context.now.consumer.moment in
     let m = matter_now c.args.context.now in
     let w = c.args.state.now in
     reads_nowhere g now m read.Arm w outputs c.in_default.not-Pulls

@@ -5,7 +5,8 @@ use Rattle.js_pull.specs.Rows.{brought}
 use Rattle.js_pull.specs.declared.reader.Row.TheVariants as read
 use Rattle.js_pull.specs.Reader as pull
 use Rattle.js_ordered_table.specs.Fold.{passing}
-use Rattle.js_ordered_table.specs.Passes.{input_of, matter_now}
+use Rattle.js_ordered_table.specs.Passes.{input_of}
+use Rattle.js_ordered.specs.Driven.{matter_now}
 use Rattle.js_ordered.specs.Giving.{IsPublishing}
 use Rattle.js_ordered.proofs.Driving.{ok_holds}
 use Rattle.js_ordered.proofs.ReadDriving.{leads_asked, leads_finish, sent_is}
@@ -14,8 +15,8 @@ use Rattle.js_ordered.proofs.drive.reading.ask.Goals as goal
 
 pub returns-in-Ok-None : goal.returns-in-Ok-None
 returns-in-Ok-None c =
-    let g = input_of c.args.context.now in
-    let now = c.args.context.now.moment in
+    let g = input_of c.args.context.now.consumer in
+    let now = c.args.context.now.consumer.moment in
     let m = matter_now c.args.context.now in
     let w = c.args.state.now in
     let r = c.in-Pulls.reader in
@@ -27,8 +28,8 @@ returns-in-Ok-None c =
 
 pub returns-in-Ok-Some : goal.returns-in-Ok-Some
 returns-in-Ok-Some c =
-    let g = input_of c.args.context.now in
-    let now = c.args.context.now.moment in
+    let g = input_of c.args.context.now.consumer in
+    let now = c.args.context.now.consumer.moment in
     let m = matter_now c.args.context.now in
     let w = c.args.state.now in
     let r = c.in-Pulls.reader in
@@ -38,8 +39,8 @@ returns-in-Ok-Some c =
 
 pub returns-in_default : goal.returns-in_default
 returns-in_default c =
-    let g = input_of c.args.context.now in
-    let now = c.args.context.now.moment in
+    let g = input_of c.args.context.now.consumer in
+    let now = c.args.context.now.consumer.moment in
     let m = matter_now c.args.context.now in
     let w = c.args.state.now in
     reads_nowhere g now m (read.Ask c.args.reason) w c.args.outputs.now.items c.in_default.not-Pulls

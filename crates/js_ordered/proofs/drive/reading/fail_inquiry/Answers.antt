@@ -4,7 +4,8 @@ use Rattle.js_pull.specs.Rows.{brought}
 use Rattle.js_pull.specs.declared.reader.Row.TheVariants as read
 use Rattle.js_pull.specs.Reader as pull
 use Rattle.js_ordered_table.specs.Fold.{passing}
-use Rattle.js_ordered_table.specs.Passes.{input_of, matter_now}
+use Rattle.js_ordered_table.specs.Passes.{input_of}
+use Rattle.js_ordered.specs.Driven.{matter_now}
 use Rattle.js_ordered.proofs.ReadDriving.{leads_finish}
 use Rattle.js_ordered_table.proofs.ReaderSteps.{fail_sends}
 use Rattle.js_ordered.proofs.Nowhere.{reads_here, reads_nowhere}
@@ -12,8 +13,8 @@ use Rattle.js_ordered.proofs.drive.reading.fail_inquiry.Goals as goal
 
 pub returns-in-Pulls : goal.returns-in-Pulls
 returns-in-Pulls c =
-    let g = input_of c.args.context.now in
-    let now = c.args.context.now.moment in
+    let g = input_of c.args.context.now.consumer in
+    let now = c.args.context.now.consumer.moment in
     let m = matter_now c.args.context.now in
     let w = c.args.state.now in
     let r = c.in-Pulls.reader in
@@ -23,8 +24,8 @@ returns-in-Pulls c =
 
 pub returns-in_default : goal.returns-in_default
 returns-in_default c =
-    let g = input_of c.args.context.now in
-    let now = c.args.context.now.moment in
+    let g = input_of c.args.context.now.consumer in
+    let now = c.args.context.now.consumer.moment in
     let m = matter_now c.args.context.now in
     let w = c.args.state.now in
     reads_nowhere g now m (read.FailInfoRequest c.args.failures) w c.args.outputs.now.items c.in_default.not-Pulls

@@ -1,5 +1,6 @@
 use Rattle.std.proofs.Common.{refl}
-use Rattle.js_ordered_table.specs.Passes.{input_of, matter_now}
+use Rattle.js_ordered_table.specs.Passes.{input_of}
+use Rattle.js_ordered.specs.Driven.{matter_now}
 use Rattle.js_ordered_table.specs.declared.row.Row.TheVariants as row
 use Rattle.js_ordered.specs.Giving.{IsSending}
 use Rattle.js_ordered_table.specs.Fold.{passing}
@@ -9,8 +10,8 @@ use Rattle.js_ordered.proofs.drive.recreation.ask.Goals as goal
 
 pub returns-in-Ok : goal.returns-in-Ok
 returns-in-Ok c =
-    let g = input_of c.args.context.now in
-    let now = c.args.context.now.moment in
+    let g = input_of c.args.context.now.consumer in
+    let now = c.args.context.now.consumer.moment in
     let m = matter_now c.args.context.now in
     let w = c.args.state.now in
     leads_sent g now m row.Ask c.args.recreation w _ (create_subject g c.args.recreation) (create_body g c.args.recreation) c.send-number.result c.send-number.new.requests_sent c.args.outputs.now.items c.send-number.new.outputs.items c.pass_ask.new.consumer c.pass_ask.result

@@ -11,7 +11,7 @@ returns-clause-resumed c = λ g start es within.
     let old : IncrementalReplay = c.args.self.now in
     let passed : IncrementalReplay = c.pass.new.self in
     let kept = c.in_ok-pass.ensures.kept in
-    comes_on g start es c.args.event.now old _ within (ap replay_given kept) (c.in_ok-count.ensures) refl
+    comes_on g start es c.args.event.now old _ within (ap replay_given kept) c.in_ok-count.ensures.next refl
     (c.first_place-self.ensures ∙ ap (λ (s : IncrementalReplay). first_of s.early (if nat_lt c.args.event.now.at old.moment then Some old.count else None)) kept)
     (c.first_place-self-2.ensures
     ∙ ap (λ (b : Bool). first_of passed.exhausted (if b then Some old.count else None)) c.is_exhausted-is_last.ensures
@@ -23,7 +23,7 @@ returns-clause-passed c = λ g start es come.
     let old : IncrementalReplay = c.args.self.now in
     let passed : IncrementalReplay = c.pass.new.self in
     let kept = c.in_ok-pass.ensures.kept in
-    comes_on g start es c.args.event.now old _ (within_first g start es c.args.event.now old come) (ap replay_given kept) (c.in_ok-count.ensures) refl
+    comes_on g start es c.args.event.now old _ (within_first g start es c.args.event.now old come) (ap replay_given kept) c.in_ok-count.ensures.next refl
     (c.first_place-self.ensures ∙ ap (λ (s : IncrementalReplay). first_of s.early (if nat_lt c.args.event.now.at old.moment then Some old.count else None)) kept)
     (c.first_place-self-2.ensures
     ∙ ap (λ (b : Bool). first_of passed.exhausted (if b then Some old.count else None)) c.is_exhausted-is_last.ensures

@@ -7,4 +7,4 @@ use Rattle.js_ordered_stream.proofs.ordered.Ordered.pass_over.Goals as goal
 pub returns-clause-passes : goal.returns-clause-passes
 returns-clause-passes g c =
     let view = g.L.Link.view in
-    subst (λ (x : ReplayInput). PassesFirst x c.args.now c.args.self.now.left c.args.self.now.consumer c.pass_first-passed.new.consumer (view c.args.link.now) (view c.pass_first-passed.new.link) (seen_after c.pass_first-passed.result c.pass_first-passed.new.seen) c.pass_first-passed.result) c.get-given.ensures c.pass_first-passed.ensures.passes
+    subst (λ (x : ReplayInput). PassesFirst x c.args.now c.args.self.now.left c.args.self.now.consumer c.pass_first.new.consumer (view c.args.link.now) (view c.pass_first.new.link) (seen_after c.pass_first.result c.pass_first.new.seen) c.pass_first.result) c.get-given.ensures c.pass_first.ensures.passes

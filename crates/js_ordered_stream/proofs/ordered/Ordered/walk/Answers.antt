@@ -1,4 +1,6 @@
-use Rattle.std.proofs.Common.{Bool, refl, sym, ap, subst, ◌∙◌}
+use Rattle.std.proofs.Common.{Bool, Option, refl, sym, ap, subst, ◌∙◌}
+use Rattle.std.specs.Prelude.{is_some}
+use Rattle.js_base.specs.declared.message.Message.{Message}
 use Rattle.js_ordered_stream.specs.Rows.{message_in}
 use Rattle.js_ordered_stream.specs.Ordered.{given_to, is_given, position_of}
 use Rattle.js_ordered_stream.proofs.Strides.{Walked, walked_none, error_given, on_waits, on_silent, on_hands, on_tells, on_exhausted, on_closed, on_lacks, poll_lacks}
@@ -25,6 +27,9 @@ rows-preserved g c =
           (on_silent (given_to c.args.self.now) (given_to c.rows.self) c.args.now c.rows.quiet c.is_empty-begins.result c.in-Silent.stirs (position_of c.args.self.now) (position_of c.rows.self) (position_of c.pass_next.new.self) (view c.args.link.now) (view c.rows.link) (view c.pass_next.new.link)
           c.rows.invariant.given c.rows.invariant.walked (rested c.rows.self.left c.is_empty-begins.result c.is_empty-begins.ensures) c.in-Silent.ensures.turns);
     }
+
+pub hand_out-requires : goal.hand_out-requires
+hand_out-requires g c = ap (λ (o : Option Message). is_some o) c.in-Hands.ensures.turns.1
 
 pub returns-in-Hands-clause-sources : goal.returns-in-Hands-clause-sources
 returns-in-Hands-clause-sources g c =

@@ -1,4 +1,4 @@
-use Rattle.std.proofs.Common.{false, sym, ◌∙◌}
+use Rattle.std.proofs.Common.{false}
 use Rattle.js_pull.proofs.NextRow.{begun_seen}
 use Rattle.js_pull.proofs.Calls.{none_left, advanced_more, advance_hands, advance_tells, advance_done, advance_lacks, advance_closes}
 use Rattle.js_pull.proofs.Measure.{silent_smaller, heard_smaller}
@@ -7,8 +7,8 @@ use Rattle.js_pull.proofs.stream.Stream.advance.Goals as goal
 pub rows-init : goal.rows-init
 rows-init g c = record { advanced = begun_seen _ _ _ _ _ _ _ c.begin.ensures.leads c.begin.ensures.held }
 
-pub returns-then-rests : goal.returns-then-rests
-returns-then-rests g c = advance_done _ _ _ _ _ _ c.rows.invariant.advanced (none_left _ (sym c.rests.ensures ∙ c.if-rests.true))
+pub returns-in_default : goal.returns-in_default
+returns-in_default g c = advance_done _ _ _ _ _ _ c.rows.invariant.advanced (none_left _ _ c.first.ensures c.in_default.is)
 
 pub rows-smaller-in-Silent : goal.rows-smaller-in-Silent
 rows-smaller-in-Silent g c = silent_smaller false _ _ _ _ _ _ _ _ c.in-Silent.ensures.1 c.in-Silent.ensures.2

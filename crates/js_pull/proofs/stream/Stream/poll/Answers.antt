@@ -1,4 +1,3 @@
-use Rattle.std.proofs.Common.{sym, ◌∙◌}
 use Rattle.js_pull.proofs.Calls.{none_left, polled_none, polled_begun, polled_silent, polled_took, poll_hands, poll_tells, poll_ends, poll_closes, poll_lacks, poll_waits}
 use Rattle.js_pull.proofs.NextRow.{begins_seen}
 use Rattle.js_pull.proofs.Measure.{begun_smaller, silent_smaller, heard_smaller}
@@ -11,14 +10,14 @@ pub returns-then-self : goal.returns-then-self
 returns-then-self g c = poll_ends _ _ _ _ _ _ c.rows.invariant.polled c.if-self.true
 
 pub returns-then-quiet : goal.returns-then-quiet
-returns-then-quiet g c = poll_waits _ _ _ _ _ _ c.rows.invariant.polled c.if-quiet.true (none_left _ (sym c.rests.ensures ∙ c.if-rests.true)) c.if-self.false
+returns-then-quiet g c = poll_waits _ _ _ _ _ _ c.rows.invariant.polled c.if-quiet.true (none_left _ _ c.first.ensures c.in_default.is) c.if-self.false
 
-pub rows-smaller-then-rests : goal.rows-smaller-then-rests
-rows-smaller-then-rests g c = begun_smaller _ _ _ _ _ _ c.if-quiet.false (none_left _ (sym c.rests.ensures ∙ c.if-rests.true)) (begins_seen _ _ _ _ _ _ _ c.watch.ensures.begins c.watch.ensures.held)
+pub rows-smaller-in_default : goal.rows-smaller-in_default
+rows-smaller-in_default g c = begun_smaller _ _ _ _ _ _ c.if-quiet.false (none_left _ _ c.first.ensures c.in_default.is) (begins_seen _ _ _ _ _ _ _ c.watch.ensures.begins c.watch.ensures.held)
 
-pub rows-preserved-then-rests : goal.rows-preserved-then-rests
-rows-preserved-then-rests g c = record {
-  polled = polled_begun _ _ _ _ _ _ _ _ c.rows.invariant.polled (none_left _ (sym c.rests.ensures ∙ c.if-rests.true)) (begins_seen _ _ _ _ _ _ _ c.watch.ensures.begins c.watch.ensures.held);
+pub rows-preserved-in_default : goal.rows-preserved-in_default
+rows-preserved-in_default g c = record {
+  polled = polled_begun _ _ _ _ _ _ _ _ c.rows.invariant.polled (none_left _ _ c.first.ensures c.in_default.is) (begins_seen _ _ _ _ _ _ _ c.watch.ensures.begins c.watch.ensures.held);
 }
 
 pub rows-smaller-in-Silent : goal.rows-smaller-in-Silent

@@ -1,5 +1,15 @@
-use Rattle.js_readers.proofs.ErrorSources.{hands_source_on}
+use Rattle.std.proofs.Common.{Result, subst, sym}
+use Rattle.js_base.specs.declared.error.Error.{Error}
+use Rattle.js_base.specs.declared.message.Message.{Message}
+use Rattle.js_base.specs.declared.turn.Next.{Next}
+use Rattle.js_ordered_stream.specs.Opening.{input_of_pull, position_of_pull}
+use Rattle.js_ordered_stream.specs.Ordered.{PollsWithSource}
+use Rattle.js_ordered_stream.specs.declared.error.OrderedErrorKind.{OrderedErrorKind}
 use Rattle.js_readers.proofs.ordered.pull.Ordered.poll_next.Goals as goal
 
-pub returns-in-Item-Err-clause-sources : goal.returns-in-Item-Err-clause-sources
-returns-in-Item-Err-clause-sources g c = hands_source_on _ _ _ _ _ _ _ _ c.in-Item-Err.field-0-is c.in-Item-Err.ensures.sources
+pub returns-clause-sources : goal.returns-clause-sources
+returns-clause-sources g c =
+    let view = g.L.Link.view in
+    subst
+    (λ (r : Next (Result Message (Error OrderedErrorKind))). PollsWithSource (input_of_pull c.args.self.now.reader) c.args.now (position_of_pull c.args.self.now.reader) (position_of_pull c.poll_next.new.self) (view c.args.link.now) (view c.poll_next.new.link) r)
+    (sym c.timed.ensures.same) c.poll_next.ensures.sources
