@@ -1,0 +1,10 @@
+pub mod Lines
+pub mod Words
+pub mod Views
+pub mod Messages
+pub mod Reading
+pub mod ServerText
+pub mod Written
+pub mod Headers
+pub mod Incoming
+pub mod FrameReader
