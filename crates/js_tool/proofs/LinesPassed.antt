@@ -21,7 +21,7 @@ use Rattle.js_tool.specs.Progress.{HasPassed, PassesTo, StopsOn, IsOutcomeOn, Is
 use Rattle.js_tool_transcript.specs.Text.{text_so_far, output_text, last_line, run_text}
 use Rattle.js_tool_transcript.specs.Transcript.{read_after, ◌>>=◌, events_from, with_lines, transcript}
 use Rattle.js_tool.proofs.Called.{done_outcome, refused_outcome}
-use Rattle.js_tool_transcript.proofs.RunText.{text_on, text_ends}
+use Rattle.js_tool.proofs.RunText.{text_on, text_ends}
 use Rattle.js_tool_transcript.proofs.LinesRead.{whole}
 
 -- ---- the text

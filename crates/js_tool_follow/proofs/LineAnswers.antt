@@ -14,7 +14,7 @@ use Rattle.js_tool_transcript.specs.TranscriptReplay.{replay_input}
 use Rattle.js_tool_transcript.specs.Setup.{setup_line}
 use Rattle.js_tool_transcript.specs.Text.{last_line}
 use Rattle.js_tool_transcript.specs.Transcript.{numbered}
-use Rattle.js_tool_transcript.proofs.RunText.{text_first, text_on, text_ends}
+use Rattle.js_tool.proofs.RunText.{text_first, text_on, text_ends}
 use Rattle.js_tool_follow.specs.declared.answer.Answer.{Answer}
 use Rattle.js_tool_follow.specs.declared.answer.Listener.{Listener}
 use Rattle.js_tool_follow.specs.Answer.{last_text, AnswersEvents, AnswersLine, AnswersEnd, IsEnding, IsTold}

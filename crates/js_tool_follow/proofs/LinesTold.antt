@@ -16,7 +16,7 @@ use Rattle.js_tool_transcript.specs.TranscriptReplay.{replay_input}
 use Rattle.js_tool_transcript.specs.Setup.{setup_line}
 use Rattle.js_tool_transcript.specs.Text.{last_line, refusal_text}
 use Rattle.js_tool_transcript.specs.Transcript.{◌>>=◌, numbered, events_from, with_lines, transcript_of}
-use Rattle.js_tool_transcript.proofs.RunText.{text_on, text_ends}
+use Rattle.js_tool.proofs.RunText.{text_on, text_ends}
 use Rattle.js_tool_follow.specs.Answer.{last_text}
 use Rattle.js_tool_follow.specs.Standing.{Standing, Unopened, Going, Over, text_to, passed, opened, went_on, next, after, standing, said, said_in_all, answered, text_for}
 

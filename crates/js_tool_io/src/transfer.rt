@@ -33,6 +33,14 @@ impl From<AllocError> for Stop {
 }
 
 /// All the bytes of a source, of which there are at most `MOST_BYTES`.
+///
+/// # Errors
+///
+/// The first of these that is met, and then the bytes that were read so far are lost:
+///
+/// - `Fault`: a read failed, so the source's count of faults has risen.
+/// - `TooLong`: the source has more than `MOST_BYTES`. It is told at the read that goes past them, before the source's end.
+/// - `OutOfMemory`: there is no memory for the buffer, or for the bytes.
 pub fn read_all<S: Source>(alloc: Global, input: &mut S) -> Result<Pieces, Stop>
     ensures whole { IfOk result (λ read. IfSome (S.left input.old) (λ bytes. read ≡ bytes)) }
     ensures at_end { OnOk result (IfSome (S.left input.new) (λ rest. rest ≡ [])) }

@@ -19,7 +19,7 @@ use Rattle.js_log_sessions.proofs.Saves.{events_event, events_save}
 use Rattle.js_log_sessions.proofs.NextSession.{runs_on}
 use Rattle.js_tool_transcript.specs.declared.transcript.setup.Setup.{Setup}
 use Rattle.js_tool_transcript.specs.Text.{text_so_far, output_text, last_line, run_text}
-use Rattle.js_tool_transcript.proofs.RunText.{text_first, text_on, text_ends}
+use Rattle.js_tool.proofs.RunText.{text_first, text_on, text_ends}
 use Rattle.js_tool_logs.specs.declared.sessions.session.SessionText.{SessionText}
 use Rattle.js_tool_logs.specs.SessionProgress.{HasText}
 use Rattle.js_tool_logs.specs.SessionInput.{session_of}

@@ -7,8 +7,8 @@ use Rattle.js_json_members.specs.declared.error.ReadError.{ReadError}
 use Rattle.js_json_members.specs.Member.{◌>>=◌}
 use Rattle.js_json_members.specs.Value.{value_of}
 use Rattle.js_log_sessions.specs.declared.session.Line.TheVariants as line
-use Rattle.js_tool_transcript.specs.Event.{event_line}
-use Rattle.js_tool_transcript.specs.Setup.{setup_line}
+use Rattle.js_tool_transcript.specs.Event.{event_of}
+use Rattle.js_tool_transcript.specs.Setup.{setup_of}
 use Rattle.js_tool_logs.specs.declared.sessions.line.Said.{Said}
 use Rattle.js_tool_logs.specs.declared.sessions.line.Said.TheVariants.{Begins, Says}
 
@@ -31,11 +31,11 @@ abbrev pub is_save : Data → Bool
 is_save d = unwrap_or (option_and_then as_bool (get (codes "save") d)) false && has_no_other (codes "save") d
 
 -- the key `mode` is that of a setup, which begins a session; {"save":true} is a save, and all else an event
-abbrev pub said : List ℕ → Data → Result Said ReadError
-said text d =
-    if is_some (get (codes "mode") d) then (setup_line text >>= λ setup. Ok (Begins setup)) else
+abbrev pub said : Data → Result Said ReadError
+said d =
+    if is_some (get (codes "mode") d) then (setup_of d >>= λ setup. Ok (Begins setup)) else
     (if is_save d then Ok (Says line.Save) else
-    (event_line text >>= λ event. Ok (Says (line.Event event))))
+    (event_of d >>= λ event. Ok (Says (line.Event event))))
 
 abbrev pub session_line : List ℕ → Result Said ReadError
-session_line text = value_of text >>= said text
+session_line text = value_of text >>= said

@@ -9,7 +9,6 @@ mod MembersRead
 mod MessagesYielded
 mod Printed
 mod PushedText
-pub mod RunText
 mod RelaySetupRead
 mod StringsRead
 mod RelayTranscriptRead

@@ -1,6 +1,6 @@
 -- The setup and the arrivals of a mirror's transcript are read as they were meant.
 use Rattle.std.proofs.Common.{◌≡◌, ℕ, ◌^◌, ◌<◌, ◌≤◌, List, ◌++◌, codes, decimal, Some, refl, ap, ◌∙◌, arith}
-use Rattle.std.specs.Prelude.{Result, Ok, Err, if◌then◌else◌}
+use Rattle.std.specs.Prelude.{Result, Ok}
 use Rattle.std.specs.List.{AllByRecursion}
 use Rattle.std.specs.Fmt.{digits}
 use Rattle.std.specs.Str.{IsUtf8}
@@ -14,16 +14,15 @@ use Rattle.serde_json.proofs.Numbers.{number_of-decimal}
 use Rattle.serde_json.proofs.OnLiterals.{serde_json_on_literals}
 use Rattle.js_base.specs.declared.message.Entry.{Entry}
 use Rattle.js_json_members.specs.declared.error.ReadError.{ReadError}
-use Rattle.js_json_members.specs.declared.error.ReadError.TheVariants.{NotJson}
 use Rattle.js_json_members.specs.Member.{◌>>=◌, required, optional, defaulted, given, named, nested, text, natural, natural_of}
-use Rattle.js_json_members.specs.Value.{value_of, has_only}
+use Rattle.js_json_members.specs.Value.{value_of}
 use Rattle.js_json.specs.ConsumerConfig.{config_fields}
 use Rattle.js_json.specs.ConsumerInfo.{info_fields}
 use Rattle.js_log.specs.Events.{reply, arrival}
-use Rattle.js_tool_transcript.specs.Event.{event_line, event_keys, event_fields, what_fields, with_key, arrival_fields}
-use Rattle.js_tool_transcript.specs.Members.{only, line_as}
+use Rattle.js_tool_transcript.specs.Event.{event_of, event_line, event_fields, what_fields, with_key, arrival_fields}
+use Rattle.js_tool_transcript.specs.Members.{only, value_as, line_as}
 use Rattle.js_tool_transcript.specs.Message.{message_fields}
-use Rattle.js_tool_transcript.specs.Setup.{mode_named, settings_fields, ordered_setup, setup_keys, setup_with, setup_fields, setup_line}
+use Rattle.js_tool_transcript.specs.Setup.{mode_named, settings_fields, ordered_setup, setup_with, setup_fields, setup_of, setup_line}
 use Rattle.js_tool_transcript.proofs.Printed.{digits_utf8}
 use Rattle.js_tool_transcript.specs.RelaySetupData.{with_filter, with_filters, start_member, config_data, nowhere_data, info_data, setup_data}
 use Rattle.js_tool_transcript.specs.RelayConfig.{relay_config, relay_info}
@@ -147,7 +146,7 @@ setup_fields_read stream name filter filters start further config first = rw (co
 pub setup_reads : (stream name filter : List ℕ) (filters : List (List ℕ)) (start : ℕ) → IsUtf8 stream → IsUtf8 name → IsUtf8 filter → AllByRecursion IsUtf8 filters → start < 2 ^ 64
     → (IsSimple IsUtf8 (setup_data stream name (config_data filter filters start)))
     × (setup_line (compact_text (setup_data stream name (config_data filter filters start))) ≡ Ok (relay_setup stream name filter filters start))
-unfolding line_as
+unfolding line_as value_as
 setup_reads stream name filter filters start s n one more small =
     let config = config_data filter filters start in
     let whole = setup_data stream name config in
@@ -159,7 +158,7 @@ setup_reads stream name filter filters start s n one more small =
     value_reads whole simple (setup_shallow stream name config (config_shallow filter filters start))
     (setup_outlined stream name config outlined (info_outlined stream name config outlined)) in (
       simple,
-      ap (λ (v : Result Data ReadError). v >>= λ d. if has_only setup_keys d then setup_fields d else Err NotJson) value
+      ap (λ (v : Result Data ReadError). v >>= setup_of) value
           ∙ setup_fields_read stream name filter filters start further said (info_reads stream name further (relay_config filter filters start) said),
     )
 
@@ -228,9 +227,9 @@ arrival_fields_read stream name number entry = refl
 
 pub arrival_reads : (stream name : List ℕ) (number : ℕ) (entry : Entry) → IsUtf8 stream → IsUtf8 name → number < 2 ^ 64 → entry.sequence < 2 ^ 64 → IsText entry
     → event_line (compact_text (arrival_data stream name number entry)) ≡ Ok (arrival stream name number entry)
-unfolding line_as
+unfolding line_as value_as
 arrival_reads stream name number entry s n low small says =
     let whole = arrival_data stream name number entry in
     let value : value_of (compact_text whole) ≡ Ok whole =
     value_reads whole (arrival_simple stream name number entry s n low small says) (arrival_shallow stream name number entry) (arrival_outlined stream name number entry low) in
-    ap (λ (v : Result Data ReadError). v >>= λ d. if has_only event_keys d then event_fields d else Err NotJson) value ∙ arrival_fields_read stream name number entry
+    ap (λ (v : Result Data ReadError). v >>= event_of) value ∙ arrival_fields_read stream name number entry

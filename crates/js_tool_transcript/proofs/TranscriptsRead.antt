@@ -34,7 +34,7 @@ use Rattle.js_ordered_table.proofs.Rewritten.{if_both}
 use Rattle.js_tool_transcript.specs.declared.transcript.setup.Setup.{Setup}
 use Rattle.js_tool_transcript.specs.declared.transcript.Transcript.{Transcript}
 use Rattle.js_tool_transcript.specs.Event.{arrival, arrival_fields, reply_fields, gone_fields, answer, link_named, connection_named, watcher_named, alone, with_key, what_fields, event_keys, event_fields, event_line}
-use Rattle.js_tool_transcript.specs.Members.{only, line_as}
+use Rattle.js_tool_transcript.specs.Members.{only, value_as, line_as}
 use Rattle.js_tool_transcript.specs.Message.{message_keys, json_text, payload, header, message_fields}
 use Rattle.js_tool_transcript.specs.TranscriptReplay.{replay_input}
 use Rattle.js_tool_transcript.specs.Setup.{mode_named, settings, ordered_setup, of_mode, setup_keys, setup_with, setup_fields, setup_line}
@@ -212,7 +212,7 @@ setup_is d is =
 -- ---- lines
 
 line_is : {A : Type 0} (P : A → Type 0) (keys : List Key) (fields : Data → Result A ReadError) → Gives P fields → (line : List ℕ) → IfOk (line_as keys fields line) P
-unfolding line_as
+unfolding line_as value_as
 line_is {A = A} P keys fields gives line = then_is IsTextValue P (value_of line) _ (value_is line) (λ d is. by_test d is (has_only keys d))
   where
     by_test : (d : Data) → IsTextValue d → (b : Bool) → IfOk {T = A} (if b then fields d else Err NotJson) P

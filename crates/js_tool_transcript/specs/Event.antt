@@ -12,7 +12,7 @@ use Rattle.js_json_members.specs.Member.{◌>>=◌, Reads, required, given, trut
 use Rattle.js_ordered_table.specs.declared.event.Event.{Event}
 use Rattle.js_ordered_table.specs.declared.event.EventKind.{EventKind}
 use Rattle.js_ordered_table.specs.declared.event.EventKind.TheVariants as what
-use Rattle.js_tool_transcript.specs.Members.{only, line_as}
+use Rattle.js_tool_transcript.specs.Members.{only, value_as, line_as}
 use Rattle.js_tool_transcript.specs.Message.{message_keys, message_fields}
 
 -- ---- what happens
@@ -86,6 +86,10 @@ event_fields d = do
   at ← required natural key.At d
   what ← what_fields d
   Ok (record { at = at; what = what })
+
+-- what the value of a line says
+abbrev pub event_of : Data → Result Event ReadError
+event_of = value_as event_keys event_fields
 
 abbrev pub event_line : List ℕ → Result Event ReadError
 event_line = line_as event_keys event_fields

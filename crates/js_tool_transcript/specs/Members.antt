@@ -11,6 +11,10 @@ use Rattle.js_json_members.specs.Value.{has_only, value_of}
 unfoldable pub only : {A : Type 0} → List Key → (Data → Result A ReadError) → Reads A
 only keys fields key d = if has_only keys d then fields d else Err (WrongKind key)
 
--- a line that is an object with no keys but these
+-- a line's value that is an object with no keys but these
+unfoldable pub value_as : {A : Type 0} → List Key → (Data → Result A ReadError) → Data → Result A ReadError
+value_as keys fields d = if has_only keys d then fields d else Err NotJson
+
+-- a line that is such a value
 unfoldable pub line_as : {A : Type 0} → List Key → (Data → Result A ReadError) → List ℕ → Result A ReadError
-line_as keys fields line = value_of line >>= λ d. if has_only keys d then fields d else Err NotJson
+line_as keys fields line = value_of line >>= value_as keys fields

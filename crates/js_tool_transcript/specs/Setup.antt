@@ -18,7 +18,7 @@ use Rattle.js_ordered_table.specs.declared.setup.OrderedSetup.TheVariants as set
 use Rattle.js_tool_transcript.specs.declared.transcript.setup.Mode.{Mode}
 use Rattle.js_tool_transcript.specs.declared.transcript.setup.Mode.TheVariants as mode
 use Rattle.js_tool_transcript.specs.declared.transcript.setup.Setup.{Setup}
-use Rattle.js_tool_transcript.specs.Members.{only, line_as}
+use Rattle.js_tool_transcript.specs.Members.{only, value_as, line_as}
 
 -- the names of the modes
 unfoldable pub mode_named : List ℕ → Option Mode
@@ -78,6 +78,10 @@ setup_fields d = do
   config ← required (nested config_fields) key.Config d
   first ← required (nested info_fields) key.Info d
   setup_with mode start settings config first
+
+-- what the value of a line says
+abbrev pub setup_of : Data → Result Setup ReadError
+setup_of = value_as setup_keys setup_fields
 
 abbrev pub setup_line : List ℕ → Result Setup ReadError
 setup_line = line_as setup_keys setup_fields

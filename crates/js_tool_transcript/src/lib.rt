@@ -14,5 +14,6 @@ mod transcript;
 pub use relay::relay_text;
 pub use text::{Cell, field_text, push_end, push_line, push_outputs, push_refused, refusal_line};
 pub use transcript::{
-    Payloads, Setup, Transcript, Unread, event_line, first_line, next_line, setup_line,
+    Payloads, Setup, Transcript, Unread, compact_event, event_line, event_of, first_line,
+    next_line, setup_line, setup_of,
 };

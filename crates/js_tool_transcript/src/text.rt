@@ -10,7 +10,7 @@ mod quoted;
 
 use bytes::Bytes;
 use js_base::Subject;
-use js_ordered::{Field, ItemKind, Output, ReplayError, Start};
+use js_ordered_table::{Field, ItemKind, Output, ReplayError, Start};
 pub use line::{Cell, push_line};
 pub(crate) use quoted::{plain_front, push_quoted};
 use std::alloc::{AllocError, Global};

@@ -13,12 +13,12 @@ mod message;
 mod payloads;
 mod setup;
 
-pub use event::event_line;
+pub use event::{compact_event, event_line, event_of};
 use js_base::Items;
 use js_json_members::ReadError;
-use js_ordered::Event;
+use js_ordered_table::Event;
 pub use payloads::Payloads;
-pub use setup::{Setup, setup_line};
+pub use setup::{Setup, setup_line, setup_of};
 use std::alloc::{AllocFailed, Global};
 
 /// A setup, and what happened. No value of it is made: it stands in contracts alone.
@@ -31,6 +31,7 @@ pub struct Transcript {
 /// Why a transcript was not read.
 #[derive(Clone, Copy, Debug, PartialEq, Eq)]
 pub enum Unread {
+    /// There is no memory for what a line says. The line may read all the same.
     OutOfMemory,
     /// The first line that does not read, counted from 1.
     BadLine(u64),
@@ -45,6 +46,11 @@ impl<T: Drop> From<AllocFailed<T>> for Unread {
 }
 
 /// The setup that the first line of a transcript says.
+///
+/// # Errors
+///
+/// `BadLine` with 1 where the line is no setup: it is no JSON object of a setup's keys alone, or one of them lacks or has a value that
+/// does not read. `OutOfMemory` may come in its place or in that of the setup.
 pub fn first_line(alloc: Global, line: &[u8]) -> Result<Setup, Unread>
     ensures { GivesLines (λ s. s) result (numbered 1 (setup_in line.now)) }
 {
@@ -55,7 +61,13 @@ pub fn first_line(alloc: Global, line: &[u8]) -> Result<Setup, Unread>
     }
 }
 
-/// The event that a further line says, which has this number.
+/// The event that a further line says, which has this number, the first line having 1. Its payload is kept in the room that short
+/// payloads share.
+///
+/// # Errors
+///
+/// `BadLine` with that number where the line is no event: it is no JSON object of an event's keys alone, or a key of it lacks, has a
+/// value that does not read, or says a second thing that happens. `OutOfMemory` may come in its place or in that of the event.
 pub fn next_line(
     alloc: Global,
     payloads: &mut Payloads,

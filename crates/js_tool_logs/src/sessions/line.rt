@@ -3,14 +3,13 @@
 ghost use Rattle.std.specs.Prelude.{◌≡◌, codes, is_some};
 ghost use Rattle.serde_json.specs.Find.{get};
 ghost use Rattle.serde_json.specs.View.{view, members_view};
-ghost use Rattle.js_json_members.specs.Member.{Fails, Gives};
-ghost use Rattle.js_tool_transcript.specs.Event.{event_line as event_in};
+ghost use Rattle.js_json_members.specs.Member.{Gives};
 ghost use Rattle.js_tool_transcript.specs.Transcript.{GivesLines, numbered};
-ghost use Rattle.js_tool_logs.specs.SessionLine.{has_no_other as has_no_other_in, is_save as is_save_in, members_named, session_line};
+ghost use Rattle.js_tool_logs.specs.SessionLine.{has_no_other as has_no_other_in, is_save as is_save_in, members_named, said as said_in, session_line};
 
 use js_json_members::{ReadError, value_of};
 use js_log_sessions::Line;
-use js_tool_transcript::{Payloads, Setup, Unread, event_line, setup_line};
+use js_tool_transcript::{Payloads, Setup, Unread, compact_event, event_of, setup_of};
 use serde_json::{Map, Value};
 use std::alloc::Global;
 
@@ -56,32 +55,37 @@ fn has_mode(value: &Value) -> bool
     value.get("mode").is_some()
 }
 
-// What a line says that is no event, for that reason.
-fn other_line(alloc: Global, line: &[u8], error: ReadError) -> Result<Said, ReadError>
-    requires { Fails error (event_in line.now) }
+// What the value of a line says.
+fn said_of(alloc: Global, payloads: &mut Payloads, value: &Value) -> Result<Said, ReadError>
+    ensures { Gives result (said_in (view value.now)) }
+{
+    if has_mode(value) {
+        let setup = setup_of(alloc, value)?;
+        return Ok(Said::Begins(setup));
+    }
+    if is_save(value) {
+        return Ok(Said::Says(Line::Save));
+    }
+    let event = event_of(alloc, payloads, value)?;
+    Ok(Said::Says(Line::Event(event)))
+}
+
+// What a line says that is not in its shortest form.
+fn other_line(alloc: Global, payloads: &mut Payloads, line: &[u8]) -> Result<Said, ReadError>
     ensures { Gives result (session_line line.now) }
 {
     let value = value_of(alloc, line)?;
-    let begins = has_mode(&value);
-    let saves = is_save(&value);
+    let said = said_of(alloc, payloads, &value);
     drop(value);
-    if begins {
-        let setup = setup_line(alloc, line)?;
-        return Ok(Said::Begins(setup));
-    }
-    if saves {
-        return Ok(Said::Says(Line::Save));
-    }
-    Err(error)
+    said
 }
 
 fn any_line(alloc: Global, payloads: &mut Payloads, line: &[u8]) -> Result<Said, ReadError>
     ensures { Gives result (session_line line.now) }
 {
-    match event_line(alloc, payloads, line) {
-        Ok(event) => Ok(Said::Says(Line::Event(event))),
-        Err(ReadError::OutOfMemory) => Err(ReadError::OutOfMemory),
-        Err(error) => other_line(alloc, line, error),
+    match compact_event(alloc, payloads, line)? {
+        Some(event) => Ok(Said::Says(Line::Event(event))),
+        None => other_line(alloc, payloads, line),
     }
 }
 

@@ -1,21 +1,21 @@
 //! Each further line of a transcript: a moment, and at most one thing that happens then.
 
-ghost use Rattle.std.specs.Prelude.{◌≡◌, List, ℕ, Option, Some, None, Ok};
+ghost use Rattle.std.specs.Prelude.{◌≡◌, List, ℕ, Option, Some, None, Ok, IfOk, IfSome};
 ghost use Rattle.serde_json.specs.View.{view};
 ghost use Rattle.js_json_members.specs.Member.{Gives, named, given as given_in};
 ghost use Rattle.js_json_members.specs.declared.key.Key.TheVariants as key;
 ghost use Rattle.js_ordered_table.specs.declared.event.EventKind.{EventKind};
 ghost use Rattle.js_ordered_table.specs.declared.event.EventKind.TheVariants.{Arrival};
 ghost use Rattle.js_tool_transcript.specs.Compact.{plain_message};
-ghost use Rattle.js_tool_transcript.specs.Event.{arrival_fields as arrival_fields_in, arrival as arrival_in, reply_fields as reply_fields_in, gone_fields as gone_fields_in, answer as answer_in, link_named, connection_named, watcher_named, alone as alone_in, with_key, what_fields as what_in, event_fields as event_in, event_line as line_in};
+ghost use Rattle.js_tool_transcript.specs.Event.{arrival_fields as arrival_fields_in, arrival as arrival_in, reply_fields as reply_fields_in, gone_fields as gone_fields_in, answer as answer_in, link_named, connection_named, watcher_named, alone as alone_in, with_key, what_fields as what_in, event_fields as event_in, event_of as event_of_in, event_line as line_in};
 
 use super::compact::{CompactLine, PlainArrival, compact_line};
 use super::members::text_of;
 use super::message::message_fields;
 use super::payloads::Payloads;
-use js_base::{Boxed, Message, State, Subject};
+use js_base::{Boxed, Message, OutOfMemory, State, Subject};
 use js_json_members::{Key, ReadError, has_only, required, value_of};
-use js_ordered::{Event, EventKind};
+use js_ordered_table::{Event, EventKind};
 use serde_json::Value;
 use std::alloc::Global;
 
@@ -282,17 +282,26 @@ fn event_fields(alloc: Global, payloads: &mut Payloads, object: &Value) -> Resul
     Ok(Event { at, what })
 }
 
-/// The event that a line says. The payload that it may bring is kept in the room that short payloads share.
-pub fn event_line(alloc: Global, payloads: &mut Payloads, line: &[u8]) -> Result<Event, ReadError>
-    ensures { Gives result (line_in line.now) }
+/// The event that a line in its shortest form says, read with no JSON value between: a bare tick, or an arrival with a reply and a
+/// payload alone. `None` where the line has another form, whatever it says. The payload is kept in the room that short payloads share.
+///
+/// It fails only for want of memory.
+pub fn compact_event(
+    alloc: Global,
+    payloads: &mut Payloads,
+    line: &[u8],
+) -> Result<Option<Event>, OutOfMemory>
+    ensures { IfOk result (λ found. IfSome found (λ event. line_in line.now ≡ Ok event)) }
 {
     match compact_line(line) {
-        Some(CompactLine::Tick { at }) => Ok(Event {
+        Some(CompactLine::Tick { at }) => Ok(Some(Event {
             at,
             what: EventKind::Tick,
-        }),
-        Some(CompactLine::Arrival { at, arrival }) => arrived(alloc, payloads, at, arrival),
-        None => any_line(alloc, payloads, line),
+        })),
+        Some(CompactLine::Arrival { at, arrival }) => {
+            Ok(Some(arrived(alloc, payloads, at, arrival)?))
+        }
+        None => Ok(None),
     }
 }
 
@@ -301,8 +310,8 @@ fn arrived(
     payloads: &mut Payloads,
     at: u64,
     found: PlainArrival,
-) -> Result<Event, ReadError>
-    ensures { Gives result (Ok (record { at = at; what = Arrival found.entry.inbox (plain_message found.entry.reply.now found.entry.payload.now) })) }
+) -> Result<Event, OutOfMemory>
+    ensures { IfOk result (λ event. event ≡ record { at = at; what = Arrival found.entry.inbox (plain_message found.entry.reply.now found.entry.payload.now) }) }
 {
     let reply = Subject::new(alloc, found.reply)?;
     let payload = payloads.keep(alloc, found.payload.as_bytes())?;
@@ -324,13 +333,16 @@ fn arrived(
     })
 }
 
-#[tactic(auto, unfolding(crate::specs::Members::line_as))]
-fn any_line(alloc: Global, payloads: &mut Payloads, line: &[u8]) -> Result<Event, ReadError>
-    ensures { Gives result (line_in line.now) }
+/// The event that the value of a line says. The payload that it may bring is kept in the room that short payloads share.
+///
+/// A value that is no object, or has another key than an event, is `NotJson`; any other error is that of the first member that does not
+/// read, or want of memory.
+#[tactic(auto, unfolding(crate::specs::Members::value_as))]
+pub fn event_of(alloc: Global, payloads: &mut Payloads, value: &Value) -> Result<Event, ReadError>
+    ensures { Gives result (event_of_in (view value.now)) }
 {
-    let object = value_of(alloc, line)?;
     if has_only(
-        &object,
+        value,
         &[
             Key::At,
             Key::Arrival,
@@ -340,11 +352,29 @@ fn any_line(alloc: Global, payloads: &mut Payloads, line: &[u8]) -> Result<Event
             Key::Watcher,
         ],
     ) {
-        let event = event_fields(alloc, payloads, &object);
-        drop(object);
-        event
+        event_fields(alloc, payloads, value)
     } else {
-        drop(object);
         Err(ReadError::NotJson)
+    }
+}
+
+// The event that a line says, whatever its form.
+#[tactic(auto, unfolding(crate::specs::Members::line_as))]
+fn any_line(alloc: Global, payloads: &mut Payloads, line: &[u8]) -> Result<Event, ReadError>
+    ensures { Gives result (line_in line.now) }
+{
+    let value = value_of(alloc, line)?;
+    let event = event_of(alloc, payloads, &value);
+    drop(value);
+    event
+}
+
+/// The event that a line says. The payload that it may bring is kept in the room that short payloads share.
+pub fn event_line(alloc: Global, payloads: &mut Payloads, line: &[u8]) -> Result<Event, ReadError>
+    ensures { Gives result (line_in line.now) }
+{
+    match compact_event(alloc, payloads, line)? {
+        Some(event) => Ok(event),
+        None => any_line(alloc, payloads, line),
     }
 }

@@ -6,7 +6,7 @@ ghost use Rattle.serde_json.specs.View.{view};
 ghost use Rattle.js_json_members.specs.Member.{Gives, GivesAs, given as given_in, required as required_in, named, nested as nested_in, text};
 ghost use Rattle.js_json_members.specs.declared.key.Key.TheVariants as key;
 ghost use Rattle.js_json.specs.ConsumerInfo.{info_fields};
-ghost use Rattle.js_tool_transcript.specs.Setup.{mode_named, settings_fields as settings_in, settings as settings_member, ordered_setup as ordered_in, setup_with as with_in, setup_fields as setup_in, setup_line as line_in};
+ghost use Rattle.js_tool_transcript.specs.Setup.{mode_named, settings_fields as settings_in, settings as settings_member, ordered_setup as ordered_in, setup_with as with_in, setup_fields as setup_in, setup_of as setup_of_in, setup_line as line_in};
 
 use super::members::text_of;
 use js_base::{Moment, OutOfMemory, Text, all_5, both};
@@ -15,7 +15,7 @@ use js_json::{consumer, pull, push};
 use js_json_members::{
     Key, Member, Named, ReadError, by_text, defaulted, given, has_only, nested, required, value_of,
 };
-use js_ordered::{OrderedSetup, Settings};
+use js_ordered_table::{OrderedSetup, Settings};
 use serde_json::Value;
 use std::alloc::Global;
 
@@ -192,21 +192,31 @@ fn setup_fields(alloc: Global, object: &Value) -> Result<Setup, ReadError>
     setup_with(mode, start, settings, config, first)
 }
 
+/// The setup that the value of a line says.
+///
+/// A value that is no object, or has another key than a setup, is `NotJson`; any other error is that of the first member that does not
+/// read, or want of memory.
+#[tactic(auto, unfolding(crate::specs::Members::value_as))]
+pub fn setup_of(alloc: Global, value: &Value) -> Result<Setup, ReadError>
+    ensures { Gives result (setup_of_in (view value.now)) }
+{
+    if has_only(
+        value,
+        &[Key::Mode, Key::Start, Key::Settings, Key::Config, Key::Info],
+    ) {
+        setup_fields(alloc, value)
+    } else {
+        Err(ReadError::NotJson)
+    }
+}
+
 /// The setup that a line says.
 #[tactic(auto, unfolding(crate::specs::Members::line_as))]
 pub fn setup_line(alloc: Global, line: &[u8]) -> Result<Setup, ReadError>
     ensures { Gives result (line_in line.now) }
 {
-    let object = value_of(alloc, line)?;
-    if has_only(
-        &object,
-        &[Key::Mode, Key::Start, Key::Settings, Key::Config, Key::Info],
-    ) {
-        let setup = setup_fields(alloc, &object);
-        drop(object);
-        setup
-    } else {
-        drop(object);
-        Err(ReadError::NotJson)
-    }
+    let value = value_of(alloc, line)?;
+    let setup = setup_of(alloc, &value);
+    drop(value);
+    setup
 }

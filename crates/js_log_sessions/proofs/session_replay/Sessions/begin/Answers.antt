@@ -11,7 +11,7 @@ use Rattle.js_log_sessions.proofs.session_replay.Sessions.begin.Goals as goal
 
 pub returns-then-not-is_at : goal.returns-then-not-is_at
 returns-then-not-is_at c = λ next done ended lines.
-    wrong_start next c.in-Ok.number c.args.self.next done _ ended.accepted (c.in-Ok.ensures ∙ ap (λ (n : ℕ). n + 1) ended.count) ended.goes_on
+    wrong_start next c.in-Ok.number c.args.self.next done _ ended.accepted (c.in-Ok.ensures.next ∙ ap (λ (n : ℕ). n + 1) ended.count) ended.goes_on
     (ap (is_at c.args.self.next) (sym c.configured_start.ensures) ∙ sym c.is_at.ensures ∙ c.if-not-is_at.true)
 
 pub returns-in_default : goal.returns-in_default
@@ -19,13 +19,13 @@ returns-in_default c = λ next done ended lines.
     let reads : Scope = scope_of c.args.setup.now c.args.first.now in
     let none : agreed (first_scope done) reads ≡ None =
     ap (λ (o : Option Scope). agreed o reads) (sym ended.scope) ∙ sym c.in_ok-scope.ensures ∙ c.in_default.is in
-    wrong_filter next c.in-Ok.number done _ ended.accepted (c.in-Ok.ensures ∙ ap (λ (n : ℕ). n + 1) ended.count)
+    wrong_filter next c.in-Ok.number done _ ended.accepted (c.in-Ok.ensures.next ∙ ap (λ (n : ℕ). n + 1) ended.count)
     (ap (λ (n : ℕ). is_at n (configured_start c.args.setup.now)) (sym ended.goes_on) ∙ ap (is_at c.args.self.next) (sym c.configured_start.ensures) ∙ sym c.is_at.ensures ∙ c.if-not-is_at.false)
     (agreed_none (first_scope done) reads none)
 
 pub returns : goal.returns
 returns c = λ next done ended.
-    begun next done _ c.args.self _ c.in-Some.scope ended refl c.in-Ok.ensures
+    begun next done _ c.args.self _ c.in-Some.scope ended refl c.in-Ok.ensures.next
     (ap (is_at c.args.self.next) (sym c.configured_start.ensures) ∙ sym c.is_at.ensures ∙ c.if-not-is_at.false)
     (sym c.in_ok-scope.ensures ∙ c.in-Some.is)
     refl refl c.in_ok-replay.ensures c.at-saved.ensures

@@ -1,7 +1,7 @@
 use Rattle.std.proofs.Common.{◌≡◌, [], refl, rules}
 use Rattle.js_ordered.specs.IncrementalReplay.{HasCome}
 use Rattle.js_tool_transcript.specs.TranscriptReplay.{replay_input}
-use Rattle.js_tool_transcript.proofs.RunText.{text_opens}
+use Rattle.js_tool.proofs.RunText.{text_opens}
 use Rattle.js_tool.proofs.progress.Progress.open.Goals as goal
 
 pub returns : goal.returns
