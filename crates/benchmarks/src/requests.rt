@@ -12,7 +12,7 @@ use std::str;
 
 /// What the server reads of one thing that was sent.
 #[derive(Drop)]
-pub enum Heard {
+pub enum Received {
     /// Messages go to this inbox from now on.
     Subscription(InboxId),
     /// So many more messages may come.
@@ -26,11 +26,11 @@ pub enum Heard {
 }
 
 /// Reads one thing that a reader of the kind has sent.
-pub fn read(alloc: Global, kind: Kind, sent: &Sent) -> Result<Heard, OutOfMemory> {
+pub fn read(alloc: Global, kind: Kind, sent: &Sent) -> Result<Received, OutOfMemory> {
     match sent {
-        Sent::Subscribe { inbox, .. } => Ok(Heard::Subscription(InboxId(*inbox))),
+        Sent::Subscribe { inbox, .. } => Ok(Received::Subscription(InboxId(*inbox))),
         Sent::Publish { payload, .. } => {
-            Ok(Heard::Wants(number_at("\"batch\":", payload).unwrap_or(0)))
+            Ok(Received::Wants(number_at("\"batch\":", payload).unwrap_or(0)))
         }
         Sent::Request {
             number,
@@ -54,9 +54,9 @@ fn create(
     number: RequestId,
     name: &str,
     payload: &Bytes,
-) -> Result<Heard, OutOfMemory> {
+) -> Result<Received, OutOfMemory> {
     let info = info_text(alloc, name, kind)?;
-    Ok(Heard::Request {
+    Ok(Received::Request {
         number,
         consumer: Consumer::starting_at(
             kind,
@@ -66,8 +66,8 @@ fn create(
     })
 }
 
-fn delete(alloc: Global, number: RequestId) -> Result<Heard, OutOfMemory> {
-    Ok(Heard::Request {
+fn delete(alloc: Global, number: RequestId) -> Result<Received, OutOfMemory> {
+    Ok(Received::Request {
         number,
         consumer: Consumer::gone(),
         answer: plain(alloc, r#"{"success":true}"#)?,

@@ -1,7 +1,7 @@
 //! An honest server that loses things.
 
 use crate::reader::Kind;
-use crate::requests::{Heard, read};
+use crate::requests::{Received, read};
 use crate::texts::{entry, status};
 use js_base::{Message, Nanos, OutOfMemory, StatusCode};
 use js_link::{InboxId, MemoryLink, RequestId};
@@ -86,7 +86,7 @@ pub struct Server {
     /// The sequence of the log's last entry.
     last: u64,
     /// How much of what was sent has reached it, or was lost.
-    heard: usize,
+    received: usize,
     /// Where messages go. None while the reader has none.
     inbox: Option<InboxId>,
     consumer: Consumer,
@@ -101,7 +101,7 @@ impl Server {
             rng,
             kind,
             last,
-            heard: 0,
+            received: 0,
             inbox: None,
             consumer: Consumer::starting_at(kind, 1),
         }
@@ -120,32 +120,32 @@ impl Server {
     /// Hears all that was sent, and answers whether something came for the reader.
     pub fn hear(&mut self, alloc: Global, link: &mut MemoryLink) -> Result<bool, OutOfMemory> {
         let mut came = false;
-        for _ in self.heard..link.sent().len() {
+        for _ in self.received..link.sent().len() {
             came = self.hear_next(alloc, link)? || came;
         }
         Ok(came)
     }
 
     fn hear_next(&mut self, alloc: Global, link: &mut MemoryLink) -> Result<bool, OutOfMemory> {
-        let Some(sent) = link.sent().get(self.heard) else {
+        let Some(sent) = link.sent().get(self.received) else {
             return Ok(false);
         };
-        let heard = read(alloc, self.kind, sent)?;
-        self.heard = self.heard.saturating_add(1);
-        self.obey(link, heard)
+        let received = read(alloc, self.kind, sent)?;
+        self.received = self.received.saturating_add(1);
+        self.obey(link, received)
     }
 
-    fn obey(&mut self, link: &mut MemoryLink, heard: Heard) -> Result<bool, OutOfMemory> {
-        match heard {
-            Heard::Subscription(inbox) => {
+    fn obey(&mut self, link: &mut MemoryLink, received: Received) -> Result<bool, OutOfMemory> {
+        match received {
+            Received::Subscription(inbox) => {
                 self.inbox = Some(inbox);
                 Ok(false)
             }
-            Heard::Wants(more) => {
+            Received::Wants(more) => {
                 self.want(more);
                 Ok(false)
             }
-            Heard::Request {
+            Received::Request {
                 number,
                 consumer,
                 answer,

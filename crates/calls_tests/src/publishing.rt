@@ -13,9 +13,9 @@ use js_link::{Link, MemoryLink, RequestId};
 use std::alloc::Global;
 use std::sync::Wait;
 
-/// A step of a context that publishes, and of its link.
+/// What a context that publishes, or its link, is made to do.
 #[derive(Clone, Copy)]
-enum Step {
+enum Action {
     /// To a subject.
     Publish(&'static str),
     /// So often.
@@ -55,12 +55,12 @@ fn limit(alloc: Global, link: &mut MemoryLink, most: u64) -> Words {
     word(alloc, "")
 }
 
-/// The steps of the link.
-fn befalls(alloc: Global, link: &mut MemoryLink, step: Step) -> Words {
-    match step {
-        Step::Answer(request, reply) => answer(alloc, link, request, reply),
-        Step::Up(up) => set_up(alloc, link, up),
-        Step::Limit(most) => limit(alloc, link, most),
+/// The actions of the link.
+fn befalls(alloc: Global, link: &mut MemoryLink, action: Action) -> Words {
+    match action {
+        Action::Answer(request, reply) => answer(alloc, link, request, reply),
+        Action::Up(up) => set_up(alloc, link, up),
+        Action::Limit(most) => limit(alloc, link, most),
         _ => number(alloc, link.sent().len() as u64),
     }
 }
@@ -88,31 +88,31 @@ fn done<R: Wait>(
     alloc: Global,
     context: &mut Context,
     link: &mut MemoryLink,
-    step: Step,
+    action: Action,
 ) -> Words {
-    match step {
-        Step::Publish(subject) => published(rt, alloc, context, link, subject),
-        Step::Sized(len) => published_sized(rt, alloc, context, link, len),
-        Step::WithHeaders => published_with_headers(rt, alloc, context, link),
-        Step::Named => published_named(rt, alloc, context, link),
-        Step::Often(times) => published_often(rt, alloc, context, link, times),
-        Step::Await(now) => awaited(rt, alloc, context, link, now),
-        Step::Reap(now) => reaped(rt, alloc, context, link, now),
-        Step::Settled => settled(rt, alloc, context),
-        _ => befalls(alloc, link, step),
+    match action {
+        Action::Publish(subject) => published(rt, alloc, context, link, subject),
+        Action::Sized(len) => published_sized(rt, alloc, context, link, len),
+        Action::WithHeaders => published_with_headers(rt, alloc, context, link),
+        Action::Named => published_named(rt, alloc, context, link),
+        Action::Often(times) => published_often(rt, alloc, context, link, times),
+        Action::Await(now) => awaited(rt, alloc, context, link, now),
+        Action::Reap(now) => reaped(rt, alloc, context, link, now),
+        Action::Settled => settled(rt, alloc, context),
+        _ => befalls(alloc, link, action),
     }
 }
 
-/// Adds what a step comes to, as a line.
+/// Adds what a action comes to, as a line.
 fn add<R: Wait>(
     rt: &R,
     alloc: Global,
     context: &mut Context,
     link: &mut MemoryLink,
-    step: Step,
+    action: Action,
     words: &mut String,
 ) -> Result<(), OutOfMemory> {
-    let word = done(rt, alloc, context, link, step)?;
+    let word = done(rt, alloc, context, link, action)?;
     add_line(words, word.as_str())
 }
 
@@ -121,40 +121,46 @@ fn run_over<R: Wait>(
     alloc: Global,
     context: &mut Context,
     link: &mut MemoryLink,
-    steps: &[Step],
+    actions: &[Action],
 ) -> Words {
     let mut words = String::new(alloc);
-    for &step in steps {
-        add(rt, alloc, context, link, step, &mut words)?;
+    for &action in actions {
+        add(rt, alloc, context, link, action, &mut words)?;
     }
     Ok(words)
 }
 
-/// What a context comes to, step by step, each word with a line's end.
-fn run_in<R: Wait>(rt: &R, alloc: Global, context: &mut Context, steps: &[Step]) -> Words {
+/// What a context comes to, action by action, each word with a line's end.
+fn run_in<R: Wait>(rt: &R, alloc: Global, context: &mut Context, actions: &[Action]) -> Words {
     let mut link = MemoryLink::new(alloc, "_INBOX.t")?;
-    let words = run_over(rt, alloc, context, &mut link, steps);
+    let words = run_over(rt, alloc, context, &mut link, actions);
     drop(link);
     words
 }
 
-fn run<R: Wait>(rt: &R, alloc: Global, capacity: u64, backpressure: bool, steps: &[Step]) -> Words {
+fn run<R: Wait>(
+    rt: &R,
+    alloc: Global,
+    capacity: u64,
+    backpressure: bool,
+    actions: &[Action],
+) -> Words {
     let mut context = opened(rt, alloc, capacity, backpressure)?;
-    let words = run_in(rt, alloc, &mut context, steps);
+    let words = run_in(rt, alloc, &mut context, actions);
     drop(context);
     words
 }
 
 /// How many permits a context has, whether it waits for them, what befalls it, and what it comes to.
-const RUNS: &[(u64, bool, &[Step], &str)] = &[
+const RUNS: &[(u64, bool, &[Action], &str)] = &[
     // Headers count.
     (
         2,
         true,
         &[
-            Step::Limit(131_072),
-            Step::Sized(131_048),
-            Step::Sized(131_049),
+            Action::Limit(131_072),
+            Action::Sized(131_048),
+            Action::Sized(131_049),
         ],
         "\nsent\nmax payload size exceeded\n",
     ),
@@ -163,16 +169,16 @@ const RUNS: &[(u64, bool, &[Step], &str)] = &[
         1,
         false,
         &[
-            Step::Publish("a b"),
-            Step::Up(false),
-            Step::Publish("a"),
-            Step::Publish("a"),
-            Step::Settled,
-            Step::Sent,
-            Step::Up(true),
-            Step::Publish("a"),
-            Step::Publish("a"),
-            Step::Sent,
+            Action::Publish("a b"),
+            Action::Up(false),
+            Action::Publish("a"),
+            Action::Publish("a"),
+            Action::Settled,
+            Action::Sent,
+            Action::Up(true),
+            Action::Publish("a"),
+            Action::Publish("a"),
+            Action::Sent,
         ],
         "publish failed\n\npublish failed\npublish failed\nsettled\n0\n\nsent\nmax ack pending reached\n1\n",
     ),
@@ -180,7 +186,7 @@ const RUNS: &[(u64, bool, &[Step], &str)] = &[
     (
         1,
         true,
-        &[Step::Publish("a"), Step::Often(1_000), Step::Sent],
+        &[Action::Publish("a"), Action::Often(1_000), Action::Sent],
         "sent\nall wait\n1\n",
     ),
     // Detached acks are reaped: by their answers, and thirty seconds after the first reap that looks at them.
@@ -188,16 +194,16 @@ const RUNS: &[(u64, bool, &[Step], &str)] = &[
         3,
         true,
         &[
-            Step::Publish("a"),
-            Step::Publish("a"),
-            Step::Publish("a"),
-            Step::Answer(1, Some(STORED)),
-            Step::Reap(10 * SECOND),
-            Step::Settled,
-            Step::Answer(3, None),
-            Step::Reap(40 * SECOND - 1),
-            Step::Reap(40 * SECOND),
-            Step::Settled,
+            Action::Publish("a"),
+            Action::Publish("a"),
+            Action::Publish("a"),
+            Action::Answer(1, Some(STORED)),
+            Action::Reap(10 * SECOND),
+            Action::Settled,
+            Action::Answer(3, None),
+            Action::Reap(40 * SECOND - 1),
+            Action::Reap(40 * SECOND),
+            Action::Settled,
         ],
         "sent\nsent\nsent\n\n1\nnot settled\n\n1\n1\nsettled\n",
     ),
@@ -206,41 +212,41 @@ const RUNS: &[(u64, bool, &[Step], &str)] = &[
         1,
         true,
         &[
-            Step::Await(0),
-            Step::Reap(10 * SECOND),
-            Step::Reap(40 * SECOND - 1),
-            Step::Settled,
-            Step::Reap(40 * SECOND),
-            Step::Settled,
+            Action::Await(0),
+            Action::Reap(10 * SECOND),
+            Action::Reap(40 * SECOND - 1),
+            Action::Settled,
+            Action::Reap(40 * SECOND),
+            Action::Settled,
         ],
         "waits\n0\n0\nnot settled\n1\nsettled\n",
     ),
     (
         2,
         true,
-        &[Step::WithHeaders, Step::Named, Step::Sent],
+        &[Action::WithHeaders, Action::Named, Action::Sent],
         "sent\nsent\n2\n",
     ),
 ];
 
-fn run_limited<R: Wait>(rt: &R, alloc: Global, limit: Option<u64>, steps: &[Step]) -> Words {
+fn run_limited<R: Wait>(rt: &R, alloc: Global, limit: Option<u64>, actions: &[Action]) -> Words {
     let mut context = opened_limited(rt, alloc, limit)?;
-    let words = run_in(rt, alloc, &mut context, steps);
+    let words = run_in(rt, alloc, &mut context, actions);
     drop(context);
     words
 }
 
 /// The second of two acks is answered, and then the first.
-const ANSWERED: &[Step] = &[
-    Step::Publish("a"),
-    Step::Publish("a"),
-    Step::Answer(2, Some(STORED)),
-    Step::Reap(SECOND),
-    Step::Answer(1, Some(STORED)),
-    Step::Reap(SECOND),
-    Step::Settled,
-    Step::Reap(SECOND),
-    Step::Settled,
+const ANSWERED: &[Action] = &[
+    Action::Publish("a"),
+    Action::Publish("a"),
+    Action::Answer(2, Some(STORED)),
+    Action::Reap(SECOND),
+    Action::Answer(1, Some(STORED)),
+    Action::Reap(SECOND),
+    Action::Settled,
+    Action::Reap(SECOND),
+    Action::Settled,
 ];
 
 /// How many acks a `reap` looks at, and what it comes to: with a limit the first acks alone, none and 0 set no limit.
@@ -261,8 +267,8 @@ fn reaps_look_at_the_first(rt: HostRuntime) {
 
 #[test]
 fn publishes_take_and_give_permits(rt: HostRuntime) {
-    for &(capacity, backpressure, steps, wanted) in RUNS {
-        let found = run(&rt, rt.alloc(), capacity, backpressure, steps);
+    for &(capacity, backpressure, actions, wanted) in RUNS {
+        let found = run(&rt, rt.alloc(), capacity, backpressure, actions);
         says(&rt, wanted, found, wanted);
     }
 }

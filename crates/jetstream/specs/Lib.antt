@@ -1,3 +1,4 @@
+pub mod AnyError
 pub mod Link
 pub mod Stream
 pub mod Driver

@@ -1,5 +1,6 @@
 //! One error for programs that only tell it.
 ghost use Rattle.std.specs.Prelude.{◌≡◌};
+ghost use Rattle.jetstream.specs.AnyError.{any_text};
 ghost use Rattle.jetstream.specs.declared.any_error.AnyError.TheVariants as any;
 
 mod from;
@@ -91,6 +92,8 @@ pub enum AnyError {
 }
 
 impl fmt::Display for AnyError {
+    ghost output = { λ error. any_text error };
+
     fn fmt<W: fmt::Write>(&self, f: &mut fmt::Formatter<W>) -> fmt::Result {
         match self {
             AnyError::OutOfMemory => write!(f, "out of memory"),

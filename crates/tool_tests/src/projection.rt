@@ -8,10 +8,10 @@ use std::alloc::Global;
 use std::process::Abort;
 
 /// What is applied: a subject, a sequence and a payload.
-type Step = (&'static str, u64, &'static str);
+type Change = (&'static str, u64, &'static str);
 
 /// What is applied one after another, each with its answer and the sequence applied last afterwards.
-const STEPS: &[(Step, Result<(), ApplyError>, u64)] = &[
+const STEPS: &[(Change, Result<(), ApplyError>, u64)] = &[
     (("a.x", 1, "1"), Ok(()), 1),
     (("a.y", 2, "2"), Ok(()), 2),
     (("a.x", 3, "3"), Ok(()), 3),
@@ -41,7 +41,7 @@ const CHANGES: &[(u64, &str)] = &[
 /// A subject, and the sequence of its last entry.
 const LAST: &[(&str, Option<u64>)] = &[("a.x", Some(3)), ("a.y", None), ("a", None)];
 
-fn entry(alloc: Global, step: Step) -> Result<Entry, OutOfMemory> {
+fn entry(alloc: Global, step: Change) -> Result<Entry, OutOfMemory> {
     Ok(Entry {
         subject: Subject::new(alloc, step.0)?,
         sequence: step.1,
@@ -49,7 +49,7 @@ fn entry(alloc: Global, step: Step) -> Result<Entry, OutOfMemory> {
     })
 }
 
-fn apply(alloc: Global, projection: &mut Projection, step: Step) -> Result<(), ApplyError> {
+fn apply(alloc: Global, projection: &mut Projection, step: Change) -> Result<(), ApplyError> {
     projection.apply(entry(alloc, step)?)
 }
 

@@ -8,7 +8,10 @@ use js_json::pull::BatchConfig;
 use js_json::{Response, response_as};
 use js_json_members::ReadError;
 use js_link::{InboxId, MemoryLink};
-use js_pull::{Advance, Consumer, PullSource, Reader, Stream, info_of_reply, ordered_batch_config};
+use js_pull::{
+    Advance, Consumer, PullSource, Reader, Stream, clamp_batch, clamp_expires, clamp_heartbeat,
+    info_of_reply, ordered_batch_config,
+};
 use std::alloc::Global;
 use std::process::Abort;
 
@@ -114,6 +117,33 @@ fn requests_are_made(rt: HostRuntime) {
     says_subject(&rt, reader.source.info_subject(rt.alloc()), INQUIRY);
     says_body(&rt, reader.pull_body(rt.alloc()), BODY);
     drop(reader);
+}
+
+// What is asked for, the consumer's limit, and what is left of it.
+const BATCHES: &[(u64, i64, u64)] = &[(200, 100, 100), (200, -1, 200)];
+
+// Nanoseconds that are asked for, the limit, and what is left of them: expiries by the consumer's limit.
+const EXPIRIES: &[(u64, u64, u64)] = &[(30, 5, 5), (30, 120, 30), (30, 0, 30)];
+
+// The same of heartbeats, by the expiry.
+const HEARTBEATS: &[(u64, u64, u64)] = &[(10_000_000_000, 5_000_000_000, 2_500_000_000)];
+
+#[test]
+fn limits_are_kept(rt: HostRuntime) {
+    for &(batch, limit, wanted) in BATCHES {
+        same(&rt, "batch", clamp_batch(batch, limit), wanted);
+    }
+    for &(expires, limit, wanted) in EXPIRIES {
+        same(&rt, "expiry", clamp_expires(expires, limit), wanted);
+    }
+    for &(heartbeat, expires, wanted) in HEARTBEATS {
+        same(
+            &rt,
+            "heartbeat",
+            clamp_heartbeat(heartbeat, expires),
+            wanted,
+        );
+    }
 }
 
 fn message(

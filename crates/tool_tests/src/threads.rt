@@ -112,6 +112,13 @@ fn workers_meet_in_threads_alone(rt: HostRuntime) {
     drop(meeting);
 }
 
+// The counts of one worker that takes the one permit three times.
+const ALONE: WindowCounts = WindowCounts {
+    got: 3,
+    full: 0,
+    all_free: true,
+};
+
 // How many takes workers make that share permits, and whether all are free at their end.
 fn shared_takes<R: Threads + Wait + Sync>(
     rt: &R,
@@ -131,6 +138,8 @@ fn shared_takes<R: Threads + Wait + Sync>(
 
 #[test]
 fn workers_share_too_few_permits(rt: HostRuntime) {
+    let one = run_window(&rt, rt.alloc(), 1, 1, 3, &Open);
+    same(&rt, "one", one, Ok(ALONE));
     let two = shared_takes(&rt, rt.alloc(), 1, 2, 1000);
     same(&rt, "two", two, Ok((2000, true)));
     let eight = shared_takes(&rt, rt.alloc(), 3, 8, 100_000);
@@ -236,6 +245,18 @@ fn share<R: Wait>(rt: &R, window: &Window, first: &mut Pass) -> (bool, bool, boo
     }
 }
 
+// Whether a caller that gives its permit back gets one again.
+fn takes_given<R: Wait>(rt: &R, alloc: Global) -> Result<bool, OutOfMemory> {
+    let (window, mut first) = Window::new(rt, alloc, 1)?;
+    match window.take(rt, &mut first) {
+        Take::Got(permit) => {
+            window.give(rt, &mut first, permit);
+            Ok(takes(rt, &window, &mut first))
+        }
+        Take::Full => Ok(false),
+    }
+}
+
 // Whether all is free before the first of two callers takes the one permit, while the second finds none, and once it was given back.
 fn share_one<R: Wait>(rt: &R, alloc: Global) -> Result<(bool, bool, bool), OutOfMemory> {
     let (window, mut first) = Window::new(rt, alloc, 1)?;
@@ -255,4 +276,6 @@ fn two_callers_share_one_permit(rt: HostRuntime) {
     same(&rt, "shared", shared, Ok((true, false, true)));
     let taken = takes_twice(&rt, rt.alloc());
     same(&rt, "taken twice", taken, Ok((true, false)));
+    let again = takes_given(&rt, rt.alloc());
+    same(&rt, "taken again", again, Ok(true));
 }

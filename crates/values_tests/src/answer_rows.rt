@@ -30,7 +30,7 @@ pub(crate) const ANSWERS: &[(Body, &str, &str)] = &[
     (Body::Deletion, r#"{"success":true}"#, "true"),
     (Body::Deletion, r#"{"type":"t","success":false}"#, "false"),
     (Body::Deletion, "{}", "success: missing"),
-    (Body::Answer, r#"{"stream":"TEST","seq":1}"#, "stored 1"),
+    (Body::Answer, r#"{"stream":"TEST","seq":1}"#, "TEST 1"),
     (
         Body::Answer,
         r#"{"error":{"code":503,"err_code":10077,"description":"no"},"stream":"TEST","seq":2}"#,
@@ -39,18 +39,14 @@ pub(crate) const ANSWERS: &[(Body, &str, &str)] = &[
     (
         Body::Answer,
         r#"{"error":{"code":"503"},"stream":"TEST","seq":3}"#,
-        "stored 3",
+        "TEST 3",
     ),
     (
         Body::Answer,
         r#"{"error":null,"stream":"TEST","seq":4,"duplicate":true}"#,
-        "stored 4",
+        "TEST 4",
     ),
-    (
-        Body::AnswerValue,
-        r#"{"stream":"TEST","seq":1}"#,
-        "stored 1",
-    ),
+    (Body::AnswerValue, r#"{"stream":"TEST","seq":1}"#, "TEST 1"),
     (
         Body::AnswerValue,
         r#"{"error":{"code":503,"err_code":10077,"description":"no"},"stream":"TEST","seq":2}"#,
@@ -59,12 +55,12 @@ pub(crate) const ANSWERS: &[(Body, &str, &str)] = &[
     (
         Body::AnswerValue,
         r#"{"error":{"code":"503"},"stream":"TEST","seq":3}"#,
-        "stored 3",
+        "TEST 3",
     ),
     (
         Body::AnswerValue,
         r#"{"error":null,"stream":"TEST","seq":4,"duplicate":true}"#,
-        "stored 4",
+        "TEST 4",
     ),
     (
         Body::Printed,

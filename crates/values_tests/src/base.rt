@@ -112,6 +112,13 @@ fn set_and_added(rt: &impl Abort, alloc: Global) -> HeaderMap {
     headers
 }
 
+/// The length of one header on the wire.
+fn wire_length(alloc: Global, name: &str, value: &str) -> Result<u64, OutOfMemory> {
+    let mut headers = HeaderMap::new(alloc);
+    headers.append(alloc, name, value)?;
+    Ok(headers.wire_len())
+}
+
 /// A name, its first value and its last one.
 const VALUES: &[(&str, Option<&str>, Option<&str>)] = &[
     ("A", Some("4"), Some("5")),
@@ -126,6 +133,8 @@ fn headers_are_set_and_added(rt: HostRuntime) {
         same(&rt, name, headers.get_last(name), last);
     }
     assert!(rt; headers != HeaderMap::new(rt.alloc()));
+    let length = wire_length(rt.alloc(), "Key", "Value");
+    same(&rt, "Key: Value", length, Ok(24));
 }
 
 /// The name and the value of a header, and whether it arrives as the one header that it is.

@@ -208,12 +208,12 @@ fn deletion(alloc: Global, text: &str) -> Words {
     Ok(format!(in alloc; "{success}")?)
 }
 
-/// The sequence, or the code of the error.
+/// The stream and the sequence, or the code of the error.
 fn stored(alloc: Global, response: &Response<PublishAck>) -> Words {
     match response {
         Response::Ok(ack) => {
-            let sequence = ack.sequence;
-            Ok(format!(in alloc; "stored {sequence}")?)
+            let (stream, sequence) = (&ack.stream, ack.sequence);
+            Ok(format!(in alloc; "{stream} {sequence}")?)
         }
         Response::Err { error } => {
             let code = error.err_code.0;

@@ -11,7 +11,7 @@ use std::alloc::Global;
 
 /// A call of a link.
 #[derive(Clone, Copy)]
-enum Step {
+enum LinkCall {
     OpenInbox,
     FreshSubject,
     Subscribe(Option<&'static str>),
@@ -92,35 +92,35 @@ fn state<L: Link>(alloc: Global, link: &mut L) -> Result<String, OutOfMemory> {
 }
 
 /// What one call answers.
-fn called<L: Link>(alloc: Global, link: &mut L, step: Step) -> Result<String, OutOfMemory> {
-    match step {
-        Step::OpenInbox => open_inbox(alloc, link),
-        Step::FreshSubject => fresh_subject(alloc, link),
-        Step::Subscribe(group) => number(
+fn called<L: Link>(alloc: Global, link: &mut L, call: LinkCall) -> Result<String, OutOfMemory> {
+    match call {
+        LinkCall::OpenInbox => open_inbox(alloc, link),
+        LinkCall::FreshSubject => fresh_subject(alloc, link),
+        LinkCall::Subscribe(group) => number(
             alloc,
             link.subscribe(alloc, "events.>", group)
                 .map(|inbox: InboxId| inbox.0),
         ),
-        Step::Close(inbox) => {
+        LinkCall::Close(inbox) => {
             link.unsubscribe(InboxId(inbox));
             word(alloc, "")
         }
-        Step::Publish(subject) => publish(alloc, link, subject),
-        Step::Request(subject) => number(
+        LinkCall::Publish(subject) => publish(alloc, link, subject),
+        LinkCall::Request(subject) => number(
             alloc,
             link.request(alloc, subject, None, b"{}")
                 .map(|request: RequestId| request.0),
         ),
-        Step::Take(inbox) => take(alloc, link, inbox),
-        Step::Answer(request) => answer(alloc, link, request),
-        Step::State => state(alloc, link),
+        LinkCall::Take(inbox) => take(alloc, link, inbox),
+        LinkCall::Answer(request) => answer(alloc, link, request),
+        LinkCall::State => state(alloc, link),
     }
 }
 
 /// What befalls a link.
 #[derive(Clone, Copy)]
 enum Event {
-    Call(Step),
+    Call(LinkCall),
     Deliver(u64, &'static str),
     Respond(u64, &'static str),
     Lose(u64),
@@ -175,53 +175,53 @@ fn told(alloc: Global, link: &mut MemoryLink, event: Event) -> Result<String, Ou
 /// What befalls one link after another, and what each call answers.
 const EVENTS: &[(Event, &str)] = &[
     // An inbox gives each message once, in order, until it is closed.
-    (Event::Call(Step::OpenInbox), "0 _INBOX.t.0"),
+    (Event::Call(LinkCall::OpenInbox), "0 _INBOX.t.0"),
     (Event::Deliver(0, "a"), ""),
     (Event::Deliver(0, "b"), ""),
-    (Event::Call(Step::Take(0)), "a"),
-    (Event::Call(Step::Take(0)), "b"),
-    (Event::Call(Step::Take(0)), "empty"),
-    (Event::Call(Step::Close(0)), ""),
+    (Event::Call(LinkCall::Take(0)), "a"),
+    (Event::Call(LinkCall::Take(0)), "b"),
+    (Event::Call(LinkCall::Take(0)), "empty"),
+    (Event::Call(LinkCall::Close(0)), ""),
     (Event::Deliver(0, "c"), ""),
-    (Event::Call(Step::Take(0)), "closed"),
-    (Event::Call(Step::Take(1)), "closed"),
+    (Event::Call(LinkCall::Take(0)), "closed"),
+    (Event::Call(LinkCall::Take(1)), "closed"),
     // A link that is down sends nothing, and no number is used up.
-    (Event::Call(Step::Publish("a")), "sent"),
+    (Event::Call(LinkCall::Publish("a")), "sent"),
     (Event::Up(false), ""),
-    (Event::Call(Step::Publish("a")), "link failed"),
-    (Event::Call(Step::Request("a")), "link failed"),
-    (Event::Call(Step::Subscribe(None)), "link failed"),
+    (Event::Call(LinkCall::Publish("a")), "link failed"),
+    (Event::Call(LinkCall::Request("a")), "link failed"),
+    (Event::Call(LinkCall::Subscribe(None)), "link failed"),
     (Event::Up(true), ""),
-    (Event::Call(Step::Subscribe(Some("g"))), "1"),
-    (Event::Call(Step::OpenInbox), "2 _INBOX.t.2"),
+    (Event::Call(LinkCall::Subscribe(Some("g"))), "1"),
+    (Event::Call(LinkCall::OpenInbox), "2 _INBOX.t.2"),
     (Event::Deliver(1, "d"), ""),
-    (Event::Call(Step::Take(2)), "empty"),
-    (Event::Call(Step::Take(1)), "d"),
+    (Event::Call(LinkCall::Take(2)), "empty"),
+    (Event::Call(LinkCall::Take(1)), "d"),
     // A request has one answer.
-    (Event::Call(Step::Request("a")), "1"),
-    (Event::Call(Step::Request("b")), "2"),
-    (Event::Call(Step::Answer(1)), "waiting"),
+    (Event::Call(LinkCall::Request("a")), "1"),
+    (Event::Call(LinkCall::Request("b")), "2"),
+    (Event::Call(LinkCall::Answer(1)), "waiting"),
     (Event::Respond(1, "x"), ""),
     (Event::Respond(1, "y"), ""),
     (Event::Lose(2), ""),
-    (Event::Call(Step::Answer(1)), "x"),
-    (Event::Call(Step::Answer(1)), "gone"),
-    (Event::Call(Step::Answer(2)), "gone"),
-    (Event::Call(Step::Answer(0)), "gone"),
+    (Event::Call(LinkCall::Answer(1)), "x"),
+    (Event::Call(LinkCall::Answer(1)), "gone"),
+    (Event::Call(LinkCall::Answer(2)), "gone"),
+    (Event::Call(LinkCall::Answer(0)), "gone"),
     // Its subjects are its own, and it tells what it was set to.
-    (Event::Call(Step::FreshSubject), "_INBOX.t.r0"),
-    (Event::Call(Step::FreshSubject), "_INBOX.t.r1"),
-    (Event::Call(Step::State), "connected"),
+    (Event::Call(LinkCall::FreshSubject), "_INBOX.t.r0"),
+    (Event::Call(LinkCall::FreshSubject), "_INBOX.t.r1"),
+    (Event::Call(LinkCall::State), "connected"),
     (Event::End, ""),
-    (Event::Call(Step::State), "ended"),
-    (Event::Call(Step::Publish("b")), "sent"),
-    (Event::Call(Step::Request("c")), "3"),
-    (Event::Call(Step::Answer(3)), "waiting"),
+    (Event::Call(LinkCall::State), "ended"),
+    (Event::Call(LinkCall::Publish("b")), "sent"),
+    (Event::Call(LinkCall::Request("c")), "3"),
+    (Event::Call(LinkCall::Answer(3)), "waiting"),
     (Event::Lose(3), ""),
-    (Event::Call(Step::Answer(3)), "gone"),
-    (Event::Call(Step::Subscribe(None)), "3"),
-    (Event::Call(Step::Close(3)), ""),
-    (Event::Call(Step::Take(3)), "closed"),
+    (Event::Call(LinkCall::Answer(3)), "gone"),
+    (Event::Call(LinkCall::Subscribe(None)), "3"),
+    (Event::Call(LinkCall::Close(3)), ""),
+    (Event::Call(LinkCall::Take(3)), "closed"),
 ];
 
 #[test]
@@ -310,23 +310,23 @@ fn serving(alloc: Global) -> Result<ScriptedServer, OutOfMemory> {
 }
 
 /// Whether the server is up, a call, and what it answers.
-const SERVED: &[(bool, Step, &str)] = &[
-    (true, Step::Request("a"), "1"),
-    (true, Step::Answer(1), "1"),
-    (true, Step::Request("a"), "2"),
-    (true, Step::Answer(2), "3"),
-    (false, Step::Request("b"), "link failed"),
-    (true, Step::Request("b"), "3"),
-    (true, Step::Answer(3), "2"),
-    (true, Step::Request("a"), "4"),
-    (true, Step::Answer(4), "waiting"),
-    (true, Step::OpenInbox, "0 _INBOX.t.0"),
-    (true, Step::FreshSubject, "_INBOX.t.r0"),
-    (true, Step::Subscribe(None), "1"),
-    (true, Step::Publish("a"), "sent"),
-    (true, Step::Take(1), "empty"),
-    (true, Step::Close(1), ""),
-    (true, Step::State, "connected"),
+const SERVED: &[(bool, LinkCall, &str)] = &[
+    (true, LinkCall::Request("a"), "1"),
+    (true, LinkCall::Answer(1), "1"),
+    (true, LinkCall::Request("a"), "2"),
+    (true, LinkCall::Answer(2), "3"),
+    (false, LinkCall::Request("b"), "link failed"),
+    (true, LinkCall::Request("b"), "3"),
+    (true, LinkCall::Answer(3), "2"),
+    (true, LinkCall::Request("a"), "4"),
+    (true, LinkCall::Answer(4), "waiting"),
+    (true, LinkCall::OpenInbox, "0 _INBOX.t.0"),
+    (true, LinkCall::FreshSubject, "_INBOX.t.r0"),
+    (true, LinkCall::Subscribe(None), "1"),
+    (true, LinkCall::Publish("a"), "sent"),
+    (true, LinkCall::Take(1), "empty"),
+    (true, LinkCall::Close(1), ""),
+    (true, LinkCall::State, "connected"),
 ];
 
 #[test]

@@ -8,7 +8,7 @@ use js_call_consumers::{PullConsumer, PushConsumer};
 use js_link::MemoryLink;
 use js_message::Message;
 use js_readers::pull::{
-    Batch, FetchBuilder, PullCalls, Sequence, Stream, StreamBuilder, StreamError,
+    Batch, BatchBuilder, FetchBuilder, PullCalls, Sequence, Stream, StreamBuilder, StreamError,
 };
 use js_readers::push::{Messages, PushCalls};
 use std::alloc::Global;
@@ -90,6 +90,23 @@ fn set_stream(alloc: Global, consumer: &PullConsumer) -> Result<StreamBuilder<'_
         .group(alloc, "g")
 }
 
+/// The same of a batch that waits.
+fn several(
+    alloc: Global,
+    consumer: &PullConsumer,
+    messages: u64,
+) -> Result<BatchBuilder<'_>, OutOfMemory> {
+    consumer
+        .batch()
+        .max_messages(messages)
+        .max_bytes(4096)
+        .heartbeat(1_000_000_000)
+        .expires(9_000_000_000)
+        .min_pending(3)
+        .min_ack_pending(4)
+        .group(alloc, "g")
+}
+
 /// A batch for which everything is set.
 fn set_batch(
     alloc: Global,
@@ -109,7 +126,7 @@ fn set_batch(
 }
 
 impl Reader {
-    /// Opens a stream: by the defaults, one without bounds, or one for which everything is set.
+    /// Opens a stream: by the defaults, one without bounds, one for which one thing is set, or one for which everything is.
     pub(crate) fn open_stream(
         &mut self,
         alloc: Global,
@@ -120,6 +137,15 @@ impl Reader {
         match verb {
             "messages" => opened(alloc, self, consumer.messages(alloc, link)),
             "endless" => opened(alloc, self, endless(alloc, consumer, link)),
+            "plain" => opened(alloc, self, consumer.stream().messages(alloc, link)),
+            "beating" => {
+                let stream = consumer.stream().heartbeat(10_000_000_000);
+                opened(alloc, self, stream.messages(alloc, link))
+            }
+            "unexpiring" => {
+                let stream = consumer.stream().expires(0);
+                opened(alloc, self, stream.messages(alloc, link))
+            }
             _ => {
                 let stream = set_stream(alloc, consumer)?;
                 opened(alloc, self, stream.messages(alloc, link))
@@ -127,7 +153,7 @@ impl Reader {
         }
     }
 
-    /// Opens a batch: of what is there, one that waits, or one for which everything is set.
+    /// Opens a batch: of what is there, one that waits, or one of either kind for which everything is set.
     pub(crate) fn open_batch(
         &mut self,
         alloc: Global,
@@ -144,6 +170,10 @@ impl Reader {
             }
             "batch" => {
                 let batch = consumer.batch().max_messages(messages);
+                opened(alloc, self, batch.messages(alloc, link, now))
+            }
+            "several" => {
+                let batch = several(alloc, consumer, messages)?;
                 opened(alloc, self, batch.messages(alloc, link, now))
             }
             _ => {

@@ -171,6 +171,36 @@ const BATCHES: &[Row] = &[
     ("wakes", "never"),
 ];
 
+/// What is asked for by default, as the consumer's limits cut it: no heartbeat but one that is set, and of that half the expiry at most.
+const LIMITS: &[Row] = &[
+    ("limits 300 120000000000", "done"),
+    ("plain", "done\n> subscribes to _INBOX.t.0"),
+    (
+        "poll 0",
+        r#"pending
+> publishes "{"batch":200,"expires":30000000000,"group":null,"max_bytes":0,"min_ack_pending":null,"min_pending":null,"priority":null}" to $JS.API.CONSUMER.MSG.NEXT.jobs.c1 for _INBOX.t.0"#,
+    ),
+    ("limits 0 5000000000", "done"),
+    ("beating", "done\n> subscribes to _INBOX.t.1"),
+    (
+        "poll 0",
+        r#"pending
+> publishes "{"batch":200,"expires":5000000000,"group":null,"idle_heartbeat":2500000000,"max_bytes":0,"min_ack_pending":null,"min_pending":null,"priority":null}" to $JS.API.CONSUMER.MSG.NEXT.jobs.c1 for _INBOX.t.1"#,
+    ),
+    ("unexpiring", "done\n> subscribes to _INBOX.t.2"),
+    (
+        "poll 0",
+        r#"pending
+> publishes "{"batch":200,"expires":0,"group":null,"max_bytes":0,"min_ack_pending":null,"min_pending":null,"priority":null}" to $JS.API.CONSUMER.MSG.NEXT.jobs.c1 for _INBOX.t.2"#,
+    ),
+    (
+        "several 5 0",
+        r#"done
+> subscribes to _INBOX.t.3
+> publishes "{"batch":5,"expires":9000000000,"group":"g","idle_heartbeat":1000000000,"max_bytes":4096,"min_ack_pending":4,"min_pending":3,"priority":null}" to $JS.API.CONSUMER.MSG.NEXT.jobs.c1 for _INBOX.t.3"#,
+    ),
+];
+
 /// A sequence of batches.
 const SEQUENCES: &[Row] = &[
     ("sequence 2", "done"),
@@ -320,6 +350,11 @@ fn a_worker_reads_streams_batches_sequences_and_what_is_pushed(rt: HostRuntime) 
 #[test]
 fn a_link_that_is_down_is_told_of_by_each_call(rt: HostRuntime) {
     new_one_works(&rt, rt.alloc(), &[DOWN]);
+}
+
+#[test]
+fn limits_cut_what_is_asked_for(rt: HostRuntime) {
+    new_one_works(&rt, rt.alloc(), &[LIMITS]);
 }
 
 #[test]

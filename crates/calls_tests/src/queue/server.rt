@@ -64,6 +64,23 @@ pub(crate) fn consumer(alloc: Global) -> Result<PullConsumer, OutOfMemory> {
     }
 }
 
+/// The consumer of the work queue, where at most so many messages are asked for at a time, and for at most so many nanoseconds.
+pub(crate) fn limited_consumer(
+    alloc: Global,
+    max_batch: u64,
+    max_expires: u64,
+) -> Result<PullConsumer, OutOfMemory> {
+    let scope = api(alloc)?;
+    match info(alloc) {
+        Ok(mut info) => {
+            info.config.max_batch = max_batch.min(1_000_000) as i64;
+            info.config.max_expires = max_expires;
+            known(info, scope)
+        }
+        Err(OutOfMemory) => Err(OutOfMemory),
+    }
+}
+
 /// What a message says, and under which subject.
 type Body = (Subject, Bytes);
 

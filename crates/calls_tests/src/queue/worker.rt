@@ -3,7 +3,9 @@
 use crate::queue::pushed::push_consumer;
 use crate::queue::reader::Reader;
 use crate::queue::renewal::Renewal;
-use crate::queue::server::{consumer, flow_control, job, number, reply, stalled, status};
+use crate::queue::server::{
+    consumer, flow_control, job, limited_consumer, number, reply, stalled, status,
+};
 use crate::queue::told::{done, outcome};
 use crate::tables::numbered;
 use crate::words::{Words, word};
@@ -199,6 +201,18 @@ impl Worker {
         self.renewal.poll(alloc, &mut self.link)
     }
 
+    /// Has the consumer limited to so many messages and so many nanoseconds a request.
+    fn limit(&mut self, alloc: Global, rest: &str) -> Words {
+        let (batch, expires) = cut(rest);
+        match limited_consumer(alloc, number(batch), number(expires)) {
+            Ok(consumer) => {
+                self.consumer = consumer;
+                word(alloc, "done")
+            }
+            Err(OutOfMemory) => Err(OutOfMemory),
+        }
+    }
+
     /// Has the clients of the consumer pinned.
     fn pin(&mut self, alloc: Global) -> Words {
         self.consumer.config.priority_policy = PriorityPolicy::PinnedClient;
@@ -227,8 +241,10 @@ impl Works for Worker {
     fn obey(&mut self, alloc: Global, line: &str) -> Words {
         let (verb, rest) = cut(line);
         match verb {
-            "messages" | "stream" | "endless" => self.open_stream(alloc, verb),
-            "fetch" | "batch" | "few" => self.open_batch(alloc, verb, rest),
+            "messages" | "stream" | "endless" | "plain" | "beating" | "unexpiring" => {
+                self.open_stream(alloc, verb)
+            }
+            "fetch" | "batch" | "few" | "several" => self.open_batch(alloc, verb, rest),
             "sequence" => self.open_sequence(alloc, rest),
             "push" => self.open_messages(alloc, rest),
             "request" => self.request(alloc, rest),
@@ -236,6 +252,7 @@ impl Works for Worker {
             "wakes" => self.wakes(alloc),
             "ack" | "nak" => self.acknowledge(alloc, verb, rest),
             "info" | "reset" | "turn" => self.renew(alloc, verb, rest),
+            "limits" => self.limit(alloc, rest),
             "pin" => self.pin(alloc),
             _ => self.serve(alloc, verb, rest),
         }

@@ -127,3 +127,31 @@ fn a_mirror_answers_and_refuses(rt: HostRuntime) -> Result<(), Fail> {
     }
     Ok(())
 }
+
+/// A mirror of start 1 with these entries.
+fn holding(alloc: Global, sequences: &[u64]) -> Result<Mirror, MirrorError> {
+    let mut mirror = Mirror::new(alloc, 1);
+    for &sequence in sequences {
+        mirror.push(entry(alloc, sequence)?)?;
+    }
+    Ok(mirror)
+}
+
+/// What two mirrors of start 1 hold together.
+fn merged(alloc: Global, ours: &[u64], theirs: &[u64]) -> Answer {
+    let mut mirror = holding(alloc, ours)?;
+    mirror.merge(&holding(alloc, theirs)?)?;
+    let held = format!(in alloc;
+        "{} entries, holes {:?}",
+        mirror.entries().len(),
+        mirror.holes()?
+    );
+    Ok(held?)
+}
+
+#[test]
+fn mirrors_are_merged(rt: HostRuntime) -> Result<(), Fail> {
+    let held = merged(rt.alloc(), &[1, 5], &[2])?;
+    same(&rt, "merged", held.as_str(), "3 entries, holes [(3, 4)]");
+    Ok(())
+}

@@ -14,14 +14,14 @@ use std::test::Fail;
 
 /// What holds of two mirrors.
 #[derive(Drop)]
-pub(crate) struct Seen {
+pub(crate) struct Findings {
     pub merges_alike: bool,
     pub is_served_whole: bool,
     pub comes_back: bool,
 }
 
 /// Looks at the mirrors of a number.
-pub(crate) fn look(alloc: Global, seed: u64) -> Result<Seen, Fail> {
+pub(crate) fn look(alloc: Global, seed: u64) -> Result<Findings, Fail> {
     let mut rng = Pcg32::new(seed, 1);
     let start = seed % 9 + 1;
     let mut one = mirror(alloc, &mut rng, start)?;
@@ -30,11 +30,11 @@ pub(crate) fn look(alloc: Global, seed: u64) -> Result<Seen, Fail> {
 }
 
 /// Looks at what two mirrors come to.
-fn join(alloc: Global, one: &mut Mirror, other: &mut Mirror) -> Result<Seen, Fail> {
+fn join(alloc: Global, one: &mut Mirror, other: &mut Mirror) -> Result<Findings, Fail> {
     let has_holes = merge(one, other)?;
     let is_served_whole = is_served_whole(one)? && has_holes;
     other.merge(one)?;
-    Ok(Seen {
+    Ok(Findings {
         merges_alike: one.entries() == other.entries(),
         is_served_whole,
         comes_back: comes_back(alloc, one)?,

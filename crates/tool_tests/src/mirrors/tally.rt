@@ -1,6 +1,6 @@
 //! How many pairs of random mirrors hold.
 
-use crate::mirrors::round::{Seen, look};
+use crate::mirrors::round::{Findings, look};
 use crate::tables::same;
 use std::alloc::{AllocError, Global};
 use std::test::Fail;
@@ -14,7 +14,7 @@ struct Tally {
 }
 
 impl Tally {
-    fn add(&mut self, seen: Seen) {
+    fn add(&mut self, seen: Findings) {
         self.merged = self.merged.saturating_add(u64::from(seen.merges_alike));
         self.served = self.served.saturating_add(u64::from(seen.is_served_whole));
         self.relayed = self.relayed.saturating_add(u64::from(seen.comes_back));
