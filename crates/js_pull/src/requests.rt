@@ -6,6 +6,7 @@ ghost use Rattle.js_pull.specs.Limits.{pull_body};
 use crate::reader::{PullSource, Reader};
 use bytes::Bytes;
 use js_base::{OutOfMemory, Subject, consumer_api_subject, with_word};
+use js_json_members::ReadError;
 use std::alloc::Global;
 
 impl PullSource {
@@ -34,12 +35,15 @@ impl PullSource {
 
 impl Reader {
     /// The body of a pull request.
+    #[tactic(auto, using(crate::proofs::RequestBodies::lacks_memory))]
     pub fn pull_body(&self, alloc: Global) -> Result<Bytes, OutOfMemory>
         ensures { IfOk result (λ body. body ≡ pull_body self.now.pin self.now.source.config) }
     {
         match self.source.config.request_text(alloc, self.pin.as_ref()) {
             Ok(text) => Ok(Bytes::from_string(text)?),
-            Err(_) => Err(OutOfMemory),
+            Err(ReadError::OutOfMemory) => Err(OutOfMemory),
+            // Whatever is asked for can be written.
+            Err(_) => unreachable!(),
         }
     }
 }
