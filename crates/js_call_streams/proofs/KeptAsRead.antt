@@ -1,13 +1,15 @@
--- What goes back where nothing was changed.
-use Rattle.std.proofs.Common.{◌≡◌, ℕ, true, false, ◌||◌, List, Result, Ok, Err, if◌then◌else◌, refl, sym, ◌∙◌, ap, subst, bytes_eq, codes}
+-- What is kept, and what goes back where nothing was changed.
+use Rattle.std.proofs.Common.{◌≡◌, ◌≤◌, ℕ, true, false, ◌||◌, List, Some, Result, Ok, Err, if◌then◌else◌, refl, sym, ◌∙◌, ap, subst, bytes_eq, codes}
 use Rattle.std.specs.Prelude.{IfOk}
 use Rattle.js_base.specs.declared.memory.OutOfMemory.{OutOfMemory}
 use Rattle.std.proofs.lemmas.Slice.Eq.{bytes_eq-Decides}
-use Rattle.serde_json.specs.Data.{Data}
+use Rattle.serde_json.specs.Data.{Data, depth}
+use Rattle.serde_json.specs.Read.{read, max_depth}
 use Rattle.serde_json.specs.Written.{has_float, compact_text}
 use Rattle.js_json_members.specs.declared.error.ReadError.{ReadError}
 use Rattle.js_json_streams.specs.StreamConfig.{config_value}
-use Rattle.js_call_streams.specs.Overlay.{is_same}
+use Rattle.js_call_streams.specs.KeptText.{IsKeptOf}
+use Rattle.js_call_streams.specs.Overlay.{is_same, over}
 use Rattle.js_json_streams.specs.declared.stream.config.Config.{Config}
 use Rattle.js_json_streams.specs.declared.stream.info.Info.{Info}
 use Rattle.js_call.specs.declared.call.Call.{Call}
@@ -18,6 +20,18 @@ use Rattle.js_call_streams.specs.declared.handle.StreamHandle.{StreamHandle}
 use Rattle.js_call_streams.specs.declared.update.UpdatingStream.{UpdatingStream}
 use Rattle.js_call_streams.specs.Update.{updating}
 use Rattle.js_call_streams.specs.UpdateKept.{SentBy, KeepsIn, SendsKept, AsksKeeping, UpdatesKeeping, SendsBack, asking_update}
+
+-- the text of a value is kept of a copy
+pub kept_as : (kept : List ℕ) (value copy : Data) → has_float value ≡ false → (has_float value ≡ false → kept ≡ compact_text value)
+    → (depth value ≤ max_depth → read kept ≡ Some value) → copy ≡ value → IsKeptOf kept copy
+kept_as kept value copy plain text reads same =
+    subst (IsKeptOf kept) (sym same) (record { plain = plain; text = text plain; reads = reads })
+
+-- what is written now, over the value that was kept
+pub sent_over : (kept : List ℕ) (value before after : Data) (r : Result (List ℕ) OutOfMemory) → IsKeptOf kept value
+    → IfOk r (λ body. body ≡ compact_text (over value before after)) → IfOk r (λ body. SentBy false kept before after body)
+sent_over kept value before after (Ok body) is sent = (value, is, sent)
+sent_over kept value before after (Err e) is sent = tt
 
 -- a value in which no float stands is the same as itself
 same_as_itself : (d : Data) → has_float d ≡ false → is_same d d ≡ true
@@ -63,10 +77,10 @@ sends_back : (scope : ApiScope) (handle : StreamHandle Info) (config : Config) (
     → UpdatesKeeping scope handle config call → handle.info.config ≡ config → SendsBack scope handle config call
 sends_back scope handle config call h unchanged kept e =
     let asks = h.1 in
-    let sends : KeepsIn kept.text handle.info.config config asks.0 =
+    let sends : KeepsIn kept handle.info.config config asks.0 =
     subst (λ o. SendsKept o handle.info.config config asks.0) e asks.1 in
-    let still : KeepsIn kept.text config config asks.0 = subst (λ c. KeepsIn kept.text c config asks.0) unchanged sends in
-    let back : asks.0 ≡ kept.text = kept_as_read kept.text config asks.0 still in
+    let still : KeepsIn kept config config asks.0 = subst (λ c. KeepsIn kept c config asks.0) unchanged sends in
+    let back : asks.0 ≡ kept = kept_as_read kept config asks.0 still in
     h.2 ∙ ap (updating config) (asks.2 ∙ ap (asking_update scope config) back)
 
 -- Where nothing was changed, the call sends what was kept.

@@ -1,6 +1,7 @@
 pub mod HasText
 pub mod UnwrittenMember
 pub mod KeptAsRead
+pub mod NoFloat
 mod OverlayTexts
 pub mod FirstItem
 pub mod PagePoll

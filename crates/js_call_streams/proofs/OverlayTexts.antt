@@ -1,9 +1,16 @@
--- Worked texts of what is written over an object that was read.
+-- Worked texts of what is kept, and of what is written over an object that was read.
 use Rattle.std.proofs.Common.{◌≡◌, refl, Some, codes}
 use Rattle.std.specs.Str.{is_utf8, chars}
+use Rattle.serde_json.specs.Data.{object, member, no_members, number, unsigned}
 use Rattle.serde_json.specs.Read.{read}
 use Rattle.js_json_members.proofs.OnLiterals.{reading_on_literals, writing_on_literals}
+use Rattle.js_call_streams.specs.KeptText.{IsKeptOf}
 use Rattle.js_call_streams.specs.Overlay.{text_of_over}
+
+-- of a configuration with one member this text is kept
+one_kept : IsKeptOf (codes "{\"max_age\":5}") (object (member (codes "max_age") (number (unsigned 5)) no_members))
+unfolding reading_on_literals writing_on_literals is_utf8 chars
+one_kept = record { plain = refl; text = refl; reads = λ _. refl }
 
 -- A window of duplicates, the start of a mirror and a member of its external have no name here. Of a changed age and another prefix of the API
 -- both are written, and all three stand. So what leaves an unknown member out is refused, and so are the old age and a mirror written anew.

@@ -2,6 +2,7 @@ pub mod Written
 pub mod Error
 pub mod Refusal
 pub mod Places
+pub mod KeptText
 pub mod Kept
 pub mod Overlay
 pub mod UpdateKept

@@ -1,7 +1,6 @@
 -- Changing a stream, and keeping what its configuration type does not name.
 use Rattle.std.specs.Prelude.{ℕ, ◌≡◌, Bool, true, false, Option, Some, None, List, codes, Ok}
 use Rattle.serde_json.specs.Data.{Data}
-use Rattle.serde_json.specs.Read.{read}
 use Rattle.serde_json.specs.Written.{has_float, compact_text}
 use Rattle.js_json_streams.specs.StreamConfig.{config_value}
 use Rattle.js_json_streams.specs.declared.stream.config.Config.{Config}
@@ -11,9 +10,9 @@ use Rattle.js_call.specs.declared.raw_call.RawCall.{RawCall}
 use Rattle.js_call.specs.declared.scope.ApiScope.{ApiScope}
 use Rattle.js_call.specs.Scope.{asking, under}
 use Rattle.js_call_streams.specs.declared.handle.StreamHandle.{StreamHandle}
-use Rattle.js_call_streams.specs.declared.kept.Kept.{Kept}
 use Rattle.js_call_streams.specs.declared.update.UpdatingStream.{UpdatingStream}
 use Rattle.js_call_streams.specs.Create.{IsTextOf}
+use Rattle.js_call_streams.specs.KeptText.{IsKeptOf}
 use Rattle.js_call_streams.specs.Overlay.{is_same, over}
 use Rattle.js_call_streams.specs.Update.{updating}
 
@@ -21,10 +20,11 @@ use Rattle.js_call_streams.specs.Update.{updating}
 abbrev pub IsWrittenOf : Config → Data → Type 0
 IsWrittenOf config value = (config_value config ≡ Ok value) × (has_float value ≡ false)
 
--- what is sent, by whether the configuration is written as before: what was kept, or else what is written now over it
+-- what is sent, by whether the configuration is written as before: what was kept, or else what is written now over the value of which it
+-- was kept
 abbrev pub SentBy : Bool → List ℕ → Data → Data → List ℕ → Type 0
 SentBy true kept before after body = body ≡ kept
-SentBy false kept before after body = (d : Data) × (read kept ≡ Some d) × (body ≡ compact_text (over d before after))
+SentBy false kept before after body = (d : Data) × IsKeptOf kept d × (body ≡ compact_text (over d before after))
 
 -- the body of an update to a configuration, by the one that was read and what was kept of it
 pub record KeepsIn (kept : List ℕ) (read config : Config) (body : List ℕ) : Type 0 where
@@ -36,9 +36,9 @@ pub record KeepsIn (kept : List ℕ) (read config : Config) (body : List ℕ) : 
   pub sent : SentBy (is_same before after) kept before after body
 
 -- the same for a handle: one that kept nothing asks with the configuration alone
-abbrev pub SendsKept : Option Kept → Config → Config → List ℕ → Type 0
+abbrev pub SendsKept : Option (List ℕ) → Config → Config → List ℕ → Type 0
 SendsKept None read config body = IsTextOf config body
-SendsKept (Some kept) read config body = KeepsIn kept.text read config body
+SendsKept (Some kept) read config body = KeepsIn kept read config body
 
 -- the request for an update of a stream with that body
 abbrev pub asking_update : ApiScope → Config → List ℕ → RawCall
@@ -57,4 +57,4 @@ UpdatesKeeping scope handle config call =
 -- the call whose body is what was kept as it is: each member that was read, with its value
 abbrev pub SendsBack : ApiScope → StreamHandle Info → Config → Call UpdatingStream → Type 0
 SendsBack scope handle config call =
-    (kept : Kept) → handle.kept ≡ Some kept → call ≡ updating config (asking_update scope config kept.text)
+    (kept : List ℕ) → handle.kept ≡ Some kept → call ≡ updating config (asking_update scope config kept)

@@ -1,29 +1,71 @@
 //! A stream's configuration as the server sent it.
-ghost use Rattle.std.specs.Prelude.{◌≡◌};
+ghost use Rattle.std.specs.Prelude.{◌≡◌, false, nat_eq, IfOk};
+ghost use Rattle.std.specs.Cmp.{partial_equiv_from_equiv};
+ghost use Rattle.std.specs.Cmp.Lexicographic.{pointwise, nat_list_eq_equiv};
 ghost use Rattle.serde_json.specs.View.{view};
+ghost use Rattle.serde_json.specs.Written.{has_float as has_float_in, compact_text};
 ghost use Rattle.js_json_members.specs.Member.{Gives};
 ghost use Rattle.js_call_streams.specs.Kept.{kept_info_fields, whole, with_config};
+ghost use Rattle.js_call_streams.specs.KeptText.{IsKeptOf};
 
-use js_base::Text;
+use js_base::{Boxed, OutOfMemory, Text};
 use js_json_members::{FromValue, Key, Member, ReadError, has_float, required};
 use js_json_streams::stream::Info;
 use serde_json::Value;
 use std::alloc::Global;
+use std::marker::Model;
 
 /// The configuration of a stream as the server sent it, every member of it: also those that `Config` does not name.
-#[derive(Debug, PartialEq, Eq, Drop)]
+#[derive(Drop)]
+#[derive_where(Debug)]
 pub struct Kept {
     // The compact text of the object.
-    pub(crate) text: Text,
+    text: Text,
+    // The object, over which an update writes.
+    #[derive_where(skip)]
+    value: Boxed<Value>,
+}
+
+impl Model for Kept {
+    ghost use Rattle.std.specs.Prelude.{List, ℕ};
+    ghost use Rattle.serde_json.specs.View.{view as data_of};
+    ghost use Rattle.js_call_streams.specs.KeptText.{IsKeptOf};
+
+    ghost Value = { List ℕ };
+
+    ghost view = { λ k. k.text };
+
+    ghost invariant = { λ k. IsKeptOf k.text (data_of k.value) };
 }
 
 impl Kept {
     /// Its compact JSON.
     pub fn as_str(&self) -> &str
-        ensures { result.now ≡ self.now.text }
+        ensures { result.now ≡ self.now }
     {
         self.text.as_str()
     }
+
+    // The value that was read.
+    pub(crate) fn value(&self) -> &Value
+        ensures { IsKeptOf self.now (view result.now) }
+    {
+        self.value.get()
+    }
+}
+
+// What is kept of a value in which no float stands.
+#[tactic(auto, using(crate::proofs::KeptAsRead::kept_as))]
+fn kept_of(alloc: Global, value: &Value) -> Result<Kept, OutOfMemory>
+    requires { has_float_in (view value.now) ≡ false }
+    ensures { IfOk result (λ kept. kept ≡ compact_text (view value.now)) }
+{
+    let text = value.to_string(alloc)?;
+    let copy = Boxed::new(alloc, value.clone()?)?;
+    Ok(Kept {
+        text: Text::from(text),
+        value: copy,
+    })
 }
 
 impl Member for Kept {
@@ -33,10 +75,22 @@ impl Member for Kept {
         if has_float(value) {
             return Err(ReadError::Float);
         }
-        Ok(Kept {
-            text: Text::from(value.to_string(alloc)?),
-        })
+        Ok(kept_of(alloc, value)?)
     }
+}
+
+impl PartialEq for Kept {
+    ghost eq = { pointwise nat_eq };
+
+    ghost laws = { partial_equiv_from_equiv nat_list_eq_equiv };
+
+    fn eq(&self, other: &Kept) -> bool {
+        self.as_str() == other.as_str()
+    }
+}
+
+impl Eq for Kept {
+    ghost laws = { nat_list_eq_equiv };
 }
 
 /// What the server knows of a stream, and its configuration as it was sent.

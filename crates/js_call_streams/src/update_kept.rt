@@ -1,7 +1,7 @@
 //! The call that changes a stream, and keeps what its configuration type does not name.
 ghost use Rattle.std.specs.Prelude.{◌≡◌, false, IfOk};
 ghost use Rattle.serde_json.specs.View.{view};
-ghost use Rattle.serde_json.specs.Written.{compact_text};
+ghost use Rattle.serde_json.specs.Written.{has_float, compact_text};
 ghost use Rattle.js_call_streams.specs.Overlay.{is_same, over as over_in};
 ghost use Rattle.js_call_streams.specs.UpdateKept.{IsWrittenOf, SentBy, KeepsIn, SendsKept, AsksKeeping, UpdatesKeeping, SendsBack};
 
@@ -14,27 +14,28 @@ use crate::written::written;
 use bytes::Bytes;
 use js_base::{OutOfMemory, both};
 use js_call::{ApiScope, Call, RawCall};
-use js_json_members::{ToValue, has_float};
+use js_json_members::ToValue;
 use js_json_streams::stream::{Config, Info};
 use serde_json::Value;
 use std::alloc::Global;
 
-// The text of what is sent. No float was read and none is written, so what is refused here is want of memory.
+// The text of what is sent.
 fn text_body(alloc: Global, sent: &Value) -> Result<Bytes, OutOfMemory>
+    requires { has_float (view sent.now) ≡ false }
     ensures { IfOk result (λ body. body ≡ compact_text (view sent.now)) }
 {
-    if has_float(sent) {
-        return Err(OutOfMemory);
-    }
     Ok(Bytes::from_string(sent.to_string(alloc)?)?)
 }
 
+#[tactic(auto, using(crate::proofs::NoFloat::over_plain))]
 fn body_over(
     alloc: Global,
     kept: &Value,
     before: &Value,
     after: &Value,
 ) -> Result<Bytes, OutOfMemory>
+    requires plain_kept { has_float (view kept.now) ≡ false }
+    requires plain_after { has_float (view after.now) ≡ false }
     ensures { IfOk result (λ body. body ≡ compact_text (over_in (view kept.now) (view before.now) (view after.now))) }
 {
     let sent = over(alloc, kept, before, after)?;
@@ -44,23 +45,17 @@ fn body_over(
 }
 
 // What is written now, over what was kept.
+#[tactic(auto, using(crate::proofs::KeptAsRead::sent_over))]
 fn written_body(
     alloc: Global,
     kept: &Kept,
     before: &Value,
     after: &Value,
 ) -> Result<Bytes, OutOfMemory>
-    ensures { IfOk result (λ body. SentBy false kept.now.text (view before.now) (view after.now) body) }
+    requires { has_float (view after.now) ≡ false }
+    ensures { IfOk result (λ body. SentBy false kept.now (view before.now) (view after.now) body) }
 {
-    // What was written reads, so what is refused here is want of memory.
-    match Value::from_str(alloc, kept.as_str()) {
-        Ok(kept) => {
-            let body = body_over(alloc, &kept, before, after);
-            drop(kept);
-            body
-        }
-        Err(_) => Err(OutOfMemory),
-    }
+    body_over(alloc, kept.value(), before, after)
 }
 
 // What was kept, where the configuration is written as before, and else what is written now over it.
@@ -70,8 +65,9 @@ fn sent_body(
     before: &Value,
     after: &Value,
 ) -> Result<Bytes, OutOfMemory>
+    requires { has_float (view after.now) ≡ false }
     ensures { IfOk result (λ body.
-        SentBy (is_same (view before.now) (view after.now)) kept.now.text (view before.now) (view after.now) body) }
+        SentBy (is_same (view before.now) (view after.now)) kept.now (view before.now) (view after.now) body) }
 {
     if is_same(alloc, before, after)? {
         Ok(Bytes::copy_from_slice(alloc, kept.as_str().as_bytes())?)
@@ -95,7 +91,7 @@ fn keeping_body(
     read: &Config,
     config: &Config,
 ) -> Result<Bytes, OutOfMemory>
-    ensures { IfOk result (λ body. KeepsIn kept.now.text read.now config.now body) }
+    ensures { IfOk result (λ body. KeepsIn kept.now read.now config.now body) }
 {
     let (before, after) = both(config_value(alloc, read), config_value(alloc, config))?;
     let body = sent_body(alloc, kept, &before, &after);
