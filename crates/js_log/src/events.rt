@@ -92,32 +92,29 @@ fn arrivals(
     Ok(events)
 }
 
-/// What a consumer with this name is told of a stream with this name that has a mirror's entries: the kth event, from 1, is
-/// an arrival at the moment k on inbox 0 that brings the kth entry, with the entry's sequence and the number k in its reply.
-/// Both are valid names.
-///
-/// Each ordered pull consumer with good settings that replays the events from the start 0 hands out the mirror's entries, in
-/// order, without an error item and without a recreation; or memory runs out. Where the mirror is that of a run in which a
-/// server was honest, the events are honest for the same log and the same removed messages, to a consumer that has the same
-/// filters and is configured to start where the mirror does. So whoever reads a mirror has of the first log what a reader of
-/// the stream has: no gap but where a message was removed.
-///
-/// # Errors
-///
-/// Want of memory.
-pub fn relay(
-    alloc: Global,
-    mirror: &Mirror,
-    stream: &str,
-    name: &str,
-) -> Result<Vec<Event>, OutOfMemory>
-    requires stream { IsTrue (is_name stream.now) }
-    requires name { IsTrue (is_name name.now) }
-    ensures events { IfOk result (λ events. events.items ≡ relayed.relayed stream.now name.now 1 mirror.now.entries) }
-    ensures replays { IfOk result (λ events. Replays mirror.now.entries events.items) }
-    ensures default_reads { (first : infos.Info) → first.stream_name ≡ stream.now → first.name ≡ name.now → IsReader (default_reader mirror.now.start first) }
-    ensures honest { IfOk result (λ events. StaysHonest mirror.now events.items) }
-    ensures log { ShowsEachLog mirror.now }
-{
-    arrivals(alloc, stream, name, mirror.entries())
+impl Mirror {
+    /// What a consumer with this name is told of a stream with this name that has the mirror's entries: the kth event, from 1,
+    /// is an arrival at the moment k on inbox 0 that brings the kth entry, with the entry's sequence and the number k in its
+    /// reply. Both are valid names.
+    ///
+    /// Each ordered pull consumer with good settings that replays the events from the start 0 hands out the mirror's entries,
+    /// in order, without an error item and without a recreation; or memory runs out. Where the mirror is that of a run in which
+    /// a server was honest, the events are honest for the same log and the same removed messages, to a consumer that has the
+    /// same filters and is configured to start where the mirror does. So whoever reads a mirror has of the first log what a
+    /// reader of the stream has: no gap but where a message was removed.
+    ///
+    /// # Errors
+    ///
+    /// Want of memory.
+    pub fn relay(&self, alloc: Global, stream: &str, name: &str) -> Result<Vec<Event>, OutOfMemory>
+        requires stream { IsTrue (is_name stream.now) }
+        requires name { IsTrue (is_name name.now) }
+        ensures events { IfOk result (λ events. events.items ≡ relayed.relayed stream.now name.now 1 self.now.entries) }
+        ensures replays { IfOk result (λ events. Replays self.now.entries events.items) }
+        ensures default_reads { (first : infos.Info) → first.stream_name ≡ stream.now → first.name ≡ name.now → IsReader (default_reader self.now.start first) }
+        ensures honest { IfOk result (λ events. StaysHonest self.now events.items) }
+        ensures log { ShowsEachLog self.now }
+    {
+        arrivals(alloc, stream, name, self.entries())
+    }
 }

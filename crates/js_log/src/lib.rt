@@ -4,7 +4,7 @@
 //!   subject.
 //! - A [`Mirror`] is a local copy of a stream from a start on: each sequence up to its last entry is a message or a hole. Two
 //!   mirrors are joined in one pass.
-//! - [`relay`] serves a mirror again: the events that a consumer is told whose replay hands out the mirror's entries.
+//! - [`Mirror::relay`] serves a mirror again: the events that a consumer is told whose replay hands out the mirror's entries.
 //!
 //! [`project`] and [`RunProjection`] apply a run to a projection. Where the server was honest and what was removed from its log was
 //! overtaken by later entries, the table of what was handed out is the table of the server's own log, and each hole of a mirror was
@@ -18,7 +18,7 @@ mod run_projection;
 mod worked_runs;
 mod yields;
 
-pub use events::{ack_subject, relay};
+pub use events::ack_subject;
 pub use mirror::{Mirror, MirrorError, Slot};
 pub use projection::{ApplyError, Projection};
 pub use run_projection::{RunProjection, project};
