@@ -1,0 +1,4 @@
+pub mod Frames
+pub mod Steps
+pub mod Frame
+pub mod Worked

@@ -1,0 +1,6 @@
+pub mod Errors
+pub mod ConnectText
+pub mod ServerInfo
+pub mod Writer
+pub mod Connection
+pub mod Receiving
