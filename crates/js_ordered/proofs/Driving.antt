@@ -13,7 +13,7 @@ use Rattle.js_ordered_table.specs.declared.transitions.task.NextTasks.TheVariant
 use Rattle.js_ordered_table.specs.declared.transitions.task.Task.{Task}
 use Rattle.js_ordered_table.specs.declared.transitions.task.RowOutput.{RowOutput}
 use Rattle.js_ordered_table.specs.declared.transitions.task.RowOutput.TheVariants as tells
-use Rattle.js_ordered.specs.Driven.{Leads, PassesTo, counted, heard_first, left_rows}
+use Rattle.js_ordered.specs.Driven.{Leads, Passes, PassesTo, numbered, heard_first, left_rows, row_count}
 use Rattle.js_ordered.specs.Giving.{IsInbox, IsNumber, Sends, Subscribes}
 use Rattle.js_ordered_table.specs.Tasks.{IsHeard, StepsTo, answered_rows, create_outputs, heard_outputs, heard_row, heard_rows, next_rows, opening_to, requested, requesting, rows_of, subscribed, told_outputs}
 use Rattle.js_pull.specs.Reader.{info_of_reply}
@@ -37,7 +37,8 @@ use Rattle.js_ordered_table.specs.Recreation.{answered, create_row, start_row, s
 use Rattle.js_ordered_table.specs.Consumer.{Matter, Passed, silent_row, at_phase}
 use Rattle.js_ordered_table.specs.Texts.{inbox_subject}
 use Rattle.js_ordered_table.specs.Table.{event_row, pass, row_at}
-use Rattle.js_ordered.proofs.RowRuns.{no_more, ran_from, from_rest}
+use Rattle.js_ordered.proofs.RowRuns.{no_more, ran_from}
+use Rattle.js_ordered.proofs.Counting.{counts_from, counts_more}
 use Rattle.js_ordered_table.proofs.PassedRows.{hears_as, hears_here, hears_nowhere}
 
 -- ---- one row
@@ -48,33 +49,38 @@ joined earlier outputs r = ap (λ (o : List Output). record { state = r.state; o
 -- a row that was passed with what its event gave
 pub leads_by : (g : ReplayInput) (now : ℕ) (m : Matter) (one : Row) (w u : ReplayState) (passed : Passed) (outputs earlier later : List Output) (d : Consumer) (rest : NextTasks)
     → pass g (passing g now w) m one w.consumer ≡ passed → StepsTo m passed outputs d rest
-    → later ≡ earlier ++ outputs → u ≡ record (counted outputs w) { consumer = d }
-    → Leads g now m (one ∷ []) w earlier (next_rows m rest) u later
+    → later ≡ earlier ++ outputs → u ≡ record (numbered outputs w) { consumer = d }
+    → Passes g now m (one ∷ []) w earlier (next_rows m rest) u later
 unfolding from
 leads_by g now m one w u passed outputs earlier later d rest is steps put to =
     let onto : List Output → List Row → ReplayState → Ran = λ o rows v. and_then o (pass_each (ran g now m) rows v) in
     let there : after w passed ≡ u =
-    ap (λ (o : List Output). record (counted o w) { consumer = passed.consumer }) steps.outputs
-    ∙ ap (λ (c : Consumer). record (counted outputs w) { consumer = c }) (sym steps.consumer) ∙ sym to in
-    ap (λ (r : Ran). and_then earlier r) (no_more (ran g now m one w) ∙ ran_from g now m one w passed is)
-    ∙ joined earlier passed.outputs (pass_each (ran g now m) passed.next (after w passed))
-    ∙ ap (λ (o : List Output). onto (earlier ++ o) passed.next (after w passed)) steps.outputs
-    ∙ ap (λ (o : List Output). onto o passed.next (after w passed)) (sym put)
-    ∙ ap (λ (rows : List Row). onto later rows (after w passed)) (sym steps.next)
-    ∙ ap (λ (v : ReplayState). onto later (next_rows m rest) v) there
+    ap (λ (o : List Output). record (numbered o w) { consumer = passed.consumer }) steps.outputs
+    ∙ ap (λ (c : Consumer). record (numbered outputs w) { consumer = c }) (sym steps.consumer) ∙ sym to in
+    record {
+      leads = ap (λ (r : Ran). and_then earlier r) (no_more (ran g now m one w) ∙ ran_from g now m one w passed is)
+          ∙ joined earlier passed.outputs (pass_each (ran g now m) passed.next (after w passed))
+          ∙ ap (λ (o : List Output). onto (earlier ++ o) passed.next (after w passed)) steps.outputs
+          ∙ ap (λ (o : List Output). onto o passed.next (after w passed)) (sym put)
+          ∙ ap (λ (rows : List Row). onto later rows (after w passed)) (sym steps.next)
+          ∙ ap (λ (v : ReplayState). onto later (next_rows m rest) v) there;
+      fewer = counts_from g now m one w passed is
+          ∙ ap (λ (rows : List Row). 1 + row_count g now m rows (after w passed)) (sym steps.next)
+          ∙ ap (λ (v : ReplayState). 1 + row_count g now m (next_rows m rest) v) there;
+    }
 
 -- where the phase is known
 pub leads_at : (g : ReplayInput) (now : ℕ) (m : Matter) (one : Row) (phase : Phase) (w u : ReplayState) (p : RowInput) (outputs earlier later : List Output) (d : Consumer) (rest : NextTasks)
     → passing g now w ≡ p → StepsTo m (row_at g p m one phase (at_phase phase w.consumer)) outputs d rest
-    → later ≡ earlier ++ outputs → u ≡ record (counted outputs w) { consumer = d }
-    → Leads g now m (one ∷ []) (at phase w) earlier (next_rows m rest) u later
+    → later ≡ earlier ++ outputs → u ≡ record (numbered outputs w) { consumer = d }
+    → Passes g now m (one ∷ []) (at phase w) earlier (next_rows m rest) u later
 leads_at g now m one phase w u p outputs earlier later d rest is steps put to =
     leads_by g now m one (at phase w) u (row_at g p m one phase (at_phase phase w.consumer)) outputs earlier later d rest
     (ap (λ (q : RowInput). row_at g q m one phase (at_phase phase w.consumer)) is) steps put to
 
 -- nothing is numbered
 pub unnumbered : (w : ReplayState) (d : Consumer) (outputs : List Output) → count_by is_request outputs ≡ 0 → count_by is_subscribe outputs ≡ 0
-    → record w { consumer = d } ≡ record (counted outputs w) { consumer = d }
+    → record w { consumer = d } ≡ record (numbered outputs w) { consumer = d }
 unnumbered w d outputs none neither =
     let requests_sent : w.requests_sent ≡ w.requests_sent + count_by is_request outputs = omega arith in
     let inboxes_opened : w.inboxes_opened ≡ w.inboxes_opened + count_by is_subscribe outputs = omega arith in
@@ -91,10 +97,10 @@ no_inbox tells.Nothing = refl
 no_inbox (tells.Recreates recreation_count start) = refl
 no_inbox (tells.Tells kind) = refl
 
-pub told_unnumbered : (w : ReplayState) (d : Consumer) (told : RowOutput) → record w { consumer = d } ≡ record (counted (told_outputs told) w) { consumer = d }
+pub told_unnumbered : (w : ReplayState) (d : Consumer) (told : RowOutput) → record w { consumer = d } ≡ record (numbered (told_outputs told) w) { consumer = d }
 told_unnumbered w d told = unnumbered w d (told_outputs told) (no_request told) (no_inbox told)
 
-pub quiet_unnumbered : (w : ReplayState) (d : Consumer) → record w { consumer = d } ≡ record (counted [] w) { consumer = d }
+pub quiet_unnumbered : (w : ReplayState) (d : Consumer) → record w { consumer = d } ≡ record (numbered [] w) { consumer = d }
 quiet_unnumbered w d = unnumbered w d [] refl refl
 
 beat_request : (up : Bool) (reply : Option (List ℕ)) → count_by is_request (beat_answer up reply) ≡ 0
@@ -122,7 +128,7 @@ heard_inbox up message (hears.Beat last) = beat_inbox up message.reply
 heard_inbox up message hears.OtherStatus = refl
 
 pub heard_unnumbered : (w : ReplayState) (d : Consumer) (up : Bool) (message : Message) (heard : Heard)
-    → record w { consumer = d } ≡ record (counted (heard_outputs up message heard) w) { consumer = d }
+    → record w { consumer = d } ≡ record (numbered (heard_outputs up message heard) w) { consumer = d }
 heard_unnumbered w d up message heard = unnumbered w d (heard_outputs up message heard) (heard_request up message heard) (heard_inbox up message heard)
 
 -- ---- a send
@@ -175,7 +181,7 @@ left_first m (x ∷ tasks) one =
 
 -- a task was passed: its first row, what is left of it, and what is left besides
 pub leads_on : (g : ReplayInput) (now : ℕ) (m : Matter) (one : Task) (first : List Row) (left rest : NextTasks) (tasks middle after : List Task) (w u : ReplayState) (earlier later : List Output)
-    → Leads g now m first w earlier (next_rows m rest) u later → rows_of m one ≡ first ++ next_rows m left
+    → Passes g now m first w earlier (next_rows m rest) u later → rows_of m one ≡ first ++ next_rows m left
     → left_rows m middle ≡ next_rows m left ++ left_rows m tasks → left_rows m after ≡ next_rows m rest ++ left_rows m middle
     → Leads g now m (left_rows m (tasks ++ one ∷ [])) w earlier (left_rows m after) u later
 leads_on g now m one first left rest tasks middle after w u earlier later leads is between last =
@@ -183,8 +189,21 @@ leads_on g now m one first left rest tasks middle after w u earlier later leads 
     left_first m tasks one ∙ ap (λ (rows : List Row). rows ++ left_rows m tasks) is ∙ append_assoc first (next_rows m left) (left_rows m tasks)
     ∙ ap (λ (rows : List Row). first ++ rows) (sym between) in
     ap (λ (rows : List Row). and_then earlier (pass_each (ran g now m) rows w)) all
-    ∙ leads_more g now m first (next_rows m rest) (left_rows m middle) w u earlier later leads
+    ∙ leads_more g now m first (next_rows m rest) (left_rows m middle) w u earlier later leads.leads
     ∙ ap (λ (rows : List Row). and_then later (pass_each (ran g now m) rows u)) (sym last)
+
+-- and so fewer rows are left
+pub fewer_on : (g : ReplayInput) (now : ℕ) (m : Matter) (one : Task) (first : List Row) (left rest : NextTasks) (tasks middle after : List Task) (w u : ReplayState) (earlier later : List Output)
+    → Passes g now m first w earlier (next_rows m rest) u later → rows_of m one ≡ first ++ next_rows m left
+    → left_rows m middle ≡ next_rows m left ++ left_rows m tasks → left_rows m after ≡ next_rows m rest ++ left_rows m middle
+    → row_count g now m (left_rows m (tasks ++ one ∷ [])) w ≡ length first + row_count g now m (left_rows m after) u
+fewer_on g now m one first left rest tasks middle after w u earlier later passes is between last =
+    let all : left_rows m (tasks ++ one ∷ []) ≡ first ++ left_rows m middle =
+    left_first m tasks one ∙ ap (λ (rows : List Row). rows ++ left_rows m tasks) is ∙ append_assoc first (next_rows m left) (left_rows m tasks)
+    ∙ ap (λ (rows : List Row). first ++ rows) (sym between) in
+    ap (λ (rows : List Row). row_count g now m rows w) all
+    ∙ counts_more g now m first (next_rows m rest) (left_rows m middle) w u earlier later (length first) passes.leads passes.fewer
+    ∙ ap (λ (rows : List Row). length first + row_count g now m rows u) (sym last)
 
 -- ---- what was held
 
@@ -216,7 +235,7 @@ held_first inbox messages place message below is =
     ap (heard_first inbox) (drop_more messages place message below) ∙ ap (λ (x : Message). row.Hear (record { inbox = inbox; message = x }) ∷ []) (sym is)
 
 pub idle_row : (g : ReplayInput) (now : ℕ) (m : Matter) (one : Row) (w u : ReplayState) (outputs : List Output) (phase : Phase) → w.consumer.phase ≡ phase → u ≡ at phase w
-    → row_at g (passing g now w) m one phase w.consumer ≡ silent_row w.consumer [] → Leads g now m (one ∷ []) w outputs [] u outputs
+    → row_at g (passing g now w) m one phase w.consumer ≡ silent_row w.consumer [] → Passes g now m (one ∷ []) w outputs [] u outputs
 idle_row g now m one w u outputs phase is to none =
     let same : u ≡ w = to ∙ ap (λ (q : Phase). at q w) (sym is) in
     leads_by g now m one w u (silent_row w.consumer []) [] outputs outputs w.consumer next.Nothing
@@ -234,7 +253,7 @@ pub leads_sent : (g : ReplayInput) (now : ℕ) (m : Matter) (one : Row) (r : Rec
     → Sends w.link_up w.requests_sent requests_sent' subject payload earlier later number
     → StepsTo m (row_at g (requesting now number (passing g now w)) m one (Recreates r) (at_phase (Recreates r) w.consumer)) (requested subject payload number) d rest
     → u ≡ record w { consumer = d; requests_sent = requests_sent' }
-    → Leads g now m (one ∷ []) (at (Recreates r) w) earlier (next_rows m rest) u later
+    → Passes g now m (one ∷ []) (at (Recreates r) w) earlier (next_rows m rest) u later
 leads_sent g now m one r w u subject payload number requests_sent' earlier later d rest sends steps to =
     leads_at g now m one (Recreates r) w u (requesting now number (passing g now w)) (requested subject payload number) earlier later d rest
     (request_is g now w number sends.number) steps sends.outputs
@@ -254,7 +273,7 @@ pub leads_opened : (g : ReplayInput) (now : ℕ) (m : Matter) (one : Row) (r : R
     → Subscribes w.link_up w.inboxes_opened inboxes_opened' (inbox_subject g w.inboxes_opened) earlier later inbox
     → StepsTo m (row_at g (opening_to now inbox (passing g now w)) m one (Recreates r) (at_phase (Recreates r) w.consumer)) (subscribed inbox) d rest
     → u ≡ record w { consumer = d; inboxes_opened = inboxes_opened' }
-    → Leads g now m (one ∷ []) (at (Recreates r) w) earlier (next_rows m rest) u later
+    → Passes g now m (one ∷ []) (at (Recreates r) w) earlier (next_rows m rest) u later
 leads_opened g now m one r w u inbox inboxes_opened' earlier later d rest opens steps to =
     leads_at g now m one (Recreates r) w u (opening_to now inbox (passing g now w)) (subscribed inbox) earlier later d rest
     (inbox_is g now w inbox opens.inbox) steps opens.outputs
@@ -269,30 +288,30 @@ leads_opened g now m one r w u inbox inboxes_opened' earlier later d rest opens 
 pub leads_told : (g : ReplayInput) (now : ℕ) (m : Matter) (one : Row) (phase : Phase) (w u : ReplayState) (told : RowOutput) (earlier later : List Output) (d : Consumer) (rest : NextTasks)
     → StepsTo m (row_at g (passing g now w) m one phase (at_phase phase w.consumer)) (told_outputs told) d rest
     → later ≡ earlier ++ told_outputs told → u ≡ record w { consumer = d }
-    → Leads g now m (one ∷ []) (at phase w) earlier (next_rows m rest) u later
+    → Passes g now m (one ∷ []) (at phase w) earlier (next_rows m rest) u later
 leads_told g now m one phase w u told earlier later d rest steps put to =
     leads_at g now m one phase w u (passing g now w) (told_outputs told) earlier later d rest refl steps put (to ∙ told_unnumbered w d told)
 
 -- and one that puts nothing out
 pub leads_quietly : (g : ReplayInput) (now : ℕ) (m : Matter) (one : Row) (phase : Phase) (w u : ReplayState) (outputs : List Output) (d : Consumer) (rest : NextTasks)
     → StepsTo m (row_at g (passing g now w) m one phase (at_phase phase w.consumer)) [] d rest → u ≡ record w { consumer = d }
-    → Leads g now m (one ∷ []) (at phase w) outputs (next_rows m rest) u outputs
+    → Passes g now m (one ∷ []) (at phase w) outputs (next_rows m rest) u outputs
 leads_quietly g now m one phase w u outputs d rest steps to = leads_told g now m one phase w u tells.Nothing outputs outputs d rest steps (sym (append-nil outputs)) to
 
 -- the same where the consumer's phase is known
 pub told_here : (g : ReplayInput) (now : ℕ) (m : Matter) (one : Row) (phase : Phase) (w u : ReplayState) (told : RowOutput) (earlier later : List Output) (d : Consumer) (rest : NextTasks) → w.consumer.phase ≡ phase
     → StepsTo m (row_at g (passing g now w) m one phase (at_phase phase w.consumer)) (told_outputs told) d rest
     → later ≡ earlier ++ told_outputs told → u ≡ record w { consumer = d }
-    → Leads g now m (one ∷ []) w earlier (next_rows m rest) u later
+    → Passes g now m (one ∷ []) w earlier (next_rows m rest) u later
 told_here g now m one phase w u told earlier later d rest is steps put to =
-    subst (λ (q : Phase). Leads g now m (one ∷ []) (at q w) earlier (next_rows m rest) u later) (sym is)
+    subst (λ (q : Phase). Passes g now m (one ∷ []) (at q w) earlier (next_rows m rest) u later) (sym is)
     (leads_told g now m one phase w u told earlier later d rest steps put to)
 
 -- an answer that was read
 pub reply_read : (g : ReplayInput) (now : ℕ) (m : Matter) (reply : Option (Option Message)) (r : Recreation) (w u : ReplayState) (info : Option Info) (outputs : List Output) (d : Consumer) (rest : NextTasks)
     → option_map info_of_reply reply ≡ Some info
     → StepsTo m (silent_row (at_phase (Recreates r) w.consumer) (answered g.setup info ∷ [])) [] d rest → u ≡ record w { consumer = d }
-    → Leads g now m (answered_rows reply) (at (Recreates r) w) outputs (next_rows m rest) u outputs
+    → Passes g now m (answered_rows reply) (at (Recreates r) w) outputs (next_rows m rest) u outputs
 reply_read g now m None r w u info outputs d rest is steps to = cc
 reply_read g now m (Some reply) r w u info outputs d rest is steps to =
     let told : info_of_reply reply ≡ info = cc in
@@ -304,7 +323,7 @@ pub hears_on : (g : ReplayInput) (now : ℕ) (m : Matter) (inbox : ℕ) (message
     → listens_to inbox w.consumer.phase ≡ true → IsHeard w.consumer.core.consumer_sequence message heard
     → StepsTo m (heard_row (passing g now w) message heard (at_phase (Pushes inbox (armed now)) w.consumer)) (heard_outputs w.link_up message heard) d rest
     → later ≡ earlier ++ heard_outputs w.link_up message heard → u ≡ record w { consumer = d }
-    → Leads g now m (row.Hear (record { inbox = inbox; message = message }) ∷ []) w earlier (next_rows m rest) u later
+    → Passes g now m (row.Hear (record { inbox = inbox; message = message }) ∷ []) w earlier (next_rows m rest) u later
 hears_on g now m inbox message heard w u earlier later d rest here is steps put to =
     leads_by g now m (row.Hear (record { inbox = inbox; message = message })) w u (heard_row (passing g now w) message heard (at_phase (Pushes inbox (armed now)) w.consumer)) (heard_outputs w.link_up message heard) earlier later d rest
     (hears_here g (passing g now w) m inbox message w.consumer.phase w.consumer here
@@ -312,14 +331,14 @@ hears_on g now m inbox message heard w u earlier later d rest here is steps put 
     steps put (to ∙ heard_unnumbered w d w.link_up message heard)
 
 pub heard_elsewhere : (g : ReplayInput) (now : ℕ) (m : Matter) (inbox : ℕ) (message : Message) (w : ReplayState) (outputs : List Output) → listens_to inbox w.consumer.phase ≡ false
-    → Leads g now m (row.Hear (record { inbox = inbox; message = message }) ∷ []) w outputs [] w outputs
+    → Passes g now m (row.Hear (record { inbox = inbox; message = message }) ∷ []) w outputs [] w outputs
 heard_elsewhere g now m inbox message w outputs other =
     leads_by g now m (row.Hear (record { inbox = inbox; message = message })) w w (silent_row w.consumer []) [] outputs outputs w.consumer next.Nothing
     (hears_nowhere g (passing g now w) m inbox message w.consumer.phase w.consumer other) (record { consumer = refl; outputs = refl; next = refl })
     (sym (append-nil outputs)) (quiet_unnumbered w w.consumer)
 
 -- an event of a consumer that has ended
-pub event_over : (g : ReplayInput) (now : ℕ) (m : Matter) (w : ReplayState) (outputs : List Output) → is_over w.consumer.phase ≡ true → Leads g now m (row.Event ∷ []) w outputs [] w outputs
+pub event_over : (g : ReplayInput) (now : ℕ) (m : Matter) (w : ReplayState) (outputs : List Output) → is_over w.consumer.phase ≡ true → Passes g now m (row.Event ∷ []) w outputs [] w outputs
 event_over g now m w outputs over =
     leads_by g now m row.Event w w (silent_row w.consumer []) [] outputs outputs w.consumer next.Nothing (none w.consumer.phase over) (record { consumer = refl; outputs = refl; next = refl })
     (sym (append-nil outputs)) (quiet_unnumbered w w.consumer)
@@ -336,7 +355,7 @@ event_over g now m w outputs over =
 pub event_passed : (g : ReplayInput) (now : ℕ) (m : Matter) (w u : ReplayState) (told : RowOutput) (earlier later : List Output) (d : Consumer) (rest : NextTasks)
     → StepsTo m (event_row g (passing g now w) m w.consumer.phase w.consumer) (told_outputs told) d rest
     → later ≡ earlier ++ told_outputs told → u ≡ record w { consumer = d }
-    → Leads g now m (row.Event ∷ []) w earlier (next_rows m rest) u later
+    → Passes g now m (row.Event ∷ []) w earlier (next_rows m rest) u later
 event_passed g now m w u told earlier later d rest steps put to =
     leads_by g now m row.Event w u (event_row g (passing g now w) m w.consumer.phase w.consumer) (told_outputs told) earlier later d rest refl steps put (to ∙ told_unnumbered w d told)
 
@@ -344,7 +363,7 @@ event_passed g now m w u told earlier later d rest steps put to =
 pub starts : (g : ReplayInput) (now : ℕ) (m : Matter) (w u : ReplayState) (told : RowOutput) (earlier later : List Output) (d : Consumer) (rest : NextTasks)
     → StepsTo m (start_row g w.consumer) (told_outputs told) d rest
     → later ≡ earlier ++ told_outputs told → u ≡ record w { consumer = d }
-    → Leads g now m (row.Start ∷ []) w earlier (next_rows m rest) u later
+    → Passes g now m (row.Start ∷ []) w earlier (next_rows m rest) u later
 starts g now m w u told earlier later d rest steps put to =
     leads_by g now m row.Start w u (start_row g w.consumer) (told_outputs told) earlier later d rest refl steps put (to ∙ told_unnumbered w d told)
 
@@ -356,19 +375,16 @@ holds g p m Idle c = refl
 holds g p m Ended c = refl
 holds g p m Exhausted c = refl
 
-hold_is : (g : ReplayInput) (now : ℕ) (m : Matter) (w : ReplayState) → ran g now m row.Hold w ≡ stays (at (holding m.arrival w.consumer.phase) w)
-hold_is g now m w =
-    ran_from g now m row.Hold w (silent_row (at_phase (holding m.arrival w.consumer.phase) w.consumer) []) (holds g (passing g now w) m w.consumer.phase w.consumer)
-    ∙ from_rest g now m (at_phase (holding m.arrival w.consumer.phase) w.consumer) w
-
 -- what arrives is held
-pub holds_on : (g : ReplayInput) (now : ℕ) (m : Matter) (w u : ReplayState) (outputs : List Output) → u ≡ at (holding m.arrival w.consumer.phase) w → Leads g now m (row.Hold ∷ []) w outputs [] u outputs
+pub holds_on : (g : ReplayInput) (now : ℕ) (m : Matter) (w u : ReplayState) (outputs : List Output) → u ≡ at (holding m.arrival w.consumer.phase) w → Passes g now m (row.Hold ∷ []) w outputs [] u outputs
 holds_on g now m w u outputs to =
-    ap (λ (r : Ran). and_then outputs r) (no_more (ran g now m row.Hold w) ∙ hold_is g now m w) ∙ ap (λ (v : ReplayState). and_then outputs (stays v)) (sym to)
+    let passed : Passed = silent_row (at_phase (holding m.arrival w.consumer.phase) w.consumer) [] in
+    leads_by g now m row.Hold w u passed [] outputs outputs passed.consumer next.Nothing (holds g (passing g now w) m w.consumer.phase w.consumer)
+    (record { consumer = refl; outputs = refl; next = refl }) (sym (append-nil outputs)) (to ∙ quiet_unnumbered w passed.consumer)
 
 -- a row of push where it does not listen
 pub look_nowhere : (g : ReplayInput) (now : ℕ) (m : Matter) (one : Row) (w : ReplayState) (outputs : List Output) (phase : Phase) → w.consumer.phase ≡ phase
-    → row_at g (passing g now w) m one phase w.consumer ≡ silent_row w.consumer [] → Leads g now m (one ∷ []) w outputs [] w outputs
+    → row_at g (passing g now w) m one phase w.consumer ≡ silent_row w.consumer [] → Passes g now m (one ∷ []) w outputs [] w outputs
 look_nowhere g now m one w outputs phase is none = idle_row g now m one w w outputs phase is (sym (ap (λ (q : Phase). at q w) (sym is))) none
 
 -- ---- by the mode
@@ -388,7 +404,7 @@ pub creates_push : (g : ReplayInput) (now : ℕ) (m : Matter) (r : Recreation) (
     → Subscribes w.link_up w.inboxes_opened inboxes_opened' (inbox_subject g w.inboxes_opened) earlier later inbox
     → StepsTo m (create_row g.setup (opening_to now inbox (passing g now w)) r (at_phase (Recreates r) w.consumer)) (create_outputs g.setup inbox) d rest
     → u ≡ record w { consumer = d; inboxes_opened = inboxes_opened' }
-    → Leads g now m (row.Create ∷ []) (at (Recreates r) w) earlier (next_rows m rest) u later
+    → Passes g now m (row.Create ∷ []) (at (Recreates r) w) earlier (next_rows m rest) u later
 creates_push g now m r w u inbox inboxes_opened' earlier later d rest pushes opens steps to =
     leads_opened g now m row.Create r w u inbox inboxes_opened' earlier later d rest opens
     (create_of g.setup (opening_to now inbox (passing g now w)) r (at_phase (Recreates r) w.consumer) pushes m inbox d rest steps) to
@@ -397,7 +413,7 @@ creates_push g now m r w u inbox inboxes_opened' earlier later d rest pushes ope
 pub creates_pull : (g : ReplayInput) (now : ℕ) (m : Matter) (r : Recreation) (w u : ReplayState) (outputs : List Output) (d : Consumer) (rest : NextTasks) → IsPull g.setup
     → StepsTo m (create_row g.setup (opening_to now None (passing g now w)) r (at_phase (Recreates r) w.consumer)) (create_outputs g.setup None) d rest
     → u ≡ record w { consumer = d }
-    → Leads g now m (row.Create ∷ []) (at (Recreates r) w) outputs (next_rows m rest) u outputs
+    → Passes g now m (row.Create ∷ []) (at (Recreates r) w) outputs (next_rows m rest) u outputs
 creates_pull g now m r w u outputs d rest pulls steps to =
     leads_quietly g now m row.Create (Recreates r) w u outputs d rest
     (create_none g.setup (opening_to now None (passing g now w)) (passing g now w) r (at_phase (Recreates r) w.consumer) pulls m None d rest steps) to
@@ -416,14 +432,14 @@ pub succeeds_pull : (g : ReplayInput) (now : ℕ) (m : Matter) (info : Info) (r 
     → Subscribes w.link_up w.inboxes_opened inboxes_opened' (inbox_subject g w.inboxes_opened) earlier later inbox
     → StepsTo m (succeed_pull g (opening_to now inbox (passing g now w)) info (at_phase (Recreates r) w.consumer)) (subscribed inbox) d rest
     → u ≡ record w { consumer = d; inboxes_opened = inboxes_opened' }
-    → Leads g now m (row.Succeed info ∷ []) (at (Recreates r) w) earlier (next_rows m rest) u later
+    → Passes g now m (row.Succeed info ∷ []) (at (Recreates r) w) earlier (next_rows m rest) u later
 succeeds_pull g now m info r w u inbox inboxes_opened' earlier later d rest pulls opens steps to =
     leads_opened g now m (row.Succeed info) r w u inbox inboxes_opened' earlier later d rest opens
     (succeed_of_pull g.setup g (opening_to now inbox (passing g now w)) info r (at_phase (Recreates r) w.consumer) pulls m (subscribed inbox) d rest steps) to
 
 pub succeeds_push : (g : ReplayInput) (now : ℕ) (m : Matter) (info : Info) (r : Recreation) (w u : ReplayState) (outputs : List Output) (d : Consumer) (rest : NextTasks) → IsPush g.setup
     → StepsTo m (succeed_push (passing g now w) r.opened (at_phase (Recreates r) w.consumer)) [] d rest → u ≡ record w { consumer = d }
-    → Leads g now m (row.Succeed info ∷ []) (at (Recreates r) w) outputs (next_rows m rest) u outputs
+    → Passes g now m (row.Succeed info ∷ []) (at (Recreates r) w) outputs (next_rows m rest) u outputs
 succeeds_push g now m info r w u outputs d rest pushes steps to =
     leads_quietly g now m (row.Succeed info) (Recreates r) w u outputs d rest
     (succeed_of_push g.setup g (passing g now w) info r (at_phase (Recreates r) w.consumer) pushes m [] d rest steps) to
@@ -432,20 +448,26 @@ succeeds_push g now m info r w u outputs d rest pushes steps to =
 pub looks_on : (g : ReplayInput) (now : ℕ) (m : Matter) (one : Row) (phase : Phase) (w : ReplayState) (told : RowOutput) (earlier later : List Output) (rest : NextTasks) → w.consumer.phase ≡ phase
     → StepsTo m (row_at g (passing g now w) m one phase (at_phase phase w.consumer)) (told_outputs told) (at_phase phase w.consumer) rest
     → later ≡ earlier ++ told_outputs told
-    → Leads g now m (one ∷ []) w earlier (next_rows m rest) w later
+    → Passes g now m (one ∷ []) w earlier (next_rows m rest) w later
 looks_on g now m one phase w told earlier later rest is steps put =
     told_here g now m one phase w w told earlier later (at_phase phase w.consumer) rest is steps put (ap (λ (q : Phase). at q w) is)
 
+-- no row was passed
+pub nothing_passed : (g : ReplayInput) (now : ℕ) (m : Matter) (w : ReplayState) (outputs : List Output) → Passes g now m [] w outputs [] w outputs
+nothing_passed g now m w outputs = record { leads = refl; fewer = omega arith }
+
 -- nothing is left of what was held
 pub held_nothing : (g : ReplayInput) (now : ℕ) (m : Matter) (inbox : ℕ) (messages : List Message) (place : ℕ) (w : ReplayState) (outputs : List Output) → length messages ≤ place
-    → Leads g now m (heard_first inbox (drop place messages)) w outputs [] w outputs
+    → Passes g now m (heard_first inbox (drop place messages)) w outputs [] w outputs
 held_nothing g now m inbox messages place w outputs over =
-    ap (λ (ms : List Message). and_then outputs (pass_each (ran g now m) (heard_first inbox ms) w)) (drop_all place messages over)
+    let none : drop place messages ≡ [] = drop_all place messages over in
+    subst (λ (ms : List Message). Passes g now m (heard_first inbox ms) w outputs [] w outputs) (sym none) (nothing_passed g now m w outputs)
 
 -- nothing arrived
 pub brought_nothing : (g : ReplayInput) (now : ℕ) (m : Matter) (inbox : ℕ) (message : Option Message) (w : ReplayState) (outputs : List Output) → None ≡ message
-    → Leads g now m (heard_rows inbox message) w outputs [] w outputs
-brought_nothing g now m inbox message w outputs none = ap (λ (o : Option Message). and_then outputs (pass_each (ran g now m) (heard_rows inbox o) w)) (sym none)
+    → Passes g now m (heard_rows inbox message) w outputs [] w outputs
+brought_nothing g now m inbox message w outputs none =
+    subst (λ (o : Option Message). Passes g now m (heard_rows inbox o) w outputs [] w outputs) none (nothing_passed g now m w outputs)
 
 -- the message that was brought was heard
 pub brought_heard : {E : Type 0} (context : EventContext) (inbox : ℕ) (brings : Option Message) (message : Message) (w u : ReplayState) (before after : List Output) (result : Result NextTasks E) → Some message ≡ brings

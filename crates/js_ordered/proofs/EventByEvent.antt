@@ -192,8 +192,8 @@ pub rest_passed_as : (g : ReplayInput) (e : events.Event) (tasks left : List Tas
     → Leads g e.at (matter_of e.what) (left_rows (matter_of e.what) tasks) w lent (left_rows (matter_of e.what) left) u later
     → rest_of g e tasks w before ≡ record { state = u; outputs = back }
 rest_passed_as g e tasks left w u before lent later back was is some over leads =
-    let inboxes_opened : List Output → Ran = λ o. record { state = u; outputs = o } in
-    ap (λ (o : List Output). rest_of g e tasks w o) (sym was) ∙ rest_passed g e tasks left w u lent later some over leads ∙ ap inboxes_opened (sym is)
+    let with_outputs : List Output → Ran = λ o. record { state = u; outputs = o } in
+    ap (λ (o : List Output). rest_of g e tasks w o) (sym was) ∙ rest_passed g e tasks left w u lent later some over leads ∙ ap with_outputs (sym is)
 
 pub rest_kept_as : (g : ReplayInput) (e : events.Event) (tasks left : List Task) (w u : ReplayState) (before lent later back : List Output) → lent ≡ before → back ≡ later → IsLeft tasks → IsLeft left
     → Leads g e.at (matter_of e.what) (left_rows (matter_of e.what) tasks) w lent (left_rows (matter_of e.what) left) u later

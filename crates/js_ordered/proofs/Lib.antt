@@ -1,4 +1,5 @@
 pub mod RowRuns
+pub mod Counting
 pub mod ReplayRuns
 pub mod EventByEvent
 pub mod Driving

@@ -7,7 +7,7 @@ use Rattle.js_link.specs.RowInput.{RowInput}
 use Rattle.js_ordered_table.specs.declared.transitions.task.NextTasks.{NextTasks}
 use Rattle.js_ordered_table.specs.declared.transitions.task.Task.{Task}
 use Rattle.js_ordered_table.specs.declared.transitions.task.Task.TheVariants as task
-use Rattle.js_ordered.specs.Driven.{IsTry, Leads, PassesTo, matter_now}
+use Rattle.js_ordered.specs.Driven.{IsTry, Passes, PassesTo, matter_now}
 use Rattle.js_ordered_table.specs.Tasks.{answered_rows, rows_of}
 use Rattle.js_pull.specs.declared.reader.Reader.{Reader}
 use Rattle.js_pull.specs.declared.reader.Row.{Row as PullRow}
@@ -22,11 +22,11 @@ use Rattle.js_ordered_table.specs.declared.row.Row.TheVariants as row
 use Rattle.js_ordered_table.specs.declared.run.Output.{Output}
 use Rattle.js_ordered.specs.declared.event_context.EventContext.{EventContext}
 use Rattle.js_ordered_table.specs.declared.replay_state.ReplayState.{ReplayState}
-use Rattle.js_ordered_table.specs.Fold.{after, and_then, passing, stays}
+use Rattle.js_ordered_table.specs.Fold.{passing}
 use Rattle.js_ordered_table.specs.Passes.{at}
 use Rattle.js_ordered_table.specs.Consumer.{Matter, silent_row}
 use Rattle.js_ordered_table.specs.Table.{row_at}
-use Rattle.js_ordered.proofs.Driving.{idle_row}
+use Rattle.js_ordered.proofs.Driving.{idle_row, nothing_passed}
 
 -- ---- a row where it does not belong
 
@@ -92,15 +92,16 @@ succeed_nowhere g p m info Exhausted c closed = refl
 succeed_nowhere g p m info (Recreates r) c closed = absurd closed
 
 replied_nowhere : (g : ReplayInput) (now : ℕ) (m : Matter) (reply : Option (Option Message)) (w u : ReplayState) (outputs : List Output) (phase : Phase) → IsClosed phase → w.consumer.phase ≡ phase → u ≡ at phase w
-    → Leads g now m (answered_rows reply) w outputs [] u outputs
+    → Passes g now m (answered_rows reply) w outputs [] u outputs
 replied_nowhere g now m None w u outputs phase closed is to =
-    ap (λ (v : ReplayState). and_then outputs (stays v)) (sym (to ∙ ap (λ (q : Phase). at q w) (sym is)))
+    let same : u ≡ w = to ∙ ap (λ (q : Phase). at q w) (sym is) in
+    subst (λ (v : ReplayState). Passes g now m [] w outputs [] v outputs) (sym same) (nothing_passed g now m w outputs)
 replied_nowhere g now m (Some reply) w u outputs phase closed is to =
     idle_row g now m (row.Answered reply) w u outputs phase is to (answered_nowhere g (passing g now w) m reply phase w.consumer closed)
 
 -- a row of a recreation does nothing where none is open
 tries_nowhere : (g : ReplayInput) (now : ℕ) (m : Matter) (one : Task) (w u : ReplayState) (outputs : List Output) (phase : Phase) → IsTry one → IsClosed phase → w.consumer.phase ≡ phase → u ≡ at phase w
-    → Leads g now m (rows_of m one) w outputs [] u outputs
+    → Passes g now m (rows_of m one) w outputs [] u outputs
 tries_nowhere g now m task.Try w u outputs phase one closed is to = idle_row g now m row.Try w u outputs phase is to (try_nowhere g (passing g now w) m phase w.consumer closed)
 tries_nowhere g now m task.Create w u outputs phase one closed is to = idle_row g now m row.Create w u outputs phase is to (create_nowhere g (passing g now w) m phase w.consumer closed)
 tries_nowhere g now m task.Ask w u outputs phase one closed is to = idle_row g now m row.Ask w u outputs phase is to (ask_nowhere g (passing g now w) m phase w.consumer closed)
@@ -129,7 +130,7 @@ closed_elsewhere Exhausted other = tt
 
 -- and so in any other phase
 pub tries_elsewhere : (g : ReplayInput) (now : ℕ) (m : Matter) (one : Task) (w u : ReplayState) (outputs : List Output) (phase : Phase) → IsTry one → ((r : Recreation) → phase ≡ Recreates r → ⊥) → w.consumer.phase ≡ phase → u ≡ at phase w
-    → Leads g now m (rows_of m one) w outputs [] u outputs
+    → Passes g now m (rows_of m one) w outputs [] u outputs
 tries_elsewhere g now m one w u outputs phase tried other is to = tries_nowhere g now m one w u outputs phase tried (closed_elsewhere phase other) is to
 
 -- and where one is open it was passed there
@@ -150,12 +151,12 @@ reads_none g p m one Exhausted c other = refl
 
 -- where none reads
 pub reads_nowhere : (g : ReplayInput) (now : ℕ) (m : Matter) (one : PullRow) (w : ReplayState) (outputs : List Output) → ((r : Reader) → w.consumer.phase ≡ Pulls r → ⊥)
-    → Leads g now m (row.Read one ∷ []) w outputs [] w outputs
+    → Passes g now m (row.Read one ∷ []) w outputs [] w outputs
 reads_nowhere g now m one w outputs other =
     idle_row g now m (row.Read one) w w outputs w.consumer.phase refl refl (reads_none g (passing g now w) m one w.consumer.phase w.consumer other)
 
 -- and where one reads
 pub reads_here : (g : ReplayInput) (now : ℕ) (m : Matter) (one : PullRow) (r : Reader) (w u : ReplayState) (earlier later : List Output) (rest : List Row) → w.consumer.phase ≡ Pulls r
-    → Leads g now m (row.Read one ∷ []) (at (Pulls r) w) earlier rest u later → Leads g now m (row.Read one ∷ []) w earlier rest u later
+    → Passes g now m (row.Read one ∷ []) (at (Pulls r) w) earlier rest u later → Passes g now m (row.Read one ∷ []) w earlier rest u later
 reads_here g now m one r w u earlier later rest is leads =
-    subst (λ (q : Phase). Leads g now m (row.Read one ∷ []) (at q w) earlier rest u later) (sym is) leads
+    subst (λ (q : Phase). Passes g now m (row.Read one ∷ []) (at q w) earlier rest u later) (sym is) leads

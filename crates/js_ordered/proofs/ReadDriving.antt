@@ -7,7 +7,7 @@ use Rattle.js_ordered_table.specs.declared.transitions.task.Heard.{Heard}
 use Rattle.js_ordered_table.specs.declared.transitions.task.NextTasks.{NextTasks}
 use Rattle.js_ordered_table.specs.declared.transitions.task.NextTasks.TheVariants as next
 use Rattle.js_ordered_table.specs.declared.transitions.task.Task.TheVariants as task
-use Rattle.js_ordered.specs.Driven.{Finishes, Leads, counted}
+use Rattle.js_ordered.specs.Driven.{Finishes, Passes, numbered}
 use Rattle.js_ordered.specs.Giving.{Sends}
 use Rattle.js_ordered_table.specs.Tasks.{IsHeardFrom, StepsTo, heard_outputs, heard_row, next_rows, reader_rows, requested, requesting, told_outputs}
 use Rattle.js_link.specs.declared.sent.Sent.{Sent}
@@ -28,7 +28,6 @@ use Rattle.js_pull.specs.Rows.{told_shown}
 use Rattle.js_pull.specs.declared.reader.Reader.{Reader}
 use Rattle.js_pull.specs.declared.reader.Row.{Row as PullRow}
 use Rattle.js_pull.specs.Reader as pull
-use Rattle.js_pull.specs.Reader.{info_of_reply, reply_to}
 use Rattle.js_ordered_table.specs.declared.consumer.Consumer.{Consumer}
 use Rattle.js_ordered_table.specs.declared.consumer.ReplayInput.{ReplayInput}
 use Rattle.js_ordered_table.specs.declared.consumer.Phase.TheVariants.{Pulls}
@@ -50,8 +49,8 @@ use Rattle.js_ordered.proofs.Driving.{with_request, unnumbered, no_made, told_un
 pub leads_read : (g : ReplayInput) (now : ℕ) (m : Matter) (one : PullRow) (r s : Reader) (w u : ReplayState) (p : RowInput) (message : Option Message) (step : Read) (passed : pull.Passed) (sent : List Sent) (outputs earlier later : List Output) (d : Consumer) (rest : NextTasks)
     → passing g now w ≡ p → pull.row p m.answer (message_on r.source.inbox m.arrival) one r ≡ passed → ReadsTo (brought m.answer) message passed s step → passed.sent ≡ sent
     → StepsTo m (with_sent [] (reader_rows m step.next) (told (told_shown step.told message) (at_phase (Pulls s) w.consumer))) outputs d rest
-    → later ≡ earlier ++ (map output_of sent ++ outputs) → u ≡ record (counted (map output_of sent ++ outputs) w) { consumer = d }
-    → Leads g now m (row.Read one ∷ []) (at (Pulls r) w) earlier (next_rows m rest) u later
+    → later ≡ earlier ++ (map output_of sent ++ outputs) → u ≡ record (numbered (map output_of sent ++ outputs) w) { consumer = d }
+    → Passes g now m (row.Read one ∷ []) (at (Pulls r) w) earlier (next_rows m rest) u later
 leads_read g now m one r s w u p message step passed sent outputs earlier later d rest is row_is reads sends steps put to =
     leads_at g now m (row.Read one) (Pulls r) w u p (map output_of sent ++ outputs) earlier later d rest is
     (subst (λ (x : pull.Passed). StepsTo m (read_row x (at_phase (Pulls r) w.consumer)) (map output_of sent ++ outputs) d rest) (sym row_is)
@@ -61,7 +60,7 @@ leads_read g now m one r s w u p message step passed sent outputs earlier later 
 pub leads_finish : (g : ReplayInput) (now : ℕ) (m : Matter) (one : PullRow) (r s : Reader) (w u : ReplayState) (p : RowInput) (step : Read) (passed : pull.Passed) (earlier later : List Output) (rest : NextTasks)
     → passing g now w ≡ p → pull.row p m.answer (message_on r.source.inbox m.arrival) one r ≡ passed → ReadsTo (brought m.answer) None passed s step → passed.sent ≡ []
     → Finishes m (at (Pulls s) w) u step earlier later rest
-    → Leads g now m (row.Read one ∷ []) (at (Pulls r) w) earlier (next_rows m rest) u later
+    → Passes g now m (row.Read one ∷ []) (at (Pulls r) w) earlier (next_rows m rest) u later
 leads_finish g now m one r s w u p step passed earlier later rest is row_is reads sends finishes =
     leads_read g now m one r s w u p None step passed [] (told_outputs finishes.told) earlier later finishes.consumer rest is row_is reads sends finishes.steps finishes.outputs
     (finishes.state ∙ told_unnumbered w finishes.consumer finishes.told)
@@ -73,7 +72,7 @@ sent_is g now w up is = ap (λ (b : Bool). with_request (passing g now w) b (w.r
 pub leads_asked : (g : ReplayInput) (now : ℕ) (m : Matter) (reason : Reason) (r s : Reader) (w u : ReplayState) (output : Output) (earlier later : List Output) → w.link_up ≡ true
     → s ≡ (pull.ask (record (passing g now w) { up = true }) reason r).reader → output ≡ out.Publish (pull.pull_subject r.source) (Some r.source.subject) (pull_body r.pin r.source.config)
     → later ≡ earlier ++ output ∷ [] → u ≡ record w { consumer = at_phase (Pulls s) w.consumer }
-    → Leads g now m (row.Read (read.Ask reason) ∷ []) (at (Pulls r) w) earlier [] u later
+    → Passes g now m (row.Read (read.Ask reason) ∷ []) (at (Pulls r) w) earlier [] u later
 leads_asked g now m reason r s w u output earlier later up reader is put to =
     let sends : List Output = out.Publish (pull.pull_subject r.source) (Some r.source.subject) (pull_body r.pin r.source.config) ∷ [] in
     leads_at g now m (row.Read (read.Ask reason)) (Pulls r) w u (record (passing g now w) { up = true }) sends earlier later (at_phase (Pulls s) w.consumer) next.Nothing
@@ -91,7 +90,7 @@ pub leads_inquired : (g : ReplayInput) (now : ℕ) (m : Matter) (failures : ℕ)
     → Sends w.link_up w.requests_sent requests_sent' (pull.info_subject r.source) (codes "{}") earlier later number
     → ReadsTo (brought m.answer) None (pull.inquire (requesting now number (passing g now w)) failures r) s step → next_rows m rest ≡ reader_rows m step.next
     → u ≡ record w { consumer = at_phase (Pulls s) w.consumer; requests_sent = requests_sent' }
-    → Leads g now m (row.Read (read.Inquire failures) ∷ []) (at (Pulls r) w) earlier (next_rows m rest) u later
+    → Passes g now m (row.Read (read.Inquire failures) ∷ []) (at (Pulls r) w) earlier (next_rows m rest) u later
 leads_inquired g now m failures r s w u number requests_sent' earlier later step rest sends reads rows to =
     let subject : List ℕ = pull.info_subject r.source in
     leads_at g now m (row.Read (read.Inquire failures)) (Pulls r) w u (requesting now number (passing g now w)) (requested subject (codes "{}") number) earlier later (at_phase (Pulls s) w.consumer) rest
@@ -106,7 +105,7 @@ pub leads_heard : (g : ReplayInput) (now : ℕ) (m : Matter) (message : Message)
     → message_on r.source.inbox m.arrival ≡ Some message → pull_kind message ≡ pulls.Delivered → IsHeardFrom w.consumer.core.consumer_sequence message heard_is → s ≡ pull.lowered 1 message.length (heard now message r)
     → StepsTo m (with_sent [] (row.Read read.Threshold ∷ []) (heard_row (passing g now w) message heard_is (record (at_phase (Pulls s) w.consumer) { missed = false }))) (heard_outputs w.link_up message heard_is) d rest
     → later ≡ earlier ++ heard_outputs w.link_up message heard_is → u ≡ record w { consumer = d }
-    → Leads g now m (row.Read read.CheckArrival ∷ []) (at (Pulls r) w) earlier (next_rows m rest) u later
+    → Passes g now m (row.Read read.CheckArrival ∷ []) (at (Pulls r) w) earlier (next_rows m rest) u later
 leads_heard g now m message heard_is r s w u earlier later d rest arrives kind is reader steps put to =
     let p : RowInput = passing g now w in
     let c : Consumer = at_phase (Pulls r) w.consumer in
@@ -141,7 +140,7 @@ pub leads_status : (g : ReplayInput) (now : ℕ) (m : Matter) (message : Message
     → message_on r.source.inbox m.arrival ≡ Some message → pull_kind message ≢ pulls.Delivered → h ≡ heard now message r
     → ReadsTo (brought m.answer) (Some message) (pull.hear message (pull_kind message) h) s step
     → Finishes m (at (Pulls s) w) u step earlier later rest
-    → Leads g now m (row.Read read.CheckArrival ∷ []) (at (Pulls r) w) earlier (next_rows m rest) u later
+    → Passes g now m (row.Read read.CheckArrival ∷ []) (at (Pulls r) w) earlier (next_rows m rest) u later
 leads_status g now m message r h s w u step earlier later rest arrives other hears reads finishes =
     let p : RowInput = passing g now w in
     leads_finish g now m read.CheckArrival r s w u p step (pull.hear message (pull_kind message) h) earlier later rest refl
@@ -150,7 +149,7 @@ leads_status g now m message r h s w u step earlier later rest arrives other hea
 
 -- nothing arrived
 pub leads_silent : (g : ReplayInput) (now : ℕ) (m : Matter) (r : Reader) (w : ReplayState) (outputs : List Output) → None ≡ message_on r.source.inbox m.arrival
-    → Leads g now m (row.Read read.CheckArrival ∷ []) (at (Pulls r) w) outputs (row.Read read.CheckSilence ∷ []) (at (Pulls r) w) outputs
+    → Passes g now m (row.Read read.CheckArrival ∷ []) (at (Pulls r) w) outputs (row.Read read.CheckSilence ∷ []) (at (Pulls r) w) outputs
 leads_silent g now m r w outputs none =
     let p : RowInput = passing g now w in
     let c : Consumer = at_phase (Pulls r) w.consumer in
@@ -159,7 +158,7 @@ leads_silent g now m r w outputs none =
 
 -- the heartbeat is armed
 pub leads_armed : (g : ReplayInput) (now : ℕ) (m : Matter) (r s : Reader) (w u : ReplayState) (outputs : List Output) → s ≡ pull.with_silence now r → u ≡ at (Pulls s) w
-    → Leads g now m (row.Read read.Arm ∷ []) (at (Pulls r) w) outputs [] u outputs
+    → Passes g now m (row.Read read.Arm ∷ []) (at (Pulls r) w) outputs [] u outputs
 leads_armed g now m r s w u outputs reader to =
     leads_quietly g now m (row.Read read.Arm) (Pulls r) w u outputs (at_phase (Pulls s) w.consumer) next.Nothing
     (record { consumer = ap (λ (x : Reader). at_phase (Pulls x) w.consumer) reader; outputs = refl; next = refl }) to

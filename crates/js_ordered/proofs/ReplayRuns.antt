@@ -11,7 +11,6 @@ use Rattle.js_ordered_table.specs.Invariant.{IsPull, IsPush}
 use Rattle.js_ordered_table.specs.Arrivals.{armed}
 use Rattle.js_ordered_table.specs.declared.row.Row.{Row}
 use Rattle.js_ordered_table.specs.declared.row.Row.TheVariants.{Event, Read}
-use Rattle.js_ordered_table.specs.Consumer.{Matter}
 use Rattle.js_ordered_table.specs.declared.replay_state.ReplayState.{ReplayState}
 use Rattle.js_ordered_table.specs.declared.run.Output.{Output}
 use Rattle.js_ordered_table.specs.declared.run.Run.{Run}
@@ -82,16 +81,16 @@ pub event_begun : (g : ReplayInput) (e : events.Event) (w : ReplayState) → eve
 event_begun g e w = event_passes g e w ∙ sym (no_more (ran g e.at (matter_of e.what) Event (record w { link_up = link_after e.what w.link_up })))
 
 -- the opening whose rows were all passed
-pub opening_led : (g : ReplayInput) (start : ℕ) (w u : ReplayState) (before later : List Output) (room tasks left : List Task) (m : Matter) → IsPull g.setup → m ≡ tick → w ≡ at Idle (first_state g start) → before ≡ [] → room ≡ [] → left_rows m tasks ≡ map Read opening_reads ++ left_rows m room → left ≡ []
-    → Leads g start m (left_rows m tasks) (at (Pulls (first_reader_of g)) w) before (left_rows m left) u later
+pub opening_led : (g : ReplayInput) (start : ℕ) (w u : ReplayState) (before later : List Output) (room tasks left : List Task) → IsPull g.setup → w ≡ at Idle (first_state g start) → before ≡ [] → room ≡ []
+    → left_rows tick tasks ≡ map Read opening_reads ++ left_rows tick room → left ≡ []
+    → Leads g start tick (left_rows tick tasks) (at (Pulls (first_reader_of g)) w) before (left_rows tick left) u later
     → opening g start ≡ record { state = u; outputs = later }
-opening_led g start w u before later room tasks left m pulls ticks first none empty put over leads =
+opening_led g start w u before later room tasks left pulls first none empty put over leads =
     let v : ReplayState = at (Pulls (first_reader_of g)) w in
-    let one : Row → ReplayState → Ran = ran g start m in
-    let rows : left_rows m tasks ≡ map Read opening_reads = put ∙ ap (λ (r : List Task). map Read opening_reads ++ left_rows m r) empty in
-    led_to (opening g start) one (left_rows m left) u later (ap (left_rows m) over)
+    let one : Row → ReplayState → Ran = ran g start tick in
+    let rows : left_rows tick tasks ≡ map Read opening_reads = put ∙ ap (λ (r : List Task). map Read opening_reads ++ left_rows tick r) empty in
+    led_to (opening g start) one (left_rows tick left) u later (ap (left_rows tick) over)
     (opening_asks g start pulls
-    ∙ ap (λ (k : Matter). pass_each (ran g start k) (map Read opening_reads) (at (Pulls (first_reader_of g)) (at Idle (first_state g start)))) (sym ticks)
     ∙ ap (λ (x : ReplayState). pass_each one (map Read opening_reads) (at (Pulls (first_reader_of g)) x)) (sym first)
     ∙ sym (ap (λ (rows : List Row). and_then before (pass_each one rows v)) rows ∙ ap (λ (o : List Output). and_then o (pass_each one (map Read opening_reads) v)) none) ∙ leads)
 

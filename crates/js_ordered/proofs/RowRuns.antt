@@ -1,12 +1,11 @@
 -- What a row and the rows that follow it at once come to, step by step.
-use Rattle.std.proofs.Common.{◌≡◌, ℕ, zero, suc, ◌+◌, ◌-◌, ◌<◌, List, [], sym, ap, ◌∙◌, arith, append-nil, count_by}
-use Rattle.js_ordered_table.specs.Consumer.{Matter, Passed, silent_row}
+use Rattle.std.proofs.Common.{◌≡◌, ℕ, zero, suc, ◌+◌, ◌-◌, ◌<◌, List, sym, ap, ◌∙◌, arith, append-nil}
+use Rattle.js_ordered_table.specs.Consumer.{Matter, Passed}
 use Rattle.js_ordered_table.specs.declared.row.Row.{Row}
 use Rattle.js_ordered_table.specs.declared.consumer.ReplayInput.{ReplayInput}
 use Rattle.js_ordered_table.specs.declared.replay_state.ReplayState.{ReplayState}
 use Rattle.js_ordered_table.specs.Passes.{ran, from}
-use Rattle.js_ordered_table.specs.declared.consumer.Consumer.{Consumer}
-use Rattle.js_ordered_table.specs.Fold.{Ran, passing, after, stays, and_then, rank, pass_each, pass_to, is_request, is_subscribe}
+use Rattle.js_ordered_table.specs.Fold.{Ran, passing, after, stays, and_then, rank, pass_each, pass_to}
 use Rattle.js_ordered_table.specs.Table.{pass}
 use Rattle.js_ordered_table.specs.declared.run.Output.{Output}
 use Rattle.js_ordered_table.proofs.Ranks.{settled, row_falls, each_same}
@@ -41,27 +40,8 @@ ran_from g now m row w passed is =
 
 -- ---- what comes of a row that was passed
 
--- the consumer is another one
-abbrev pub with_consumer : Consumer → ReplayState → ReplayState
-with_consumer c w = record w { consumer = c }
-
--- a consumer passed a row with these outputs
-abbrev pub put_out : Consumer → List Output → List Row → Passed
-put_out c outputs rows = record { consumer = c; outputs = outputs; next = rows }
-
-after_is : (w : ReplayState) (c : Consumer) (outputs : List Output) (rows : List Row) (requests_sent inboxes_opened : ℕ) → w.requests_sent + count_by is_request outputs ≡ requests_sent → w.inboxes_opened + count_by is_subscribe outputs ≡ inboxes_opened
-    → after w (put_out c outputs rows) ≡ record w { consumer = c; requests_sent = requests_sent; inboxes_opened = inboxes_opened }
-after_is w c outputs rows requests_sent inboxes_opened e f =
-    let same : ℕ → ℕ → ReplayState = λ a b. record w { consumer = c; requests_sent = a; inboxes_opened = b } in
-    ap (λ (a : ℕ). same a (w.inboxes_opened + count_by is_subscribe outputs)) e ∙ ap (λ (b : ℕ). same requests_sent b) f
-
 -- nothing comes after it
 pub no_more : (r : Ran) → and_then r.outputs (stays r.state) ≡ r
 no_more r =
     let with_outputs : List Output → Ran = λ outputs. record { state = r.state; outputs = outputs } in
     ap with_outputs (append-nil r.outputs)
-
--- nothing more
-pub from_rest : (g : ReplayInput) (now : ℕ) (m : Matter) (c : Consumer) (w : ReplayState) → from g now m (silent_row c []) w ≡ stays (with_consumer c w)
-unfolding from
-from_rest g now m c w = ap (λ (u : ReplayState). stays u) (after_is w c [] [] w.requests_sent w.inboxes_opened (omega arith) (omega arith))

@@ -1,9 +1,9 @@
 //! A replay passes the rows of its events one by one: what a row wishes is given to it by its event, and what it sends is put out.
 //!
 //! What a row needs takes memory before the row changes anything. So after want of memory the rows that are left, with what was put out so far, come to
-//! what the whole event comes to.
-ghost use Rattle.std.specs.Prelude.{◌≡◌, ◌+◌, ◌≤◌, ◌++◌, ◌∷◌, [], OnErr, OnOk, vec_capacity, vec_len};
-ghost use Rattle.js_ordered.specs.Driven.{IsLeft, IsTry, LeadsOn, PassesTo, first_held, first_rows, left_rows, matter_now};
+//! what the whole event comes to. They are counted, and each turn of the loop over them passes one: so it ends.
+ghost use Rattle.std.specs.Prelude.{◌≡◌, ◌+◌, ◌<◌, ◌≤◌, ◌++◌, ◌∷◌, [], OnErr, OnOk, false, length, true, vec_capacity, vec_len};
+ghost use Rattle.js_ordered.specs.Driven.{IsLeft, IsTry, LeadsOn, PassesOn, PassesTo, first_held, first_rows, left_rows, left_to_do, matter_now};
 ghost use Rattle.js_ordered_table.specs.Tasks.{heard_rows, hearings_of, next_rows, rows_of};
 ghost use Rattle.js_ordered_table.specs.Passes.{at};
 ghost use Rattle.js_ordered_table.specs.Recreation.{message_on};
@@ -23,13 +23,13 @@ use crate::task_stack::TaskStack;
 use js_base::OutOfMemory;
 use js_ordered_table::transitions::event::{is_over, pass_event};
 use js_ordered_table::transitions::{Held, NextTasks, PassedTask, Task};
-use js_ordered_table::{Output, Phase, Recreation, ReplayState, change_of};
+use js_ordered_table::{Output, Phase, Recreation, ReplayState};
 use std::alloc::Global;
 use std::mem;
 
 // ---- rows of an open recreation
 
-/// A row of an open recreation is passed.
+// A row of an open recreation is passed.
 fn pass_recreating(
     alloc: Global,
     context: &EventContext<'_>,
@@ -69,7 +69,7 @@ fn pass_recreating(
     }
 }
 
-/// A row that belongs to an open recreation is passed. Where none is open, it does nothing.
+// A row that belongs to an open recreation is passed. Where none is open, it does nothing.
 fn pass_try(
     alloc: Global,
     context: &EventContext<'_>,
@@ -94,7 +94,7 @@ fn pass_try(
 
 // ---- any row
 
-/// What an event does first. An ended consumer passes nothing.
+// What an event does first. An ended consumer passes nothing.
 #[inline]
 fn event(
     context: &EventContext<'_>,
@@ -102,7 +102,7 @@ fn event(
     outputs: &mut Vec<Output>,
 ) -> NextTasks
     requires room { vec_len outputs.old + 1 ≤ vec_capacity outputs.old }
-    ensures { LeadsOn context.now (row.Event ∷ []) state.old outputs.old.items (next_rows (matter_now context.now) result) state.new outputs.new.items }
+    ensures { PassesOn context.now (row.Event ∷ []) state.old outputs.old.items (next_rows (matter_now context.now) result) state.new outputs.new.items }
 {
     if is_over(&state.consumer.phase) {
         return NextTasks::Nothing;
@@ -110,13 +110,13 @@ fn event(
     let PassedTask { told, next } = pass_event(
         &context.consumer,
         &mut state.consumer,
-        change_of(context.what),
+        context.change(),
     );
     tell(told, outputs);
     next
 }
 
-/// What was held is heard, the first of it.
+// What was held is heard, the first of it.
 fn hear_held(
     context: &EventContext<'_>,
     state: &mut ReplayState,
@@ -134,7 +134,7 @@ fn hear_held(
     listening::hear(context, state, held.inbox, &messages[place], outputs)
 }
 
-/// What the event brings on an inbox is heard.
+// What the event brings on an inbox is heard.
 fn hear_brought(
     context: &EventContext<'_>,
     state: &mut ReplayState,
@@ -144,13 +144,13 @@ fn hear_brought(
     requires room { vec_len outputs.old + 1 ≤ vec_capacity outputs.old }
     ensures { PassesTo context.now (heard_rows inbox (message_on inbox (matter_now context.now).arrival)) state.old state.new outputs.old.items outputs.new.items result }
 {
-    match context.what.message_on(inbox) {
+    match context.message_on(inbox) {
         None => Ok(NextTasks::Nothing),
         Some(message) => listening::hear(context, state, inbox, message, outputs),
     }
 }
 
-/// What arrives for a recreation that holds arrivals is held.
+// What arrives for a recreation that holds arrivals is held.
 fn hold(
     context: &EventContext<'_>,
     state: &mut ReplayState,
@@ -158,11 +158,11 @@ fn hold(
 ) -> Result<NextTasks, OutOfMemory>
     ensures { PassesTo context.now (row.Hold ∷ []) state.old state.new outputs.old.items outputs.new.items result }
 {
-    recreation::hold_at(context.what, &mut state.consumer.phase)?;
+    recreation::hold_at(context, &mut state.consumer.phase)?;
     Ok(NextTasks::Nothing)
 }
 
-/// A row is passed, and those that follow it at once are answered. Of what was held only the first message is heard.
+// A row is passed, and those that follow it at once are answered. Of what was held only the first message is heard.
 #[inline]
 fn pass(
     alloc: Global,
@@ -199,7 +199,7 @@ fn pass(
 
 // ---- what is left
 
-/// What is left of what was held.
+// What is left of what was held.
 fn held_left(mut held: Box<Held>) -> NextTasks
     ensures { (m : Matter) → hearings_of held.value ≡ first_held held.value ++ next_rows m result }
 {
@@ -211,7 +211,7 @@ fn held_left(mut held: Box<Held>) -> NextTasks
     NextTasks::Nothing
 }
 
-/// What is left of a task after its first row.
+// What is left of a task after its first row.
 #[inline]
 fn left_of(task: Task) -> NextTasks
     ensures { (m : Matter) → rows_of m task ≡ first_rows m task ++ next_rows m result }
@@ -239,7 +239,42 @@ fn left_of(task: Task) -> NextTasks
     }
 }
 
-/// A task is passed that was taken, and what follows it is left. Where there is no memory it is left itself.
+// A message that was held is not heard yet.
+#[tactic(auto, using(crate::proofs::Taking::no_held, crate::proofs::Taking::one_held))]
+fn has_held(held: &Held) -> bool
+    ensures none { result ≡ false → hearings_of held.now ≡ [] }
+    ensures one { result ≡ true → length (first_held held.now) ≡ 1 }
+{
+    held.place < held.messages.as_slice().len()
+}
+
+// A task stands for a row. One that takes what the event brings stands for none where the event does not bring it.
+#[tactic(auto, using(crate::proofs::Taking::no_answer, crate::proofs::Taking::one_answer, crate::proofs::Taking::no_arrival, crate::proofs::Taking::one_arrival))]
+fn has_row(context: &EventContext<'_>, task: &Task) -> bool
+    ensures none { result ≡ false → rows_of (matter_now context.now) task.now ≡ [] }
+    ensures one { result ≡ true → length (first_rows (matter_now context.now) task.now) ≡ 1 }
+{
+    match task {
+        Task::Answered { request } => recreation::has_reply(context, *request),
+        Task::Hear { inbox } => listening::arrives(context, *inbox),
+        Task::HearHeld(held) => has_held(held),
+        Task::Event
+        | Task::Start
+        | Task::Try
+        | Task::Create
+        | Task::Ask
+        | Task::Await
+        | Task::Hold
+        | Task::Succeed(_)
+        | Task::Fail
+        | Task::CheckArrival
+        | Task::CheckSilence
+        | Task::Arm
+        | Task::Read(_) => true,
+    }
+}
+
+// A task that was taken is passed, and what follows it is left. One that stands for no row is let go. Where there is no memory it is left itself.
 #[inline]
 fn pass_taken(
     alloc: Global,
@@ -253,22 +288,27 @@ fn pass_taken(
     requires places { vec_len todo.old.tasks + 4 ≤ vec_capacity todo.old.tasks }
     ensures leads { LeadsOn context.now (left_rows (matter_now context.now) (todo.old.tasks.items ++ task ∷ [])) state.old outputs.old.items
         (left_rows (matter_now context.now) todo.new.tasks.items) state.new outputs.new.items }
+    ensures less { OnOk result (left_to_do context.now todo.new.tasks.items state.new < left_to_do context.now (todo.old.tasks.items ++ task ∷ []) state.old) }
     ensures refused { OnErr result (IsLeft todo.new.tasks.items) }
 {
+    if !has_row(context, &task) {
+        drop(task);
+        return Ok(());
+    }
     match pass(alloc, context, state, &task, outputs) {
         Err(refused) => {
-            todo.put_one(task);
+            todo.push(task);
             Err(refused)
         }
         Ok(next) => {
-            todo.put(left_of(task));
-            todo.put(next);
+            todo.push_next(left_of(task));
+            todo.push_next(next);
             Ok(())
         }
     }
 }
 
-/// The first task that is left is passed.
+// The first task that is left is passed, and less is left to do.
 #[inline]
 fn pass_next(
     alloc: Global,
@@ -280,19 +320,16 @@ fn pass_next(
     requires left { IsLeft todo.old.tasks.items }
     ensures leads { LeadsOn context.now (left_rows (matter_now context.now) todo.old.tasks.items) state.old outputs.old.items
         (left_rows (matter_now context.now) todo.new.tasks.items) state.new outputs.new.items }
+    ensures less { OnOk result (left_to_do context.now todo.new.tasks.items state.new < left_to_do context.now todo.old.tasks.items state.old) }
     ensures refused { OnErr result (IsLeft todo.new.tasks.items) }
 {
     todo.make_room()?;
     outputs.reserve(1)?;
-    match todo.take() {
-        None => Ok(()),
-        Some(task) => pass_taken(alloc, context, state, todo, task, outputs),
-    }
+    let task = todo.pop();
+    pass_taken(alloc, context, state, todo, task, outputs)
 }
 
-/// All that is left of an event is passed. After want of memory the rest is left, and comes to what the whole would have come to.
-///
-/// An event has fewer rows than a `u64` counts: memory ends long before.
+// All that is left of an event is passed. After want of memory the rest is left, and comes to what the whole would have come to.
 pub(crate) fn pass_left(
     alloc: Global,
     context: &EventContext<'_>,
@@ -305,16 +342,8 @@ pub(crate) fn pass_left(
     ensures rested { OnOk result (todo.new.tasks.items ≡ []) }
     ensures refused { OnErr result (IsLeft todo.new.tasks.items) }
 {
-    for _ in 0..u64::MAX {
-        if todo.is_empty() {
-            return Ok(());
-        }
-        let Ok(()) = pass_next(alloc, context, state, todo, outputs) else {
-            return Err(OutOfMemory);
-        };
+    'rows: while !todo.is_empty() {
+        pass_next(alloc, context, state, todo, outputs)?;
     }
-    if todo.is_empty() {
-        return Ok(());
-    }
-    Err(OutOfMemory)
+    Ok(())
 }

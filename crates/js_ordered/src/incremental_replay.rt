@@ -2,7 +2,6 @@
 ghost use Rattle.std.specs.Prelude.{◌≡◌, ◌+◌, ◌∷◌, ◌++◌, [], ℕ, List, Some, None, IfOk, OnOk, OnErr, Err, if◌then◌else◌};
 ghost use Rattle.js_ordered.specs.IncrementalReplay.{HasCome, IsEnd, IsWithin, replay_given, rest_of_replay};
 ghost use Rattle.js_ordered.specs.Driven.{IsLeft};
-ghost use Rattle.js_ordered_table.specs.Fold.{event as ran_by};
 ghost use Rattle.js_ordered_table.specs.Refusal.{first_of, refuse_input as refused_at};
 ghost use Rattle.js_ordered_table.specs.declared.consumer.ReplayInput.{ReplayInput};
 ghost use Rattle.js_ordered_table.specs.declared.event.Event as events;
@@ -114,14 +113,14 @@ impl<'a> IncrementalReplay<'a> {
         ensures left { OnOk result (IsLeft self.new.todo.tasks.items) }
     {
         self.todo.make_room()?;
-        self.todo.put_one(Task::Event);
+        self.todo.push(Task::Event);
         empty(alloc, &mut self.outputs);
         self.state.link_up = link_after(&event.what, self.state.link_up);
         Ok(())
     }
 
-    // An event begins where nothing of it was passed.
-    fn make_ready(&mut self, alloc: Global, event: &Event) -> Result<(), OutOfMemory>
+    // An event begins. One of which a part was passed, before memory ran out, goes on.
+    fn begin_or_resume(&mut self, alloc: Global, event: &Event) -> Result<(), OutOfMemory>
         ensures kept { record self.new { state = self.old.state; outputs = self.old.outputs; todo = self.old.todo } ≡ self.old }
         ensures rest { rest_of_replay event.now self.new ≡ rest_of_replay event.now self.old }
         ensures left { OnOk result (IsLeft self.new.todo.tasks.items) }
@@ -148,7 +147,7 @@ impl<'a> IncrementalReplay<'a> {
         };
         let context = EventContext {
             consumer,
-            what: &event.what,
+            what: Some(&event.what),
         };
         let mut outputs = mem::replace(&mut self.outputs, Items::new(alloc)).into_vec();
         let passed = pass_left(
@@ -169,7 +168,7 @@ impl<'a> IncrementalReplay<'a> {
         ensures rested { OnOk result (self.new.todo.tasks.items ≡ []) }
         ensures refused { OnErr result (rest_of_replay event.now self.new ≡ rest_of_replay event.now self.old) }
     {
-        self.make_ready(alloc, event)?;
+        self.begin_or_resume(alloc, event)?;
         self.go_on(alloc, event)
     }
 

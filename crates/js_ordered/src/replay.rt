@@ -1,5 +1,5 @@
 //! The replay of an ordered consumer over a list of events.
-ghost use Rattle.std.specs.Prelude.{◌≡◌, ◌≢◌, [], map, IfOk, OnOk, IfErr, Some, None};
+ghost use Rattle.std.specs.Prelude.{◌≡◌, ◌≢◌, ◌+◌, ◌≤◌, [], length, map, IfOk, OnOk, IfErr, Some, None, vec_capacity, vec_len};
 ghost use Rattle.js_ordered_table.specs.Fold as fold;
 ghost use Rattle.js_ordered_table.specs.Invariant.{IsPull};
 ghost use Rattle.js_ordered_table.specs.Passes.{at, first_reader_of, input_of};
@@ -70,12 +70,10 @@ fn open_pull(
     let reader = first_reader(alloc, context)?;
     state.set_phase(Phase::Pulls(reader));
     todo.make_room()?;
-    todo.put(NextTasks::Two(Task::Read(Due::Threshold), Task::Read(Due::Arm)));
-    // These rows see what an event shows in which only time passes: nothing has come yet.
-    let tick = EventKind::Tick;
+    todo.push_next(NextTasks::Two(Task::Read(Due::Threshold), Task::Read(Due::Arm)));
     let opening = EventContext {
         consumer: *context,
-        what: &tick,
+        what: None,
     };
     pass_left(alloc, &opening, state, todo, outputs)?;
     Ok(())
@@ -149,10 +147,10 @@ fn pass(
     };
     let context = EventContext {
         consumer,
-        what: &event.what,
+        what: Some(&event.what),
     };
     todo.make_room()?;
-    todo.put_one(Task::Event);
+    todo.push(Task::Event);
     pass_left(alloc, &context, state, todo, outputs)?;
     Ok(())
 }
@@ -169,6 +167,7 @@ fn take_step(outputs: &mut Vec<Output>) -> Result<Step, OutOfMemory>
     })
 }
 
+// One event is passed, and what it puts out is its step.
 fn step(
     alloc: Global,
     context: &ConsumerContext<'_>,
@@ -198,27 +197,29 @@ pub(crate) fn is_exhausted(phase: &Phase) -> bool
 }
 
 // No steps yet, with room for as many as there are events.
-fn steps_for(alloc: Global, events: &[Event]) -> Result<Items<Step>, OutOfMemory>
-    ensures { IfOk result (λ steps. steps ≡ []) }
+fn steps_for(alloc: Global, events: &[Event]) -> Result<Vec<Step>, OutOfMemory>
+    ensures none { IfOk result (λ steps. steps.items ≡ []) }
+    ensures room { IfOk result (λ steps. vec_len steps + length events.now ≤ vec_capacity steps) }
 {
-    Ok(Items::from(Vec::with_capacity(alloc, events.len())?))
+    Ok(Vec::with_capacity(alloc, events.len())?)
 }
 
-// The steps of a list of events, one for each, are put where there are none.
+// The steps of a list of events, one for each, are added where there are none, and there is room for them.
 #[tactic(auto, using(crate::proofs::ReplayRuns::goes_first, crate::proofs::ReplayRuns::goes_no_further, crate::proofs::ReplayRuns::steps_all, crate::proofs::ReplayRuns::state_last, crate::proofs::ReplayRuns::none_refused))]
-fn put_steps(
+fn add_steps(
     alloc: Global,
     context: &ConsumerContext<'_>,
     state: &mut ReplayState,
     todo: &mut TaskStack,
     outputs: &mut Vec<Output>,
     events: &[Event],
-    steps: &mut Items<Step>,
+    steps: &mut Vec<Step>,
 ) -> Result<(), ReplayError>
     requires rested { todo.old.tasks.items ≡ [] }
     requires empty { outputs.old.items ≡ [] }
-    requires none { steps.old ≡ [] }
-    ensures steps { OnOk result (steps.new ≡ map fold.step_of (fold.run_events (input_of context.now) events.now state.old)) }
+    requires none { steps.old.items ≡ [] }
+    requires room { vec_len steps.old + length events.now ≤ vec_capacity steps.old }
+    ensures steps { OnOk result (steps.new.items ≡ map fold.step_of (fold.run_events (input_of context.now) events.now state.old)) }
     ensures state { OnOk result (state.new ≡ fold.last_state state.old (fold.run_events (input_of context.now) events.now state.old)) }
     ensures accepted { OnOk result (refuse_end (fold.run_events (input_of context.now) events.now state.old) ≡ None) }
     ensures refused { IfErr result (λ e. e ≢ ReplayError.OutOfMemory → refuse_end (fold.run_events (input_of context.now) events.now state.old) ≡ Some e) }
@@ -233,9 +234,7 @@ fn put_steps(
                 place: place as u64,
             });
         }
-        let Ok(()) = steps.push(step) else {
-            return Err(ReplayError::OutOfMemory);
-        };
+        steps.push_reserved(step);
     }
     Ok(())
 }
@@ -257,8 +256,8 @@ fn steps_of(
     ensures refused { IfErr result (λ e. e ≢ ReplayError.OutOfMemory → refuse_end (fold.run_events (input_of context.now) events.now state.old) ≡ Some e) }
 {
     let mut steps = steps_for(alloc, events)?;
-    match put_steps(alloc, context, state, todo, outputs, events, &mut steps) {
-        Ok(()) => Ok(steps),
+    match add_steps(alloc, context, state, todo, outputs, events, &mut steps) {
+        Ok(()) => Ok(Items::from(steps)),
         Err(refused) => {
             drop(steps);
             Err(refused)

@@ -1,6 +1,6 @@
 //! The rows that are left of an event.
-ghost use Rattle.std.specs.Prelude.{◌≡◌, ◌==◌, ◌+◌, ◌≤◌, ◌++◌, ◌∷◌, [], OnOk, length, option_to_list, vec_capacity, vec_len};
-ghost use Rattle.js_ordered.specs.Driven.{left_rows};
+ghost use Rattle.std.specs.Prelude.{◌≡◌, ◌==◌, ◌+◌, ◌≤◌, ◌++◌, ◌∷◌, [], OnOk, length, vec_capacity, vec_len};
+ghost use Rattle.js_ordered.specs.Driven.{IsLeft, left_rows};
 ghost use Rattle.js_ordered_table.specs.Tasks.{next_rows};
 ghost use Rattle.js_ordered_table.specs.Consumer.{Matter};
 
@@ -42,19 +42,21 @@ impl TaskStack {
         Ok(())
     }
 
-    // The first task is taken out.
+    // The first task is taken out. The caller knows that one is left.
+    #[tactic(auto, using(crate::proofs::Taking::left_counts, crate::proofs::Taking::popped))]
     #[inline]
-    pub(crate) fn take(&mut self) -> Option<Task>
-        ensures tasks { self.old.tasks.items ≡ self.new.tasks.items ++ option_to_list result }
+    pub(crate) fn pop(&mut self) -> Task
+        requires left { IsLeft self.old.tasks.items }
+        ensures tasks { self.old.tasks.items ≡ self.new.tasks.items ++ result ∷ [] }
         ensures len { vec_len self.new.tasks ≤ vec_len self.old.tasks }
         ensures capacity { vec_capacity self.new.tasks ≡ vec_capacity self.old.tasks }
     {
-        self.tasks.pop()
+        self.tasks.pop().unwrap()
     }
 
     // This task comes before those that are left.
     #[inline]
-    pub(crate) fn put_one(&mut self, task: Task)
+    pub(crate) fn push(&mut self, task: Task)
         requires { vec_len self.old.tasks + 1 ≤ vec_capacity self.old.tasks }
         ensures tasks { self.new.tasks.items ≡ self.old.tasks.items ++ task ∷ [] }
         ensures len { vec_len self.new.tasks ≤ vec_len self.old.tasks + 1 }
@@ -65,7 +67,7 @@ impl TaskStack {
 
     // What follows a row comes before the rows that are left.
     #[inline]
-    pub(crate) fn put(&mut self, next: NextTasks)
+    pub(crate) fn push_next(&mut self, next: NextTasks)
         requires { vec_len self.old.tasks + 2 ≤ vec_capacity self.old.tasks }
         ensures tasks { (m : Matter) → left_rows m self.new.tasks.items ≡ next_rows m next ++ left_rows m self.old.tasks.items }
         ensures len { vec_len self.new.tasks ≤ vec_len self.old.tasks + 2 }

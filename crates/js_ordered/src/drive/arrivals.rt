@@ -19,25 +19,25 @@ use js_ordered_table::{ConsumerContext, Output, Phase, ReplayState};
 use js_pull::{Due, Kind, Reader, pull_kind};
 use std::alloc::Global;
 
-/// What an arrival needs before it is heard.
+/// A message of the stream, looked at before it is heard: what it is to the consumer, and what is put out of it.
 #[derive(Drop)]
-struct Brought {
+struct ReadyArrival {
     heard: Heard,
     output: Option<Output>,
 }
 
-/// What is put out of a message of the stream.
+// What is put out of a message of the stream.
 #[inline]
-fn make_ready(state: &ReplayState, message: &Message) -> Result<Brought, OutOfMemory>
+fn make_ready(state: &ReplayState, message: &Message) -> Result<ReadyArrival, OutOfMemory>
     ensures heard { IfOk result (λ ready. IsHeardFrom state.now.consumer.core.consumer_sequence message.now ready.heard) }
     ensures output { IfOk result (λ ready. option_to_list ready.output ≡ heard_outputs state.now.link_up message.now ready.heard) }
 {
     let heard = heard_from(state.consumer.core.consumer_sequence, message);
     let output = output_of(state.link_up, message, heard)?;
-    Ok(Brought { heard, output })
+    Ok(ReadyArrival { heard, output })
 }
 
-/// A reader hears an arrival: it keeps the pin that the message names, and its heartbeat is armed.
+// A reader hears an arrival: it keeps the pin that the message names, and its heartbeat is armed.
 #[inline]
 fn note(
     alloc: Global,
@@ -53,14 +53,14 @@ fn note(
     Ok(())
 }
 
-/// A message of the stream is heard.
+// A message of the stream is heard.
 #[inline]
 fn hear_message(
     alloc: Global,
     context: &EventContext<'_>,
     state: &mut ReplayState,
     message: &Message,
-    ready: Brought,
+    ready: ReadyArrival,
     outputs: &mut Vec<Output>,
 ) -> Result<NextTasks, OutOfMemory>
     requires arrives { Arrives (matter_now context.now) message.now state.old.consumer.phase }
@@ -88,7 +88,7 @@ fn hear_message(
     }
 }
 
-/// An arrival with a status is heard.
+// An arrival with a status is heard.
 fn hear_status(
     alloc: Global,
     context: &EventContext<'_>,
@@ -113,7 +113,7 @@ fn hear_status(
     }
 }
 
-/// A message of the stream.
+// An arrival is a message of the stream, and has no status.
 fn is_delivered(message: &Message) -> bool
     ensures { IsTrue result ↔ (kind_of message.now ≡ Kind.Delivered) }
 {
@@ -129,7 +129,7 @@ fn is_delivered(message: &Message) -> bool
     }
 }
 
-/// An arrival on the reader's inbox.
+// An arrival on the reader's inbox is heard by its kind.
 #[inline]
 fn hear_arrival(
     alloc: Global,
@@ -149,7 +149,7 @@ fn hear_arrival(
     hear_message(alloc, context, state, message, ready, outputs)
 }
 
-/// What arrives on the reader's inbox is heard. Where nothing does, the heartbeat is looked at.
+// What arrives on the reader's inbox is heard. Where nothing does, the heartbeat is looked at.
 #[inline]
 pub(crate) fn check_arrival(
     alloc: Global,
@@ -161,7 +161,7 @@ pub(crate) fn check_arrival(
     ensures { PassesTo context.now (row.Read read.CheckArrival ∷ []) state.old state.new outputs.old.items outputs.new.items result }
 {
     match &state.consumer.phase {
-        Phase::Pulls(reader) => match context.what.message_on(reader.source.inbox) {
+        Phase::Pulls(reader) => match context.message_on(reader.source.inbox) {
             Some(message) => hear_arrival(alloc, context, state, message, outputs),
             None => Ok(NextTasks::One(Task::Read(Due::CheckSilence))),
         },

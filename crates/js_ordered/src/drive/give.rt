@@ -23,7 +23,7 @@ pub(crate) struct Opening {
     pub output: Output,
 }
 
-/// A request with the next number, where the link is up.
+// A request with the next number, where the link is up.
 pub(crate) fn request_for(
     requests_sent: u64,
     subject: Subject,
@@ -42,7 +42,7 @@ pub(crate) fn request_for(
     })
 }
 
-/// The next inbox, where the link is up.
+// The next inbox, where the link is up.
 pub(crate) fn inbox_for(inboxes_opened: u64, subject: Subject) -> Result<Opening, OutOfMemory>
     ensures { IfOk result (λ opening. IsOpening true inboxes_opened subject (Some opening)) }
 {
@@ -64,7 +64,7 @@ pub(crate) fn inbox_for(inboxes_opened: u64, subject: Subject) -> Result<Opening
     })
 }
 
-/// A request goes out. Its number is answered.
+// A request goes out. Its number is answered.
 pub(crate) fn send(
     requests_sent: &mut u64,
     request: Option<Sending>,
@@ -84,7 +84,7 @@ pub(crate) fn send(
     }
 }
 
-/// An inbox is opened.
+// An inbox is opened, and answered.
 pub(crate) fn subscribe(
     inboxes_opened: &mut u64,
     opening: Option<Opening>,
@@ -110,7 +110,7 @@ pub(crate) fn subscribe(
     }
 }
 
-/// What a row tells is put out.
+// What a row tells besides what it sends is put out.
 #[inline]
 pub(crate) fn tell(told: RowOutput, outputs: &mut Vec<Output>)
     requires room { vec_len outputs.old + 1 ≤ vec_capacity outputs.old }
@@ -131,7 +131,7 @@ pub(crate) fn tell(told: RowOutput, outputs: &mut Vec<Output>)
     }
 }
 
-/// An output is put out.
+// What was made ready is put out, where there is something.
 #[inline]
 pub(crate) fn put(output: Option<Output>, outputs: &mut Vec<Output>)
     requires room { vec_len outputs.old + 1 ≤ vec_capacity outputs.old }

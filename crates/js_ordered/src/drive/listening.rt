@@ -1,9 +1,8 @@
 //! The rows by which push reads its inbox, in a replay: what arrives is lent by the event, and what is put out of it is made first.
 ghost use Rattle.std.specs.Prelude.{◌≡◌, ◌+◌, ◌≤◌, ◌++◌, ◌∷◌, [], IfOk, List, is_some, option_to_list, vec_capacity, vec_len};
-ghost use Rattle.js_ordered.specs.Driven.{LeadsOn, PassesTo, matter_now};
+ghost use Rattle.js_ordered.specs.Driven.{PassesOn, PassesTo, matter_now};
 ghost use Rattle.js_ordered_table.specs.Tasks.{heard_outputs, next_rows};
 ghost use Rattle.js_ordered_table.specs.Passes.{listens_to};
-ghost use Rattle.js_ordered_table.specs.Fold.{matter_of};
 ghost use Rattle.js_ordered_table.specs.Arrivals.{beat_answer};
 ghost use Rattle.js_ordered_table.specs.Recreation.{message_on};
 ghost use Rattle.js_ordered_table.specs.declared.row.Row.TheVariants as row;
@@ -17,26 +16,26 @@ use js_ordered_table::transitions::push::{
     arrival_next, heard_as, listen, pass_hear, pass_silence,
 };
 use js_ordered_table::transitions::{Heard, NextTasks, PassedTask};
-use js_ordered_table::{EventKind, ItemKind, Output, Phase, ReplayState, yield_of};
+use js_ordered_table::{ItemKind, Output, Phase, ReplayState, yield_of};
 
-/// The event brings something on this inbox.
+// The event brings something on this inbox.
 #[inline]
-fn arrives(what: &EventKind, inbox: u64) -> bool
-    ensures { result ≡ is_some (message_on inbox (matter_of what.now).arrival) }
+pub(crate) fn arrives(context: &EventContext<'_>, inbox: u64) -> bool
+    ensures { result ≡ is_some (message_on inbox (matter_now context.now).arrival) }
 {
-    match what.message_on(inbox) {
+    match context.message_on(inbox) {
         None => false,
         Some(_) => true,
     }
 }
 
-/// Push looks for an arrival.
+// Push looks for an arrival.
 #[inline]
 pub(crate) fn look(context: &EventContext<'_>, state: &ReplayState) -> NextTasks
-    ensures { (outputs : List SpecOutput) → LeadsOn context.now (row.CheckArrival ∷ []) state.now outputs (next_rows (matter_now context.now) result) state.now outputs }
+    ensures { (outputs : List SpecOutput) → PassesOn context.now (row.CheckArrival ∷ []) state.now outputs (next_rows (matter_now context.now) result) state.now outputs }
 {
     match state.consumer.phase {
-        Phase::Pushes { inbox, .. } => arrival_next(inbox, arrives(context.what, inbox)),
+        Phase::Pushes { inbox, .. } => arrival_next(inbox, arrives(context, inbox)),
         Phase::Pulls(_) => NextTasks::Nothing,
         Phase::Recreates(_) => NextTasks::Nothing,
         Phase::Idle => NextTasks::Nothing,
@@ -45,7 +44,7 @@ pub(crate) fn look(context: &EventContext<'_>, state: &ReplayState) -> NextTasks
     }
 }
 
-/// Push looks at its heartbeat.
+// Push looks at its heartbeat.
 #[inline]
 pub(crate) fn look_at_silence(
     context: &EventContext<'_>,
@@ -53,7 +52,7 @@ pub(crate) fn look_at_silence(
     outputs: &mut Vec<Output>,
 ) -> NextTasks
     requires room { vec_len outputs.old + 1 ≤ vec_capacity outputs.old }
-    ensures { LeadsOn context.now (row.CheckSilence ∷ []) state.now outputs.old.items (next_rows (matter_now context.now) result) state.now outputs.new.items }
+    ensures { PassesOn context.now (row.CheckSilence ∷ []) state.now outputs.old.items (next_rows (matter_now context.now) result) state.now outputs.new.items }
 {
     match state.consumer.phase {
         Phase::Pushes {
@@ -72,9 +71,9 @@ pub(crate) fn look_at_silence(
     }
 }
 
-/// Push arms its heartbeat.
+// Push arms its heartbeat.
 pub(crate) fn arm(context: &EventContext<'_>, state: &mut ReplayState)
-    ensures { (outputs : List SpecOutput) → LeadsOn context.now (row.Arm ∷ []) state.old outputs [] state.new outputs }
+    ensures { (outputs : List SpecOutput) → PassesOn context.now (row.Arm ∷ []) state.old outputs [] state.new outputs }
 {
     match state.consumer.phase {
         Phase::Pushes { inbox, .. } => listen(&context.consumer, &mut state.consumer, inbox),
@@ -88,7 +87,7 @@ pub(crate) fn arm(context: &EventContext<'_>, state: &mut ReplayState)
 
 // ---- an arrival
 
-/// The consumer listens to this inbox.
+// The consumer listens to this inbox.
 #[inline]
 fn listens(state: &ReplayState, inbox: u64) -> bool
     ensures { result ≡ listens_to inbox state.now.consumer.phase }
@@ -99,7 +98,7 @@ fn listens(state: &ReplayState, inbox: u64) -> bool
     }
 }
 
-/// A beat that asks for an answer gets an empty one, where the link is up.
+// A beat that asks for an answer gets an empty one, where the link is up.
 fn answer_of(up: bool, message: &Message) -> Result<Option<Output>, OutOfMemory>
     ensures { IfOk result (λ output. option_to_list output ≡ beat_answer up message.now.reply) }
 {
@@ -118,7 +117,7 @@ fn answer_of(up: bool, message: &Message) -> Result<Option<Output>, OutOfMemory>
     }
 }
 
-/// What is put out of an arrival.
+// What is put out of an arrival.
 #[inline]
 pub(crate) fn output_of(
     up: bool,
@@ -138,7 +137,7 @@ pub(crate) fn output_of(
     }
 }
 
-/// A message is heard on an inbox. Where it is not the current one, nothing comes of it.
+// A message is heard on an inbox. Where it is not the current one, nothing comes of it.
 #[inline]
 pub(crate) fn hear(
     context: &EventContext<'_>,

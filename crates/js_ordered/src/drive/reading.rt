@@ -1,13 +1,11 @@
 //! The rows of a pull reader in a replay: what it sends and what is put out of an arrival is made first.
 ghost use Rattle.std.specs.Prelude.{◌≡◌, ◌+◌, ◌≤◌, ◌∷◌, [], IfOk, List, codes, vec_capacity, vec_len};
-ghost use Rattle.std.specs.Option.{option_copied};
-ghost use Rattle.js_ordered.specs.Driven.{Finishes, LeadsOn, PassesTo, matter_now};
+ghost use Rattle.js_ordered.specs.Driven.{Finishes, PassesOn, PassesTo, matter_now};
 ghost use Rattle.js_ordered.specs.Giving.{IsPublishing, IsSending};
 ghost use Rattle.js_ordered_table.specs.Tasks.{next_rows};
 ghost use Rattle.js_pull.specs.Rows.{IsInquired, brought, informed_by, row_of};
 ghost use Rattle.js_pull.specs.Reader.{info_of_reply, info_subject};
 ghost use Rattle.js_pull.specs.declared.reader.Row.TheVariants as read;
-ghost use Rattle.js_ordered_table.specs.Fold.{matter_of};
 ghost use Rattle.js_ordered_table.specs.Consumer.{Matter};
 ghost use Rattle.js_ordered_table.specs.declared.row.Row.TheVariants as row;
 ghost use Rattle.js_ordered_table.specs.declared.run.Output.{Output as SpecOutput};
@@ -17,13 +15,13 @@ use crate::drive::give::{Sending, request_for, send, tell};
 use crate::drive::recreation::has_reply;
 use crate::event_context::EventContext;
 use bytes::Bytes;
-use js_base::{Message, OutOfMemory, TryClone, all_3};
+use js_base::{OutOfMemory, TryClone, all_3};
 use js_ordered_table::transitions::{NextTasks, PassedTask, pull};
-use js_ordered_table::{EventKind, Output, Phase, ReplayState};
+use js_ordered_table::{Output, Phase, ReplayState};
 use js_pull::{Due, InfoRequest, PassedRow as Read, Reader, Reason, check_inquiry, reason_of};
 use std::alloc::Global;
 
-/// What the reader tells without a message is put out.
+// What the reader tells without a message is put out.
 #[inline]
 pub(crate) fn finish(state: &mut ReplayState, step: Read, outputs: &mut Vec<Output>) -> NextTasks
     requires room { vec_len outputs.old + 1 ≤ vec_capacity outputs.old }
@@ -36,7 +34,7 @@ pub(crate) fn finish(state: &mut ReplayState, step: Read, outputs: &mut Vec<Outp
 
 // ---- requests
 
-/// A pull request, where the link is up.
+// A pull request, where the link is up.
 fn pull_request(alloc: Global, up: bool, reader: &Reader) -> Result<Option<Output>, OutOfMemory>
     ensures { IfOk result (λ output. IsPublishing up reader.now output) }
 {
@@ -55,7 +53,7 @@ fn pull_request(alloc: Global, up: bool, reader: &Reader) -> Result<Option<Outpu
     }))
 }
 
-/// A pull request goes out, or is refused, of which the user is told.
+// A pull request goes out, or is refused, of which the user is told.
 fn ask(
     alloc: Global,
     context: &EventContext<'_>,
@@ -83,7 +81,7 @@ fn ask(
     }
 }
 
-/// The info request of a reader, where the link is up.
+// The info request of a reader, where the link is up.
 fn info_request(
     alloc: Global,
     up: bool,
@@ -100,7 +98,7 @@ fn info_request(
     Ok(Some(request))
 }
 
-/// The info is asked for.
+// The info is asked for.
 fn inquire(
     alloc: Global,
     context: &EventContext<'_>,
@@ -124,31 +122,14 @@ fn inquire(
 
 // ---- the consumer's info
 
-/// The reply that the event brings.
-fn reply_in(what: &EventKind) -> Option<&Message>
-    ensures { option_copied result ≡ brought (matter_of what.now).answer }
+// Why messages are asked for after the reply that the event brings.
+fn informed(alloc: Global, context: &EventContext<'_>) -> Result<Option<Reason>, OutOfMemory>
+    ensures { IfOk result (λ reason. reason ≡ informed_by (info_of_reply (brought (matter_now context.now).answer))) }
 {
-    match what {
-        EventKind::Answer { reply, .. } => match reply {
-            None => None,
-            Some(message) => Some(message.get()),
-        },
-        EventKind::Tick => None,
-        EventKind::Arrival { .. } => None,
-        EventKind::Link { .. } => None,
-        EventKind::Connection { .. } => None,
-        EventKind::WatcherEnded => None,
-    }
+    reason_of(alloc, context.reply())
 }
 
-/// Why messages are asked for after the reply that the event brings.
-fn informed(alloc: Global, what: &EventKind) -> Result<Option<Reason>, OutOfMemory>
-    ensures { IfOk result (λ reason. reason ≡ informed_by (info_of_reply (brought (matter_of what.now).answer))) }
-{
-    reason_of(alloc, reply_in(what))
-}
-
-/// The reply is read.
+// The reply is read.
 fn answered(
     alloc: Global,
     context: &EventContext<'_>,
@@ -161,7 +142,7 @@ fn answered(
 {
     match &mut state.consumer.phase {
         Phase::Pulls(reader) => {
-            let informed = informed(alloc, context.what)?;
+            let informed = informed(alloc, context)?;
             let step = pull::answered(reader, failures, informed);
             Ok(finish(state, step, outputs))
         }
@@ -169,29 +150,29 @@ fn answered(
     }
 }
 
-/// The event answers the info that is open.
-fn is_answered(what: &EventKind, inquiry: InfoRequest) -> bool
-    ensures { IsInquired (matter_of what.now).answer inquiry result }
+// The event answers the info that is open.
+fn is_answered(context: &EventContext<'_>, inquiry: InfoRequest) -> bool
+    ensures { IsInquired (matter_now context.now).answer inquiry result }
 {
     match inquiry {
         InfoRequest::NoInfoRequest => false,
-        InfoRequest::Asked { request, .. } => has_reply(what, request),
+        InfoRequest::Asked { request, .. } => has_reply(context, request),
         InfoRequest::Resting { .. } => false,
     }
 }
 
-/// An open info is looked at.
+// An open info is looked at.
 fn check_info(
     context: &EventContext<'_>,
     state: &mut ReplayState,
     outputs: &mut Vec<Output>,
 ) -> NextTasks
     requires room { vec_len outputs.old + 1 ≤ vec_capacity outputs.old }
-    ensures { LeadsOn context.now (row.Read read.CheckInfoRequest ∷ []) state.old outputs.old.items (next_rows (matter_now context.now) result) state.new outputs.new.items }
+    ensures { PassesOn context.now (row.Read read.CheckInfoRequest ∷ []) state.old outputs.old.items (next_rows (matter_now context.now) result) state.new outputs.new.items }
 {
     match &state.consumer.phase {
         Phase::Pulls(reader) => {
-            let answered = is_answered(context.what, reader.inquiry);
+            let answered = is_answered(context, reader.inquiry);
             let step = check_inquiry(reader.inquiry, context.consumer.moment, answered);
             finish(state, step, outputs)
         }
@@ -199,7 +180,7 @@ fn check_info(
     }
 }
 
-/// An info request has failed once more.
+// An info request has failed once more.
 fn fail_inquiry(
     context: &EventContext<'_>,
     state: &mut ReplayState,
@@ -207,7 +188,7 @@ fn fail_inquiry(
     outputs: &mut Vec<Output>,
 ) -> NextTasks
     requires room { vec_len outputs.old + 1 ≤ vec_capacity outputs.old }
-    ensures { LeadsOn context.now (row.Read (read.FailInfoRequest failures) ∷ []) state.old outputs.old.items (next_rows (matter_now context.now) result) state.new outputs.new.items }
+    ensures { PassesOn context.now (row.Read (read.FailInfoRequest failures) ∷ []) state.old outputs.old.items (next_rows (matter_now context.now) result) state.new outputs.new.items }
 {
     match &mut state.consumer.phase {
         Phase::Pulls(reader) => {
@@ -220,7 +201,7 @@ fn fail_inquiry(
 
 // ---- what is looked at
 
-/// The last pull request may have expired.
+// The last pull request may have expired.
 #[inline]
 fn check_expiry(
     context: &EventContext<'_>,
@@ -228,7 +209,7 @@ fn check_expiry(
     outputs: &mut Vec<Output>,
 ) -> NextTasks
     requires room { vec_len outputs.old + 1 ≤ vec_capacity outputs.old }
-    ensures { LeadsOn context.now (row.Read read.CheckExpiry ∷ []) state.old outputs.old.items (next_rows (matter_now context.now) result) state.new outputs.new.items }
+    ensures { PassesOn context.now (row.Read read.CheckExpiry ∷ []) state.old outputs.old.items (next_rows (matter_now context.now) result) state.new outputs.new.items }
 {
     match &mut state.consumer.phase {
         Phase::Pulls(reader) => {
@@ -239,7 +220,7 @@ fn check_expiry(
     }
 }
 
-/// The heartbeat may be missing.
+// The heartbeat may be missing.
 #[inline]
 fn check_silence(
     context: &EventContext<'_>,
@@ -247,7 +228,7 @@ fn check_silence(
     outputs: &mut Vec<Output>,
 ) -> NextTasks
     requires room { vec_len outputs.old + 1 ≤ vec_capacity outputs.old }
-    ensures { LeadsOn context.now (row.Read read.CheckSilence ∷ []) state.old outputs.old.items (next_rows (matter_now context.now) result) state.new outputs.new.items }
+    ensures { PassesOn context.now (row.Read read.CheckSilence ∷ []) state.old outputs.old.items (next_rows (matter_now context.now) result) state.new outputs.new.items }
 {
     match &mut state.consumer.phase {
         Phase::Pulls(reader) => {
@@ -258,7 +239,7 @@ fn check_silence(
     }
 }
 
-/// Little may be pending.
+// Little may be pending.
 #[inline]
 fn check_threshold(
     context: &EventContext<'_>,
@@ -266,7 +247,7 @@ fn check_threshold(
     outputs: &mut Vec<Output>,
 ) -> NextTasks
     requires room { vec_len outputs.old + 1 ≤ vec_capacity outputs.old }
-    ensures { LeadsOn context.now (row.Read read.Threshold ∷ []) state.old outputs.old.items (next_rows (matter_now context.now) result) state.new outputs.new.items }
+    ensures { PassesOn context.now (row.Read read.Threshold ∷ []) state.old outputs.old.items (next_rows (matter_now context.now) result) state.new outputs.new.items }
 {
     match &mut state.consumer.phase {
         Phase::Pulls(reader) => {
@@ -277,9 +258,9 @@ fn check_threshold(
     }
 }
 
-/// The heartbeat is armed.
+// The heartbeat is armed.
 fn arm(context: &EventContext<'_>, state: &mut ReplayState)
-    ensures { (outputs : List SpecOutput) → LeadsOn context.now (row.Read read.Arm ∷ []) state.old outputs [] state.new outputs }
+    ensures { (outputs : List SpecOutput) → PassesOn context.now (row.Read read.Arm ∷ []) state.old outputs [] state.new outputs }
 {
     if let Phase::Pulls(reader) = &mut state.consumer.phase {
         reader.arm_silence(context.consumer.moment);
@@ -288,7 +269,7 @@ fn arm(context: &EventContext<'_>, state: &mut ReplayState)
 
 // ---- any row
 
-/// A row of the reader is passed, where one reads. The reader stays in its place, since it is large.
+// A row of the reader is passed, where one reads. The reader stays in its place, since it is large.
 #[inline]
 pub(crate) fn pass_read(
     alloc: Global,

@@ -4,7 +4,6 @@ ghost use Rattle.js_ordered.specs.Driven.{PassesTo, matter_now};
 ghost use Rattle.js_ordered.specs.Giving.{IsOpening, IsSending};
 ghost use Rattle.js_ordered_table.specs.Tasks.{IsAnswered, answered_rows};
 ghost use Rattle.js_pull.specs.Reader.{info_of_reply as info_in, reply_to};
-ghost use Rattle.js_ordered_table.specs.Fold.{matter_of};
 ghost use Rattle.js_ordered_table.specs.Invariant.{IsPull, IsPush};
 ghost use Rattle.js_ordered_table.specs.Passes.{at, input_of, holding};
 ghost use Rattle.js_ordered_table.specs.Recreation.{held_in};
@@ -14,23 +13,22 @@ ghost use Rattle.js_ordered_table.specs.declared.row.Row.TheVariants as row;
 use crate::drive::give::{Opening, Sending, inbox_for, request_for, send, subscribe, tell};
 use crate::event_context::EventContext;
 use bytes::Bytes;
-use js_base::{Boxed, Message, OutOfMemory, Subject, TryClone};
+use js_base::{Boxed, Message, OutOfMemory, TryClone};
 use js_json::consumer::Info;
 use js_ordered_table::transitions::recreation::{
-    pass_answered, pass_ask, pass_await, pass_create, pass_fail, pass_start, pass_succeed_pull,
-    pass_succeed_push, pass_try,
+    pass_answered, pass_ask, pass_await, pass_create, pass_fail, pass_start, pass_try,
 };
 use js_ordered_table::transitions::{NextTasks, PassedTask};
 use js_ordered_table::{
-    ConsumerContext, EventKind, Opened, OrderedSetup, Output, Phase, Recreation, ReplayState,
-    RequestOutcome, Stage, texts,
+    ConsumerContext, Opened, OrderedSetup, Output, Phase, Recreation, ReplayState, RequestOutcome,
+    Stage, texts,
 };
-use js_pull::{PullSource, info_of_reply};
+use js_pull::info_of_reply;
 use std::alloc::Global;
 
 // ---- a recreation starts
 
-/// A recreation starts.
+// A recreation starts, under the name of the next consumer, and the user is told.
 pub(crate) fn start(
     alloc: Global,
     context: &EventContext<'_>,
@@ -56,7 +54,7 @@ pub(crate) fn start(
 
 // ---- a try
 
-/// The request that deletes the old consumer, where the link is up.
+// The request that deletes the old consumer, where the link is up.
 fn try_request(
     alloc: Global,
     context: &ConsumerContext<'_>,
@@ -73,14 +71,14 @@ fn try_request(
     Ok(Some(request))
 }
 
-/// A recreation stays open.
+// A recreation that was taken out of the state stays open.
 pub(crate) fn keep_open(state: &mut ReplayState, recreation: Recreation)
     ensures { state.new ≡ at (Phase.Recreates recreation) state.old }
 {
     state.set_phase(Phase::Recreates(recreation));
 }
 
-/// A try begins.
+// A try begins: the old consumer is to be deleted.
 pub(crate) fn begin_try(
     alloc: Global,
     context: &EventContext<'_>,
@@ -103,7 +101,7 @@ pub(crate) fn begin_try(
     }
 }
 
-/// The inbox of a push create, where the link is up.
+// The inbox of a push create, where the link is up.
 pub(crate) fn create_inbox(
     alloc: Global,
     context: &ConsumerContext<'_>,
@@ -119,7 +117,7 @@ pub(crate) fn create_inbox(
     Ok(Some(opening))
 }
 
-/// Push subscribes its inbox.
+// Push subscribes its inbox.
 fn create_push(
     alloc: Global,
     context: &EventContext<'_>,
@@ -149,7 +147,7 @@ fn create_push(
     }
 }
 
-/// Pull subscribes nothing before it asks for the new consumer.
+// Pull subscribes nothing before it asks for the new consumer.
 fn create_pull(
     alloc: Global,
     context: &EventContext<'_>,
@@ -169,7 +167,7 @@ fn create_pull(
     ))
 }
 
-/// The new consumer is to be asked for.
+// The new consumer is to be asked for.
 pub(crate) fn create(
     alloc: Global,
     context: &EventContext<'_>,
@@ -186,7 +184,7 @@ pub(crate) fn create(
     }
 }
 
-/// The create request, where the link is up.
+// The create request, where the link is up.
 fn create_request(
     alloc: Global,
     context: &ConsumerContext<'_>,
@@ -204,7 +202,7 @@ fn create_request(
     Ok(Some(request))
 }
 
-/// The new consumer is asked for.
+// The new consumer is asked for.
 pub(crate) fn ask(
     alloc: Global,
     context: &EventContext<'_>,
@@ -227,7 +225,7 @@ pub(crate) fn ask(
     }
 }
 
-/// A try has failed.
+// A try has failed. Another one follows after a wait, or the consumer has ended.
 pub(crate) fn fail(
     context: &EventContext<'_>,
     state: &mut ReplayState,
@@ -244,30 +242,30 @@ pub(crate) fn fail(
 
 // ---- an open recreation
 
-/// The event answers this request.
-pub(crate) fn has_reply(what: &EventKind, request: u64) -> bool
-    ensures { result ≡ is_some (reply_to request (matter_of what.now).answer) }
+// The event answers this request.
+pub(crate) fn has_reply(context: &EventContext<'_>, request: u64) -> bool
+    ensures { result ≡ is_some (reply_to request (matter_now context.now).answer) }
 {
-    match what.reply_to(request) {
+    match context.reply_to(request) {
         RequestOutcome::Waiting => false,
         RequestOutcome::Gone => true,
         RequestOutcome::Got(_) => true,
     }
 }
 
-/// The event brings the answer that a stage waits for.
-fn is_answered(what: &EventKind, stage: Stage) -> bool
-    ensures { IsAnswered (matter_of what.now) stage result }
+// The event brings the answer that a stage waits for.
+fn is_answered(context: &EventContext<'_>, stage: Stage) -> bool
+    ensures { IsAnswered (matter_now context.now) stage result }
 {
     match stage {
-        Stage::Deleting { request, .. } => has_reply(what, request),
-        Stage::Creating { request, .. } => has_reply(what, request),
+        Stage::Deleting { request, .. } => has_reply(context, request),
+        Stage::Creating { request, .. } => has_reply(context, request),
         Stage::Between => false,
         Stage::Waiting { .. } => false,
     }
 }
 
-/// What an open recreation waits for is looked at.
+// The answer that an open recreation waits for is looked at, and then its clock.
 pub(crate) fn look_on(
     context: &EventContext<'_>,
     state: &mut ReplayState,
@@ -276,11 +274,11 @@ pub(crate) fn look_on(
 ) -> Result<NextTasks, OutOfMemory>
     ensures { PassesTo context.now (row.Await ∷ []) (at (Phase.Recreates recreation) state.old) state.new outputs.old.items outputs.new.items result }
 {
-    let answered = is_answered(context.what, recreation.stage);
+    let answered = is_answered(context, recreation.stage);
     Ok(pass_await(&context.consumer, &mut state.consumer, recreation, answered))
 }
 
-/// What was read, in a box. It is generic, since an info is large.
+// What was read, in a box. It is generic, since an info is large.
 fn in_box<T: Drop>(alloc: Global, read: Option<T>) -> Result<Option<Boxed<T>>, OutOfMemory>
     ensures { IfOk result (λ boxed. boxed ≡ read) }
 {
@@ -290,29 +288,29 @@ fn in_box<T: Drop>(alloc: Global, read: Option<T>) -> Result<Option<Boxed<T>>, O
     }
 }
 
-/// What a message tells, in a box.
-fn told_by(alloc: Global, message: &Message) -> Result<Option<Boxed<Info>>, OutOfMemory>
+// What a message tells, in a box.
+fn boxed_info(alloc: Global, message: &Message) -> Result<Option<Boxed<Info>>, OutOfMemory>
     ensures { IfOk result (λ info. info ≡ info_in (Some message.now)) }
 {
     in_box(alloc, info_of_reply(alloc, Some(message))?)
 }
 
-/// What the reply to a request tells, where the event brings one.
-fn reply_told(
+// What the reply to a request tells, where the event brings one.
+fn reply_info(
     alloc: Global,
-    what: &EventKind,
+    context: &EventContext<'_>,
     request: u64,
 ) -> Result<Option<Option<Boxed<Info>>>, OutOfMemory>
-    ensures { IfOk result (λ told. told ≡ option_map info_in (reply_to request (matter_of what.now).answer)) }
+    ensures { IfOk result (λ info. info ≡ option_map info_in (reply_to request (matter_now context.now).answer)) }
 {
-    match what.reply_to(request) {
+    match context.reply_to(request) {
         RequestOutcome::Waiting => Ok(None),
         RequestOutcome::Gone => Ok(Some(None)),
-        RequestOutcome::Got(message) => Ok(Some(told_by(alloc, message)?)),
+        RequestOutcome::Got(message) => Ok(Some(boxed_info(alloc, message)?)),
     }
 }
 
-/// The reply to a create is read.
+// The reply to a create is read.
 pub(crate) fn answered(
     alloc: Global,
     context: &EventContext<'_>,
@@ -323,12 +321,12 @@ pub(crate) fn answered(
 ) -> Result<NextTasks, OutOfMemory>
     ensures { PassesTo context.now (answered_rows (reply_to request (matter_now context.now).answer)) (at (Phase.Recreates recreation) state.old) state.new outputs.old.items outputs.new.items result }
 {
-    match reply_told(alloc, context.what, request) {
+    match reply_info(alloc, context, request) {
         Err(refused) => {
             keep_open(state, recreation);
             Err(refused)
         }
-        Ok(told) => match told {
+        Ok(read) => match read {
             None => {
                 keep_open(state, recreation);
                 Ok(NextTasks::Nothing)
@@ -345,27 +343,27 @@ pub(crate) fn answered(
 
 // ---- what arrives meanwhile
 
-/// An arrival on the inbox of a create is held until the create is answered.
-fn hold_in(what: &EventKind, opened: &mut Option<Opened>) -> Result<(), OutOfMemory>
-    ensures held { OnOk result (opened.new ≡ held_in (matter_of what.now).arrival opened.old) }
+// An arrival on the inbox of a create is held until the create is answered.
+fn hold_in(context: &EventContext<'_>, opened: &mut Option<Opened>) -> Result<(), OutOfMemory>
+    ensures held { OnOk result (opened.new ≡ held_in (matter_now context.now).arrival opened.old) }
     ensures kept { OnErr result (opened.new ≡ opened.old) }
 {
     match opened {
         None => Ok(()),
-        Some(opened) => match what.message_on(opened.inbox) {
+        Some(opened) => match context.message_on(opened.inbox) {
             None => Ok(()),
             Some(message) => opened.held.push(message.try_clone()?),
         },
     }
 }
 
-/// An arrival is held where a recreation holds arrivals.
-pub(crate) fn hold_at(what: &EventKind, phase: &mut Phase) -> Result<(), OutOfMemory>
-    ensures held { OnOk result (phase.new ≡ holding (matter_of what.now).arrival phase.old) }
+// An arrival is held where a recreation holds arrivals.
+pub(crate) fn hold_at(context: &EventContext<'_>, phase: &mut Phase) -> Result<(), OutOfMemory>
+    ensures held { OnOk result (phase.new ≡ holding (matter_now context.now).arrival phase.old) }
     ensures kept { OnErr result (phase.new ≡ phase.old) }
 {
     match phase {
-        Phase::Recreates(recreation) => hold_in(what, &mut recreation.opened),
+        Phase::Recreates(recreation) => hold_in(context, &mut recreation.opened),
         Phase::Pulls(_) => Ok(()),
         Phase::Pushes { .. } => Ok(()),
         Phase::Idle => Ok(()),

@@ -1,50 +1,42 @@
 //! The end of a recreation in a replay: what the next reader needs is made before it reads.
-ghost use Rattle.std.specs.Prelude.{◌≡◌, ◌+◌, ◌≤◌, ◌∷◌, [], Some, IfOk, OnOk, OnErr, codes, is_some, option_map, vec_capacity, vec_len};
+ghost use Rattle.std.specs.Prelude.{◌≡◌, ◌+◌, ◌≤◌, ◌∷◌, [], IfOk, vec_capacity, vec_len};
 ghost use Rattle.js_ordered.specs.Driven.{PassesTo};
-ghost use Rattle.js_ordered.specs.Giving.{IsOpening, IsSending};
-ghost use Rattle.js_ordered_table.specs.Tasks.{IsAnswered, answered_rows, held_rows, next_rows};
+ghost use Rattle.js_ordered.specs.Giving.{IsOpening};
+ghost use Rattle.js_ordered_table.specs.Tasks.{held_rows, next_rows};
 ghost use Rattle.js_ordered_table.specs.Consumer.{Matter};
-ghost use Rattle.js_pull.specs.Reader.{info_of_reply as info_in, reply_to};
-ghost use Rattle.js_ordered_table.specs.Fold.{matter_of};
 ghost use Rattle.js_ordered_table.specs.Invariant.{IsPull, IsPush};
-ghost use Rattle.js_ordered_table.specs.Passes.{at, input_of, holding};
-ghost use Rattle.js_ordered_table.specs.Recreation.{held_in};
+ghost use Rattle.js_ordered_table.specs.Passes.{at, input_of};
 ghost use Rattle.js_ordered_table.specs.Texts as texts_of;
 ghost use Rattle.js_ordered_table.specs.declared.row.Row.TheVariants as row;
 
-use crate::drive::give::{Opening, Sending, inbox_for, request_for, send, subscribe, tell};
+use crate::drive::give::{Opening, subscribe};
 use crate::drive::recreation::{create_inbox, keep_open};
 use crate::event_context::EventContext;
-use bytes::Bytes;
-use js_base::{Boxed, Items, Message, OutOfMemory, TryClone};
+use js_base::{Items, OutOfMemory};
 use js_json::consumer::Info;
-use js_ordered_table::transitions::recreation::{
-    pass_answered, pass_ask, pass_await, pass_create, pass_fail, pass_start, pass_succeed_pull,
-    pass_succeed_push, pass_try,
-};
+use js_ordered_table::transitions::recreation::{pass_succeed_pull, pass_succeed_push};
 use js_ordered_table::transitions::{Held, NextTasks, Task};
 use js_ordered_table::{
-    ConsumerContext, EventKind, Opened, OrderedSetup, Output, Phase, Recreation, ReplayState,
-    RequestOutcome, Stage, texts,
+    ConsumerContext, OrderedSetup, Output, Phase, Recreation, ReplayState, texts,
 };
-use js_pull::{PullSource, info_of_reply};
+use js_pull::PullSource;
 use std::alloc::Global;
 
-/// What pull needs for its next reader.
+/// What pull needs for its next reader: its source, and its inbox where the link is up.
 #[derive(Drop)]
-struct Reading {
+struct NextReader {
     source: PullSource,
     opening: Option<Opening>,
 }
 
-fn reading_for(
+fn next_reader(
     alloc: Global,
     context: &ConsumerContext<'_>,
     state: &ReplayState,
     info: &Info,
-) -> Result<Reading, OutOfMemory>
-    ensures source { IfOk result (λ reading. reading.source ≡ texts_of.source_of (input_of context.now) state.now.consumer.core.recreation_count 0 [] info.now) }
-    ensures opening { IfOk result (λ reading. IsOpening state.now.link_up state.now.inboxes_opened (texts_of.inbox_subject (input_of context.now) state.now.inboxes_opened) reading.opening) }
+) -> Result<NextReader, OutOfMemory>
+    ensures source { IfOk result (λ next. next.source ≡ texts_of.source_of (input_of context.now) state.now.consumer.core.recreation_count 0 [] info.now) }
+    ensures opening { IfOk result (λ next. IsOpening state.now.link_up state.now.inboxes_opened (texts_of.inbox_subject (input_of context.now) state.now.inboxes_opened) next.opening) }
 {
     let source = texts::source_without_inbox(
         alloc,
@@ -53,7 +45,7 @@ fn reading_for(
         info,
     )?;
     match create_inbox(alloc, context, state) {
-        Ok(opening) => Ok(Reading { source, opening }),
+        Ok(opening) => Ok(NextReader { source, opening }),
         Err(OutOfMemory) => {
             drop(source);
             Err(OutOfMemory)
@@ -61,7 +53,7 @@ fn reading_for(
     }
 }
 
-/// Pull subscribes the next inbox, and reads it.
+// Pull subscribes the next inbox, and reads it.
 fn succeed_pull(
     alloc: Global,
     context: &EventContext<'_>,
@@ -74,12 +66,12 @@ fn succeed_pull(
     requires room { vec_len outputs.old + 1 ≤ vec_capacity outputs.old }
     ensures { PassesTo context.now (row.Succeed info.now ∷ []) (at (Phase.Recreates recreation) state.old) state.new outputs.old.items outputs.new.items result }
 {
-    match reading_for(alloc, &context.consumer, state, info) {
+    match next_reader(alloc, &context.consumer, state, info) {
         Err(refused) => {
             keep_open(state, recreation);
             Err(refused)
         }
-        Ok(Reading { source, opening }) => {
+        Ok(NextReader { source, opening }) => {
             let inbox = subscribe(&mut state.inboxes_opened, opening, outputs);
             Ok(pass_succeed_pull(
                 &context.consumer,
@@ -92,7 +84,7 @@ fn succeed_pull(
     }
 }
 
-/// A box for what push has held, in which nothing is held yet.
+// A box for what push has held, in which nothing is held yet.
 fn held_box(alloc: Global) -> Result<Box<Held>, OutOfMemory>
     ensures { IfOk result (λ held. held.value ≡ record { inbox = 0; messages = []; place = 0 }) }
 {
@@ -104,7 +96,7 @@ fn held_box(alloc: Global) -> Result<Box<Held>, OutOfMemory>
     Ok(Box::new(alloc, nothing)?)
 }
 
-/// What was held is put into its box, and heard before the heartbeat is armed.
+// What was held is put into its box, and heard before the heartbeat is armed.
 fn held_next(mut held_box: Box<Held>, held: Option<Held>) -> NextTasks
     ensures { (m : Matter) → next_rows m result ≡ held_rows held }
 {
@@ -120,7 +112,7 @@ fn held_next(mut held_box: Box<Held>, held: Option<Held>) -> NextTasks
     }
 }
 
-/// Push hears its inbox from now on.
+// Push hears its inbox from now on.
 fn succeed_push(
     alloc: Global,
     context: &EventContext<'_>,
@@ -144,7 +136,7 @@ fn succeed_push(
     }
 }
 
-/// A create was answered well.
+// A create was answered with an info: the recreation is over, and the new inbox is read.
 pub(crate) fn succeed(
     alloc: Global,
     context: &EventContext<'_>,

@@ -18,4 +18,4 @@ returns c =
     let now = c.args.context.now.consumer.moment in
     let m = matter_now c.args.context.now in
     event_passed g now m c.args.state.now _ c.pass_event-told.result.told c.args.outputs.now.items c.tell.new.outputs.items c.pass_event-told.new.consumer c.pass_event-told.result.next
-    (c.pass_event-told.ensures (passing g now c.args.state.now) m (sym c.change_of.ensures)) c.tell.ensures refl
+    (c.pass_event-told.ensures (passing g now c.args.state.now) m (sym c.change.ensures)) c.tell.ensures refl

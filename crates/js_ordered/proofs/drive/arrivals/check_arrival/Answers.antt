@@ -1,7 +1,7 @@
 use Rattle.std.proofs.Common.{sym, subst, [], ◌∷◌}
 use Rattle.js_pull.specs.declared.reader.Row.TheVariants as read
 use Rattle.js_ordered_table.specs.Passes.{at, input_of}
-use Rattle.js_ordered.specs.Driven.{Arrives, Leads, matter_now}
+use Rattle.js_ordered.specs.Driven.{Arrives, Passes, matter_now}
 use Rattle.js_ordered_table.specs.declared.consumer.Phase.{Phase}
 use Rattle.js_ordered_table.specs.declared.row.Row.TheVariants as row
 use Rattle.js_ordered.proofs.ReadDriving.{leads_silent}
@@ -16,7 +16,7 @@ returns-in-None c =
     let w = c.args.state.now in
     let r = c.in-Pulls.reader in
     let outputs = c.args.outputs.now.items in
-    subst (λ (q : Phase). Leads g now m (row.Read read.CheckArrival ∷ []) (at q w) outputs (row.Read read.CheckSilence ∷ []) (at q w) outputs) (sym c.in-Pulls.is)
+    subst (λ (q : Phase). Passes g now m (row.Read read.CheckArrival ∷ []) (at q w) outputs (row.Read read.CheckSilence ∷ []) (at q w) outputs) (sym c.in-Pulls.is)
     (leads_silent g now m r w outputs c.in-None.ensures)
 
 pub returns-in_default : goal.returns-in_default

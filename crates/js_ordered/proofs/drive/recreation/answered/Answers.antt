@@ -13,4 +13,4 @@ returns-in-Some c =
     let m = matter_now c.args.context.now in
     let reply = reply_to c.args.request m.answer in
     reply_read g now m reply c.args.recreation c.args.state.now _ c.in-Some.info c.args.outputs.now.items c.pass_answered.new.consumer c.pass_answered.result
-    (sym (ok_holds (λ told. told ≡ option_map info_of_reply reply) c.reply_told.result (Some c.in-Some.info) (c.in-Ok.is ∙ ap Ok c.in-Some.is) c.reply_told.ensures)) (c.pass_answered.ensures m) refl
+    (sym (ok_holds (λ info. info ≡ option_map info_of_reply reply) c.reply_info.result (Some c.in-Some.info) (c.in-Ok.is ∙ ap Ok c.in-Some.is) c.reply_info.ensures)) (c.pass_answered.ensures m) refl

@@ -16,5 +16,5 @@ returns-in-Ok c =
     let m = matter_now c.args.context.now in
     let w = c.args.state.now in
     succeeds_pull g now m c.args.info.now c.args.recreation w _ c.subscribe-inbox.result c.subscribe-inbox.new.inboxes_opened c.args.outputs.now.items c.subscribe-inbox.new.outputs.items c.pass_succeed_pull.new.consumer c.pass_succeed_pull.result c.requires.pull
-    (c.subscribe-inbox.ensures w.link_up (inbox_subject g w.inboxes_opened) (ok_holds (λ reading. IsOpening w.link_up w.inboxes_opened (inbox_subject g w.inboxes_opened) reading.opening) c.reading_for.result _ c.in-Ok.is c.reading_for.ensures.opening))
-    (c.pass_succeed_pull.ensures m (passing g now w) c.args.info.now (ok_holds (λ reading. reading.source ≡ source_of g w.consumer.core.recreation_count 0 [] c.args.info.now) c.reading_for.result _ c.in-Ok.is c.reading_for.ensures.source)) refl
+    (c.subscribe-inbox.ensures w.link_up (inbox_subject g w.inboxes_opened) (ok_holds (λ next. IsOpening w.link_up w.inboxes_opened (inbox_subject g w.inboxes_opened) next.opening) c.next_reader.result _ c.in-Ok.is c.next_reader.ensures.opening))
+    (c.pass_succeed_pull.ensures m (passing g now w) c.args.info.now (ok_holds (λ next. next.source ≡ source_of g w.consumer.core.recreation_count 0 [] c.args.info.now) c.next_reader.result _ c.in-Ok.is c.next_reader.ensures.source)) refl

@@ -4,7 +4,7 @@ use Rattle.js_ordered.specs.Driven.{left_rows}
 use Rattle.js_ordered_table.specs.Tasks.{next_rows, rows_of}
 use Rattle.js_ordered.proofs.Driving.{left_first}
 use Rattle.js_ordered.proofs.Taking.{tasks_same}
-use Rattle.js_ordered.proofs.task_stack.TaskStack.put.Goals as goal
+use Rattle.js_ordered.proofs.task_stack.TaskStack.push_next.Goals as goal
 
 pub returns-in-One-clause-tasks : goal.returns-in-One-clause-tasks
 returns-in-One-clause-tasks c = λ m. tasks_same m _ _ c.push_reserved.ensures.items ∙ left_first m c.args.self.now.tasks.items c.in-One.task ∙ ap (λ (n : _). next_rows m n ++ left_rows m c.args.self.now.tasks.items) (sym c.in-One.is)
