@@ -1,11 +1,10 @@
 -- A row where it does not belong does nothing.
-use Rattle.std.proofs.Common.{◌≡◌, ℕ, Bool, true, false, List, [], ◌∷◌, Option, Some, None, refl, sym, ap, ◌∙◌, subst}
+use Rattle.std.proofs.Common.{◌≡◌, ℕ, Bool, true, false, [], ◌∷◌, Option, Some, None, refl, sym, ap, ◌∙◌, subst}
 use Rattle.std.specs.Prelude.{Ok, ⊤, if◌then◌else◌}
 use Rattle.js_base.specs.declared.clock.Timer.{Timer}
 use Rattle.js_base.specs.declared.message.Message.{Message}
 use Rattle.js_json.specs.declared.consumer.info.Info.{Info}
 use Rattle.js_link.specs.LinkView.{LinkView}
-use Rattle.js_link.specs.Meets.{Meets}
 use Rattle.js_link.specs.Wish.{row_input}
 use Rattle.js_link.specs.declared.wish.Wish.{Wish}
 use Rattle.js_link.specs.declared.wish.Wish.TheVariants.{Nothing}
@@ -18,7 +17,7 @@ use Rattle.js_ordered_stream.specs.declared.remaining_rows.Seen.{Seen}
 use Rattle.js_ordered_stream.specs.declared.remaining_rows.Seen.TheVariants as sight
 use Rattle.js_ordered_stream.specs.declared.rows.RowItem.TheVariants as hands
 use Rattle.js_ordered_stream.specs.declared.rows.Stepped.{Stepped}
-use Rattle.js_ordered_stream.specs.Rows.{IsTry, PassesRow, PassesRows, answer_in, is_left, met_row, read_in, seen_after, seen_by}
+use Rattle.js_ordered_stream.specs.Rows.{IfLook, IsTry, PassesRow, PassesRows, answer_in, is_left, met_row, read_in, seen_after, seen_by}
 use Rattle.js_pull.specs.Reader.{reply_to}
 use Rattle.js_pull.specs.declared.reader.Reader.{Reader}
 use Rattle.js_pull.specs.declared.reader.Row.{Row as PullRow}
@@ -51,6 +50,10 @@ abbrev DoesNothing : ReplayInput → ℕ → Row → Phase → Consumer → Type
 DoesNothing g now one phase c =
     (poll_wish_at g one phase ≡ Nothing) × (row_at g (row_input now Unasked) (matter_of Nothing Unasked) one phase c ≡ silent_row c [])
 
+if_look : (one : Row) (P : Type 0) → P → IfLook one P
+if_look row.CheckArrival P holds = holds
+if_look one P holds = tt
+
 idle_row : (g : ReplayInput) (now : ℕ) (one : Row) (c : Consumer) (done : Stepped) (v : LinkView) → DoesNothing g now one c.phase c → seen_by one Unasked ≡ None → done ≡ passed_over
     → PassesRow g now one c c v v sight.Nothing (Ok done)
 idle_row g now one c done v (asks, does) sees to =
@@ -58,7 +61,7 @@ idle_row g now one c done v (asks, does) sees to =
     (meets_as Nothing (poll_wish_at g one c.phase) Unasked v v (sym asks) refl)
     (record { message = refl; is_open = refl }) sees
     (ap (λ (w : Wish). row_at g (row_input now Unasked) (matter_of w Unasked) one c.phase c) asks ∙ does)
-    (record { consumer = refl; outputs = refl; next = refl }) refl to
+    (record { consumer = refl; outputs = refl; next = refl }) refl (if_look one (true ≡ true) refl) to
 
 never_false : true ≡ false → ⊥
 never_false e = cc
@@ -161,6 +164,7 @@ unheard_passes g now arrival c v deaf =
         seen = refl;
         message = refl;
         errors = tt;
+        held = tt;
       },
     )
 

@@ -1,5 +1,5 @@
 -- Whether a row is left, and what the row that is left reads.
-use Rattle.std.proofs.Common.{◌≡◌, ℕ, zero, suc, Bool, true, false, List, [], ◌∷◌, ◌++◌, drop, length, Option, Some, None, refl, sym, ap, ◌∙◌, subst}
+use Rattle.std.proofs.Common.{◌≡◌, ℕ, zero, suc, Bool, true, false, List, [], ◌∷◌, drop, length, Option, Some, None, refl, sym, ap, ◌∙◌}
 use Rattle.std.proofs.Math.Dec.{ltb, leb-zero, leb-suc-zero, leb-suc-suc}
 use Rattle.std.specs.Prelude.{◌<◌, ◌^◌, ◌==◌, ◌||◌, ◌&&◌, not, is_some, if◌then◌else◌}
 use Rattle.js_base.specs.Clock.{has_come}
@@ -12,20 +12,16 @@ use Rattle.js_ordered_table.specs.declared.row.Row.{Row}
 use Rattle.js_ordered_table.specs.declared.transitions.task.Held.{Held}
 use Rattle.js_ordered_table.specs.declared.transitions.task.Task.{Task}
 use Rattle.js_ordered_table.specs.declared.transitions.task.Task.TheVariants as task
-use Rattle.js_ordered_table.specs.Consumer.{Matter}
 use Rattle.js_ordered_table.specs.Fold.{is_over}
 use Rattle.js_ordered_table.specs.Timers.{IsUnread, phase_due}
 use Rattle.js_ordered_table.specs.Walk.{Position}
 use Rattle.js_ordered_table.specs.Passes.{hearings}
 use Rattle.js_ordered_table.specs.Recreation.{message_on}
 use Rattle.js_ordered_table.specs.Tasks.{answered_rows, heard_rows, hearings_of, rows_of}
-use Rattle.js_ordered_stream.specs.declared.remaining_rows.RemainingRows.{RemainingRows}
 use Rattle.js_ordered_stream.specs.declared.remaining_rows.Seen.{Seen}
 use Rattle.js_ordered_stream.specs.declared.remaining_rows.Seen.TheVariants as sight
-use Rattle.js_ordered_stream.specs.declared.remaining_rows.TaskQueue.{TaskQueue}
-use Rattle.js_ordered_stream.specs.declared.remaining_rows.TaskQueue.TheVariants as todo
 use Rattle.js_ordered_stream.specs.Ordered.{SleepsUntil, something_due}
-use Rattle.js_ordered_stream.specs.Rows.{answer_in, arrival_in, is_left, left_rows, read_in, todo_rows}
+use Rattle.js_ordered_stream.specs.Rows.{answer_in, arrival_in, is_left, read_in}
 use Rattle.js_pull.specs.Reader.{reply_to}
 
 false_true : false ≡ true → ⊥
@@ -67,12 +63,6 @@ pub held_stands : (held : Held) (messages : List Message) (b : Bool) → message
 held_stands held messages b is to =
     to ∙ ap (λ (ms : List Message). ltb held.place (length ms)) is ∙ held_in_list held.inbox held.place held.messages
 
--- ---- a row that is left
-
-either_left : (one two : List Row) → is_left (one ++ two) ≡ (is_left one || is_left two)
-either_left [] two = refl
-either_left (row ∷ rows) two = refl
-
 -- ---- what was met
 
 -- the message that was taken is heard
@@ -95,36 +85,7 @@ pub none_of : (rows : List Row) (left : Bool) → left ≡ is_left rows → left
 none_of [] left is e = refl
 none_of (row ∷ rows) left is e = absurd (false_true (sym e ∙ is))
 
-pub idle_as : (m : Matter) (one : Task) (left : Bool) → left ≡ is_left (rows_of m one) → not left ≡ not (is_left (rows_of m one))
-idle_as m one left is = ap (λ (b : Bool). not b) is
-
-pub standing_first : (rows : List Row) (left : Bool) → left ≡ is_left rows → left ≡ true → not (is_left rows) ≡ false
-standing_first rows left is e = ap (λ (b : Bool). not b) (sym is ∙ e)
-
 -- ---- when something is to be done
-
-pub none_left : (left : RemainingRows) → left.todo ≡ todo.Nothing → false ≡ is_left (left_rows left)
-none_left left is = ap (λ (t : TaskQueue). is_left (todo_rows (read_in left.seen) t)) (sym is)
-
-pub one_left : (left : RemainingRows) (one : Task) (b : Bool) → left.todo ≡ todo.One one → b ≡ is_left (rows_of (read_in left.seen) one) → b ≡ is_left (left_rows left)
-one_left left one b is to = to ∙ ap (λ (t : TaskQueue). is_left (todo_rows (read_in left.seen) t)) (sym is)
-
-pub two_left : (left : RemainingRows) (one second : Task) (b : Bool) → left.todo ≡ todo.Two one second
-    → b ≡ is_left (rows_of (read_in left.seen) one ++ rows_of (read_in left.seen) second) → b ≡ is_left (left_rows left)
-two_left left one second b is to = to ∙ ap (λ (t : TaskQueue). is_left (todo_rows (read_in left.seen) t)) (sym is)
-
-pub three_left : (left : RemainingRows) (one second third : Task) (first later : Bool) → left.todo ≡ todo.Three one second third → first ≡ is_left (rows_of (read_in left.seen) one)
-    → later ≡ is_left (rows_of (read_in left.seen) second ++ rows_of (read_in left.seen) third) → (first || later) ≡ is_left (left_rows left)
-three_left left one second third first later is here after =
-    ap (λ (b : Bool). b || later) here
-    ∙ ap (λ (b : Bool). is_left (rows_of (read_in left.seen) one) || b) after
-    ∙ sym (either_left (rows_of (read_in left.seen) one) (rows_of (read_in left.seen) second ++ rows_of (read_in left.seen) third))
-    ∙ ap (λ (t : TaskQueue). is_left (todo_rows (read_in left.seen) t)) (sym is)
-
--- of two lists
-pub either_stands : (one two : List Row) (first later : Bool) → first ≡ is_left one → later ≡ is_left two → (first || later) ≡ is_left (one ++ two)
-either_stands one two first later here after =
-    ap (λ (b : Bool). b || later) here ∙ ap (λ (b : Bool). is_left one || b) after ∙ sym (either_left one two)
 
 -- an ended consumer has nothing to do
 pub over_due : (now : ℕ) (at : Position) (over : Bool) → over ≡ is_over at.consumer.phase → over ≡ true → has_come None now ≡ something_due now at

@@ -8,3 +8,7 @@ mod Strides
 mod Opening
 mod Elsewhere
 mod LeftRows
+mod FollowingRows
+mod SteadyStates
+mod TurnsLeft
+mod Measure

@@ -7,12 +7,13 @@ use Rattle.js_json.specs.declared.push.OrderedConfig as push_config
 use Rattle.js_link.specs.LinkView.{LinkView}
 use Rattle.js_link.specs.Meets.{Meets}
 use Rattle.js_ordered_stream.specs.declared.remaining_rows.RemainingRows.{RemainingRows}
-use Rattle.js_ordered_stream.specs.declared.ordered.Ordered as polled
+use Rattle.js_ordered_stream.specs.declared.ordered.Ordered.{Ordered}
+use Rattle.js_ordered_stream.specs.declared.polled.Polled.{Polled}
 use Rattle.js_ordered_stream.specs.declared.pull.Ordered as pulls
 use Rattle.js_ordered_stream.specs.declared.push.Ordered as pushes
 use Rattle.js_ordered_stream.specs.Opening.{ListensFirst, OpensConsumer, OpensDelivery, OpensOrdered, OpensPushed, IsGaplessPull, IsGaplessPush, input_of_pull, input_of_push, listens_first, opened_at, reads_first}
 use Rattle.js_ordered_stream.specs.Rows.{left_rows}
-use Rattle.js_ordered_stream.specs.Ordered.{with_retries}
+use Rattle.js_ordered_stream.specs.Ordered.{given_to, position_of, with_retries}
 use Rattle.js_pull.specs.Reader.{opening}
 use Rattle.js_ordered_table.specs.declared.consumer.Consumer.{Consumer}
 use Rattle.js_ordered_table.specs.declared.consumer.ReplayInput.{ReplayInput}
@@ -34,35 +35,35 @@ position_at c todo = record { consumer = c; todo = todo }
 -- ---- pull
 
 -- the rows of an opening are left
-pub opens_ordered : (g given : ReplayInput) (c : Consumer) (left : RemainingRows) (o : polled.Ordered) (settings : Settings) (config : pull_config.OrderedConfig) (first : Info) (old new : LinkView)
+pub opens_ordered : (g given : ReplayInput) (c : Consumer) (left : RemainingRows) (o : Polled) (settings : Settings) (config : pull_config.OrderedConfig) (first : Info) (old new : LinkView)
     → OpensConsumer (Ok c) g old new → g ≡ given → given ≡ record { settings = with_retries settings; setup = Pull config; first = first }
-    → left_rows left ≡ map Read opening → o ≡ record { given = given; consumer = c; left = left }
+    → left_rows left ≡ map Read opening → o.ordered ≡ record { given = given; consumer = c; left = left }
     → OpensOrdered (Ok (record { polled = o })) settings config first old new
-opens_ordered g given c left o settings config first old new (inbox, subject, opens, is) same given_is rows to =
-    subst (λ (x : polled.Ordered). OpensOrdered (Ok (record { polled = x })) settings config first old new) (sym to) (
-      inbox,
-      subject,
-      opens,
-      given_is,
+opens_ordered g given c left o settings config first old new (inbox, subject, opens, is) same given_is rows to = (
+  inbox,
+  subject,
+  opens,
+  ap given_to to ∙ given_is,
+  subst (λ (x : Ordered). position_of x ≡ opened_at (given_to x) inbox subject) (sym to)
       (ap (λ (x : Consumer). position_at x (left_rows left)) (is ∙ ap (λ (x : ReplayInput). reads_first x inbox subject) same)
-          ∙ ap (position_at (reads_first given inbox subject)) rows),
-    )
+      ∙ ap (position_at (reads_first given inbox subject)) rows),
+)
 
 -- ---- push
 
 -- the first consumer arms its heartbeat next
-pub opens_pushed : (g given : ReplayInput) (c : Consumer) (left : RemainingRows) (o : polled.Ordered) (settings : Settings) (config : push_config.OrderedConfig) (first : Info) (old new : LinkView)
+pub opens_pushed : (g given : ReplayInput) (c : Consumer) (left : RemainingRows) (o : Polled) (settings : Settings) (config : push_config.OrderedConfig) (first : Info) (old new : LinkView)
     → ListensFirst (Ok c) g old new → g ≡ given → given ≡ record { settings = with_retries settings; setup = Push config; first = first }
-    → left_rows left ≡ Arm ∷ [] → o ≡ record { given = given; consumer = c; left = left }
+    → left_rows left ≡ Arm ∷ [] → o.ordered ≡ record { given = given; consumer = c; left = left }
     → OpensPushed (Ok (record { polled = o })) settings config first old new
-opens_pushed g given c left o settings config first old new (inbox, opens, is) same given_is rows to =
-    subst (λ (x : polled.Ordered). OpensPushed (Ok (record { polled = x })) settings config first old new) (sym to) (
-      inbox,
-      subst (λ (x : ReplayInput). OpensDelivery inbox x.first old new) (same ∙ given_is) opens,
-      given_is,
+opens_pushed g given c left o settings config first old new (inbox, opens, is) same given_is rows to = (
+  inbox,
+  subst (λ (x : ReplayInput). OpensDelivery inbox x.first old new) (same ∙ given_is) opens,
+  ap given_to to ∙ given_is,
+  subst (λ (x : Ordered). position_of x ≡ position_at (listens_first (given_to x) inbox) (Arm ∷ [])) (sym to)
       (ap (λ (x : Consumer). position_at x (left_rows left)) (is ∙ ap (λ (x : ReplayInput). listens_first x inbox) same)
-          ∙ ap (position_at (listens_first given inbox)) rows),
-    )
+      ∙ ap (position_at (listens_first given inbox)) rows),
+)
 
 -- ---- nothing was yielded yet
 

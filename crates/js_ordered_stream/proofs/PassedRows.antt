@@ -1,7 +1,6 @@
 -- A row that was passed over a link is the row of the table at what it met.
-use Rattle.std.proofs.Common.{◌≡◌, ℕ, suc, Bool, true, false, List, [], ◌∷◌, ◌++◌, map, Option, Some, None, refl, sym, ap, ◌∙◌, subst, arith}
-use Rattle.std.proofs.lemmas.Bool.Decides.{nat_tests}
-use Rattle.std.specs.Prelude.{◌==◌, codes, is_some, length, option_map, Result, Ok, Err, IfOk, if◌then◌else◌}
+use Rattle.std.proofs.Common.{◌≡◌, ℕ, Bool, true, false, List, [], ◌∷◌, ◌++◌, drop, map, Option, Some, None, refl, sym, ap, ◌∙◌, subst}
+use Rattle.std.specs.Prelude.{◌==◌, ◌&&◌, codes, is_some, option_map, Result, Ok, Err, IfOk, if◌then◌else◌}
 use Rattle.js_base.specs.declared.message.Message.{Message}
 use Rattle.js_json.specs.declared.consumer.info.Info.{Info}
 use Rattle.js_json.specs.declared.pull.OrderedConfig as pull_config
@@ -20,14 +19,15 @@ use Rattle.js_ordered_table.specs.declared.transitions.task.NextTasks.TheVariant
 use Rattle.js_ordered_table.specs.declared.transitions.task.RowOutput.{RowOutput}
 use Rattle.js_ordered_table.specs.declared.transitions.task.Task.{Task}
 use Rattle.js_ordered_table.specs.declared.transitions.task.Task.TheVariants as task
-use Rattle.js_ordered_table.specs.Tasks.{IsAnswered, Listens, StepsTo, answered_rows, at_moment, create_outputs, next_rows, opening_to, requested, requesting, rows_of, subscribed, told_outputs}
+use Rattle.js_ordered_table.specs.Tasks.{IsAnswered, Listens, StepsTo, answered_rows, at_moment, create_outputs, held_rows, next_rows, opening_to, requested, requesting, rows_of, subscribed, told_outputs}
 use Rattle.js_ordered_stream.specs.declared.remaining_rows.Reply.{Reply}
 use Rattle.js_ordered_stream.specs.declared.remaining_rows.Seen.{Seen}
 use Rattle.js_ordered_stream.specs.declared.remaining_rows.Seen.TheVariants as sight
 use Rattle.js_ordered_stream.specs.declared.rows.RowItem.{RowItem}
 use Rattle.js_ordered_stream.specs.declared.rows.RowItem.TheVariants as hands
 use Rattle.js_ordered_stream.specs.declared.rows.Stepped.{Stepped}
-use Rattle.js_ordered_stream.specs.Rows.{IfAlone, PassesRow, PassesRows, answer_in, arrival_in, handed_list, has_message, inbox_in, is_bare, is_something, message_in, met_row, read_by, replied, seen_by, seen_met}
+use Rattle.js_ordered_stream.specs.Rows.{IfAlone, IfLook, PassesRow, PassesRows, answer_in, arming, arrival_in, handed_list, has_message, hold_none, inbox_in, is_something, message_in, met_row, read_by, replied, seen_by, seen_met}
+use Rattle.js_ordered_stream.specs.Polled.{is_bare, is_none_held, is_push}
 use Rattle.js_pull.specs.Reader.{Answer, info_of_reply, reply_to}
 use Rattle.js_ordered_table.specs.declared.answer.Change.{Change as CodeChange}
 use Rattle.js_ordered_table.specs.declared.consumer.Consumer.{Consumer}
@@ -46,7 +46,7 @@ use Rattle.js_ordered_table.specs.declared.setup.OrderedSetup.{OrderedSetup}
 use Rattle.js_ordered_table.specs.declared.setup.OrderedSetup.TheVariants.{Pull, Push}
 use Rattle.js_ordered_table.specs.Fold.{is_over}
 use Rattle.js_ordered_table.specs.Invariant.{IsPull, IsPush}
-use Rattle.js_ordered_table.specs.Passes.{change_shown}
+use Rattle.js_ordered_table.specs.Passes.{change_shown, hearings}
 use Rattle.js_ordered_table.specs.Recreation.{answered, ask_row, create_row, fail_row, held_in, stage_rows, start_row, succeed_pull, succeed_push, succeed_row, try_row}
 use Rattle.js_ordered_table.specs.Consumer.{Change, Matter, Passed, at_phase, silent_row}
 use Rattle.js_ordered_table.specs.Texts.{create_body, create_subject, delete_subject}
@@ -57,6 +57,14 @@ use Rattle.js_ordered_table.proofs.Walk.{eqb_same}
 use Rattle.js_ordered_table.specs.Wishes.{awaited, change_of, create_wish, dropped, matter_of, opened_dropped, succeed_wish}
 use Rattle.js_ordered_stream.proofs.RowMet.{IsUntaken, answer_seen, any_seen, if_error, looked_as, message_seen, untaken, opened_other, dropped_other, awaited_other, moment_met, requesting_met, opening_met, no_request, no_inbox}
 
+pub none_held : (held : List Message) → is_none_held held ≡ true → held ≡ []
+none_held [] e = refl
+none_held (message ∷ held) e = absurd (let h = e in cc)
+
+pub and_right : (a b : Bool) → (a && b) ≡ true → b ≡ true
+and_right true b e = e
+and_right false b e = absurd (let h = e in cc)
+
 abbrev done_by : RowItem → NextTasks → Stepped
 done_by handed rest = record { handed = handed; looked = false; next = rest }
 
@@ -64,9 +72,9 @@ done_by handed rest = record { handed = handed; looked = false; next = rest }
 
 pub row_passes : (g : ReplayInput) (now : ℕ) (row : Row) (c d : Consumer) (met : Met) (passed : Passed) (outputs : List Output) (hand : RowItem) (rest : NextTasks) (done : Stepped) (v u : LinkView)
     → Meets (poll_wish_at g row c.phase) met v u → IsUntaken met → seen_by row met ≡ message_of met → met_row g now row met c ≡ passed
-    → StepsTo (read_by None None) passed outputs d rest → handed outputs ≡ handed_list hand None → done ≡ done_by hand rest
+    → StepsTo (read_by None None) passed outputs d rest → handed outputs ≡ handed_list hand None → IfLook row (hold_none rest ≡ true) → done ≡ done_by hand rest
     → PassesRow g now row c d v u sight.Nothing (Ok done)
-row_passes g now row c d met passed outputs hand rest done v u meets none sees is steps hands to =
+row_passes g now row c d met passed outputs hand rest done v u meets none sees is steps hands held to =
     subst (λ (x : Stepped). PassesRow g now row c d v u sight.Nothing (Ok x)) (sym to) (
       met,
       meets,
@@ -79,6 +87,7 @@ row_passes g now row c d met passed outputs hand rest done v u meets none sees i
         seen = ap (λ (o : Option Message). is_some o) (sym (sees ∙ none.message));
         message = tt;
         errors = if_error hand (None ≡ seen_by row met) (sym (sees ∙ none.message));
+        held = held;
       },
     )
 
@@ -86,10 +95,10 @@ row_passes g now row c d met passed outputs hand rest done v u meets none sees i
 pub row_tells : (g : ReplayInput) (now : ℕ) (row : Row) (c d : Consumer) (met : Met) (passed : Passed) (told : RowOutput) (rest : NextTasks) (done : Stepped) (v u : LinkView)
     → Meets (poll_wish_at g row c.phase) met v u → IsUntaken met → seen_by row met ≡ message_of met → met_row g now row met c ≡ passed
     → StepsTo (read_by None None) passed (told_outputs told) d rest → handed_list done.handed None ≡ handed (told_outputs told)
-    → done ≡ record done { looked = false; next = rest }
+    → IfLook row (hold_none rest ≡ true) → done ≡ record done { looked = false; next = rest }
     → PassesRow g now row c d v u sight.Nothing (Ok done)
-row_tells g now row c d met passed told rest done v u meets none sees is steps hands to =
-    row_passes g now row c d met passed (told_outputs told) done.handed rest done v u meets none sees is steps (sym hands) to
+row_tells g now row c d met passed told rest done v u meets none sees is steps hands held to =
+    row_passes g now row c d met passed (told_outputs told) done.handed rest done v u meets none sees is steps (sym hands) held to
 
 -- ---- a recreation starts
 
@@ -98,7 +107,7 @@ pub start_passes : (g : ReplayInput) (now : ℕ) (c d : Consumer) (met : Met) (t
     → handed_list done.handed None ≡ handed (told_outputs told) → done ≡ record done { looked = false; next = rest }
     → PassesRow g now row.Start c d v u sight.Nothing (Ok done)
 start_passes g now c d met told rest done v u meets steps hands to =
-    row_tells g now row.Start c d met (start_row g c) told rest done v u meets (untaken (dropped c.phase) met v u (dropped_other c.phase) meets) refl refl steps hands to
+    row_tells g now row.Start c d met (start_row g c) told rest done v u meets (untaken (dropped c.phase) met v u (dropped_other c.phase) meets) refl refl steps hands tt to
 
 -- ---- a try
 
@@ -110,7 +119,7 @@ try_passes g now r c d met request rest done v u meets goes steps to =
     row_passes g now row.Try (at_phase (Recreates r) c) d met (try_row g (requesting now request (row_input now met)) r (at_phase (Recreates r) c)) (requested (delete_subject g r) (codes "{}") request) hands.Nothing rest done v u meets
     (untaken (Requests (delete_subject g r) (codes "{}")) met v u tt meets) refl
     (ap (λ (p : Sends). try_row g p r (at_phase (Recreates r) c)) (sym (requesting_met now met request (delete_subject g r) (codes "{}") v u meets goes)))
-    steps (no_request (delete_subject g r) (codes "{}") request) to
+    steps (no_request (delete_subject g r) (codes "{}") request) tt to
 
 pub ask_passes : (g : ReplayInput) (now : ℕ) (r : Recreation) (c d : Consumer) (met : Met) (request : Option ℕ) (rest : NextTasks) (done : Stepped) (v u : LinkView)
     → Meets (Requests (create_subject g r) (create_body g r)) met v u → GoesAs request met
@@ -120,7 +129,7 @@ ask_passes g now r c d met request rest done v u meets goes steps to =
     row_passes g now row.Ask (at_phase (Recreates r) c) d met (ask_row g (requesting now request (row_input now met)) r (at_phase (Recreates r) c)) (requested (create_subject g r) (create_body g r) request) hands.Nothing rest done v u meets
     (untaken (Requests (create_subject g r) (create_body g r)) met v u tt meets) refl
     (ap (λ (p : Sends). ask_row g p r (at_phase (Recreates r) c)) (sym (requesting_met now met request (create_subject g r) (create_body g r) v u meets goes)))
-    steps (no_request (create_subject g r) (create_body g r) request) to
+    steps (no_request (create_subject g r) (create_body g r) request) tt to
 
 -- pull opens nothing before its create
 pub create_passes : (g : ReplayInput) (now : ℕ) (setup : pull_config.OrderedConfig) (r : Recreation) (c d : Consumer) (rest : NextTasks) (done : Stepped) (v : LinkView) → g.setup ≡ Pull setup
@@ -131,7 +140,7 @@ create_passes g now setup r c d rest done v pulls steps to =
     (subst (λ (s : OrderedSetup). Meets (create_wish s) Unasked v v) (sym pulls) refl)
     (record { message = refl; is_open = refl }) refl
     (subst (λ (s : OrderedSetup). create_row s (row_input now Unasked) r (at_phase (Recreates r) c) ≡ create_row s (opening_to now None (row_input now Unasked)) r (at_phase (Recreates r) c)) (sym pulls) refl)
-    steps (subst (λ (s : OrderedSetup). handed (create_outputs s None) ≡ []) (sym pulls) refl) to
+    steps (subst (λ (s : OrderedSetup). handed (create_outputs s None) ≡ []) (sym pulls) refl) tt to
 
 -- push opens its inbox before its create
 pub create_push_passes : (g : ReplayInput) (now : ℕ) (r : Recreation) (c d : Consumer) (met : Met) (inbox : Option Inbox) (rest : NextTasks) (done : Stepped) (v u : LinkView) → IsPush g.setup
@@ -143,7 +152,7 @@ create_push_passes g now r c d met inbox rest done v u pushes meets opens steps 
     (wished g.setup pushes)
     (untaken OpensInbox met v u tt meets) refl
     (ap (λ (p : Sends). create_row g.setup p r (at_phase (Recreates r) c)) (sym (ap (λ (o : Option Inbox). opening_to now o (row_input now met)) opens ∙ opening_met now met v u meets)))
-    steps (silent g.setup pushes) to
+    steps (silent g.setup pushes) tt to
   where
     wished : (setup : OrderedSetup) → IsPush setup → Meets (create_wish setup) met v u
     wished (Pull setup) is = absurd is
@@ -161,7 +170,7 @@ pub fail_passes : (g : ReplayInput) (now : ℕ) (r : Recreation) (c d : Consumer
 fail_passes g now r c d met told rest done v u meets steps hands to =
     row_tells g now row.Fail (at_phase (Recreates r) c) d met (fail_row g (at_moment now (row_input now met)) r (at_phase (Recreates r) c)) told rest done v u meets
     (untaken (opened_dropped r.opened) met v u (opened_other r.opened) meets) refl
-    (ap (λ (p : Sends). fail_row g p r (at_phase (Recreates r) c)) (sym (moment_met now met))) steps hands to
+    (ap (λ (p : Sends). fail_row g p r (at_phase (Recreates r) c)) (sym (moment_met now met))) steps hands tt to
 
 -- ---- an open recreation
 
@@ -253,6 +262,7 @@ await_passes g now r c d met request replied_is rest seen done v u meets there n
         seen = ap has_message looks ∙ any_seen request met;
         message = looked_as (message_in seen) (message_of met) (ap message_in looks ∙ message_seen request met);
         errors = tt;
+        held = tt;
       },
     )
 
@@ -268,7 +278,7 @@ answered_passes g now r c d request a info rest done v reads steps to = by_reply
     by_reply (Some message) e =
         let same : info_of_reply message ≡ info = cc in
         row_passes g now (row.Answered message) (at_phase (Recreates r) c) d Unasked (silent_row (at_phase (Recreates r) c) (answered g.setup info ∷ [])) [] hands.Nothing rest done v v refl (record { message = refl; is_open = refl }) refl
-        (ap (λ (o : Option Info). silent_row (at_phase (Recreates r) c) (answered g.setup o ∷ [])) same) steps refl to
+        (ap (λ (o : Option Info). silent_row (at_phase (Recreates r) c) (answered g.setup o ∷ [])) same) steps refl tt to
 
 -- pull reads its next inbox
 pub succeed_passes : (g : ReplayInput) (now : ℕ) (info : Info) (r : Recreation) (c d : Consumer) (met : Met) (inbox : Option Inbox) (rest : NextTasks) (done : Stepped) (v u : LinkView) → IsPull g.setup
@@ -280,7 +290,7 @@ succeed_passes g now info r c d met inbox rest done v u pulls meets opens steps 
     (wished g.setup pulls)
     (untaken OpensInbox met v u tt meets) refl
     (passed g.setup pulls ∙ ap (λ (p : Sends). succeed_pull g p info (at_phase (Recreates r) c)) (sym (ap (λ (o : Option Inbox). opening_to now o (row_input now met)) opens ∙ opening_met now met v u meets)))
-    steps (no_inbox inbox) to
+    steps (no_inbox inbox) tt to
   where
     wished : (setup : OrderedSetup) → IsPull setup → Meets (succeed_wish setup) met v u
     wished (Pull setup) is = meets
@@ -291,24 +301,35 @@ succeed_passes g now info r c d met inbox rest done v u pulls meets opens steps 
     passed (Push setup) is = absurd is
 
 -- push listens to the inbox that it has opened, for which nothing is held
-none_held : (held : List Message) → (length held == 0) ≡ true → held ≡ []
-none_held [] e = refl
-none_held (x ∷ held) e = absurd (never e)
-  where
-    never : (suc (length held) == 0) ≡ true → ⊥
-    never e = grind (arith, nat_tests)
+hearings_arm : (inbox : ℕ) (messages : List Message) → hearings inbox messages ++ row.Arm ∷ [] ≡ [] → ⊥
+hearings_arm inbox [] e = cc
+hearings_arm inbox (message ∷ messages) e = cc
 
-pub succeed_push_passes : (g : ReplayInput) (now : ℕ) (info : Info) (r : Recreation) (c d : Consumer) (held : Option Held) (done : Stepped) (v : LinkView) → IsPush g.setup → is_bare r.opened ≡ true
+arms_behind : (p : Sends) (c : Consumer) (setup : OrderedSetup) (opened : Option Opened) (held : Option Held) → is_bare setup opened ≡ true → held_rows held ≡ (succeed_push p opened c).next
+    → next_rows (read_by None None) (arming held) ≡ (succeed_push p opened c).next
+arms_behind p c setup None None bare is = refl
+arms_behind p c setup None (Some held) bare is = absurd (hearings_arm held.inbox (drop held.place held.messages) is)
+arms_behind p c setup (Some opened) held bare is = by_held held (is ∙ alone) ∙ sym alone
+  where
+    alone : (succeed_push p (Some opened) c).next ≡ row.Arm ∷ []
+    alone = ap (λ (held : List Message). map (λ (message : Message). row.Hear (record { inbox = opened.inbox; message = message })) held ++ row.Arm ∷ [])
+        (none_held opened.held (and_right (is_push setup) (is_none_held opened.held) bare))
+
+    by_held : (held : Option Held) → held_rows held ≡ row.Arm ∷ [] → next_rows (read_by None None) (arming held) ≡ row.Arm ∷ []
+    by_held None e = absurd (let h = e in cc)
+    by_held (Some held) e = refl
+
+pub succeed_push_passes : (g : ReplayInput) (now : ℕ) (info : Info) (r : Recreation) (c d : Consumer) (held : Option Held) (rest : NextTasks) (done : Stepped) (v : LinkView) → IsPush g.setup → is_bare g.setup r.opened ≡ true
     → ((p : Sends) → Listens (succeed_push (at_moment now p) r.opened (at_phase (Recreates r) c)) d held)
-    → done ≡ done_by hands.Nothing (next.One task.Arm) → PassesRow g now (row.Succeed info) (at_phase (Recreates r) c) d v v sight.Nothing (Ok done)
-succeed_push_passes g now info r c d held done v pushes bare steps to =
+    → rest ≡ arming held → done ≡ done_by hands.Nothing rest → PassesRow g now (row.Succeed info) (at_phase (Recreates r) c) d v v sight.Nothing (Ok done)
+succeed_push_passes g now info r c d held rest done v pushes bare steps is to =
     let p : Sends = row_input now Unasked in
     let s = steps p in
-    row_passes g now (row.Succeed info) (at_phase (Recreates r) c) d Unasked (succeed_push p r.opened (at_phase (Recreates r) c)) [] hands.Nothing (next.One task.Arm) done v v
+    row_passes g now (row.Succeed info) (at_phase (Recreates r) c) d Unasked (succeed_push p r.opened (at_phase (Recreates r) c)) [] hands.Nothing rest done v v
     (wished g.setup pushes)
     (record { message = refl; is_open = refl }) refl
     (passed g.setup pushes)
-    (record { consumer = s.consumer; outputs = s.outputs; next = sym (arms r.opened bare) }) refl to
+    (record { consumer = s.consumer; outputs = s.outputs; next = ap (next_rows (read_by None None)) is ∙ arms_behind p (at_phase (Recreates r) c) g.setup r.opened held bare s.next }) refl tt to
   where
     wished : (setup : OrderedSetup) → IsPush setup → Meets (succeed_wish setup) Unasked v v
     wished (Pull setup) is = absurd is
@@ -318,14 +339,10 @@ succeed_push_passes g now info r c d held done v pushes bare steps to =
     passed (Pull setup) is = absurd is
     passed (Push setup) is = refl
 
-    arms : (opened : Option Opened) → is_bare opened ≡ true → (succeed_push (row_input now Unasked) opened (at_phase (Recreates r) c)).next ≡ row.Arm ∷ []
-    arms None e = absurd (let h = e in cc)
-    arms (Some opened) e = ap (λ (held : List Message). map (λ (message : Message). row.Hear (record { inbox = opened.inbox; message = message })) held ++ row.Arm ∷ []) (none_held opened.held e)
-
 -- a poll holds nothing
 pub hold_passes : (g : ReplayInput) (now : ℕ) (c : Consumer) (done : Stepped) (v : LinkView) → done ≡ done_by hands.Nothing next.Nothing → PassesRow g now row.Hold c c v v sight.Nothing (Ok done)
 hold_passes g now c done v to =
-    row_passes g now row.Hold c c Unasked (silent_row c []) [] hands.Nothing next.Nothing done v v refl (record { message = refl; is_open = refl }) refl (stays c.phase refl) (record { consumer = refl; outputs = refl; next = refl }) refl to
+    row_passes g now row.Hold c c Unasked (silent_row c []) [] hands.Nothing next.Nothing done v v refl (record { message = refl; is_open = refl }) refl (stays c.phase refl) (record { consumer = refl; outputs = refl; next = refl }) refl tt to
   where
     same : (opened : Option Opened) → held_in None opened ≡ opened
     same None = refl
@@ -367,7 +384,7 @@ event_passes g now c d met change told rest done v u going meets shown steps han
     row_tells g now row.Event c d met (event_row g (at_moment now (row_input now met)) (matter_of Watches met) c.phase c) told rest done v u
     (subst (λ (x : Wish). Meets x met v u) (sym is) meets) (untaken Watches met v u tt meets) refl
     (ap (λ (x : Wish). event_row g (row_input now met) (matter_of x met) c.phase c) is ∙ ap (λ (p : Sends). event_row g p (matter_of Watches met) c.phase c) (sym (moment_met now met)))
-    (record { consumer = s.consumer; outputs = s.outputs; next = sym (next_same (change_of met) None rest) ∙ s.next }) hands to
+    (record { consumer = s.consumer; outputs = s.outputs; next = sym (next_same (change_of met) None rest) ∙ s.next }) hands tt to
 
 -- ---- what the code asks is what the row asks
 

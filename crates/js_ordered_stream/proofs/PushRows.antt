@@ -16,7 +16,8 @@ use Rattle.js_ordered_table.specs.declared.transitions.task.Heard.TheVariants as
 use Rattle.js_ordered_table.specs.declared.transitions.task.NextTasks.{NextTasks}
 use Rattle.js_ordered_table.specs.declared.transitions.task.NextTasks.TheVariants as next
 use Rattle.js_ordered_table.specs.declared.transitions.task.RowOutput.{RowOutput}
-use Rattle.js_ordered_table.specs.Tasks.{IsHeard, IsHeardAs, StepsTo, at_moment, heard_outputs, heard_row, heard_rows, next_rows, told_outputs}
+use Rattle.js_ordered_table.specs.declared.transitions.task.Task.TheVariants as task
+use Rattle.js_ordered_table.specs.Tasks.{IsHeard, IsHeardAs, StepsTo, at_moment, heard_outputs, heard_row, heard_rows, told_outputs}
 use Rattle.js_ordered_table.proofs.PassedRows.{hears_as, hears_here}
 use Rattle.js_ordered_stream.specs.declared.remaining_rows.Seen.{Seen}
 use Rattle.js_ordered_stream.specs.declared.remaining_rows.Seen.TheVariants as sight
@@ -25,7 +26,7 @@ use Rattle.js_ordered_stream.specs.declared.rows.RowItem.TheVariants as hands
 use Rattle.js_ordered_stream.specs.declared.rows.Stepped.{Stepped}
 use Rattle.js_ordered_stream.specs.declared.rows.Stop.{Stop}
 use Rattle.js_ordered_stream.specs.declared.rows.Stop.TheVariants as stop
-use Rattle.js_ordered_stream.specs.Rows.{AnswersBeat, IfError, Looked, LooksInto, PassesRow, PassesRows, arrival_in, handed_by_heard, handed_list, has_message, kept_if, message_in, met_row, read_by, read_in, unheard_on}
+use Rattle.js_ordered_stream.specs.Rows.{AnswersBeat, IfError, Looked, LooksInto, PassesRow, PassesRows, arrival_in, handed_by_heard, handed_list, has_message, kept_if, message_in, met_row, read_by, unheard_on}
 use Rattle.js_ordered_table.specs.declared.consumer.Consumer.{Consumer}
 use Rattle.js_ordered_table.specs.declared.consumer.Phase.{Phase}
 use Rattle.js_ordered_table.specs.declared.consumer.Phase.TheVariants.{Pulls, Pushes, Recreates, Idle, Ended, Exhausted}
@@ -56,21 +57,19 @@ pub taken_here : (inbox : ℕ) (message : Message) → message_on inbox (arrival
 taken_here inbox message = ap (λ (b : Bool). if b then Some message else None) (eqb_same inbox)
 
 -- a look that takes nothing
-pub looked_none : (inbox : ℕ) (rest : NextTasks) (seen : Seen) (done : Stepped)
-    → ((m : Matter) → false ≡ is_some (message_on inbox m.arrival) → next_rows m rest ≡ push_rows inbox (message_on inbox m.arrival))
-    → done ≡ record { handed = hands.Nothing; looked = false; next = rest } → Looked inbox None (kept_if done.looked seen) done
-looked_none inbox rest seen done follows to =
-    subst (λ (x : Stepped). Looked inbox None (kept_if x.looked seen) x) (sym to) (record { handed = refl; looked = refl; seen = refl; next = follows (read_by None None) refl })
+pub looked_none : (inbox : ℕ) (seen : Seen) (done : Stepped)
+    → done ≡ record { handed = hands.Nothing; looked = false; next = next.One task.CheckSilence } → Looked inbox None (kept_if done.looked seen) done
+looked_none inbox seen done to =
+    subst (λ (x : Stepped). Looked inbox None (kept_if x.looked seen) x) (sym to) (record { handed = refl; looked = refl; seen = refl; next = refl; held = refl })
 
 -- and one that takes a message
-pub looked_some : (inbox : ℕ) (taken : Message) (rest : NextTasks)
-    → ((m : Matter) → true ≡ is_some (message_on inbox m.arrival) → next_rows m rest ≡ push_rows inbox (message_on inbox m.arrival))
-    → Looked inbox (Some taken) (sight.Message (Some inbox) taken) (record { handed = hands.Nothing; looked = true; next = rest })
-looked_some inbox taken rest follows = record {
+pub looked_some : (inbox : ℕ) (taken : Message) → Looked inbox (Some taken) (sight.Message (Some inbox) taken) (record { handed = hands.Nothing; looked = true; next = next.One (task.Hear inbox) })
+looked_some inbox taken = record {
   handed = refl;
   looked = refl;
   seen = refl;
-  next = follows (read_in (sight.Message (Some inbox) taken)) (sym (ap (λ (o : Option Message). is_some o) (taken_here inbox taken))) ∙ ap (push_rows inbox) (taken_here inbox taken);
+  next = ap (heard_rows inbox) (taken_here inbox taken);
+  held = refl;
 }
 
 some_unheard : (inbox : ℕ) (taken : Option Message) → has_message (unheard_on inbox taken) ≡ is_some taken
@@ -102,6 +101,7 @@ looks_at g now inbox timer c v u kept result is looks =
             seen = ap has_message l.seen ∙ some_unheard inbox (message_of met);
             message = subst (λ (o : Option Message). IfSome o (λ x. message_of met ≡ Some x)) (sym none) tt;
             errors = subst (λ (h : RowItem). IfError h (message_in kept ≡ message_of met)) (sym l.handed) tt;
+            held = l.held;
           },
         )
 
@@ -113,7 +113,7 @@ pub silence_passes : (g : ReplayInput) (now inbox : ℕ) (timer : Timer) (c : Co
 silence_passes g now inbox timer c told rest done v is steps hands to =
     subst (λ (q : Phase). PassesRow g now row.CheckSilence (at_phase q c) (at_phase q c) v v sight.Nothing (Ok done)) (sym is)
     (row_tells g now row.CheckSilence (at_phase (Pushes inbox timer) c) (at_phase (Pushes inbox timer) c) Unasked (silence_row (at_moment now (row_input now Unasked)) timer (at_phase (Pushes inbox timer) c)) told rest done v v refl
-    (record { message = refl; is_open = refl }) refl refl (steps (read_by None None) (row_input now Unasked) (at_phase (Pushes inbox timer) c)) hands to)
+    (record { message = refl; is_open = refl }) refl refl (steps (read_by None None) (row_input now Unasked) (at_phase (Pushes inbox timer) c)) hands tt to)
 
 pub arm_passes : (g : ReplayInput) (now inbox : ℕ) (timer : Timer) (c d : Consumer) (done : Stepped) (v : LinkView) → c.phase ≡ Pushes inbox timer
     → d ≡ at_phase (Pushes inbox (armed now)) c → done ≡ record { handed = hands.Nothing; looked = false; next = next.Nothing }
@@ -121,7 +121,7 @@ pub arm_passes : (g : ReplayInput) (now inbox : ℕ) (timer : Timer) (c d : Cons
 arm_passes g now inbox timer c d done v is leads to =
     subst (λ (q : Phase). PassesRow g now row.Arm (at_phase q c) d v v sight.Nothing (Ok done)) (sym is)
     (row_passes g now row.Arm (at_phase (Pushes inbox timer) c) d Unasked (silent_row (at_phase (Pushes inbox (armed now)) c) []) [] hands.Nothing next.Nothing done v v refl
-    (record { message = refl; is_open = refl }) refl refl (record { consumer = leads; outputs = refl; next = refl }) refl to)
+    (record { message = refl; is_open = refl }) refl refl (record { consumer = leads; outputs = refl; next = refl }) refl tt to)
 
 -- ---- what an arrival asks
 
@@ -213,6 +213,7 @@ hear_passes g now arrival heard c d hand rest v u here is steps hands (met, meet
         seen = refl;
         message = refl;
         errors = if_error hand (Some message ≡ Some message) refl;
+        held = tt;
       },
     )
 

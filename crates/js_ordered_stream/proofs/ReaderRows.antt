@@ -124,6 +124,7 @@ read_passes g now one r s c d met step taken seen done v u meets is_open steps t
         seen = any;
         message = looked_as (message_in seen) (message_of met) took;
         errors = if_error taken.handed (message_in seen ≡ message_of met) took;
+        held = tt;
       },
     )
 

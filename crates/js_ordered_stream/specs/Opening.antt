@@ -28,11 +28,11 @@ use Rattle.js_ordered_table.specs.Walk.{Position}
 
 -- what it is made with
 abbrev pub input_of_pull : pulls.Ordered → ReplayInput
-input_of_pull o = given_to o.polled
+input_of_pull o = given_to o.polled.ordered
 
 -- where it stands
 abbrev pub position_of_pull : pulls.Ordered → Position
-position_of_pull o = position_of o.polled
+position_of_pull o = position_of o.polled.ordered
 
 -- a consumer whose reader reads this inbox, and has read nothing yet
 abbrev pub reads_first : ReplayInput → ℕ → List ℕ → Consumer
@@ -63,11 +63,11 @@ IsGaplessPull o = IsGaplessFrom (input_of_pull o) Meets (position_of_pull o)
 
 -- what it is made with
 abbrev pub input_of_push : pushes.Ordered → ReplayInput
-input_of_push o = given_to o.polled
+input_of_push o = given_to o.polled.ordered
 
 -- where it stands
 abbrev pub position_of_push : pushes.Ordered → Position
-position_of_push o = position_of o.polled
+position_of_push o = position_of o.polled.ordered
 
 -- how a refusal to open one is printed
 abbrev pub open_text : OpenError → List ℕ

@@ -26,9 +26,9 @@ use Rattle.js_ordered_stream.specs.declared.remaining_rows.Seen.{Seen}
 use Rattle.js_ordered_stream.specs.declared.rows.Stepped.{Stepped}
 use Rattle.js_ordered_stream.specs.declared.rows.Stop.{Stop}
 use Rattle.js_ordered_stream.specs.declared.rows.Stop.TheVariants as stop
-use Rattle.js_ordered_stream.specs.Rows.{Fits, PassesRow, is_left, later_of, left_rows, seen_by}
+use Rattle.js_ordered_stream.specs.Rows.{PassesRow, is_left, later_of, left_rows, seen_by}
 use Rattle.js_ordered_table.specs.OrderedCore.{new_core}
-use Rattle.js_ordered_table.specs.Consumer.{Matter, at_phase}
+use Rattle.js_ordered_table.specs.Consumer.{at_phase}
 use Rattle.js_ordered_table.specs.Fold.{is_over}
 use Rattle.js_ordered_table.specs.Timers.{IsLeftAlone, IsUnread, StandsStill, phase_due}
 use Rattle.js_pull.specs.Poll.{description_of}
@@ -136,7 +136,7 @@ position_of o = record { consumer = o.consumer; todo = left_rows o.left }
 -- this row comes next, after which the others stay the same
 abbrev pub IsNext : RemainingRows → (Row → Type 0) → Type 0
 IsNext left holds =
-    (row : Row) × (first_row (left_rows left) ≡ row) × ((m : Matter) → later_rows (left_rows left) ≡ later_of m left.todo) × holds row
+    (row : Row) × (first_row (left_rows left) ≡ row) × (later_rows (left_rows left) ≡ later_of left.todo) × holds row
 
 -- there is no sequence to go on from
 abbrev pub is_spent : Phase → Bool
@@ -182,8 +182,7 @@ ComesTo turns.OutOfMemory kept g now old new before after = (new ≡ old) × (af
 
 -- the first row that is left was passed over a link, and looked at this
 abbrev pub PassesFirst : ReplayInput → ℕ → RemainingRows → Consumer → Consumer → LinkView → LinkView → Seen → Result Stepped Stop → Type 0
-PassesFirst g now left old new before after kept (Ok done) =
-    Fits left.todo × IsNext left (λ row. PassesRow g now row old new before after kept (Ok done))
+PassesFirst g now left old new before after kept (Ok done) = IsNext left (λ row. PassesRow g now row old new before after kept (Ok done))
 PassesFirst g now left old new before after kept (Err stop.Closed) = IsNext left (λ row. PassesRow g now row old new before after kept (Err stop.Closed))
 PassesFirst g now left old new before after kept (Err stop.OutOfMemory) = (new ≡ old) × (after ≡ before)
 

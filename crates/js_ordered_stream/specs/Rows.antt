@@ -1,5 +1,5 @@
 -- The rows that are left of a turn, as the code keeps them, and what a function says that passes one over a link.
-use Rattle.std.specs.Prelude.{◌≡◌, ℕ, Bool, true, false, List, [], ◌∷◌, ◌++◌, Option, Some, None, IfSome, is_some, not, ◌==◌, length, Result, Ok, Err, ⊤, if◌then◌else◌}
+use Rattle.std.specs.Prelude.{◌≡◌, ℕ, Bool, true, false, ◌&&◌, List, [], ◌∷◌, ◌++◌, Option, Some, None, IfSome, is_some, not, Result, Ok, Err, ⊤, if◌then◌else◌}
 use Rattle.js_base.specs.declared.message.Message.{Message}
 use Rattle.js_link.specs.LinkView.{LinkView}
 use Rattle.js_link.specs.Meets.{Meets}
@@ -10,12 +10,15 @@ use Rattle.js_link.specs.declared.wish.Met.TheVariants.{Opened, Shut, Took, Got,
 use Rattle.js_message.specs.AckSubject.{readable_as}
 use Rattle.js_ordered_table.specs.declared.transitions.task.Heard.{Heard}
 use Rattle.js_ordered_table.specs.declared.transitions.task.Heard.TheVariants as hears
+use Rattle.js_ordered_table.specs.declared.transitions.task.Held.{Held}
 use Rattle.js_ordered_table.specs.declared.transitions.task.Inbox.{Inbox}
+use Rattle.js_ordered_table.specs.declared.transitions.task.NextTasks.{NextTasks}
+use Rattle.js_ordered_table.specs.declared.transitions.task.NextTasks.TheVariants as next
 use Rattle.js_ordered_table.specs.declared.transitions.task.Task.{Task}
 use Rattle.js_ordered_table.specs.declared.transitions.task.Task.TheVariants as tasks
-use Rattle.js_ordered_table.specs.Tasks.{StepsTo, next_rows, rows_of}
-use Rattle.js_ordered_stream.specs.declared.remaining_rows.First.{First}
-use Rattle.js_ordered_stream.specs.declared.remaining_rows.First.TheVariants as first
+use Rattle.js_ordered_table.specs.Tasks.{StepsTo, hearings_of, next_rows, rows_of}
+use Rattle.js_ordered_stream.specs.declared.later_row.LaterRow.{LaterRow}
+use Rattle.js_ordered_stream.specs.declared.later_row.LaterRow.TheVariants as later
 use Rattle.js_ordered_stream.specs.declared.remaining_rows.RemainingRows.{RemainingRows}
 use Rattle.js_ordered_stream.specs.declared.remaining_rows.Seen.{Seen}
 use Rattle.js_ordered_stream.specs.declared.remaining_rows.Seen.TheVariants as sight
@@ -32,17 +35,18 @@ use Rattle.js_pull.specs.Reader.{Answer}
 use Rattle.js_pull.specs.Reader as pull
 use Rattle.js_pull.specs.Rows.{IsInformed, row_of}
 use Rattle.js_pull.specs.declared.rows.Due.{Due}
+use Rattle.js_pull.specs.declared.rows.Due.TheVariants as due
 use Rattle.js_pull.specs.declared.reader.Reader.{Reader}
 use Rattle.js_pull.specs.declared.reader.ReaderOutput.{ReaderOutput}
 use Rattle.js_pull.specs.declared.reader.Row.{Row as PullRow}
+use Rattle.js_pull.specs.declared.reader.Row.TheVariants as read
 use Rattle.js_ordered_table.specs.declared.consumer.Consumer.{Consumer}
-use Rattle.js_ordered_table.specs.declared.consumer.Opened.{Opened as OpenedInbox}
 use Rattle.js_ordered_table.specs.declared.consumer.ReplayInput.{ReplayInput}
 use Rattle.js_ordered_table.specs.declared.consumer.Stage.{Stage}
 use Rattle.js_ordered_table.specs.declared.consumer.Stage.TheVariants.{Deleting, Creating}
 use Rattle.js_ordered_table.specs.declared.row.Arrival.{Arrival}
 use Rattle.js_ordered_table.specs.declared.row.Row.{Row}
-use Rattle.js_ordered_table.specs.declared.row.Row.TheVariants.{Hear}
+use Rattle.js_ordered_table.specs.declared.row.Row.TheVariants.{CheckArrival, Hear, Hold, Read}
 use Rattle.js_ordered_table.specs.declared.run.ItemKind.TheVariants as item
 use Rattle.js_ordered_table.specs.declared.run.Output.{Output}
 use Rattle.js_ordered_table.specs.declared.run.Output.TheVariants as out
@@ -102,12 +106,17 @@ read_by answer arrival = record { change = Unchanged; answer = answer; arrival =
 abbrev pub read_in : Seen → Matter
 read_in seen = read_by (answer_in seen) (arrival_in seen)
 
+-- the row that waits behind the next one
+abbrev pub later_row : LaterRow → Row
+later_row later.Arm = Read read.Arm
+later_row later.CheckArrival = Read read.CheckArrival
+later_row later.Hold = Hold
+
 -- in order
 abbrev pub todo_rows : Matter → TaskQueue → List Row
 todo_rows m todo.Nothing = []
 todo_rows m (todo.One one) = rows_of m one
-todo_rows m (todo.Two one second) = rows_of m one ++ rows_of m second
-todo_rows m (todo.Three one second third) = rows_of m one ++ (rows_of m second ++ rows_of m third)
+todo_rows m (todo.Two one waits) = rows_of m one ++ later_row waits ∷ []
 
 -- a row is left
 abbrev pub is_left : List Row → Bool
@@ -115,15 +124,9 @@ is_left [] = false
 is_left (row ∷ rows) = true
 
 -- what is left after the next row
-abbrev pub later_of : Matter → TaskQueue → List Row
-later_of m todo.Nothing = []
-later_of m (todo.One one) = []
-later_of m (todo.Two one second) = rows_of m second
-later_of m (todo.Three one second third) = rows_of m second ++ rows_of m third
-
-abbrev pub later_list : Matter → Option Task → List Row
-later_list m None = []
-later_list m (Some one) = rows_of m one
+abbrev pub later_of : TaskQueue → List Row
+later_of (todo.Two one waits) = later_row waits ∷ []
+later_of _ = []
 
 abbrev pub left_rows : RemainingRows → List Row
 left_rows left = todo_rows (read_in left.seen) left.todo
@@ -136,27 +139,62 @@ is_rested _ = false
 abbrev pub is_first_idle : Matter → TaskQueue → Bool
 is_first_idle m todo.Nothing = false
 is_first_idle m (todo.One one) = not (is_left (rows_of m one))
-is_first_idle m (todo.Two one second) = not (is_left (rows_of m one))
-is_first_idle m (todo.Three one second third) = not (is_left (rows_of m one))
+is_first_idle m (todo.Two one waits) = not (is_left (rows_of m one))
 
 -- the first task stands for a row, where there is one
 abbrev pub FirstStands : Matter → TaskQueue → Type 0
 FirstStands m left = is_first_idle m left ≡ false
 
--- there is room for what follows the next row
-abbrev pub Fits : TaskQueue → Type 0
-Fits (todo.Three one second third) = ⊥
-Fits _ = ⊤
+-- ---- what follows a row
 
--- a row of a reader is the same whatever is read
-abbrev pub ReadsNone : Due → Bool → Type 0
-ReadsNone due true = (a b : Option Message) → row_of a due ≡ row_of b due
-ReadsNone due false = ⊤
+-- a row that may wait behind the next one
+abbrev pub is_later : Row → Bool
+is_later Hold = true
+is_later (Read read.Arm) = true
+is_later (Read read.CheckArrival) = true
+is_later row = false
 
--- and so is any row
-abbrev pub IsPlain : Task → Bool → Type 0
-IsPlain one true = (m u : Matter) → rows_of m one ≡ rows_of u one
-IsPlain one false = ⊤
+-- one of them at most
+abbrev pub is_waiting : List Row → Bool
+is_waiting [] = true
+is_waiting (row ∷ []) = is_later row
+is_waiting (row ∷ second ∷ rows) = false
+
+-- a row, and one at most that waits behind it
+abbrev pub is_short : List Row → Bool
+is_short [] = true
+is_short (row ∷ rows) = is_waiting rows
+
+-- the row that a task stands for which follows another one
+abbrev pub waiting_due : Due → Option LaterRow
+waiting_due due.Arm = Some later.Arm
+waiting_due due.CheckArrival = Some later.CheckArrival
+waiting_due one = None
+
+abbrev pub waiting_of : Task → Option LaterRow
+waiting_of tasks.Hold = Some later.Hold
+waiting_of (tasks.Read one) = waiting_due one
+waiting_of one = None
+
+-- a task of what was held
+abbrev pub is_held : Task → Bool
+is_held (tasks.HearHeld held) = true
+is_held one = false
+
+abbrev pub is_first_held : TaskQueue → Bool
+is_first_held todo.Nothing = false
+is_first_held (todo.One one) = is_held one
+is_first_held (todo.Two one waits) = is_held one
+
+-- nothing is left of what was held
+abbrev pub holds_none : Task → Bool
+holds_none (tasks.HearHeld held) = not (is_left (hearings_of held.value))
+holds_none one = true
+
+abbrev pub hold_none : NextTasks → Bool
+hold_none next.Nothing = true
+hold_none (next.One one) = holds_none one
+hold_none (next.Two one second) = holds_none one && holds_none second
 
 -- a row of an open recreation
 abbrev pub IsTry : Task → Type 0
@@ -168,14 +206,6 @@ IsTry (tasks.Answered request) = ⊤
 IsTry (tasks.Succeed info) = ⊤
 IsTry tasks.Fail = ⊤
 IsTry other = ⊥
-
--- the next row, after which the others stay the same
-abbrev pub FirstOf : First → TaskQueue → Type 0
-FirstOf first.Rests left = left ≡ todo.Nothing
-FirstOf (first.Next task) left =
-    ((m : Matter) → todo_rows m left ≡ rows_of m task.now ++ later_of m left) × ((m u : Matter) → later_of m left ≡ later_of u left) × Fits left
-    × ((m : Matter) → FirstStands m left → is_left (rows_of m task.now) ≡ true)
-FirstOf first.Blocked left = ⊤
 
 -- ---- a row is passed
 
@@ -206,7 +236,12 @@ abbrev pub IfError : RowItem → Type 0 → Type 0
 IfError (hands.Error kind) holds = holds
 IfError handed holds = ⊤
 
--- the consumer after it, what it hands out, the rows that follow at once, and what it looked at; a message is kept for the row that hears it, or let go
+-- where push looks for an arrival
+abbrev pub IfLook : Row → Type 0 → Type 0
+IfLook CheckArrival holds = holds
+IfLook row holds = ⊤
+
+-- the consumer after it, what it hands out, the rows that follow at once, and what it looked at; a message is kept for the row that hears it, or let go; what a look brings is heard, and nothing that was held
 pub record Steps (g : ReplayInput) (now : ℕ) (row : Row) (met : Met) (old new : Consumer) (kept : Seen) (done : Stepped) : Type 0 where
   pub consumer : new ≡ (met_row g now row met old).consumer
   pub shown : handed (met_row g now row met old).outputs ≡ handed_list done.handed (message_in kept)
@@ -215,6 +250,7 @@ pub record Steps (g : ReplayInput) (now : ℕ) (row : Row) (met : Met) (old new 
   pub seen : has_message kept ≡ is_some (seen_by row met)
   pub message : IfSome (message_in kept) (λ message. seen_by row met ≡ Some message)
   pub errors : IfError done.handed (message_in kept ≡ seen_by row met)
+  pub held : IfLook row (hold_none done.next ≡ true)
 
 -- a row was passed with what it met, and looked at this; or its inbox is closed, or there was no memory, and it was not passed
 abbrev pub PassesRow : ReplayInput → ℕ → Row → Consumer → Consumer → LinkView → LinkView → Seen → Result Stepped Stop → Type 0
@@ -276,6 +312,7 @@ pub record Looked (inbox : ℕ) (taken : Option Message) (kept : Seen) (done : S
   pub looked : done.looked ≡ is_something kept
   pub seen : kept ≡ unheard_on inbox taken
   pub next : next_rows (read_in kept) done.next ≡ push_rows inbox taken
+  pub held : hold_none done.next ≡ true
 
 abbrev pub LooksInto : Result Stepped Stop → ℕ → Seen → LinkView → LinkView → Type 0
 LooksInto (Ok done) inbox kept before after = (met : Met) × Meets (Reads inbox) met before after × (is_shut met ≡ false) × Looked inbox (message_of met) kept done
@@ -286,10 +323,10 @@ LooksInto (Err stop.OutOfMemory) inbox kept before after = after ≡ before
 abbrev pub AnswersBeat : Message → LinkView → LinkView → Type 0
 AnswersBeat message before after = (met : Met) × Meets (beat_wish (push_kind message) message.reply) met before after
 
--- an inbox was opened for a create, and nothing is held for it
-abbrev pub is_bare : Option OpenedInbox → Bool
-is_bare None = false
-is_bare (Some opened) = length opened.held == 0
+-- where push has opened an inbox, its heartbeat is armed next
+abbrev pub arming : Option Held → NextTasks
+arming None = next.Nothing
+arming (Some held) = next.One tasks.Arm
 
 -- ---- what pull reads
 

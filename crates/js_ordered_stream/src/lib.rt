@@ -10,8 +10,10 @@
 mod answer;
 mod error;
 mod inbox;
+mod later_row;
 mod listening;
 mod ordered;
+mod polled;
 pub mod pull;
 pub mod push;
 mod reading;

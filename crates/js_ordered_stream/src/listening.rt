@@ -15,10 +15,8 @@ use crate::rows::{RowItem, Stepped, Stop, ask_for, followed_by, passed_over, ste
 use bytes::Bytes;
 use js_base::{Message, OutOfMemory, TryClone, replace_with};
 use js_link::{InboxId, Link, Taken, Wish};
-use js_ordered_table::transitions::push::{
-    arrival_next, heard_as, listen, pass_hear, pass_silence,
-};
-use js_ordered_table::transitions::{Heard, NextTasks};
+use js_ordered_table::transitions::push::{heard_as, listen, pass_hear, pass_silence};
+use js_ordered_table::transitions::{Heard, NextTasks, Task};
 use js_ordered_table::{Consumer, ConsumerContext, Phase};
 use std::alloc::Global;
 
@@ -31,7 +29,7 @@ fn look_into<L: Link>(link: &mut L, inbox: u64, seen: &mut Seen) -> Result<Stepp
 {
     match link.take(InboxId(inbox)) {
         Taken::Closed => Err(Stop::Closed),
-        Taken::Empty => Ok(followed_by(arrival_next(inbox, false))),
+        Taken::Empty => Ok(followed_by(NextTasks::One(Task::CheckSilence))),
         Taken::Message(message) => {
             let taken = Seen::Message {
                 unheard: Some(inbox),
@@ -41,7 +39,7 @@ fn look_into<L: Link>(link: &mut L, inbox: u64, seen: &mut Seen) -> Result<Stepp
             Ok(Stepped {
                 handed: RowItem::Nothing,
                 looked: true,
-                next: arrival_next(inbox, true),
+                next: NextTasks::One(Task::Hear { inbox }),
             })
         }
     }

@@ -3,7 +3,8 @@ ghost use Rattle.std.specs.Prelude.{◌≡◌, ◌<◌, ◌^◌, ◌||◌, ◌&&
 ghost use Rattle.js_link.specs.Meets.{Meets};
 ghost use Rattle.js_ordered_table.specs.Tasks.{next_rows};
 ghost use Rattle.js_ordered_stream.specs.Inbox.{ClosesInbox, inbox_of};
-ghost use Rattle.js_ordered_stream.specs.Rows.{FirstStands, Fits, has_message, kept_if, later_of, left_rows, message_in, read_in, seen_after};
+ghost use Rattle.js_ordered_stream.specs.Polled.{IsSteady, is_plain, is_turn};
+ghost use Rattle.js_ordered_stream.specs.Rows.{has_message, hold_none, kept_if, later_of, left_rows, message_in, read_in, seen_after};
 ghost use Rattle.js_ordered_stream.specs.Ordered.{IsGivenKind, PassesFirst, PollsWithSource, ComesTo, SleepsUntil, error_kind, first_at, given_to, handing, is_spent as has_no_sequence, poll_answer, position_of, silent_by, something_due, source_by, outcome_by, with_retries};
 ghost use Rattle.js_base.specs.Clock.{has_come};
 ghost use Rattle.js_base.specs.Error.{kind_of, source_of};
@@ -13,9 +14,8 @@ ghost use Rattle.js_ordered_table.specs.Poll.{IsPoll, closed_at, is_reading as r
 
 use crate::error::{OrderedError, error_of, limit_error, sequence_end};
 use crate::inbox::{close_inbox, inbox_of};
-use crate::remaining_rows::{First, RemainingRows, Seen, TaskQueue};
+use crate::remaining_rows::{RemainingRows, Seen, TaskQueue};
 use crate::rows::{RowItem, Stepped, Stop, begin, pass};
-use crate::standing::drop_idle;
 use crate::wakes::wakes_at;
 use js_base::{Boxed, Message, Moment, Next, OutOfMemory, State, Text, replace_with};
 use js_json::consumer::Info;
@@ -160,14 +160,14 @@ fn pass_first<L: Link>(
     todo: &TaskQueue,
     seen: &mut Seen,
 ) -> Result<Stepped, Stop>
-    requires { FirstStands (read_in seen.old) todo.now }
+    requires { IsSteady context.now.setup.now consumer.old (record { todo = todo.now; seen = seen.old }) }
     ensures passes { PassesFirst (input_of context.now) context.now.moment (record { todo = todo.now; seen = seen.old }) consumer.old consumer.new (L.view link.old) (L.view link.new) (seen_after result seen.new) result }
     ensures kept { OnErr result (seen.new ≡ seen.old) }
 {
-    match todo.first() {
-        First::Rests => begin(context, link, consumer),
-        First::Next(task) => pass(alloc, context, link, consumer, task, seen),
-        First::Blocked => Err(Stop::OutOfMemory),
+    match todo {
+        TaskQueue::Nothing => begin(context, link, consumer),
+        TaskQueue::One(task) => pass(alloc, context, link, consumer, task, seen),
+        TaskQueue::Two(task, _) => pass(alloc, context, link, consumer, task, seen),
     }
 }
 
@@ -190,7 +190,9 @@ impl Ordered {
         link: &mut L,
         now: Moment,
     ) -> Next<Result<Message, OrderedError>>
+        requires { IsSteady (given_to self.old).setup self.old.consumer self.old.left }
         ensures given { given_to self.new ≡ given_to self.old }
+        ensures steady { IsSteady (given_to self.new).setup self.new.consumer self.new.left }
         ensures polls { IsPoll (given_to self.old) Meets now (position_of self.old) (position_of self.new) (L.view link.old) (L.view link.new) (poll_answer result) }
         ensures sources { PollsWithSource (given_to self.old) now (position_of self.old) (position_of self.new) (L.view link.old) (L.view link.new) result }
         ensures kinds { IsGivenKind result }
@@ -203,10 +205,11 @@ impl Ordered {
 
     // When it has something to do by itself.
     pub(crate) fn wakes_at(&self) -> Option<Moment>
+        requires { IsSteady (given_to self.now).setup self.now.consumer self.now.left }
         ensures value { (now : ℕ) → now < 2 ^ 64 → has_come result now ≡ something_due now (position_of self.now) }
         ensures sleeps { SleepsUntil (given_to self.now) result (position_of self.now) }
     {
-        wakes_at(&self.consumer, &self.left)
+        wakes_at(&self.consumer, &self.left.todo)
     }
 
     // The inbox that is open for it.
@@ -225,22 +228,23 @@ impl Ordered {
         close_inbox(link, inbox);
     }
 
-    // Passes row after row, up to the first that hands something out.
-    //
-    // A poll has fewer rows than a `u64` counts: memory ends long before.
+    // Passes row after row, up to the first that hands something out. It ends: a turn that is not quiet has taken one of the messages that
+    // lie there, or has started a reader, whose inbox is empty.
     fn walk<L: Link>(
         &mut self,
         alloc: Global,
         link: &mut L,
         now: Moment,
     ) -> Next<Result<Message, OrderedError>>
-        requires { has_ended self.old.consumer.phase ≡ false }
+        requires over { has_ended self.old.consumer.phase ≡ false }
+        requires steady { IsSteady (given_to self.old).setup self.old.consumer self.old.left }
         ensures given { given_to self.new ≡ given_to self.old }
+        ensures steady { IsSteady (given_to self.new).setup self.new.consumer self.new.left }
         ensures sources { PollsWithSource (given_to self.old) now (position_of self.old) (position_of self.new) (L.view link.old) (L.view link.new) result }
         ensures kinds { IsGivenKind result }
     {
         let mut quiet = false;
-        'rows: for _ in 0..u64::MAX {
+        'rows: loop {
             let begins = self.left.todo.is_empty();
             if may_wait(begins, quiet) {
                 return Next::Pending;
@@ -254,13 +258,14 @@ impl Ordered {
                 RowOutcome::OutOfMemory => return Next::OutOfMemory,
             }
         }
-        Next::OutOfMemory
     }
 
     // The message that was taken is handed out.
     fn hand_out(&mut self) -> Next<Result<Message, OrderedError>>
-        requires { is_some (message_in self.old.left.seen) ≡ true }
+        requires message { is_some (message_in self.old.left.seen) ≡ true }
+        requires steady { IsSteady (given_to self.old).setup self.old.consumer self.old.left }
         ensures given { given_to self.new ≡ given_to self.old }
+        ensures steady { IsSteady (given_to self.new).setup self.new.consumer self.new.left }
         ensures place { position_of self.new ≡ position_of self.old }
         ensures answer { result ≡ handing (message_in self.old.left.seen) }
         ensures kinds { IsGivenKind result }
@@ -273,7 +278,9 @@ impl Ordered {
 
     // The error that the last row told of. The message that told of a limit lies in its place still.
     fn tell(&mut self, kind: ItemKind) -> OrderedError
+        requires { IsSteady (given_to self.old).setup self.old.consumer self.old.left }
         ensures given { given_to self.new ≡ given_to self.old }
+        ensures steady { IsSteady (given_to self.new).setup self.new.consumer self.new.left }
         ensures place { position_of self.new ≡ position_of self.old }
         ensures tells { kind_of result ≡ error_kind kind }
         ensures source { source_of result ≡ source_by (error_kind kind) (message_in self.old.left.seen) }
@@ -295,7 +302,7 @@ impl Ordered {
         link: &mut L,
         now: Moment,
     ) -> Result<Stepped, Stop>
-        requires { FirstStands (read_in self.old.left.seen) self.old.left.todo }
+        requires { IsSteady (given_to self.old).setup self.old.consumer self.old.left }
         ensures given { given_to self.new ≡ given_to self.old }
         ensures todo { self.new.left.todo ≡ self.old.left.todo }
         ensures kept { OnErr result (self.new.left ≡ self.old.left) }
@@ -321,6 +328,7 @@ impl Ordered {
     // A closed inbox ends the stream.
     fn close(&mut self)
         ensures given { given_to self.new ≡ given_to self.old }
+        ensures steady { IsSteady (given_to self.new).setup self.new.consumer self.new.left }
         ensures place { position_of self.new ≡ closed_at true (position_of self.old) }
     {
         replace_with(&mut self.consumer.phase, Phase::Ended);
@@ -329,11 +337,12 @@ impl Ordered {
 
     // Passes the next row, and keeps what is left then.
     fn pass_next<L: Link>(&mut self, alloc: Global, link: &mut L, now: Moment) -> RowOutcome
+        requires { IsSteady (given_to self.old).setup self.old.consumer self.old.left }
         ensures given { given_to self.new ≡ given_to self.old }
+        ensures steady { IsSteady (given_to self.new).setup self.new.consumer self.new.left }
         ensures turns { ComesTo result (message_in self.new.left.seen) (given_to self.old) now (position_of self.old) (position_of self.new) (L.view link.old) (L.view link.new) }
     {
         let was_reading = is_reading(&self.consumer.phase);
-        drop_idle(&mut self.left);
         match self.pass_over(alloc, link, now) {
             Ok(done) => self.settle(done, was_reading),
             Err(Stop::Closed) => {
@@ -346,11 +355,14 @@ impl Ordered {
 
     // Keeps what is left after a row. A message that is to be handed out stays in its place.
     fn settle(&mut self, done: Stepped, was_reading: bool) -> RowOutcome
-        requires { Fits self.old.left.todo }
+        requires plain { is_plain (given_to self.old).setup self.old.consumer.phase ≡ true }
+        requires turn { is_turn (given_to self.old).setup (next_rows (read_in (kept_if done.looked self.old.left.seen)) done.next ++ later_of self.old.left.todo) ≡ true }
+        requires held { hold_none done.next ≡ true }
         ensures given { given_to self.new ≡ given_to self.old }
+        ensures steady { IsSteady (given_to self.new).setup self.new.consumer self.new.left }
         ensures consumer { self.new.consumer ≡ self.old.consumer }
         ensures seen { self.new.left.seen ≡ kept_if done.looked self.old.left.seen }
-        ensures left { left_rows self.new.left ≡ next_rows (read_in (kept_if done.looked self.old.left.seen)) done.next ++ later_of (read_in (kept_if done.looked self.old.left.seen)) self.old.left.todo }
+        ensures left { left_rows self.new.left ≡ next_rows (read_in (kept_if done.looked self.old.left.seen)) done.next ++ later_of self.old.left.todo }
         ensures turned { result ≡ outcome_by done.handed (message_in (kept_if done.looked self.old.left.seen)) (has_message (kept_if done.looked self.old.left.seen) || (not was_reading && reads_inbox self.old.consumer.phase)) (has_no_sequence self.old.consumer.phase) }
     {
         let Stepped {

@@ -12,6 +12,7 @@ ghost use Rattle.js_ordered_table.specs.Timers.{SleepsIfLeftAlone};
 
 use crate::error::OrderedError;
 use crate::ordered;
+use crate::polled::Polled;
 use crate::remaining_rows::RemainingRows;
 use js_base::{Message, Moment, Next, OutOfMemory, Subject, TryClone, replace_with};
 use js_json::consumer::Info;
@@ -27,7 +28,7 @@ use std::alloc::Global;
 #[derive(Drop)]
 #[must_use = "messages come by polls"]
 pub struct Ordered {
-    polled: ordered::Ordered,
+    polled: Polled,
 }
 
 // Whom the reader of the first consumer asks, but for its inbox.
@@ -107,7 +108,7 @@ impl Ordered {
                 Err(refused)
             }
             Ok(consumer) => Ok(Ordered {
-                polled: ordered::Ordered::new(given, consumer, RemainingRows::opening()),
+                polled: Polled::new(given, consumer, RemainingRows::opening()),
             }),
         }
     }

@@ -10,6 +10,7 @@ ghost use Rattle.js_ordered_table.specs.Timers.{SleepsIfLeftAlone};
 
 use crate::error::OrderedError;
 use crate::ordered;
+use crate::polled::Polled;
 use crate::remaining_rows::RemainingRows;
 use js_base::{Message, Moment, Next, OutOfMemory, TryClone};
 use js_json::consumer::Info;
@@ -61,7 +62,7 @@ impl From<OutOfMemory> for OpenError {
 #[derive(Drop)]
 #[must_use = "messages come by polls"]
 pub struct Ordered {
-    polled: ordered::Ordered,
+    polled: Polled,
 }
 
 // Subscribes to what the consumer delivers to.
@@ -138,7 +139,7 @@ impl Ordered {
                 Err(refused)
             }
             Ok(consumer) => Ok(Ordered {
-                polled: ordered::Ordered::new(given, consumer, RemainingRows::arming()),
+                polled: Polled::new(given, consumer, RemainingRows::arming()),
             }),
         }
     }

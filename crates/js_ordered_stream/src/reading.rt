@@ -3,6 +3,7 @@ ghost use Rattle.std.specs.Prelude.{◌≡◌, ◌≢◌, IfOk, None, OnErr, Opt
 ghost use Rattle.js_base.specs.declared.message.Message.{Message as SpecMessage};
 ghost use Rattle.js_link.specs.LinkView.{LinkView};
 ghost use Rattle.js_ordered_table.specs.Tasks.{reader_rows};
+ghost use Rattle.js_ordered_stream.specs.Polled.{is_plain};
 ghost use Rattle.js_ordered_stream.specs.Rows.{AsksNothing, IsReadMet, MeetsReader, PassesRow, TakesIn, answer_in, handed_by_heard, message_in, seen_after};
 ghost use Rattle.js_link.specs.declared.wish.Met.TheVariants.{Unasked};
 ghost use Rattle.js_pull.specs.Passes.{publishing};
@@ -223,6 +224,7 @@ fn pass_arrival<L: Link>(
     consumer: &mut Consumer,
     seen: &mut Seen,
 ) -> Result<Stepped, Stop>
+    requires { is_plain context.now.setup.now consumer.old.phase ≡ true }
     ensures passes { PassesRow (input_of context.now) context.now.moment (row.Read read.CheckArrival) consumer.old consumer.new (L.view link.old) (L.view link.new) (seen_after result seen.new) result }
     ensures kept { OnErr result (seen.new ≡ seen.old) }
 {
@@ -230,9 +232,6 @@ fn pass_arrival<L: Link>(
         return Ok(passed_over());
     };
     // No ordered reader is pinned: an arrival brings no pin, for which memory would be needed.
-    if reader.source.pinned {
-        return Err(Stop::OutOfMemory);
-    }
     match link.take(InboxId(reader.source.inbox)) {
         Taken::Closed => Err(Stop::Closed),
         Taken::Empty => {
@@ -303,6 +302,7 @@ pub(crate) fn pass_read<L: Link>(
     due: Due,
     seen: &mut Seen,
 ) -> Result<Stepped, Stop>
+    requires { is_plain context.now.setup.now consumer.old.phase ≡ true }
     ensures passes { PassesRow (input_of context.now) context.now.moment (row.Read (row_of (brought (answer_in seen.old)) due)) consumer.old consumer.new (L.view link.old) (L.view link.new) (seen_after result seen.new) result }
     ensures kept { OnErr result (seen.new ≡ seen.old) }
 {

@@ -5,6 +5,7 @@ ghost use Rattle.js_link.specs.LinkView.{LinkView};
 ghost use Rattle.js_link.specs.Wish.{GoesAs};
 ghost use Rattle.js_link.specs.declared.wish.Wish.TheVariants.{Requests};
 ghost use Rattle.js_ordered_table.specs.Tasks.{rows_of};
+ghost use Rattle.js_ordered_stream.specs.Polled.{is_bare, is_plain};
 ghost use Rattle.js_ordered_stream.specs.Rows.{IsTry, PassesRow, PassesRows, answer_in, is_left, read_in, replied, seen_after};
 ghost use Rattle.js_pull.specs.Reader.{reply_to};
 ghost use Rattle.js_ordered_table.specs.Invariant.{IsPush};
@@ -339,6 +340,7 @@ fn pass_recreating<L: Link>(
 ) -> Result<Stepped, Stop>
     requires task { IsTry task.now }
     requires stands { is_left (rows_of (read_in seen.old) task.now) ≡ true }
+    requires bare { is_bare context.now.setup.now recreation.opened ≡ true }
     ensures passes { PassesRows (input_of context.now) context.now.moment (rows_of (read_in seen.old) task.now) (record consumer.old { phase = Phase.Recreates recreation }) consumer.new (L.view link.old) (L.view link.new) (seen_after result seen.new) result }
     ensures kept { OnErr result (seen.new ≡ seen.old) }
 {
@@ -375,6 +377,7 @@ pub(crate) fn pass_open<L: Link>(
 ) -> Result<Stepped, Stop>
     requires task { IsTry task.now }
     requires stands { is_left (rows_of (read_in seen.old) task.now) ≡ true }
+    requires plain { is_plain context.now.setup.now consumer.old.phase ≡ true }
     ensures passes { PassesRows (input_of context.now) context.now.moment (rows_of (read_in seen.old) task.now) consumer.old consumer.new (L.view link.old) (L.view link.new) (seen_after result seen.new) result }
     ensures kept { OnErr result (seen.new ≡ seen.old) }
 {

@@ -1,13 +1,15 @@
 //! The rows that are left of a turn, and what the last row has looked at.
 ghost use Rattle.std.specs.Option.{option_copied};
-ghost use Rattle.std.specs.Prelude.{◌≡◌, ◌++◌, ◌∷◌, [], is_some, map};
+ghost use Rattle.std.specs.Prelude.{◌≡◌, ◌++◌, ◌∷◌, [], false, is_some, map, true};
 ghost use Rattle.js_ordered_table.specs.Tasks.{next_rows, rows_of};
-ghost use Rattle.js_ordered_stream.specs.Rows.{FirstOf, Fits, IsPlain, ReadsNone, answer_in, arrival_in, has_message, is_rested, is_something as has_seen, kept_if, later_list, later_of, left_rows, message_in, read_in, seen_met, todo_rows};
+ghost use Rattle.js_ordered_stream.specs.Rows.{FirstStands, answer_in, arrival_in, has_message, hold_none, holds_none, is_first_held, is_held, is_left, is_rested, is_short, is_something as has_seen, kept_if, later_of, left_rows, message_in, read_in, seen_met, todo_rows};
 ghost use Rattle.js_ordered_table.specs.Recreation.{message_on};
 ghost use Rattle.js_pull.specs.Reader.{opening, reply_to};
 ghost use Rattle.js_ordered_table.specs.Consumer.{Matter};
 ghost use Rattle.js_ordered_table.specs.declared.row.Row.TheVariants as row;
 
+use crate::later_row::{LaterRow, task_of, waiting_row};
+use crate::standing::stands;
 use js_base::{Message, replace_with};
 use js_link::Met;
 use js_ordered_table::transitions::{NextTasks, Task};
@@ -36,13 +38,12 @@ pub(crate) enum Seen {
     },
 }
 
-/// The rows that are left, in order.
+/// The rows that are left, in order. Each task stands for a row.
 #[derive(Drop)]
 pub(crate) enum TaskQueue {
     Nothing,
     One(Task),
-    Two(Task, Task),
-    Three(Task, Task, Task),
+    Two(Task, LaterRow),
 }
 
 /// The rows that are left of a turn, with what the last row has looked at.
@@ -50,69 +51,6 @@ pub(crate) enum TaskQueue {
 pub(crate) struct RemainingRows {
     pub todo: TaskQueue,
     pub seen: Seen,
-}
-
-/// The row that comes next.
-#[derive(Clone, Copy)]
-pub(crate) enum First<'a> {
-    /// Nothing is left.
-    Rests,
-    Next(&'a Task),
-    /// No consumer comes to this.
-    Blocked,
-}
-
-// A row of a reader reads no answer.
-fn is_plain_read(due: Due) -> bool
-    ensures { ReadsNone due result }
-{
-    match due {
-        Due::Answered { .. } => false,
-        Due::Ask { .. } => true,
-        Due::Threshold => true,
-        Due::Arm => true,
-        Due::Inquire { .. } => true,
-        Due::FailInfoRequest { .. } => true,
-        Due::CheckInfoRequest => true,
-        Due::CheckExpiry => true,
-        Due::CheckArrival => true,
-        Due::CheckSilence => true,
-    }
-}
-
-// A row reads no answer.
-#[tactic(auto, using(std::proofs::lemmas::Grind::common_steps, crate::proofs::NextRow::read_plain))]
-fn is_plain(task: &Task) -> bool
-    ensures { IsPlain task.now result }
-{
-    match task {
-        Task::Answered { .. } => false,
-        Task::Hear { .. } => false,
-        Task::Read(due) => is_plain_read(*due),
-        Task::Event => true,
-        Task::Start => true,
-        Task::Try => true,
-        Task::Create => true,
-        Task::Ask => true,
-        Task::Await => true,
-        Task::Hold => true,
-        Task::Succeed(_) => true,
-        Task::Fail => true,
-        Task::CheckArrival => true,
-        Task::HearHeld(_) => true,
-        Task::CheckSilence => true,
-        Task::Arm => true,
-    }
-}
-
-// Two rows come first, and then one that was left.
-fn before(one: Task, second: Task, later: Option<Task>) -> TaskQueue
-    ensures { (m : Matter) → todo_rows m result ≡ next_rows m (NextTasks.Two one second) ++ later_list m later }
-{
-    match later {
-        None => TaskQueue::Two(one, second),
-        Some(later) => TaskQueue::Three(one, second, later),
-    }
 }
 
 // What was met, where an answer is one to this request.
@@ -237,84 +175,98 @@ impl TaskQueue {
             TaskQueue::Nothing => true,
             TaskQueue::One(_) => false,
             TaskQueue::Two(_, _) => false,
-            TaskQueue::Three(_, _, _) => false,
-        }
-    }
-
-    pub(crate) fn first(&self) -> First<'_>
-        ensures { FirstOf result self.now }
-    {
-        match self {
-            TaskQueue::Nothing => First::Rests,
-            TaskQueue::One(task) => First::Next(task),
-            TaskQueue::Two(task, later) => {
-                if is_plain(later) {
-                    First::Next(task)
-                } else {
-                    First::Blocked
-                }
-            }
-            TaskQueue::Three(_, _, _) => First::Blocked,
-        }
-    }
-
-    // What is left after the next row.
-    fn take_later(&mut self) -> Option<Task>
-        requires { Fits self.old }
-        ensures later { (m : Matter) → later_list m result ≡ later_of m self.old }
-        ensures rest { self.new ≡ TaskQueue.Nothing }
-    {
-        match mem::replace(self, TaskQueue::Nothing) {
-            TaskQueue::Nothing => None,
-            TaskQueue::One(passed) => {
-                drop(passed);
-                None
-            }
-            TaskQueue::Two(passed, later) => {
-                drop(passed);
-                Some(later)
-            }
-            todo => {
-                drop(todo);
-                None
-            }
         }
     }
 
     // The next row was passed, and none follows it at once.
     fn advance(&mut self)
-        requires { Fits self.old }
-        ensures { (m : Matter) → todo_rows m self.new ≡ later_of m self.old }
+        ensures rows { (m : Matter) → todo_rows m self.new ≡ later_of self.old }
+        ensures stands { (m : Matter) → FirstStands m self.new }
+        ensures held { is_first_held self.new ≡ false }
     {
-        if let Some(later) = self.take_later() {
-            replace_with(self, TaskQueue::One(later));
-        }
+        let rest = match self {
+            TaskQueue::Two(_, later) => TaskQueue::One(task_of(*later)),
+            TaskQueue::One(_) => TaskQueue::Nothing,
+            TaskQueue::Nothing => TaskQueue::Nothing,
+        };
+        replace_with(self, rest);
     }
 
     // The next row was passed: this one takes its place.
     fn replace_first(&mut self, next: Task)
-        requires { Fits self.old }
-        ensures { (m : Matter) → todo_rows m self.new ≡ rows_of m next ++ later_of m self.old }
+        requires { is_held next ≡ false }
+        ensures rows { (m : Matter) → todo_rows m self.new ≡ rows_of m next ++ later_of self.old }
+        ensures stands { (m : Matter) → is_left (rows_of m next) ≡ true → FirstStands m self.new }
+        ensures held { is_first_held self.new ≡ false }
     {
         match self {
             TaskQueue::One(passed) => replace_with(passed, next),
             TaskQueue::Two(passed, _) => replace_with(passed, next),
-            _ => replace_with(self, TaskQueue::One(next)),
+            TaskQueue::Nothing => replace_with(self, TaskQueue::One(next)),
+        }
+    }
+
+    // The next row was passed: this task follows at once, where it stands for a row.
+    fn follow_one(&mut self, one: Task, seen: &Seen)
+        requires { holds_none one ≡ true }
+        ensures rows { todo_rows (read_in seen.now) self.new ≡ rows_of (read_in seen.now) one ++ later_of self.old }
+        ensures stands { FirstStands (read_in seen.now) self.new }
+        ensures held { is_first_held self.new ≡ false }
+    {
+        if stands(&one, seen) {
+            self.replace_first(one);
+        } else {
+            drop(one);
+            self.advance();
+        }
+    }
+
+    // The next row was passed: the first of two tasks that follow stands for a row, and the second for one that waits, or for none.
+    fn follow_both(&mut self, one: Task, second: Task, seen: &Seen)
+        requires stands { is_left (rows_of (read_in seen.now) one) ≡ true }
+        requires short { is_short ((rows_of (read_in seen.now) one ++ rows_of (read_in seen.now) second) ++ later_of self.old) ≡ true }
+        requires held { is_held one ≡ false }
+        ensures rows { todo_rows (read_in seen.now) self.new ≡ (rows_of (read_in seen.now) one ++ rows_of (read_in seen.now) second) ++ later_of self.old }
+        ensures stands { FirstStands (read_in seen.now) self.new }
+        ensures held { is_first_held self.new ≡ false }
+    {
+        let waits = waiting_row(&second);
+        drop(second);
+        match waits {
+            None => self.replace_first(one),
+            Some(later) => replace_with(self, TaskQueue::Two(one, later)),
+        }
+    }
+
+    // The next row was passed: two tasks follow at once.
+    fn follow_two(&mut self, one: Task, second: Task, seen: &Seen)
+        requires short { is_short ((rows_of (read_in seen.now) one ++ rows_of (read_in seen.now) second) ++ later_of self.old) ≡ true }
+        requires first { holds_none one ≡ true }
+        requires second { holds_none second ≡ true }
+        ensures rows { todo_rows (read_in seen.now) self.new ≡ (rows_of (read_in seen.now) one ++ rows_of (read_in seen.now) second) ++ later_of self.old }
+        ensures stands { FirstStands (read_in seen.now) self.new }
+        ensures held { is_first_held self.new ≡ false }
+    {
+        if stands(&one, seen) {
+            self.follow_both(one, second, seen);
+        } else {
+            drop(one);
+            self.follow_one(second, seen);
         }
     }
 
     // The next row was passed: what follows it at once takes its place.
-    fn follow(&mut self, next: NextTasks)
-        requires { Fits self.old }
-        ensures { (m : Matter) → todo_rows m self.new ≡ next_rows m next ++ later_of m self.old }
+    fn follow(&mut self, next: NextTasks, seen: &Seen)
+        requires short { is_short (next_rows (read_in seen.now) next ++ later_of self.old) ≡ true }
+        requires held { hold_none next ≡ true }
+        ensures rows { todo_rows (read_in seen.now) self.new ≡ next_rows (read_in seen.now) next ++ later_of self.old }
+        ensures stands { FirstStands (read_in seen.now) self.new }
+        ensures held { is_first_held self.new ≡ false }
     {
         match next {
             NextTasks::Nothing => self.advance(),
-            NextTasks::One(one) => self.replace_first(one),
-            NextTasks::Two(one, second) => {
-                let later = self.take_later();
-                replace_with(self, before(one, second, later));
-            }
+            NextTasks::One(one) => self.follow_one(one, seen),
+            NextTasks::Two(one, second) => self.follow_two(one, second, seen),
         }
     }
 }
@@ -322,17 +274,21 @@ impl TaskQueue {
 impl RemainingRows {
     // The rows of a pull reader's opening.
     pub(crate) fn opening() -> RemainingRows
-        ensures { left_rows result ≡ map row.Read opening }
+        ensures rows { left_rows result ≡ map row.Read opening }
+        ensures stands { FirstStands (read_in result.seen) result.todo }
+        ensures held { is_first_held result.todo ≡ false }
     {
         RemainingRows {
-            todo: TaskQueue::Two(Task::Read(Due::Threshold), Task::Read(Due::Arm)),
+            todo: TaskQueue::Two(Task::Read(Due::Threshold), LaterRow::Arm),
             seen: Seen::Nothing,
         }
     }
 
     // Push begins by arming its heartbeat.
     pub(crate) fn arming() -> RemainingRows
-        ensures { left_rows result ≡ row.Arm ∷ [] }
+        ensures rows { left_rows result ≡ row.Arm ∷ [] }
+        ensures stands { FirstStands (read_in result.seen) result.todo }
+        ensures held { is_first_held result.todo ≡ false }
     {
         RemainingRows {
             todo: TaskQueue::One(Task::Arm),
@@ -342,25 +298,31 @@ impl RemainingRows {
 
     // The next row was passed, which has looked at something or at nothing: what follows it at once takes its place.
     pub(crate) fn follow(&mut self, next: NextTasks, looked: bool)
-        requires { Fits self.old.todo }
+        requires short { is_short (next_rows (read_in (kept_if looked self.old.seen)) next ++ later_of self.old.todo) ≡ true }
+        requires held { hold_none next ≡ true }
         ensures seen { self.new.seen ≡ kept_if looked self.old.seen }
-        ensures rows { left_rows self.new ≡ next_rows (read_in (kept_if looked self.old.seen)) next ++ later_of (read_in (kept_if looked self.old.seen)) self.old.todo }
+        ensures rows { left_rows self.new ≡ next_rows (read_in (kept_if looked self.old.seen)) next ++ later_of self.old.todo }
+        ensures stands { FirstStands (read_in self.new.seen) self.new.todo }
+        ensures held { is_first_held self.new.todo ≡ false }
     {
-        self.todo.follow(next);
         self.seen.keep_if(looked);
+        self.todo.follow(next, &self.seen);
     }
 
     // The message that no row has still to hear is taken out.
     pub(crate) fn take_message(&mut self) -> Option<Message>
         ensures message { result ≡ message_in self.old.seen }
         ensures rows { left_rows self.new ≡ left_rows self.old }
+        ensures read { read_in self.new.seen ≡ read_in self.old.seen }
+        ensures todo { self.new.todo ≡ self.old.todo }
     {
         self.seen.take_message()
     }
 
     // The rows that are left are let go.
     pub(crate) fn clear(&mut self)
-        ensures { left_rows self.new ≡ [] }
+        ensures rows { left_rows self.new ≡ [] }
+        ensures todo { self.new.todo ≡ TaskQueue.Nothing }
     {
         replace_with(&mut self.todo, TaskQueue::Nothing);
     }

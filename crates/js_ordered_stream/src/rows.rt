@@ -4,7 +4,8 @@
 ghost use Rattle.std.specs.Prelude.{◌≡◌, IfOk, OnErr, Option, false, true};
 ghost use Rattle.js_base.specs.declared.message.Message.{Message as SpecMessage};
 ghost use Rattle.js_ordered_table.specs.Tasks.{rows_of, told_outputs};
-ghost use Rattle.js_ordered_stream.specs.Rows.{PassesRow, PassesRows, handed_list, is_left, read_in, seen_after};
+ghost use Rattle.js_ordered_stream.specs.Polled.{is_plain};
+ghost use Rattle.js_ordered_stream.specs.Rows.{PassesRow, PassesRows, handed_list, is_held, is_left, read_in, seen_after};
 ghost use Rattle.js_ordered_table.specs.Passes.{change_shown, input_of};
 ghost use Rattle.js_ordered_table.specs.declared.row.Row.TheVariants as row;
 ghost use Rattle.js_ordered_table.specs.Walk.{handed};
@@ -152,7 +153,9 @@ pub(crate) fn pass<L: Link>(
     task: &Task,
     seen: &mut Seen,
 ) -> Result<Stepped, Stop>
-    requires { is_left (rows_of (read_in seen.old) task.now) ≡ true }
+    requires stands { is_left (rows_of (read_in seen.old) task.now) ≡ true }
+    requires held { is_held task.now ≡ false }
+    requires plain { is_plain context.now.setup.now consumer.old.phase ≡ true }
     ensures passes { PassesRows (input_of context.now) context.now.moment (rows_of (read_in seen.old) task.now) consumer.old consumer.new (L.view link.old) (L.view link.new) (seen_after result seen.new) result }
     ensures kept { OnErr result (seen.new ≡ seen.old) }
 {
@@ -174,6 +177,6 @@ pub(crate) fn pass<L: Link>(
         // What comes for the inbox of a create lies in the link, up to a later turn.
         Task::Hold => Ok(followed_by(NextTasks::Nothing)),
         // So nothing is ever held.
-        Task::HearHeld(_) => Err(Stop::OutOfMemory),
+        Task::HearHeld(_) => unreachable!(),
     }
 }

@@ -1,10 +1,11 @@
 //! A recreation that succeeded: its consumer reads another inbox.
-ghost use Rattle.std.specs.Prelude.{◌≡◌, [], IfOk, OnErr};
+ghost use Rattle.std.specs.Prelude.{◌≡◌, [], IfOk, OnErr, true};
 ghost use Rattle.js_json.specs.declared.consumer.info.Info.{Info as SpecInfo};
 ghost use Rattle.js_link.specs.LinkView.{LinkView};
 ghost use Rattle.js_link.specs.Meets.{Meets};
 ghost use Rattle.js_link.specs.declared.wish.Wish.TheVariants.{OpensInbox};
-ghost use Rattle.js_ordered_stream.specs.Rows.{PassesRow, inbox_in, is_bare as holds_nothing};
+ghost use Rattle.js_ordered_stream.specs.Polled.{is_bare};
+ghost use Rattle.js_ordered_stream.specs.Rows.{PassesRow, arming, inbox_in};
 ghost use Rattle.js_ordered_table.specs.Invariant.{IsPull, IsPush};
 ghost use Rattle.js_ordered_table.specs.Passes.{input_of};
 ghost use Rattle.js_ordered_table.specs.Texts as texts_of;
@@ -18,8 +19,8 @@ use js_base::OutOfMemory;
 use js_json::consumer::Info;
 use js_link::{Link, Met, Wish};
 use js_ordered_table::transitions::recreation::{pass_succeed_pull, pass_succeed_push};
-use js_ordered_table::transitions::{Inbox, NextTasks, Task};
-use js_ordered_table::{Consumer, ConsumerContext, Opened, OrderedSetup, Recreation, texts};
+use js_ordered_table::transitions::{Held, Inbox, NextTasks, Task};
+use js_ordered_table::{Consumer, ConsumerContext, OrderedSetup, Recreation, texts};
 use js_pull::PullSource;
 use std::alloc::Global;
 
@@ -77,6 +78,7 @@ pub(crate) fn succeed<L: Link>(
     recreation: Recreation,
     info: &Info,
 ) -> Result<Stepped, Stop>
+    requires { is_bare context.now.setup.now recreation.opened ≡ true }
     ensures { PassesRow (input_of context.now) context.now.moment (row.Succeed info.now) (record consumer.old { phase = Phase.Recreates recreation }) consumer.new (L.view link.old) (L.view link.new) Seen.Nothing result }
 {
     match context.setup {
@@ -110,13 +112,16 @@ fn succeed_pull<L: Link>(
     }
 }
 
-// Nothing is held for the inbox that was opened for a create.
-fn is_bare(opened: &Option<Opened>) -> bool
-    ensures { result ≡ holds_nothing opened.now }
+// Where push has opened an inbox, its heartbeat is armed next: a poll holds nothing that would be heard before.
+fn armed_after(held: Option<Held>) -> NextTasks
+    ensures { result ≡ arming held }
 {
-    match opened {
-        None => false,
-        Some(opened) => opened.held.is_empty(),
+    match held {
+        None => NextTasks::Nothing,
+        Some(held) => {
+            drop(held);
+            NextTasks::One(Task::Arm)
+        }
     }
 }
 
@@ -127,14 +132,9 @@ fn succeed_push(
     recreation: Recreation,
 ) -> Result<Stepped, Stop>
     requires push { IsPush context.now.setup.now }
+    requires bare { is_bare context.now.setup.now recreation.opened ≡ true }
     ensures { (info : SpecInfo) → (v : LinkView) → PassesRow (input_of context.now) context.now.moment (row.Succeed info) (record consumer.old { phase = Phase.Recreates recreation }) consumer.new v v Seen.Nothing result }
 {
-    // Only a consumer that has opened an inbox comes here, and a poll holds nothing.
-    if !is_bare(&recreation.opened) {
-        keep_open(consumer, recreation);
-        return Err(Stop::OutOfMemory);
-    }
     let held = pass_succeed_push(context, consumer, recreation);
-    drop(held);
-    Ok(followed_by(NextTasks::One(Task::Arm)))
+    Ok(followed_by(armed_after(held)))
 }

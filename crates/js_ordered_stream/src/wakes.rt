@@ -1,15 +1,13 @@
 //! When an ordered stream has something to do by itself.
-ghost use Rattle.std.specs.Prelude.{◌≡◌, ◌<◌, ◌^◌, ◌++◌, ℕ};
+ghost use Rattle.std.specs.Prelude.{◌≡◌, ◌<◌, ◌^◌, ℕ};
 ghost use Rattle.js_base.specs.Clock.{has_come};
 ghost use Rattle.js_ordered_table.specs.Timers.{phase_due, stage_due};
 ghost use Rattle.js_ordered_stream.specs.Ordered.{something_due};
-ghost use Rattle.js_ordered_stream.specs.Rows.{is_left as has_left, left_rows, read_in};
-ghost use Rattle.js_ordered_table.specs.Tasks.{rows_of};
+ghost use Rattle.js_ordered_stream.specs.Rows.{FirstStands, todo_rows};
+ghost use Rattle.js_ordered_table.specs.Consumer.{Matter};
 
-use crate::remaining_rows::{RemainingRows, Seen, TaskQueue};
-use crate::standing::stands;
+use crate::remaining_rows::TaskQueue;
 use js_base::Moment;
-use js_ordered_table::transitions::Task;
 use js_ordered_table::transitions::event::is_over;
 use js_ordered_table::{Consumer, Phase, Stage};
 
@@ -42,39 +40,14 @@ fn phase_end(phase: &Phase) -> Option<Moment>
     }
 }
 
-// One of two tasks stands for a row.
-fn either_stands(one: &Task, second: &Task, seen: &Seen) -> bool
-    ensures { result ≡ has_left (rows_of (read_in seen.now) one.now ++ rows_of (read_in seen.now) second.now) }
-{
-    let first = stands(one, seen);
-    let later = stands(second, seen);
-    first || later
-}
-
-// A row is left.
-fn is_left(left: &RemainingRows) -> bool
-    ensures { result ≡ has_left (left_rows left.now) }
-{
-    match &left.todo {
-        TaskQueue::Nothing => false,
-        TaskQueue::One(one) => stands(one, &left.seen),
-        TaskQueue::Two(one, second) => either_stands(one, second, &left.seen),
-        TaskQueue::Three(one, second, third) => {
-            let first = stands(one, &left.seen);
-            let later = either_stands(second, third, &left.seen);
-            first || later
-        }
-    }
-}
-
 // The first moment at which a consumer has something to do: at once where a row is left. One that has ended has nothing to do.
-pub(crate) fn wakes_at(consumer: &Consumer, left: &RemainingRows) -> Option<Moment>
-    ensures { (now : ℕ) → now < 2 ^ 64 → has_come result now ≡ something_due now (record { consumer = consumer.now; todo = left_rows left.now }) }
+pub(crate) fn wakes_at(consumer: &Consumer, todo: &TaskQueue) -> Option<Moment>
+    ensures { (now : ℕ) → (m : Matter) → now < 2 ^ 64 → FirstStands m todo.now → has_come result now ≡ something_due now (record { consumer = consumer.now; todo = todo_rows m todo.now }) }
 {
     if is_over(&consumer.phase) {
         return None;
     }
-    if is_left(left) {
+    if !todo.is_empty() {
         return Some(0);
     }
     phase_end(&consumer.phase)

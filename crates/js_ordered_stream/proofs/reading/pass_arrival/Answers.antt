@@ -14,6 +14,7 @@ use Rattle.js_ordered_table.specs.Passes.{input_of}
 use Rattle.js_ordered_table.specs.declared.consumer.Phase.TheVariants.{Pulls}
 use Rattle.js_ordered_table.specs.declared.row.Row.TheVariants as row
 use Rattle.js_ordered_stream.proofs.Elsewhere.{reads_nowhere}
+use Rattle.js_ordered_stream.proofs.FollowingRows.{unpinned}
 use Rattle.js_ordered_stream.proofs.ReaderRows.{read_passes}
 use Rattle.js_ordered_stream.proofs.KeptSeen.{passes_blind, row_at_phase}
 use Rattle.js_ordered_stream.proofs.reading.pass_arrival.Goals as goal
@@ -57,3 +58,6 @@ returns-in_default-clause-passes g c =
     let same = c.args.consumer.now in
     let one = read.CheckArrival in
     passes_blind given now (row.Read one) same same v v c.args.seen.now (Ok c.passed_over.result) (reads_nowhere given now one same c.passed_over.result v c.in_default.not-Pulls c.passed_over.ensures)
+
+pub hear_taken-step-requires : goal.hear_taken-step-requires
+hear_taken-step-requires g c = unpinned c.args.context.now.setup.now c.args.consumer.now.phase c.in-Pulls.reader c.in-Pulls.is c.requires

@@ -104,4 +104,4 @@ pub returns-in-Fail-clause-passes : goal.returns-in-Fail-clause-passes
 returns-in-Fail-clause-passes g c = c.pass_open-in-Fail.ensures.passes
 
 pub hear-requires : goal.hear-requires
-hear-requires g c = arrival_met c.args.task.now c.in-Hear.inbox c.args.seen.now c.in-Hear.is c.requires
+hear-requires g c = arrival_met c.args.task.now c.in-Hear.inbox c.args.seen.now c.in-Hear.is c.requires.stands

@@ -1,8 +1,12 @@
-use Rattle.std.proofs.Common.{subst}
+use Rattle.std.proofs.Common.{sym, subst}
+use Rattle.js_ordered_stream.specs.Polled.{IsSteady}
 use Rattle.js_ordered_stream.specs.Rows.{seen_after}
 use Rattle.js_ordered_stream.specs.Ordered.{PassesFirst}
 use Rattle.js_ordered_table.specs.declared.consumer.ReplayInput.{ReplayInput}
 use Rattle.js_ordered_stream.proofs.ordered.Ordered.pass_over.Goals as goal
+
+pub pass_first-requires : goal.pass_first-requires
+pass_first-requires g c = subst (λ (x : ReplayInput). IsSteady x.setup c.args.self.now.consumer c.args.self.now.left) (sym c.get-given.ensures) c.requires
 
 pub returns-clause-passes : goal.returns-clause-passes
 returns-clause-passes g c =
