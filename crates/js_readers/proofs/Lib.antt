@@ -4,4 +4,3 @@ pub mod DefaultLimits
 mod PushPolls
 mod GivenKinds
 mod KeptInboxes
-mod RequestBodies

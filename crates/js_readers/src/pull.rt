@@ -2,6 +2,7 @@
 //!
 //! What is asked for stands in one table, by the builder (`specs/Builder.antt`): what was set, and else the default of the builder's row.
 
+mod advance;
 mod batch;
 mod batch_item;
 mod builder;
@@ -14,6 +15,7 @@ mod sequence;
 mod settings;
 mod stream;
 
+pub use advance::Advance;
 pub use batch::{Batch, batches_keep_their_number, ended_batches_stay_ended};
 pub use batch_item::BatchItemError;
 pub use builder::{BatchBuilder, Builder, FetchBuilder, StreamBuilder};

@@ -3,12 +3,14 @@
 use crate::queue::told::{followed, given, opened};
 use crate::server::Answered;
 use crate::words::{Words, word};
-use js_base::{Moment, OutOfMemory};
+use js_base::{Moment, Next, OutOfMemory};
 use js_call_consumers::{PullConsumer, PushConsumer};
+use js_json::pull::BatchConfig;
 use js_link::MemoryLink;
 use js_message::Message;
 use js_readers::pull::{
-    Batch, BatchBuilder, FetchBuilder, PullCalls, Sequence, Stream, StreamBuilder, StreamError,
+    Advance, Batch, BatchBuilder, FetchBuilder, MessagesError, PullCalls, Sequence, Stream,
+    StreamBuilder, StreamError,
 };
 use js_readers::push::{Messages, PushCalls};
 use std::alloc::Global;
@@ -76,6 +78,19 @@ fn endless(
         .messages(alloc, link)
 }
 
+/// A stream of ten messages a request, opened by the scope and the info of its consumer.
+fn opened_by_info(
+    alloc: Global,
+    consumer: &PullConsumer,
+    link: &mut MemoryLink,
+) -> Result<Stream, StreamError> {
+    let batch = BatchConfig {
+        batch: 10,
+        ..BatchConfig::new()
+    };
+    Stream::open(alloc, link, &consumer.scope, &consumer.info, batch, false)
+}
+
 /// A stream for which everything is set.
 fn set_stream(alloc: Global, consumer: &PullConsumer) -> Result<StreamBuilder<'_>, OutOfMemory> {
     consumer
@@ -137,6 +152,7 @@ impl Reader {
         match verb {
             "messages" => opened(alloc, self, consumer.messages(alloc, link)),
             "endless" => opened(alloc, self, endless(alloc, consumer, link)),
+            "by info" => opened(alloc, self, opened_by_info(alloc, consumer, link)),
             "plain" => opened(alloc, self, consumer.stream().messages(alloc, link)),
             "beating" => {
                 let stream = consumer.stream().heartbeat(10_000_000_000);
@@ -220,6 +236,26 @@ impl Reader {
                 let next = sequence.poll_next(alloc, link, now);
                 followed(alloc, self, next)
             }
+        }
+    }
+
+    /// Runs the next part of an event of a stream. A job that it gives is the last one.
+    pub(crate) fn advance(
+        &mut self,
+        alloc: Global,
+        link: &mut MemoryLink,
+        last: &mut Option<Message>,
+        now: Moment,
+    ) -> Words {
+        let Reader::Stream(stream) = self else {
+            return word(alloc, "no stream");
+        };
+        match stream.advance(alloc, link, now, None) {
+            Advance::Message(job) => given(alloc, last, Next::Item(Ok::<_, MessagesError>(job))),
+            Advance::Item(error) => given(alloc, last, Next::Item(Err(error))),
+            Advance::Closed => word(alloc, "closed"),
+            Advance::Done => word(alloc, "over"),
+            Advance::OutOfMemory => Err(OutOfMemory),
         }
     }
 

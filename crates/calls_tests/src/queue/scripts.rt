@@ -340,6 +340,21 @@ const SILENT: &[Row] = &[
     ("push d.in 0", "refused: failed"),
 ];
 
+/// A stream that is opened by an info and run part by part: its first event asks, each later one hands out a message and is over.
+const PARTS: &[Row] = &[
+    ("advance 0", "no stream"),
+    ("open", "done\n> subscribes to _INBOX.t.0"),
+    (
+        "advance 0",
+        r#"over
+> publishes "{"batch":10,"group":null,"max_bytes":0,"min_ack_pending":null,"min_pending":null,"priority":null}" to $JS.API.CONSUMER.MSG.NEXT.jobs.c1 for _INBOX.t.0"#,
+    ),
+    ("job 0 1 1 wash", "done"),
+    ("advance 1", "wash, sequence 1, delivery 1"),
+    ("advance 1", "over"),
+    ("advance 2", "over"),
+];
+
 /// In one test, since each table's inboxes are numbered after those of the tables before it.
 #[test]
 fn a_worker_reads_streams_batches_sequences_and_what_is_pushed(rt: HostRuntime) {
@@ -365,4 +380,9 @@ fn a_consumer_is_asked_for_anew_and_reset(rt: HostRuntime) {
 #[test]
 fn a_consumer_without_a_heartbeat_is_never_missed(rt: HostRuntime) {
     new_one_works(&rt, rt.alloc(), &[SILENT]);
+}
+
+#[test]
+fn a_stream_runs_its_events_in_parts(rt: HostRuntime) {
+    new_one_works(&rt, rt.alloc(), &[PARTS]);
 }

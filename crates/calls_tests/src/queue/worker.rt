@@ -177,6 +177,11 @@ impl Worker {
             .poll(alloc, &mut self.link, &mut self.last, number(rest))
     }
 
+    fn advance(&mut self, alloc: Global, rest: &str) -> Words {
+        self.reader
+            .advance(alloc, &mut self.link, &mut self.last, number(rest))
+    }
+
     fn wakes(&self, alloc: Global) -> Words {
         match self.reader.wakes_at() {
             Some(moment) => numbered(alloc, "at", moment),
@@ -244,6 +249,8 @@ impl Works for Worker {
             "messages" | "stream" | "endless" | "plain" | "beating" | "unexpiring" => {
                 self.open_stream(alloc, verb)
             }
+            "open" => self.open_stream(alloc, "by info"),
+            "advance" => self.advance(alloc, rest),
             "fetch" | "batch" | "few" | "several" => self.open_batch(alloc, verb, rest),
             "sequence" => self.open_sequence(alloc, rest),
             "push" => self.open_messages(alloc, rest),

@@ -7,6 +7,7 @@ ghost use Rattle.js_readers.specs.declared.pull.settings.BuilderKind.{BuilderKin
 ghost use Rattle.js_readers.specs.declared.pull.settings.BuilderKind.TheVariants as rows;
 
 use crate::pull::batch::Batch;
+use crate::pull::consumer::is_pinned;
 use crate::pull::error::{BatchError, StreamError};
 use crate::pull::opening::open_batch;
 use crate::pull::settings::{BuilderKind, Settings, defaults_of};
@@ -245,7 +246,8 @@ impl<'a> StreamBuilder<'a> {
             ..
         } = self;
         let config = settings.request(defaults_of(BuilderKind::Streams, &consumer.info.config));
-        Stream::open(alloc, link, consumer, config)
+        let pinned = is_pinned(consumer.config.priority_policy);
+        Stream::open(alloc, link, &consumer.scope, &consumer.info, config, pinned)
     }
 }
 

@@ -2,17 +2,19 @@
 ghost use Rattle.std.specs.Prelude.{◌≡◌, ◌<◌, ◌^◌, ℕ};
 ghost use Rattle.js_link.specs.Calls.{Closes};
 ghost use Rattle.js_link.specs.Meets.{Meets};
-ghost use Rattle.js_pull.specs.Poll.{IsPoll};
+ghost use Rattle.js_pull.specs.Poll.{IsAdvance, IsPoll};
 ghost use Rattle.js_pull.specs.Stream.{position_of, seen_by};
 ghost use Rattle.js_base.specs.Clock.{has_come};
 ghost use Rattle.js_pull.specs.Timers.{SleepsIfLeftAlone, timer_due};
-ghost use Rattle.js_readers.specs.Stream.{IsTimed, OpensMessages, given_answer};
+ghost use Rattle.js_readers.specs.Stream.{IsTimed, IsTimedAdvance, OpensStream, given_advance, given_answer};
 
-use crate::pull::consumer::{info_timeout, is_pinned, message_timeout};
+use crate::pull::advance::{Advance, timed_advance};
+use crate::pull::consumer::{info_timeout, message_timeout};
 use crate::pull::error::{StreamError, stream_error_kind};
 use crate::timed::timed;
-use js_base::{Error, Moment, Nanos, Next};
-use js_call_consumers::PullConsumer;
+use js_base::{Error, Moment, Nanos, Next, State};
+use js_call::ApiScope;
+use js_json::consumer::Info;
 use js_json::pull::BatchConfig;
 use js_link::{InboxId, Link};
 use js_message::Message;
@@ -32,23 +34,32 @@ pub struct Stream {
 }
 
 impl Stream {
-    // Opens an inbox for a stream that asks for so much at a time. It asks for nothing before its first poll.
-    pub(crate) fn open<L: Link>(
+    /// Opens an inbox for a stream of the consumer that an info tells of, which asks for so much at a time. `pinned` tells
+    /// whether the consumer's priority policy is `PinnedClient`. It asks for nothing before its first poll.
+    ///
+    /// A limit in `batch` that a builder would have lowered is sent as it stands: [`StreamBuilder`](crate::pull::StreamBuilder)
+    /// and `messages` of a consumer choose limits that the server takes.
+    ///
+    /// # Errors
+    ///
+    /// `Other` where the link failed to open the inbox, and `OutOfMemory` where memory ran out. Nothing was sent in either case.
+    pub fn open<L: Link>(
         alloc: Global,
         link: &mut L,
-        consumer: &PullConsumer,
-        config: BatchConfig,
+        scope: &ApiScope,
+        info: &Info,
+        batch: BatchConfig,
+        pinned: bool,
     ) -> Result<Stream, StreamError>
-        ensures { OpensMessages result consumer.now config (L.view link.old) (L.view link.new) }
+        ensures { OpensStream result scope.now info.now batch pinned (L.view link.old) (L.view link.new) }
     {
         let asked = Consumer {
-            api: consumer.scope.prefix.as_str(),
-            stream: consumer.info.stream_name.as_str(),
-            name: consumer.info.name.as_str(),
-            info_timeout: info_timeout(&consumer.scope, link.request_timeout()),
+            api: scope.prefix.as_str(),
+            stream: info.stream_name.as_str(),
+            name: info.name.as_str(),
+            info_timeout: info_timeout(scope, link.request_timeout()),
         };
-        let pinned = is_pinned(consumer.config.priority_policy);
-        let opened = js_pull::Stream::open(alloc, link, &asked, config, pinned);
+        let opened = js_pull::Stream::open(alloc, link, &asked, batch, pinned);
         let Consumer {
             api: _,
             stream: _,
@@ -58,7 +69,7 @@ impl Stream {
         match opened {
             Ok(reader) => Ok(Stream {
                 reader,
-                timeout: message_timeout(&consumer.scope),
+                timeout: message_timeout(scope),
             }),
             Err(error) => Err(Error::new(stream_error_kind(error))),
         }
@@ -77,6 +88,28 @@ impl Stream {
         ensures { Closes (position_of self.reader).reader.source.inbox (L.view link.old) (L.view link.new) }
     {
         self.reader.close(link);
+    }
+
+    /// Runs one event in parts, for a program that counts events itself: the next item or message of the event that has begun,
+    /// or `Done` at its end. The call after `Done` begins the next event; the first is the stream's start alone. `change` is the
+    /// connection's change of the event that begins, and is passed over in the middle of one. A message is handed out before the
+    /// stream looks whether to ask for more, so one that is let go there sends no request. After `Closed`, and after an item
+    /// that ends the stream, its events are empty and every call returns `Done`.
+    ///
+    /// Use either this or `poll_next`, which runs whole events and learns of the connection's changes from the link. Messages
+    /// wait for the answer to a double ack as those of `poll_next` do.
+    pub fn advance<L: Link>(
+        &mut self,
+        alloc: Global,
+        link: &mut L,
+        now: Moment,
+        change: Option<State>,
+    ) -> Advance
+        ensures advances { IsAdvance Meets now change (position_of self.old.reader) (position_of self.new.reader) (seen_by self.old.reader (L.view link.old)) (seen_by self.new.reader (L.view link.new)) (given_advance result) }
+        ensures timed { IsTimedAdvance self.old.timeout result }
+        ensures kept { self.new.timeout ≡ self.old.timeout }
+    {
+        timed_advance(self.reader.advance(alloc, link, now, change), self.timeout)
     }
 
     /// Reads the next message or error, as the stream below does (`js_pull::Stream::poll_next`). Its messages are acknowledged
