@@ -1,0 +1,4 @@
+pub mod Key
+pub mod Operation
+pub mod Refusal
+pub mod Writes

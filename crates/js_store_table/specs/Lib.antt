@@ -1,0 +1,5 @@
+pub mod Consumers
+pub mod Entry
+pub mod History
+pub mod Rows
+pub mod Table
