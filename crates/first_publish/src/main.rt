@@ -1,11 +1,11 @@
-//! Gets a consumer, publishes a message, awaits its ack, reads the message back and acknowledges it. What `serve` does, an adapter to a real connection would do.
+//! Looks up a consumer, publishes a message, waits for its acknowledgement, then reads it back and
+//! acknowledges it. What `serve` does, an adapter to a real connection would do.
 #![tactic(auto)]
 
 mod server;
 
-use jetstream::consumer::pull::{Config, PullCalls};
-use jetstream::link::{ConnectionState, OutboxLink};
-use jetstream::{AnyError, Context, Next, PublishQueue, drive};
+use jetstream::consumer::pull::Config;
+use jetstream::prelude::*;
 use server::serve;
 
 fn main(rt: HostRuntime) -> Result<(), AnyError> {
@@ -13,7 +13,7 @@ fn main(rt: HostRuntime) -> Result<(), AnyError> {
     link.set_state(ConnectionState::Connected);
     let context = Context::new(&rt, rt.alloc())?;
     let reader = context.get_consumer_from_stream::<Config>(rt.alloc(), "reader", "news")?;
-    let mut queue = PublishQueue::new(rt.alloc(), context, 5_000_000_000);
+    let mut queue = PublishQueue::new(rt.alloc(), context, seconds(5));
     queue.publish(rt.alloc(), "news.today", b"hello", 0)?;
     let (mut reader, mut news) = (Some(reader), None);
     for now in 0..3 {

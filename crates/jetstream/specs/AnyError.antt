@@ -1,5 +1,5 @@
 -- What the error of a program prints: the text of the error that it holds.
-use Rattle.std.specs.Prelude.{ℕ, List, Option, Some, None, codes}
+use Rattle.std.specs.Prelude.{◌≡◌, ◌⊎◌, ℕ, List, Option, Some, None, codes}
 use Rattle.js_base.specs.Error.{kind_of, source_of, printed}
 use Rattle.js_base.specs.declared.error.Error.{Error}
 use Rattle.js_call.specs.Texts.{request_text, send_text}
@@ -61,3 +61,8 @@ any_text (any.AckSubject error) = Some (info_text error)
 any_text (any.StreamMessage error) = with_source stored.kind_text error
 any_text (any.Read error) = Some (read.error_text error)
 any_text (any.Io error) = None
+any_text (any.Own text) = Some text
+
+-- the program's own error with this text, or memory ran out
+abbrev pub IsOwn : List ℕ → AnyError → Type 0
+IsOwn text error = (error ≡ any.Own text) ⊎ (error ≡ any.OutOfMemory)

@@ -1,11 +1,11 @@
 //! One error for programs that only tell it.
 ghost use Rattle.std.specs.Prelude.{◌≡◌};
-ghost use Rattle.jetstream.specs.AnyError.{any_text};
+ghost use Rattle.jetstream.specs.AnyError.{IsOwn, any_text};
 ghost use Rattle.jetstream.specs.declared.any_error.AnyError.TheVariants as any;
 
 mod from;
 
-use js_base::OutOfMemory;
+use js_base::{OutOfMemory, Text};
 use js_call::{RequestError, SendError};
 use js_call_consumers::{
     ConsumerCreateStrictError, ConsumerError, ConsumerInfoError, ConsumerUpdateError,
@@ -19,10 +19,11 @@ use js_message::{AckError, InfoError, MessageInfoError, StreamMessageError};
 use js_readers::ordered::OrderedError;
 use js_readers::pull::{BatchError, BatchItemError, BatchRequestError, MessagesError, StreamError};
 use js_store::{CreateKeyValueError, KeyValueError, ObjectStoreError, UpdateKeyValueError};
-use std::alloc::{AllocError, AllocFailed};
+use std::alloc::{AllocError, AllocFailed, Global};
 use std::{error, fmt, io};
 
-/// What stopped a program: an error of this client, of its connection, or of what it writes to. It prints what the error prints.
+/// What stopped a program: an error of this client, of its connection, of what the program reads or
+/// writes, or of its own. It prints what that error prints.
 #[derive(Debug, Drop)]
 pub enum AnyError {
     /// Memory ran out.
@@ -89,6 +90,21 @@ pub enum AnyError {
     Read(ReadError),
     /// Something was not read or written.
     Io(io::Error),
+    /// An error of the program's own, by its text.
+    Own(Text),
+}
+
+impl AnyError {
+    /// An error of the program's own, which prints this text. If memory runs out it is
+    /// `OutOfMemory`.
+    pub fn own(alloc: Global, text: &str) -> AnyError
+        ensures { IsOwn text.now result }
+    {
+        match Text::from_str(alloc, text) {
+            Ok(text) => AnyError::Own(text),
+            Err(_) => AnyError::OutOfMemory,
+        }
+    }
 }
 
 impl fmt::Display for AnyError {
@@ -128,6 +144,7 @@ impl fmt::Display for AnyError {
             AnyError::StreamMessage(error) => write!(f, "{error}"),
             AnyError::Read(error) => write!(f, "{error}"),
             AnyError::Io(error) => write!(f, "{error}"),
+            AnyError::Own(text) => write!(f, "{text}"),
         }
     }
 }

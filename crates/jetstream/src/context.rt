@@ -1,7 +1,8 @@
-//! A client's end of JetStream, what makes its requests, the lists of its streams, and its calls on buckets.
+//! The context, its builder, requests of your own, lists of streams, and calls on buckets.
 //!
-//! Here too stand the errors of its calls, with their kinds; what they are of stands in [`stream`](crate::stream), [`consumer`](crate::consumer),
-//! [`publish`](crate::publish) and [`account`](crate::account).
+//! The errors of these calls are here too; what the calls are about is in
+//! [`stream`](crate::stream), [`consumer`](crate::consumer), [`publish`](crate::publish) and
+//! [`account`](crate::account).
 
 pub mod traits;
 

@@ -6,11 +6,12 @@ use js_call::State;
 use js_link::Link;
 use std::alloc::Global;
 
-/// Polls a call that stands in its place, and leaves there what is to be polled later: `Item` hands out the answer, after which the place is empty. An
-/// empty place answers `End`, and the link stays as it was.
+/// Polls a call in place. It returns `Item` with the call's answer, and empties the place. An empty
+/// place returns `End`, and the link stays as it was.
 ///
-/// `Pending` and `OutOfMemory` mean what they mean of [`State::poll`]: after `Pending` the call waits for its `request`, and a poll before the answer
-/// to that has come, or its `wakes_at`, changes nothing.
+/// After `Pending` the call waits for the answer to its `request`: polling it before that came, or
+/// before its `wakes_at`, changes nothing. After `OutOfMemory` the call is what [`State::poll`] says:
+/// free memory and poll again.
 pub fn drive<S: State, L: Link>(
     call: &mut Option<S>,
     alloc: Global,

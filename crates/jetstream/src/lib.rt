@@ -1,87 +1,114 @@
 //! JetStream over any connection: the one crate that a program lists.
 //!
-//! # How a program is made
+//! # The parts of a program
 //!
-//! Four values come together, and none of them waits or reads a clock:
+//! A program holds four things. None of them waits, and none reads a clock:
 //!
-//! - a [`Context`]: where requests go, how long they are waited for, and the permits under which messages are published;
-//! - a *link*: an end of a connection. [`link::OutboxLink`] is the one for programs, [`link::MemoryLink`] and [`link::ScriptedServer`] are for tests;
-//! - *states*: each call hands one out, and nothing is sent before its first poll;
-//! - *moments*: whole nanoseconds from a beginning that the program chooses, which never go back. Each poll is handed the present one.
+//! - a [`Context`]: the prefix of requests, their timeout, and the permits for publishing;
+//! - a *link*, the client's end of a connection. Programs use [`link::OutboxLink`]; tests may use
+//!   [`link::MemoryLink`] or [`link::ScriptedServer`];
+//! - *states*: each call returns one, and sends nothing before its first poll;
+//! - *moments*: nanoseconds since a beginning that you choose. They never go back. You pass the
+//!   present moment to each poll.
+//!
+//! `use jetstream::prelude::*;` names what most programs need.
 //!
 //! # The loop
 //!
 //! ```text
-//! link.set_state(ConnectionState::Connected);                 // 0. where the connection stands, and again at each change
-//! let mut call = Some(context.get_stream(alloc, "events")?); // 1. a call: memory is all that it can want
+//! link.set_state(ConnectionState::Connected);                // 0. tell the link that it is connected
+//! let mut call = Some(context.get_stream(alloc, "events")?); // 1. make a call
 //! loop {
-//!     match drive(&mut call, alloc, &mut link, now()) {       // 2. a poll: sends, or looks at what came, and never waits
-//!         Next::Item(answer) => break answer,                 //    the answer, or the error with its kind and source
-//!         Next::Pending => {}                                 //    nothing can be done yet
-//!         Next::OutOfMemory => {}                             //    the call is what it was: free memory, and poll again
-//!         Next::End => break ..                               //    the answer was handed out already
+//!     match drive(&mut call, alloc, &mut link, now()) {      // 2. poll it: it sends or looks, and never waits
+//!         Next::Item(answer) => break answer,                //    the answer, or an error with kind and source
+//!         Next::Pending => {}                                //    nothing can be done yet
+//!         Next::OutOfMemory => {}                            //    unchanged: free memory and poll again
+//!         Next::End => break ..                              //    the answer was returned already
 //!     }
-//!     while let Some(item) = link.next_outgoing() { .. }      // 3. what is to be sent goes to the connection, in order
-//!     link.deliver(subscription, message)?;                   // 4. what came is brought, under its subscription's number
+//!     while let Some(item) = link.next_outgoing() { .. }     // 3. write what the link wants sent, in order
+//!     link.deliver(subscription, message)?;                  // 4. hand in what the connection received
 //! }
 //! ```
 //!
-//! **The connection.** An [`link::OutboxLink`] begins as one that is not connected. [`link::OutboxLink::set_state`] tells it where its connection stands: call it before a reader
-//! is polled, since an ordered push consumer takes a connection that is not there for a lost consumer, and makes it anew. [`link::OutboxLink::set_limits`] tells what the server's greeting
-//! says of the longest body, and [`link::OutboxLink::close`] that no connection will come again.
+//! The program `first_publish` of this repository is such a loop, whole.
 //!
-//! **The order.** Poll, then take all that is to be sent, then wait for the connection or for the next moment, then bring what came, and poll
-//! again. What a poll sent is not on its way before it was taken. What came between two polls is seen by the next.
+//! **Connection.** An [`link::OutboxLink`] starts as not connected. Call [`link::OutboxLink::set_state`]
+//! before you poll a reader and at every change: an ordered push consumer treats a missing
+//! connection as a lost consumer and makes it anew. Call [`link::OutboxLink::set_limits`] with the
+//! longest body that the server's greeting allows, and [`link::OutboxLink::close`] when no
+//! connection will come again.
 //!
-//! **Which calls take what.** What makes a call takes the allocator and its arguments. A poll of a call takes the allocator, the link and the moment; it spends the
-//! state and hands it back, and [`drive`] does it in the state's place. A poll that publishes ([`publish::Sending`], [`publish::PublishAckFuture`]) also takes the runtime and the context, whose permits other threads may share.
-//! A reader or a list has `poll_next`, which answers a [`Next`] and keeps the state: a [`consumer::pull::Stream`] and a [`consumer::push::Messages`] hand out one message, or one
-//! error, a poll.
+//! **Order.** Poll, then send all that the link has for you, then wait for the connection or for
+//! the next moment, then deliver what came, and poll again. A poll sees what was delivered before
+//! it.
 //!
-//! **When to wake.** After `Pending`: when the answer to the state's `request` was brought or its request is gone, and at the latest at its `wakes_at`, when its wait is over ([`State::request`], [`State::wakes_at`]);
-//! a poll before that does nothing. The wait began when the request was sent and lasts for the timeout of its call, of the context or of the link. A [`publish::PublishAckFuture`] has both too, from its first
-//! poll on, when its wait begins; for detached acks [`Context::wakes_at`] is the moment at which `reap` has to be called at the latest. A reader, ordered or not, a list and a [`PublishQueue`] tell it
-//! too: a poll before its `wakes_at`, as [`consumer::pull::Stream::wakes_at`], for which nothing came does nothing (of a queue where its `poll_next` says so). [`link::OutboxLink::deliver`] answers which inbox or request wanted the message, so that a program that keeps many states
-//! polls the one whose `request`, or the reader whose `inbox`, it was.
+//! **What a poll takes.** A call is polled with the allocator, the link and the moment. `poll`
+//! takes the state and returns it; [`drive`] does that in place. A poll that publishes
+//! ([`publish::Sending`], [`publish::PublishAckFuture`]) also takes the runtime and the context,
+//! whose permits other threads may share. A reader or a list has `poll_next`, which returns a
+//! [`Next`]: a [`consumer::pull::Stream`] and a [`consumer::push::Messages`] return one message or
+//! one error a poll.
 //!
-//! **Reading a consumer.** A call of the context answers the consumer: `get_consumer_from_stream` one that is there, `create_consumer_on_stream` a new one, each as the kind that its
-//! configuration names. `messages` of the consumer opens what reads it: [`consumer::pull::PullCalls`] for one that is asked for messages, [`consumer::push::PushCalls`] for one that delivers
-//! to a subject. What reads a whole stream in order, and makes its consumer anew where one was lost, is opened by [`consumer::pull::OrderedPullCalls`] or
-//! [`consumer::push::OrderedPushCalls`]. An adapter brings what came under the number of the subscription that the link's `Outgoing::Subscribe` named.
+//! **When to poll again.** After `Pending` you may sleep until `wakes_at` ([`State::wakes_at`]), or
+//! until the answer to `request` came or its request is gone ([`State::request`]). Polling a waiting
+//! call earlier changes nothing. A call's wait begins when it sends its request, and lasts for the
+//! timeout of the call, of the context or of the link. Readers, lists, a [`PublishQueue`] and a
+//! [`publish::PublishAckFuture`] have `wakes_at` too; for detached acks, [`Context::wakes_at`] says
+//! when to call `reap` at the latest. [`time::earliest`] picks the first of several moments.
+//! [`link::OutboxLink::deliver`] returns the inbox or request that the message belongs to, so a
+//! program with many states polls only the one whose `inbox` or `request` it was.
 //!
-//! **Acknowledging.** A [`Message`] tells where it stands in its stream by `info`. `ack` of it says that it was worked off, `ack_with` something else, as `AckKind::Nak(Some(delay))`; both send at once:
-//! `message.ack(alloc, &mut link)?`. `double_ack` answers a [`message::DoubleAck`], which waits for the server's answer: its `poll` spends it and hands it back, as that of a call does.
+//! **Reading a consumer.** `get_consumer_from_stream` looks a consumer up, and
+//! `create_consumer_on_stream` makes one; the configuration's type says which kind. `messages` of
+//! the consumer opens its reader: see [`consumer::pull::PullCalls`] for consumers that you ask for
+//! messages, and [`consumer::push::PushCalls`] for those that deliver to a subject. To read a stream
+//! in order, without gaps, use [`consumer::pull::OrderedPullCalls`] or
+//! [`consumer::push::OrderedPushCalls`]; these readers make their consumer anew when it is lost.
 //!
-//! **Before anything is sent,** a bad name or subject is answered by the first poll, with its own kind of error, and nothing goes out. What must not
-//! reach a wire is refused by the link itself.
+//! **Acknowledging.** `info` of a [`Message`] tells its place in the stream. `ack` says that you
+//! have worked it off; `ack_with` says something else, such as `AckKind::Nak(Some(delay))`. Both
+//! send at once: `message.ack(alloc, &mut link)?`. `double_ack` returns a [`message::DoubleAck`],
+//! which waits for the server's confirmation.
 //!
-//! **Letting go.** A state can be let go at any time, but for what bears a permit: a [`publish::PublishAckFuture`] and a [`publish::Confirming`] are spent, by polls until they are ready or by `detach`, and a [`PublishQueue`] by
-//! `close`, which hands the context back. A request whose answer nobody awaits any more is ended by [`link::OutboxLink::forget`]. A reader that is done with is let go by its `close`: one that is
-//! dropped leaves its inbox open, in which the link keeps what the server goes on to send.
+//! **Names.** If a name or a subject is not valid, the first poll fails with an error of its own
+//! kind and nothing is sent. The link rejects whatever would corrupt the protocol.
 //!
-//! **One message.** [`publish::PublishCalls::publish_and_confirm`] publishes a message and awaits its ack, as one state.
+//! **Letting go.** You may drop any state, except one that holds a permit: poll a
+//! [`publish::PublishAckFuture`] or a [`publish::Confirming`] until it is ready, or call `detach`,
+//! and call `close` on a [`PublishQueue`], which returns its context.
+//! [`link::OutboxLink::forget`] ends a request whose answer nobody awaits. Call `close` when you are
+//! done with a reader: dropping it leaves its inbox open, and the link keeps what the server goes
+//! on to send.
 //!
-//! **Many messages.** A [`PublishQueue`] publishes any number of messages under the permits of its context, keeps those that could not be sent, and
-//! hands out one outcome a message. It owns the context: who goes on with other calls gives it one half of [`Context::split`], whose halves share the permits.
+//! **Publishing.** [`publish::PublishCalls::publish_and_confirm`] publishes one message and waits
+//! for its acknowledgement. A [`PublishQueue`] publishes any number under the context's permits,
+//! retries what could not be sent, and returns one outcome a message. It owns its context; to make
+//! other calls meanwhile, use one half of [`Context::split`]: the halves share the permits.
 //!
 //! # Where to look
 //!
 //! | Module | What stands in it |
 //! |---|---|
-//! | [`context`] | the context, its builder, what makes requests, lists of streams |
+//! | [`prelude`] | what most programs name, in one line |
+//! | [`context`] | the context, its builder, requests of your own, lists of streams |
 //! | [`stream`] | configurations and infos of streams, and the calls on them |
-//! | [`consumer`] | the same of consumers; [`consumer::pull`] and [`consumer::push`], where what reads them stands |
-//! | [`publish`] | messages that are published, and their acks |
-//! | [`message`] | messages that came from a stream, and their acknowledgement |
+//! | [`consumer`] | the same for consumers; readers are in [`consumer::pull`] and [`consumer::push`] |
+//! | [`publish`] | publishing messages, and their acknowledgements |
+//! | [`message`] | messages of a stream, and acknowledging them |
 //! | [`link`] | the trait `Link`, and the links |
-//! | [`response`] | replies to requests of one's own |
+//! | [`connection`] | a connection that speaks the NATS protocol, for the bytes of your socket |
+//! | [`response`] | reading replies to requests of your own |
 //! | [`kv`], [`object_store`] | buckets of keys and of objects |
-//! | [`error`], [`errors`] | what calls answer as errors; the server's errors, by number |
+//! | [`error`], [`errors`] | the errors of calls; the server's errors, by number |
 //! | [`account`] | what an account may use |
+//! | [`time`] | seconds in nanoseconds, the first of several moments |
+//!
+//! The crate `jetstream_logs` has what is made of a log: projections, mirrors, bookmarks, replay.
 #![tactic(auto)]
 
 pub mod account;
 mod any_error;
+pub mod connection;
 pub mod consumer;
 pub mod context;
 mod driver;
@@ -91,9 +118,11 @@ pub mod kv;
 pub mod link;
 pub mod message;
 pub mod object_store;
+pub mod prelude;
 pub mod publish;
 pub mod response;
 pub mod stream;
+pub mod time;
 
 pub use any_error::AnyError;
 pub use bytes::Bytes;

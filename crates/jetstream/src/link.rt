@@ -11,8 +11,8 @@ pub use js_link::{
 pub use js_link_outbox::{Delivery, OutboxLink, Outgoing};
 use std::alloc::Global;
 
-/// A message that came with these bytes, without a reply subject, headers or a status. Its length is that of subject and
-/// payload. The one refusal is want of memory.
+/// A received message with these bytes, without a reply subject, headers or a status. Its length is
+/// that of subject and payload. Fails with `OutOfMemory`, and with nothing else.
 pub fn received(alloc: Global, subject: &str, payload: &[u8]) -> Result<Message, OutOfMemory>
     ensures { IfOk result (λ message. message ≡ received subject.now payload.now) }
 {

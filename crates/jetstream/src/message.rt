@@ -1,4 +1,4 @@
-//! Messages that came from a stream, what their acknowledgement subjects say, and how they are acknowledged.
+//! Messages that came from a stream: their place in it, and their acknowledgement.
 pub use js_message::{
     AckError, AckKind, Acker, DoubleAck, Info, InfoError, Message, MessageInfoError,
     OutboundMessage, PublishMessage, StreamMessage, StreamMessageError, StreamMessageErrorKind,

@@ -1,4 +1,4 @@
-//! Buckets of objects: how they are configured, and the calls on them that a context makes
+//! Object buckets: how they are configured, and the calls of a context on them
 //! ([`StoreCalls`](crate::context::StoreCalls)).
 pub use js_store::object_store::{Config, stream_name};
 pub use js_store::{

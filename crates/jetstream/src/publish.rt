@@ -1,4 +1,4 @@
-//! Messages that are published, one by one or many, and their acks.
+//! Publishing messages, one by one or many, and their acknowledgements.
 pub use js_context::{PublishAckFuture, PublishError, PublishErrorKind, Sending};
 pub use js_context_queue::{
     Closed, Confirming, PublishCalls, PublishQueue, Published, Tag, Unsent,

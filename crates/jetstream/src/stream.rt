@@ -16,7 +16,8 @@ pub use js_json_streams::stream::{
 };
 use std::alloc::Global;
 
-/// A configuration with a name and a subject, and all else as `Config::new` has it. The one refusal is want of memory.
+/// A configuration with a name and a subject, and all else as `Config::new` has it. Fails with
+/// `OutOfMemory`, and with nothing else.
 pub fn named(alloc: Global, name: &str, subject: &str) -> Result<Config, OutOfMemory>
     ensures { IfOk result (λ config. config ≡ named name.now subject.now) }
 {

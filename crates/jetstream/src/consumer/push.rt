@@ -1,27 +1,31 @@
 //! Push consumers: their configurations, and what reads their messages.
 //!
-//! [`PushCalls`] has the call of a consumer that [`Context::get_consumer_from_stream`](crate::Context::get_consumer_from_stream) and its kin
-//! answer: `messages` reads what the server sends to the subject that the consumer delivers to. [`OrderedPushCalls`] has that of one with an
-//! [`OrderedConfig`]: the messages of its [`Ordered`] come in order and without a gap.
+//! [`PushCalls`] has the reader of a consumer that
+//! [`Context::get_consumer_from_stream`](crate::Context::get_consumer_from_stream) and its like
+//! return: `messages` reads what the server sends to the consumer's deliver subject.
+//! [`OrderedPushCalls`] reads a consumer with an [`OrderedConfig`]: the messages of its [`Ordered`]
+//! come in order and without gaps.
 //!
-//! **The deliver subject** is chosen by whoever creates the consumer. One that nothing else uses is
-//! [`fresh_subject`](crate::link::Link::fresh_subject) of the link, and is written into the configuration before the consumer is created, where async-nats has
-//! `client.new_inbox()`:
+//! **Deliver subject.** Whoever creates the consumer chooses it. For one that nothing else uses,
+//! take [`fresh_subject`](crate::link::Link::fresh_subject) of the link and write it into the
+//! configuration before you create the consumer, where async-nats has `client.new_inbox()`:
 //!
 //! ```text
 //! let subject = link.fresh_subject(alloc)?;
 //! config.deliver_subject = Text::from_str(alloc, subject.as_str())?;
 //! ```
 //!
-//! **What is handed out** is a [`Message`](crate::message::Message): it tells its place in the stream by `info`, and is acknowledged over the link by `ack`, `ack_with` and
-//! `double_ack`. The messages of an ordered consumer want no acknowledgement.
+//! **Messages.** Each is a [`Message`](crate::message::Message): `info` tells its place in the
+//! stream, and `ack`, `ack_with` and `double_ack` acknowledge it over the link. Messages of an
+//! ordered consumer need no acknowledgement.
 //!
-//! **Which reader it is.** `inbox` of [`Messages`] and of an [`Ordered`] is the inbox that it reads: where [`OutboxLink::deliver`](crate::link::OutboxLink::deliver) answers
-//! [`Delivery::Inbox`](crate::link::Delivery::Inbox) with that number, a message came for this reader, and it is polled. An ordered consumer has another one each time it was
-//! made anew, so ask for it after each poll.
+//! **Which reader to poll.** `inbox` of [`Messages`] and of an [`Ordered`] is the inbox that it
+//! reads. If [`OutboxLink::deliver`](crate::link::OutboxLink::deliver) returns
+//! [`Delivery::Inbox`](crate::link::Delivery::Inbox) with that number, poll that reader. An ordered
+//! consumer gets another inbox each time it is made anew, so ask for it after each poll.
 //!
-//! **Letting go of a reader** leaves its inbox open: the server goes on delivering, and the link keeps what comes. `close` lets go of the reader and closes its inbox;
-//! what lies in it is lost.
+//! **Closing.** `close` ends a reader and closes its inbox: what lies in it is lost. Dropping a
+//! reader leaves its inbox open: the server goes on delivering, and the link keeps what comes.
 pub use js_json::push::{Config, OrderedConfig};
 pub use js_readers::ordered::push::Ordered;
 pub use js_readers::ordered::{OrderedError, OrderedErrorKind, OrderedPushCalls};
