@@ -68,14 +68,11 @@ fn replay_refusal(session: u64, error: ReplayError) -> SessionsError
     }
 }
 
-// Yields were put out, so memory ends long before their number does.
+// The yields of all sessions. Their number may go past a `u64`, since none of them is kept.
 fn sum_of(before: u64, more: u64) -> Result<u64, OutOfMemory>
     ensures { IfOk result (λ sum. sum ≡ before + more) }
 {
-    match before.checked_add(more) {
-        Some(sum) => Ok(sum),
-        None => Err(OutOfMemory),
-    }
+    before.checked_add(more).ok_or(OutOfMemory)
 }
 
 impl Sessions {
@@ -116,7 +113,8 @@ impl Sessions {
     ///
     /// # Errors
     ///
-    /// `WrongStart`, then `WrongFilter`, as `run_sessions` answers them; or want of memory.
+    /// `WrongStart`, then `WrongFilter`, as `run_sessions` answers them; or want of memory, also where the number of the session would go
+    /// past a `u64`.
     pub fn begin<'a>(
         self,
         alloc: Global,
@@ -128,22 +126,21 @@ impl Sessions {
         ensures { (next : ℕ) → (done : List Session) → HaveEnded next done self
             → Begins next done (record { settings = settings.now; setup = setup.now; first = first.now; start = start; lines = [] }) result }
     {
-        let number = match next_number(self.count) {
-            Ok(number) => number,
-            Err(OutOfMemory) => {
-                drop(self);
-                return Err(SessionsError::OutOfMemory);
-            }
-        };
-        let next = self.next;
+        let Sessions {
+            count,
+            next,
+            committed,
+            scope,
+        } = self;
+        let (before, number) = both(Ok(scope), next_number(count))?;
         if !is_at(next, setup.configured_start()) {
-            drop(self);
+            drop(before);
             return Err(SessionsError::WrongStart {
                 session: number,
                 next,
             });
         }
-        let Some(scope) = Scope::after(alloc, self.scope, setup, first)? else {
+        let Some(scope) = Scope::after(alloc, before, setup, first)? else {
             return Err(SessionsError::WrongFilter { session: number });
         };
         let replay = IncrementalReplay::open(alloc, settings, setup, first, start)?;
@@ -158,7 +155,7 @@ impl Sessions {
         };
         Ok(SessionReplay {
             number,
-            before: self.committed,
+            before: committed,
             scope,
             replay,
             yielded,
@@ -173,7 +170,8 @@ impl<'a> SessionReplay<'a> {
     ///
     /// # Errors
     ///
-    /// Want of memory. Once an event was refused, so is each later one, and so is the [`end`](SessionReplay::end).
+    /// Want of memory, also where the number of the session's events or yields would go past a `u64`. Once an event was refused, so is
+    /// each later one, and so is the [`end`](SessionReplay::end).
     pub fn advance(&mut self, alloc: Global, event: &Event) -> Result<(), OutOfMemory>
         ensures passed { (next : ℕ) → (done : List Session) → (s : Session) → HasComeTo next done s self.old
             → OnOk result (HasComeTo next done (with_line s (line.Event event.now)) self.new) }
@@ -216,7 +214,8 @@ impl<'a> SessionReplay<'a> {
     ///
     /// # Errors
     ///
-    /// `Replay`, then `BookmarkEnd`, as `run_sessions` answers them; or want of memory, as after an event that was refused.
+    /// `Replay`, then `BookmarkEnd`, as `run_sessions` answers them; or want of memory, as after an event that was refused, and where the number
+    /// of all committed yields would go past a `u64`.
     pub fn end(self) -> Result<SessionEnd, SessionsError>
         ensures ended { (next : ℕ) → (done : List Session) → (s : Session) → HasComeTo next done s self.entry → Ends next done s result }
         ensures failed { self.entry.has_failed ≡ true → result ≡ Err SessionsError.OutOfMemory }

@@ -1,10 +1,12 @@
 -- Which words are a command, and what they ask for.
-use Rattle.std.specs.Prelude.{ℕ, ◌^◌, ◌≤◌, ◌<◌, ◌&&◌, ⊤, List, [], ◌∷◌, length, codes, Option, Some, None, option_and_then, nat_le, nat_lt, if◌then◌else◌}
+use Rattle.std.specs.Prelude.{ℕ, ◌^◌, ◌&&◌, Bool, List, [], ◌∷◌, length, codes, Option, Some, None, option_and_then, nat_le, nat_lt, if◌then◌else◌}
 use Rattle.std.specs.Str.{bytes_eq}
 use Rattle.std.specs.Str.Parse.{digits_value}
 use Rattle.js_message.specs.Numbers.{is_numeral}
 use Rattle.js_tool.specs.declared.command.Command.{Command}
 use Rattle.js_tool.specs.declared.command.Command.TheVariants as command
+use Rattle.js_tool.specs.declared.command.ToolCommand.{ToolCommand}
+use Rattle.js_tool.specs.declared.command.ToolCommand.TheVariants as tool
 
 -- what words ask for: a replay, the counts of a generated one, what a subject says, or threads that take permits of a window
 pub data Asked : Type 0 where
@@ -13,19 +15,66 @@ pub data Asked : Type 0 where
   Info : (subject : List ℕ) → Asked
   Window : (capacity threads calls : ℕ) → Asked
 
--- what a command asks for
-abbrev pub asked : Command → Asked
-asked command.Replay = Replay
-asked (command.Generate seed events) = Generate seed events
-asked (command.Info subject) = Info subject.now
-asked (command.Window capacity threads calls) = Window capacity threads calls
+-- ---- limits of numbers
 
--- numbers that a generated transcript, or a window and its workers, can have
-abbrev pub IsWithinLimits : Command → Type 0
-IsWithinLimits command.Replay = ⊤
-IsWithinLimits (command.Generate seed events) = events ≤ 200_000
-IsWithinLimits (command.Info subject) = ⊤
-IsWithinLimits (command.Window capacity threads calls) = (0 < capacity) × (capacity < 2 ^ 32) × (0 < threads) × (threads ≤ 8) × (calls ≤ 100_000)
+-- from one limit to the other
+abbrev pub is_between : ℕ → ℕ → ℕ → Bool
+is_between low high number = nat_le low number && nat_le number high
+
+-- at most 200,000 events
+abbrev pub generate_within : ℕ → ℕ → Option Asked
+generate_within seed events = if nat_le events 200_000 then Some (Generate seed events) else None
+
+-- numbers that a window and its workers can have
+abbrev pub is_window : ℕ → ℕ → ℕ → Bool
+is_window capacity threads calls = is_between 1 4_294_967_295 capacity && (is_between 1 8 threads && nat_le calls 100_000)
+
+-- 1 to 4294967295 permits, 1 to 8 threads, and at most 100,000 calls of each
+abbrev pub window_within : ℕ → ℕ → ℕ → Option Asked
+window_within capacity threads calls = if is_window capacity threads calls then Some (Window capacity threads calls) else None
+
+-- ---- what a command asks for
+
+-- of this crate, where its numbers are within their limits
+abbrev pub asked : ToolCommand → Option Asked
+asked tool.Replay = Some Replay
+asked (tool.Generate seed events) = generate_within seed events
+asked (tool.Info subject) = Some (Info subject.now)
+asked (tool.Window capacity threads calls) = window_within capacity threads calls
+
+-- so does one of all commands, if it is of this kind
+abbrev pub asked_of_tool : Command → Option Asked
+asked_of_tool command.Help = None
+asked_of_tool command.Version = None
+asked_of_tool command.Follow = None
+asked_of_tool (command.Tool one) = asked one
+asked_of_tool (command.Log one) = None
+asked_of_tool (command.Sessions next) = None
+
+-- ---- the program's own words
+
+-- the page of all words, the version, or a conversation
+pub data Own : Type 0 where
+  Help : Own
+  Version : Own
+  Follow : Own
+
+-- what a command asks for of these
+abbrev pub own : Command → Option Own
+own command.Help = Some Help
+own command.Version = Some Version
+own command.Follow = Some Follow
+own (command.Tool one) = None
+own (command.Log one) = None
+own (command.Sessions next) = None
+
+-- what the words ask for of these, each of which stands alone
+abbrev pub own_of : List (List ℕ) → Option Own
+own_of (name ∷ []) =
+    if bytes_eq name (codes "--help") then Some Help
+    else if bytes_eq name (codes "--version") then Some Version
+    else if bytes_eq name (codes "follow") then Some Follow else None
+own_of words = None
 
 -- ---- number words
 
@@ -34,23 +83,16 @@ abbrev pub number_of : List ℕ → Option ℕ
 number_of word =
     if is_numeral word && (nat_le (length word) 20 && nat_lt (digits_value 10 word) (2 ^ 64)) then Some (digits_value 10 word) else None
 
--- a number from one limit to the other
-abbrev pub within : ℕ → ℕ → Option ℕ → Option ℕ
-within low high None = None
-within low high (Some n) = if nat_le low n && nat_le n high then Some n else None
-
 -- ---- the forms
 
--- 1 to 4294967295 permits, 1 to 8 threads, and at most 100,000 calls of each
+-- three numbers of 64 bits
 unfoldable pub window_of : List ℕ → List ℕ → List ℕ → Option Asked
 window_of capacity threads calls =
-    option_and_then (λ c. option_and_then (λ t. option_and_then (λ n. Some (Window c t n))
-    (within 0 100_000 (number_of calls))) (within 1 8 (number_of threads))) (within 1 4_294_967_295 (number_of capacity))
+    option_and_then (λ c. option_and_then (λ t. option_and_then (λ n. window_within c t n) (number_of calls)) (number_of threads)) (number_of capacity)
 
--- a number of 64 bits, and at most 200,000 events
+-- two numbers of 64 bits
 unfoldable pub generate_of : List ℕ → List ℕ → Option Asked
-generate_of seed events =
-    option_and_then (λ s. option_and_then (λ n. Some (Generate s n)) (within 0 200_000 (number_of events))) (number_of seed)
+generate_of seed events = option_and_then (λ s. option_and_then (λ n. generate_within s n) (number_of events)) (number_of seed)
 
 -- what the words ask for, where they are in one of the forms
 abbrev pub command_of : List (List ℕ) → Option Asked

@@ -3,3 +3,4 @@ pub mod Status
 pub mod Command
 pub mod Program
 pub mod Progress
+pub mod LogCommand

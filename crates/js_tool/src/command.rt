@@ -1,17 +1,36 @@
-//! The words of a command line.
+//! The words of a command line, and the command that they name. Nothing else reads them.
 
-ghost use Rattle.std.specs.Prelude.{◌≡◌, ◌≤◌, codes, if◌then◌else◌, map, option_map, string_bytes, Some, None, IfSome};
-ghost use Rattle.std.specs.Str.{bytes_eq};
-ghost use Rattle.js_tool.specs.Command.{Info, Replay, asked, command_of as command_in, generate_of as generate_in, window_of as window_in, number_of, within, IsWithinLimits};
+ghost use Rattle.std.specs.Prelude.{◌≡◌, ◌∷◌, [], map, option_and_then, option_map, string_bytes, None};
+ghost use Rattle.js_tool.specs.Command.{asked, asked_of_tool, command_of as command_in, generate_of as generate_in, number_of, own, own_of, window_of as window_in};
+ghost use Rattle.js_tool.specs.LogCommand.{bookmark, bookmark_number as bookmark_number_in, project_of as project_in, project_up_to as project_up_to_in, relay_of as relay_in, sessions_bookmark, wanted, wanted_of_log, wanted_of};
 
+use js_base::is_valid_subject;
+use js_codes::is_valid_name;
 use js_message::read_u64;
 
-/// What the program is asked to do. It is borrowed from the words.
+/// What the words of a command line ask the program for. It is borrowed from the words.
 #[derive(Clone, Copy)]
-pub(crate) enum Command<'a> {
+pub enum Command<'a> {
+    /// `--help`: to write the page of all words.
+    Help,
+    /// `--version`: to write the version.
+    Version,
+    /// `follow`: to answer a transcript as its lines come.
+    Follow,
+    /// What [`run`](crate::run) does.
+    Tool(ToolCommand<'a>),
+    /// What is made of all that a transcript's replay yields.
+    Log(LogCommand<'a>),
+    /// `sessions`: to write what sessions come to, the first of which starts at this bookmark. It is above 0.
+    Sessions { next: u64 },
+}
+
+/// What is asked of this crate. A number may be out of its limits; then it asks for nothing, and [`run`](crate::run) returns `Usage`.
+#[derive(Clone, Copy)]
+pub enum ToolCommand<'a> {
     /// To read a transcript, and to write the text of its run.
     Replay,
-    /// To replay the first so many events, at most 200,000, of the transcript that a seed gives, and to write their counts.
+    /// To replay the first so many events of the transcript that a seed gives, at most 200,000, and to write their counts.
     Generate {
         seed: u64,
         events: u64,
@@ -20,7 +39,8 @@ pub(crate) enum Command<'a> {
     Info {
         subject: &'a str,
     },
-    /// To let so many threads take a permit so many times, of one window with so many permits, and to write their counts.
+    /// To let so many threads, 1 to 8, take a permit so many times, at most 100,000, of one window with so many permits, 1 to
+    /// 4,294,967,295, and to write their counts.
     Window {
         capacity: u64,
         threads: u64,
@@ -28,17 +48,37 @@ pub(crate) enum Command<'a> {
     },
 }
 
-/// The command that the words name, if they are in one of the forms.
-pub(crate) fn command_of(words: &[String]) -> Option<Command<'_>>
-    ensures form { option_map asked result ≡ command_in (map string_bytes words.now) }
-    ensures limits { IfSome result IsWithinLimits }
+/// What is asked for of the yields of a transcript's replay.
+#[derive(Clone, Copy)]
+pub enum LogCommand<'a> {
+    /// To write the last entry of each subject that a filter matches: of all yields, or of those up to a sequence.
+    Project {
+        filter: &'a str,
+        sequence: Option<u64>,
+    },
+    /// To write all yields, and the holes between them.
+    Mirror,
+    /// To write the transcript of a consumer that is sent all yields. Both are valid names.
+    Relay {
+        stream: &'a str,
+        name: &'a str,
+    },
+}
+
+/// The command that the words name: `None` where they are in none of the forms. Numbers of [`ToolCommand`] may be out of their limits.
+pub fn command_of(words: &[String]) -> Option<Command<'_>>
+    // What is asked for is said kind by kind; words of one kind ask for nothing of another.
+    ensures own { option_and_then own result ≡ own_of (map string_bytes words.now) }
+    ensures tool { option_and_then asked_of_tool result ≡ command_in (map string_bytes words.now) }
+    ensures log { option_and_then wanted_of_log result ≡ wanted_of (map string_bytes words.now) }
+    ensures sessions { option_and_then bookmark result ≡ sessions_bookmark (map string_bytes words.now) }
 {
     match words {
         [] => None,
-        [name] => replay_of(name.as_str()),
-        [name, subject] => info_of(name.as_str(), subject.as_str()),
-        [name, seed, events] => generate_of(name.as_str(), seed.as_str(), events.as_str()),
-        [name, capacity, threads, calls] => window_of(
+        [name] => one_word(name.as_str()),
+        [name, word] => two_words(name.as_str(), word.as_str()),
+        [name, first, second] => three_words(name.as_str(), first.as_str(), second.as_str()),
+        [name, capacity, threads, calls] => four_words(
             name.as_str(),
             capacity.as_str(),
             threads.as_str(),
@@ -48,73 +88,128 @@ pub(crate) fn command_of(words: &[String]) -> Option<Command<'_>>
     }
 }
 
-fn replay_of<'a>(name: &str) -> Option<Command<'a>>
-    ensures form { option_map asked result ≡ (if bytes_eq name.now (codes "replay") then Some Replay else None) }
-    ensures limits { IfSome result IsWithinLimits }
+fn one_word<'a>(name: &str) -> Option<Command<'a>>
+    ensures own { option_and_then own result ≡ own_of (name.now ∷ []) }
+    ensures tool { option_and_then asked_of_tool result ≡ command_in (name.now ∷ []) }
+    ensures log { option_and_then wanted_of_log result ≡ wanted_of (name.now ∷ []) }
+    ensures sessions { option_and_then bookmark result ≡ None }
 {
-    if name == "replay" {
-        Some(Command::Replay)
-    } else {
-        None
+    match name {
+        "--help" => Some(Command::Help),
+        "--version" => Some(Command::Version),
+        "follow" => Some(Command::Follow),
+        "replay" => Some(Command::Tool(ToolCommand::Replay)),
+        "mirror" => Some(Command::Log(LogCommand::Mirror)),
+        _ => None,
     }
 }
 
-fn info_of<'a>(name: &str, subject: &'a str) -> Option<Command<'a>>
-    ensures form { option_map asked result ≡ (if bytes_eq name.now (codes "info") then Some (Info subject.now) else None) }
-    ensures limits { IfSome result IsWithinLimits }
+fn two_words<'a>(name: &str, word: &'a str) -> Option<Command<'a>>
+    ensures own { option_and_then own result ≡ None }
+    ensures tool { option_and_then asked_of_tool result ≡ command_in (name.now ∷ word.now ∷ []) }
+    ensures log { option_and_then wanted_of_log result ≡ wanted_of (name.now ∷ word.now ∷ []) }
+    ensures sessions { option_and_then bookmark result ≡ sessions_bookmark (name.now ∷ word.now ∷ []) }
 {
-    if name == "info" {
-        Some(Command::Info { subject })
-    } else {
-        None
+    match name {
+        "info" => Some(Command::Tool(ToolCommand::Info { subject: word })),
+        "project" => Some(Command::Log(project_of(word, None)?)),
+        "sessions" => Some(Command::Sessions {
+            next: bookmark_number(word)?,
+        }),
+        _ => None,
+    }
+}
+
+#[tactic(auto, unfolding(crate::specs::LogCommand::three_words))]
+fn three_words<'a>(name: &str, first: &'a str, second: &'a str) -> Option<Command<'a>>
+    ensures own { option_and_then own result ≡ None }
+    ensures tool { option_and_then asked_of_tool result ≡ command_in (name.now ∷ first.now ∷ second.now ∷ []) }
+    ensures log { option_and_then wanted_of_log result ≡ wanted_of (name.now ∷ first.now ∷ second.now ∷ []) }
+    ensures sessions { option_and_then bookmark result ≡ None }
+{
+    match name {
+        "generate" => Some(Command::Tool(generate_of(first, second)?)),
+        "project" => Some(Command::Log(project_up_to(first, second)?)),
+        "relay" => Some(Command::Log(relay_of(first, second)?)),
+        _ => None,
+    }
+}
+
+fn four_words<'a>(name: &str, capacity: &str, threads: &str, calls: &str) -> Option<Command<'a>>
+    ensures own { option_and_then own result ≡ None }
+    ensures tool { option_and_then asked_of_tool result ≡ command_in (name.now ∷ capacity.now ∷ threads.now ∷ calls.now ∷ []) }
+    ensures log { option_and_then wanted_of_log result ≡ None }
+    ensures sessions { option_and_then bookmark result ≡ None }
+{
+    match name {
+        "window" => Some(Command::Tool(window_of(capacity, threads, calls)?)),
+        _ => None,
     }
 }
 
 #[tactic(auto, unfolding(crate::specs::Command::generate_of))]
-fn generate_of<'a>(name: &str, seed: &str, events: &str) -> Option<Command<'a>>
-    ensures form { option_map asked result ≡ (if bytes_eq name.now (codes "generate") then generate_in seed.now events.now else None) }
-    ensures limits { IfSome result IsWithinLimits }
+fn generate_of<'a>(seed: &str, events: &str) -> Option<ToolCommand<'a>>
+    ensures { option_and_then asked result ≡ generate_in seed.now events.now }
 {
-    if name != "generate" {
-        return None;
-    }
     let seed = read_number(seed)?;
-    let events = number_within(events, 0, 200_000)?;
-    Some(Command::Generate { seed, events })
+    let events = read_number(events)?;
+    Some(ToolCommand::Generate { seed, events })
 }
 
 #[tactic(auto, unfolding(crate::specs::Command::window_of))]
-fn window_of<'a>(name: &str, capacity: &str, threads: &str, calls: &str) -> Option<Command<'a>>
-    ensures form { option_map asked result ≡ (if bytes_eq name.now (codes "window") then window_in capacity.now threads.now calls.now else None) }
-    ensures limits { IfSome result IsWithinLimits }
+fn window_of<'a>(capacity: &str, threads: &str, calls: &str) -> Option<ToolCommand<'a>>
+    ensures { option_and_then asked result ≡ window_in capacity.now threads.now calls.now }
 {
-    if name != "window" {
-        return None;
-    }
-    let capacity = number_within(capacity, 1, 4_294_967_295)?;
-    let threads = number_within(threads, 1, 8)?;
-    let calls = number_within(calls, 0, 100_000)?;
-    Some(Command::Window {
+    let capacity = read_number(capacity)?;
+    let threads = read_number(threads)?;
+    let calls = read_number(calls)?;
+    Some(ToolCommand::Window {
         capacity,
         threads,
         calls,
     })
 }
 
-fn number_within(word: &str, low: u64, high: u64) -> Option<u64>
-    ensures number { result ≡ within low high (number_of word.now) }
-    ensures limits { IfSome result (λ n. (low ≤ n) × (n ≤ high)) }
+#[tactic(auto, unfolding(crate::specs::LogCommand::project_of))]
+fn project_of(filter: &str, sequence: Option<u64>) -> Option<LogCommand<'_>>
+    ensures { option_map wanted result ≡ project_in filter.now sequence }
 {
-    let number = read_number(word)?;
-    if low <= number && number <= high {
-        Some(number)
+    if is_valid_subject(filter) {
+        Some(LogCommand::Project { filter, sequence })
     } else {
         None
     }
 }
 
-/// The number below 2^64 that a word of 1 to 20 decimal digits is. A sign is none of its digits.
-pub fn read_number(word: &str) -> Option<u64>
+#[tactic(auto, unfolding(crate::specs::LogCommand::project_up_to))]
+fn project_up_to<'a>(filter: &'a str, sequence: &str) -> Option<LogCommand<'a>>
+    ensures { option_map wanted result ≡ project_up_to_in filter.now sequence.now }
+{
+    let sequence = read_number(sequence)?;
+    project_of(filter, Some(sequence))
+}
+
+#[tactic(auto, unfolding(crate::specs::LogCommand::relay_of))]
+fn relay_of<'a>(stream: &'a str, name: &'a str) -> Option<LogCommand<'a>>
+    ensures { option_map wanted result ≡ relay_in stream.now name.now }
+{
+    if is_valid_name(stream) && is_valid_name(name) {
+        Some(LogCommand::Relay { stream, name })
+    } else {
+        None
+    }
+}
+
+#[tactic(auto, unfolding(crate::specs::LogCommand::bookmark_number))]
+fn bookmark_number(word: &str) -> Option<u64>
+    ensures { result ≡ bookmark_number_in word.now }
+{
+    let number = read_number(word)?;
+    if 0 < number { Some(number) } else { None }
+}
+
+// The number below 2^64 that a word of 1 to 20 decimal digits is. A sign is none of its digits.
+fn read_number(word: &str) -> Option<u64>
     ensures { result ≡ number_of word.now }
 {
     if word.len() > 20 || word.as_bytes().first() == Some(&b'+') {

@@ -1,18 +1,18 @@
-//! The top call: what the program does with its words, its source and its sink.
+//! What the program does with a command of this crate, its source and its sink.
 
-ghost use Rattle.std.specs.Prelude.{◌≡◌, ◌≤◌, ◌<◌, ◌↔◌, ℕ, List, length, map, Some, None, IfSome, string_bytes};
+ghost use Rattle.std.specs.Prelude.{◌≡◌, ◌≤◌, ◌<◌, ◌↔◌, ℕ, List, length, Some, None, IfSome};
 ghost use Rattle.std.specs.Io.KnownBytes.{Keeps};
 ghost use Rattle.js_tool_io.specs.Causes.{Rose};
-ghost use Rattle.js_tool.specs.Command.{Replay, Generate, Info, Window, command_of as command_in};
+ghost use Rattle.js_tool.specs.Command.{Replay, Generate, Info, Window, asked};
 ghost use Rattle.js_tool.specs.Program.{AnswersReplay, AnswersGenerate, AnswersInfo, AnswersWindow, SaysNothing, without_threads};
 ghost use Rattle.js_tool_transcript.specs.TranscriptReplay.{FirstUnread};
 
-use crate::command::{Command, command_of};
+use crate::command::ToolCommand;
 use crate::generate::answer_generate;
 use crate::info::answer_info;
 use crate::progress::replay;
 use crate::status::Status;
-use crate::window::answer_window;
+use crate::window::{answer_window, is_window};
 use js_tool_io::{Sink, Source, Stop, read_all, write_all};
 use std::alloc::{AllocError, Global};
 use std::sync::Wait;
@@ -26,33 +26,34 @@ pub(crate) enum ReplayOutcome {
     BadLine(u64),
 }
 
-/// Does what the words say, with a source and a sink. What it promises of words that are not those of `window` is what
-/// [`run_plain`] promises.
+/// Does what a command asks for, with a source and a sink. Where a number is out of its limits, it does nothing and returns `Usage`.
+/// What it promises of commands other than `Window` is what [`run_plain`] promises.
 ///
-/// `replay` reads a transcript to its end and writes the text of its run. `generate` replays a transcript that a number
-/// gives, and writes how much its run puts out. `info` writes what a subject says. `window`
+/// `Replay` reads a transcript to its end and writes the text of its run. `Generate` replays a transcript that a number
+/// gives, and writes how much its run puts out. `Info` writes what a subject says. `Window`
 /// lets threads take permits of one window and writes their counts; where no thread can be made, the work is done on
-/// the caller's. It may wait in `window` alone.
+/// the caller's. It may wait in `Window` alone.
 pub fn run<R: Threads + Wait + Sync, S: Source, K: Sink>(
     rt: &R,
     alloc: Global,
-    words: &[String],
+    command: ToolCommand<'_>,
     input: &mut S,
     output: &mut K,
 ) -> Status
-    ensures usage { (result ≡ Status.Usage) ↔ (command_in (map string_bytes words.now) ≡ None) }
+    // The numbers are out of their limits.
+    ensures usage { (result ≡ Status.Usage) ↔ (asked command.entry ≡ None) }
 
     // What each command answers and writes. Of `replay`, `done` is that the text of the input's run was written, which
     // leaves no gap where the server was honest.
-    ensures replay { command_in (map string_bytes words.now) ≡ Some Replay
+    ensures replay { asked command.entry ≡ Some Replay
         → AnswersReplay (S.left input.old) (S.left input.new) (K.taken output.old) (K.taken output.new)
         (K.faults output.old) (K.faults output.new) result }
-    ensures generate { (seed events : ℕ) → command_in (map string_bytes words.now) ≡ Some (Generate seed events)
+    ensures generate { (seed events : ℕ) → asked command.entry ≡ Some (Generate seed events)
         → AnswersGenerate seed events (K.taken output.old) (K.taken output.new) result }
-    ensures info { (subject : List ℕ) → command_in (map string_bytes words.now) ≡ Some (Info subject)
+    ensures info { (subject : List ℕ) → asked command.entry ≡ Some (Info subject)
         → AnswersInfo subject (K.taken output.old) (K.taken output.new) (K.faults output.old) (K.faults output.new) result }
     ensures window { (capacity threads calls : ℕ)
-        → command_in (map string_bytes words.now) ≡ Some (Window capacity threads calls)
+        → asked command.entry ≡ Some (Window capacity threads calls)
         → AnswersWindow capacity threads calls (K.taken output.old) (K.taken output.new) result }
 
     // What else a status tells.
@@ -63,39 +64,38 @@ pub fn run<R: Threads + Wait + Sync, S: Source, K: Sink>(
         → IfSome (S.left input.old) (λ bytes. 67_108_864 < length bytes) }
     ensures bad_line { (line : ℕ) → result ≡ Status.BadLine line
         → IfSome (S.left input.old) (λ bytes. FirstUnread bytes line) }
-    // Words that are not those of `replay` leave the source as it was.
-    ensures unread { (command_in (map string_bytes words.now) ≡ Some Replay → ⊥) → input.new ≡ input.old }
+    // Any command but `Replay` leaves the source as it was.
+    ensures unread { (asked command.entry ≡ Some Replay → ⊥) → input.new ≡ input.old }
 {
-    if let Some(
-        Command::Window {
-            capacity,
-            threads,
-            calls,
-        },
-    ) = command_of(words)
+    if let ToolCommand::Window {
+        capacity,
+        threads,
+        calls,
+    } = command
+        && is_window(capacity, threads, calls)
     {
         return answer_window(rt, alloc, capacity, threads, calls, output);
     }
-    run_plain(alloc, words, input, output)
+    run_plain(alloc, command, input, output)
 }
 
-/// Does what the words say without threads, and always returns. To the words of `window` it answers `Usage`.
+/// Does what a command asks for without threads, and always returns. To `Window` it returns `Usage`.
 pub fn run_plain<S: Source, K: Sink>(
     alloc: Global,
-    words: &[String],
+    command: ToolCommand<'_>,
     input: &mut S,
     output: &mut K,
 ) -> Status
-    ensures usage { (result ≡ Status.Usage) ↔ (without_threads (command_in (map string_bytes words.now)) ≡ None) }
+    ensures usage { (result ≡ Status.Usage) ↔ (without_threads (asked command.entry) ≡ None) }
 
     // What each command answers and writes. Of `replay`, `done` is that the text of the input's run was written, which
     // leaves no gap where the server was honest.
-    ensures replay { command_in (map string_bytes words.now) ≡ Some Replay
+    ensures replay { asked command.entry ≡ Some Replay
         → AnswersReplay (S.left input.old) (S.left input.new) (K.taken output.old) (K.taken output.new)
         (K.faults output.old) (K.faults output.new) result }
-    ensures generate { (seed events : ℕ) → command_in (map string_bytes words.now) ≡ Some (Generate seed events)
+    ensures generate { (seed events : ℕ) → asked command.entry ≡ Some (Generate seed events)
         → AnswersGenerate seed events (K.taken output.old) (K.taken output.new) result }
-    ensures info { (subject : List ℕ) → command_in (map string_bytes words.now) ≡ Some (Info subject)
+    ensures info { (subject : List ℕ) → asked command.entry ≡ Some (Info subject)
         → AnswersInfo subject (K.taken output.old) (K.taken output.new) (K.faults output.old) (K.faults output.new) result }
 
     // What else a status tells.
@@ -106,15 +106,16 @@ pub fn run_plain<S: Source, K: Sink>(
         → IfSome (S.left input.old) (λ bytes. 67_108_864 < length bytes) }
     ensures bad_line { (line : ℕ) → result ≡ Status.BadLine line
         → IfSome (S.left input.old) (λ bytes. FirstUnread bytes line) }
-    // Words that are not those of `replay` leave the source as it was.
-    ensures unread { (command_in (map string_bytes words.now) ≡ Some Replay → ⊥) → input.new ≡ input.old }
+    // Any command but `Replay` leaves the source as it was.
+    ensures unread { (asked command.entry ≡ Some Replay → ⊥) → input.new ≡ input.old }
 {
-    match command_of(words) {
-        Some(Command::Replay) => answer_replay(alloc, input, output),
-        Some(Command::Generate { seed, events }) => answer_generate(alloc, seed, events, output),
-        Some(Command::Info { subject }) => answer_info(alloc, subject, output),
-        Some(Command::Window { .. }) => Status::Usage,
-        None => Status::Usage,
+    match command {
+        ToolCommand::Replay => answer_replay(alloc, input, output),
+        ToolCommand::Generate { seed, events } if events <= 200_000 => {
+            answer_generate(alloc, seed, events, output)
+        }
+        ToolCommand::Info { subject } => answer_info(alloc, subject, output),
+        ToolCommand::Generate { .. } | ToolCommand::Window { .. } => Status::Usage,
     }
 }
 

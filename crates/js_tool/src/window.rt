@@ -1,8 +1,9 @@
 //! Threads that take permits of one window, and the line of their counts.
 
-ghost use Rattle.std.specs.Prelude.{◌≡◌, ◌<◌, ◌≤◌, ◌^◌, IfOk};
+ghost use Rattle.std.specs.Prelude.{◌≡◌, ◌<◌, ◌≤◌, ◌^◌, IfOk, IsTrue};
 ghost use Rattle.std.specs.Io.KnownBytes.{Keeps};
 ghost use Rattle.js_tool_io.specs.Causes.{Rose};
+ghost use Rattle.js_tool.specs.Command.{is_between as is_between_in, is_window as is_window_in};
 ghost use Rattle.js_tool.specs.CommandTexts.{window_text};
 ghost use Rattle.js_tool.specs.Program.{AnswersWindow, SaysNothing};
 
@@ -14,6 +15,22 @@ use js_window_workers::{Open, WindowCounts, run_window};
 use std::alloc::{AllocError, Global};
 use std::sync::Wait;
 use std::thread::Threads;
+
+fn is_between(low: u64, high: u64, number: u64) -> bool
+    ensures test { result ≡ is_between_in low high number }
+    ensures limits { IsTrue result → (low ≤ number) × (number ≤ high) }
+{
+    low <= number && number <= high
+}
+
+/// These are numbers that a window and its workers can have: 1 to 4,294,967,295 permits, 1 to 8 threads, and at most 100,000 calls of
+/// each.
+pub(crate) fn is_window(capacity: u64, threads: u64, calls: u64) -> bool
+    ensures test { result ≡ is_window_in capacity threads calls }
+    ensures limits { IsTrue result → (0 < capacity) × (capacity < 2 ^ 32) × (0 < threads) × (threads ≤ 8) × (calls ≤ 100000) }
+{
+    is_between(1, 4_294_967_295, capacity) && is_between(1, 8, threads) && calls <= 100_000
+}
 
 /// Runs so many threads on a window with so many permits, each for so many takes, and writes the line of their counts.
 pub(crate) fn answer_window<R: Threads + Wait + Sync, K: Sink>(

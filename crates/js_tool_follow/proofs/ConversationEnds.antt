@@ -1,6 +1,6 @@
 -- How a conversation goes on, and how it ends.
 use Rattle.std.proofs.Common.{◌≡◌, inl, inr, ℕ, ◌+◌, ◌≤◌, List, [], ◌∷◌, ◌++◌, length, take, Bool, true, false, OnErr, Option, Some, None, IfSome, Result, Ok, Err, refl, sym, ap, subst, ◌∙◌, append_assoc, append-nil, arith}
-use Rattle.std.specs.Prelude.{option_map}
+use Rattle.std.specs.Prelude.{IsSome, option_map}
 use Rattle.std.proofs.KnownBytes.{Appends-nil}
 use Rattle.std.proofs.Math.Seq.{take-append-add, take-length}
 use Rattle.std.specs.Io.KnownBytes.{Appends}
@@ -219,10 +219,15 @@ finished from mid now lines left text (Some e) s listener stands written cut (sa
     })
 
 -- no answer is missing there
-pub has_ending : (old new : Dialogue) (lines : List (List ℕ)) (text : List ℕ) (ending : Option Status) → AnswersEnd lines text ending → Replies old new text ending None → ⊥
-has_ending old new lines text None never replies = never
-has_ending old new lines text (Some e) answers (inl (is, whole)) = cc
-has_ending old new lines text (Some e) answers (inr (is, front, rose)) = cc
+pub has_ending : (old new : Dialogue) (text : List ℕ) (ending : Option Status) → IsSome ending → Replies old new text ending None → ⊥
+has_ending old new text None over replies = cc
+has_ending old new text (Some e) over (inl (is, whole)) = cc
+has_ending old new text (Some e) over (inr (is, front, rose)) = cc
+
+-- an answer behind which it goes on has no ending
+pub has_no_ending : (old new : Dialogue) (text : List ℕ) (ending result : Option Status) → Replies old new text ending result → result ≡ None → ending ≡ None
+has_no_ending old new text ending result (inl (is, whole)) none = sym is ∙ none
+has_no_ending old new text ending result (inr (is, front, rose)) none = absurd (cc)
 
 -- no line was read
 pub read_stops : (from now : Dialogue) (s : Status) → IsReadStop s → (s ≡ status.ReadFault → Rose from.read_faults now.read_faults) → HasGone from now → IfSome from.left (λ bytes. StopsWithin (lines_of bytes) from.taken now.taken)

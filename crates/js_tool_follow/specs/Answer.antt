@@ -1,5 +1,5 @@
 -- What is answered to a line, by what was told before.
-use Rattle.std.specs.Prelude.{◌≡◌, ℕ, List, ◌++◌, length, flat_map, Option, Some, None, ⊤}
+use Rattle.std.specs.Prelude.{◌≡◌, ℕ, ◌+◌, ◌^◌, ◌<◌, List, ◌++◌, length, flat_map, Option, Some, None, ⊤}
 use Rattle.js_ordered.specs.IncrementalReplay.{HasCome, last}
 use Rattle.js_ordered_table.specs.declared.event.Event.{Event}
 use Rattle.js_ordered_table.specs.declared.run.ReplayError.{ReplayError}
@@ -28,6 +28,10 @@ pub record IsTold (lines : List (List ℕ)) (listener : Listener) : Type 0 where
   pub es : List Event
   pub stands : standing lines ≡ Going setup es
   pub come : HasCome (replay_input setup) setup.start es listener.replay.value
+
+-- one event more was passed, and the number of those before it is below 2 ^ 64
+abbrev pub HasPassedOne : Listener → Listener → Type 0
+HasPassedOne old new = (new.replay.value.count ≡ old.replay.value.count + 1) × (old.replay.value.count < 2 ^ 64)
 
 -- with these statuses a replay is over by itself
 abbrev pub IsEnding : Status → Type 0

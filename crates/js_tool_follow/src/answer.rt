@@ -1,12 +1,12 @@
 //! What is answered to a line.
 
-ghost use Rattle.std.specs.Prelude.{◌≡◌, ◌++◌, ◌∷◌, [], ℕ, List, IfOk};
+ghost use Rattle.std.specs.Prelude.{◌≡◌, ◌++◌, ◌∷◌, [], ℕ, List, IfOk, IsSome, None};
 ghost use Rattle.js_ordered.specs.IncrementalReplay.{HasCome};
 ghost use Rattle.js_ordered_table.specs.declared.event.Event as events;
 ghost use Rattle.js_tool_transcript.specs.declared.transcript.setup.Setup as setups;
 ghost use Rattle.js_tool_transcript.specs.TranscriptReplay.{replay_input};
 ghost use Rattle.js_tool_transcript.specs.Text.{last_line as last_line_in, refusal_text};
-ghost use Rattle.js_tool_follow.specs.Answer.{AnswersEvents, AnswersLine, AnswersEnd, IsTold, last_text};
+ghost use Rattle.js_tool_follow.specs.Answer.{AnswersEvents, AnswersLine, AnswersEnd, HasPassedOne, IsTold, last_text};
 ghost use Rattle.js_tool_follow.specs.Standing.{answered};
 
 use js_base::OutOfMemory;
@@ -118,8 +118,9 @@ impl<'s> Listener<'s> {
 
     /// Passes the event of the next line, and answers it.
     pub(crate) fn hear(&mut self, alloc: Global, line: &[u8]) -> Result<Answer, AllocError>
-        ensures { (lines : List (List ℕ)) → IsTold lines self.old
+        ensures told { (lines : List (List ℕ)) → IsTold lines self.old
             → IfOk result (λ answer. AnswersLine (answered lines) (lines ++ line.now ∷ []) answer.text.items answer.ending self.new) }
+        ensures counted { IfOk result (λ answer. answer.ending ≡ None → HasPassedOne self.old self.new) }
     {
         let Some(number) = self.replay.count().checked_add(2) else {
             return Err(AllocError);
@@ -137,9 +138,10 @@ impl<'s> Listener<'s> {
         }
     }
 
-    /// The last line, where no more come.
+    /// The last line, where no more come. With it the conversation is over.
     pub(crate) fn end(&self, alloc: Global) -> Result<Answer, AllocError>
-        ensures { (lines : List (List ℕ)) → IsTold lines self.now → IfOk result (λ answer. AnswersEnd lines answer.text.items answer.ending) }
+        ensures told { (lines : List (List ℕ)) → IsTold lines self.now → IfOk result (λ answer. AnswersEnd lines answer.text.items answer.ending) }
+        ensures over { IfOk result (λ answer. IsSome answer.ending) }
     {
         match self.replay.end() {
             Ok(ended) => last_line(alloc, ended, self.replay.count()),

@@ -9,7 +9,7 @@ ghost use Rattle.js_tool_transcript.specs.Setup.{setup_line};
 ghost use Rattle.js_tool_transcript.specs.Transcript.{GivesLines, numbered};
 ghost use Rattle.js_tool_transcript.specs.declared.transcript.setup.Setup as setups;
 ghost use Rattle.js_tool_io.specs.Lines.{lines_of};
-ghost use Rattle.js_tool_follow.specs.Answer.{IsTold};
+ghost use Rattle.js_tool_follow.specs.Answer.{HasPassedOne, IsTold};
 ghost use Rattle.js_tool_follow.specs.Conversation.{AnswersLines, HasBegun, HasEnded, HasGone, IsAt, IsCut, IsOver, IsReadStop, IsValidInput, Replies, Stands, StandsOr, TakesTurn, WritesRun, all_lines};
 ghost use Rattle.js_tool_follow.specs.IncomingLines.{IsNext, lines_left};
 ghost use Rattle.js_tool_follow.specs.Punctuality.{TurnsSoFar, HearsNext, Holds, IsPunctual};
@@ -71,6 +71,7 @@ fn answer_line<P: Peer>(
     ensures said { (lines : List (List ℕ)) → (held : List ℕ) → IsTold lines listener.old
         → Holds (P.view peer.old).turns (TurnsSoFar (lines ++ line.now ∷ []) held (answered lines) (answered lines)) → result ≡ None
         → Holds (P.view peer.new).turns (TurnsSoFar (lines ++ line.now ∷ []) held (answered (lines ++ line.now ∷ [])) (answered (lines ++ line.now ∷ []))) }
+    ensures counted { result ≡ None → HasPassedOne listener.old listener.new }
     ensures punctual { Holds (P.view peer.old).turns IsPunctual → Holds (P.view peer.new).turns IsPunctual }
     ensures writes { HasWritten (P.view peer.old) (P.view peer.new) }
 {
@@ -90,7 +91,8 @@ fn answer_end<P: Peer>(alloc: Global, listener: &Listener<'_>, peer: &mut P) -> 
     match listener.end(alloc) {
         Ok(answer) => match write_answer(&answer, peer) {
             Some(status) => status,
-            None => Status::OutOfMemory,
+            // With that answer it is over.
+            None => unreachable!(),
         },
         Err(AllocError) => Status::OutOfMemory,
     }
@@ -108,7 +110,9 @@ fn next<P: Peer>(alloc: Global, lines: &mut IncomingLines, peer: &mut P) -> Resu
     match lines.read(alloc, peer) {
         Ok(next) => Ok(next),
         Err(Stop::Fault) => Err(Status::ReadFault),
-        Err(_) => Err(Status::OutOfMemory),
+        Err(Stop::OutOfMemory) => Err(Status::OutOfMemory),
+        // Lines that come one by one have no most.
+        Err(Stop::TooLong) => unreachable!(),
     }
 }
 
@@ -137,8 +141,9 @@ fn take_turn<P: Peer>(
     lines: &mut IncomingLines,
     peer: &mut P,
 ) -> Option<Status>
-    ensures { (from : Dialogue) → (told : List (List ℕ)) → IsAt from (P.view peer.old) told lines.old.left listener.old
+    ensures turn { (from : Dialogue) → (told : List (List ℕ)) → IsAt from (P.view peer.old) told lines.old.left listener.old
         → TakesTurn from (P.view peer.new) told lines.new.left listener.new result }
+    ensures counted { result ≡ None → HasPassedOne listener.old listener.new }
 {
     let next = match next(alloc, lines, peer) {
         Ok(next) => next,
@@ -151,7 +156,7 @@ fn take_turn<P: Peer>(
     }
 }
 
-// Hears the lines behind a setup. After want of memory at the number of a turn there are no further ones.
+// Hears the lines behind a setup. It ends, since a line whose number would go past a `u64` is refused for want of memory.
 fn listen<P: Peer>(
     alloc: Global,
     listener: &mut Listener<'_>,
@@ -161,12 +166,11 @@ fn listen<P: Peer>(
     ensures { (from : Dialogue) → (told : List (List ℕ)) → IsAt from (P.view peer.old) told lines.old.left listener.old
         → IsOver from (P.view peer.new) result }
 {
-    for _ in 0..u64::MAX {
+    'turns: loop {
         if let Some(status) = take_turn(alloc, listener, lines, peer) {
             return status;
         }
     }
-    Status::OutOfMemory
 }
 
 // Opens the replay of a setup, behind whose line more may come, and answers it.
@@ -252,7 +256,8 @@ fn hear_all<P: Peer>(alloc: Global, lines: &mut IncomingLines, peer: &mut P) -> 
 ///
 /// The answer to a line is what `replay` writes of its step, and at the end of the lines comes the last line of `replay`. It is over at the
 /// first line that does not read, and at the first event of which the replay is refused, whose answer is the refusal's line. Behind
-/// want of memory or a fault of the peer exactly the answers to the lines before were written.
+/// want of memory or a fault of the peer exactly the answers to the lines before were written. A line whose number would go past a `u64`
+/// is refused as want of memory is.
 pub fn converse<P: Peer>(alloc: Global, peer: &mut P) -> Status
     // What the lines call for is answered, with all its text, unless memory ran out or a count of faults rose; then the text is that
     // of some first lines.

@@ -150,7 +150,7 @@ impl IncomingLines {
         ensures reads { HasRead (P.view peer.old) (P.view peer.new) }
     {
         let mut searched = 0;
-        for _ in 0..u64::MAX {
+        'reads: loop {
             if let Some(end) = self.first_feed(searched) {
                 self.cut(end);
                 return Ok(Incoming::Line);
@@ -160,7 +160,6 @@ impl IncomingLines {
                 return Ok(self.cut_last());
             }
         }
-        Err(Stop::OutOfMemory)
     }
 
     fn left(&self) -> &[u8]

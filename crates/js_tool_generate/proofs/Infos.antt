@@ -22,10 +22,10 @@ use Rattle.js_json.specs.declared.response.Response.{Response}
 use Rattle.js_json.specs.declared.consumer.info.Info.{Info}
 use Rattle.js_json.specs.declared.response.Response.TheVariants as response
 use Rattle.js_json.proofs.OnLiterals.{infos_on_literals}
-use Rattle.js_json_members.specs.Member.{◌>>=◌, float_free}
+use Rattle.js_json_members.specs.Member.{◌>>=◌, float_free, Fails}
 use Rattle.js_json_members.specs.Value.{value_of, without_float}
 use Rattle.js_json_members.specs.declared.error.ReadError.{ReadError}
-use Rattle.js_json_members.specs.declared.error.ReadError.TheVariants.{NotJson}
+use Rattle.js_json_members.specs.declared.error.ReadError.TheVariants.{Missing, WrongKind, OutOfRange, Float, NotJson, OutOfMemory}
 use Rattle.js_tool_generate.specs.Episode.{info_text, name_of}
 use Rattle.js_tool_generate.specs.Transcript.{info}
 
@@ -153,3 +153,23 @@ pub first_is : (bytes : List ℕ) (first : Info) → bytes ≡ info_text (codes 
 first_is bytes first is reads =
     let both : Ok (response.Ok first) ≡ Ok (response.Ok (info (codes "gen"))) = sym reads ∙ ap (response_of (float_free info_fields)) is ∙ first_reads in
     cc
+
+-- so what it reads as is no error of the server,
+pub first_answer : (bytes : List ℕ) (answer : Response Info) → bytes ≡ info_text (codes "gen") → response_of (float_free info_fields) bytes ≡ Ok answer → answer ≡ response.Ok (info (codes "gen"))
+first_answer bytes answer is reads =
+    let both : Ok answer ≡ Ok (response.Ok (info (codes "gen"))) = sym reads ∙ ap (response_of (float_free info_fields)) is ∙ first_reads in
+    cc
+
+first_reads_not : (bytes : List ℕ) (fault : ReadError) → bytes ≡ info_text (codes "gen") → response_of (float_free info_fields) bytes ≡ Err fault → ⊥
+first_reads_not bytes fault is fails =
+    let both : Err fault ≡ Ok (response.Ok (info (codes "gen"))) = sym fails ∙ ap (response_of (float_free info_fields)) is ∙ first_reads in
+    cc
+
+-- and fails only for want of memory
+pub first_fails : (bytes : List ℕ) (fault : ReadError) → bytes ≡ info_text (codes "gen") → Fails fault (response_of (float_free info_fields) bytes) → fault ≡ OutOfMemory
+first_fails bytes OutOfMemory is fails = refl
+first_fails bytes (Missing key) is fails = absurd (first_reads_not bytes (Missing key) is fails)
+first_fails bytes (WrongKind key) is fails = absurd (first_reads_not bytes (WrongKind key) is fails)
+first_fails bytes (OutOfRange key) is fails = absurd (first_reads_not bytes (OutOfRange key) is fails)
+first_fails bytes Float is fails = absurd (first_reads_not bytes Float is fails)
+first_fails bytes NotJson is fails = absurd (first_reads_not bytes NotJson is fails)

@@ -6,6 +6,7 @@ use crate::texts;
 use js_base::{OutOfMemory, Text, both};
 use js_json::consumer::Info;
 use js_json::{Response, pull, response_as};
+use js_json_members::ReadError;
 use js_ordered_table::{OrderedSetup, ReplayInput, Settings};
 use std::alloc::Global;
 
@@ -26,6 +27,13 @@ fn settings(alloc: Global) -> Result<Settings, OutOfMemory>
     })
 }
 
+// What a reading fails with that fails for want of memory alone.
+fn want_of_memory(_error: ReadError) -> OutOfMemory
+    requires { _error ≡ ReadError.OutOfMemory }
+{
+    OutOfMemory
+}
+
 // What the server tells of the first consumer.
 fn first_info(alloc: Global) -> Result<Info, OutOfMemory>
     ensures { IfOk result (λ info. info ≡ transcript.replay_input.first) }
@@ -35,11 +43,9 @@ fn first_info(alloc: Global) -> Result<Info, OutOfMemory>
     drop(text);
     match answer {
         Ok(Response::Ok(info)) => Ok(info),
-        // The text is an info, so only memory can be missing.
-        other => {
-            drop(other);
-            Err(OutOfMemory)
-        }
+        // The text is an info.
+        Ok(Response::Err { .. }) => unreachable!(),
+        Err(error) => Err(want_of_memory(error)),
     }
 }
 

@@ -4,7 +4,7 @@ ghost use Rattle.js_ordered_table.specs.declared.run.Output as outputs;
 ghost use Rattle.js_tool_generate.specs.Summary as counts;
 
 use js_base::OutOfMemory;
-use js_ordered_table::{Output, Run};
+use js_ordered_table::{Output, Run, next_number};
 
 /// How much a run puts out, over its opening and all of its steps.
 #[derive(Clone, Copy)]
@@ -22,19 +22,11 @@ pub struct Summary {
     pub last: u64,
 }
 
-// One more.
-//
-// What is counted lies in memory, which ends long before the numbers do.
 fn one_more(number: &mut u64) -> Result<(), OutOfMemory>
     ensures { OnOk result (number.new ≡ number.old + 1) }
 {
-    match number.checked_add(1) {
-        Some(next) => {
-            *number = next;
-            Ok(())
-        }
-        None => Err(OutOfMemory),
-    }
+    *number = next_number(*number)?;
+    Ok(())
 }
 
 impl Summary {
@@ -87,11 +79,11 @@ impl Summary {
     }
 }
 
-/// The counts of a run.
+/// The counts of a run. It takes no memory.
 ///
 /// # Errors
 ///
-/// Want of memory.
+/// Want of memory, where a count would go past a `u64`: the outputs that are counted are held in memory.
 pub fn summary_of(run: &Run) -> Result<Summary, OutOfMemory>
     ensures { IfOk result (λ summary. summary ≡ counts.summary run.now) }
 {

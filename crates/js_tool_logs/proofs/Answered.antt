@@ -10,7 +10,7 @@ use Rattle.js_tool.specs.Program.{WritesUnlessFault}
 use Rattle.js_tool.proofs.Called.{of_source, not_long, is_long}
 use Rattle.js_tool_logs.specs.declared.report.Report.{Report}
 use Rattle.js_tool_logs.specs.declared.report.Report.TheVariants as report
-use Rattle.js_tool_logs.specs.Command.{Wanted}
+use Rattle.js_tool.specs.LogCommand.{Wanted}
 use Rattle.js_tool_logs.specs.Sessions.{AnswersSessions}
 use Rattle.js_tool_logs.specs.Report.{Reports}
 use Rattle.js_tool_logs.specs.Answer.{Writes, AnswersBytes, AnswersSource, AnswersLog, report_status, called_for}

@@ -16,7 +16,7 @@ use Rattle.js_tool_logs.specs.declared.yields.Ending.{Ending}
 use Rattle.js_tool_logs.specs.declared.yields.Ending.TheVariants as ending
 use Rattle.js_tool_logs.specs.declared.report.Report.{Report}
 use Rattle.js_tool_logs.specs.declared.report.Report.TheVariants as report
-use Rattle.js_tool_logs.specs.Command.{Wanted, Relay}
+use Rattle.js_tool.specs.LogCommand.{Wanted, Relay}
 use Rattle.js_tool_logs.specs.LogTexts.{served_text}
 use Rattle.js_tool_logs.specs.Report.{Fills, unless_falling}
 use Rattle.js_tool_logs.specs.Relay.{HasTexts, IsServed, Serves, ServesFrom}

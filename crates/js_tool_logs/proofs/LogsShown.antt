@@ -28,7 +28,7 @@ use Rattle.js_tool.specs.declared.status.Status.TheVariants as status
 use Rattle.js_tool_transcript.specs.declared.transcript.Transcript.{Transcript}
 use Rattle.js_tool_transcript.specs.TranscriptReplay.{replay_input}
 use Rattle.js_tool_transcript.specs.Transcript.{transcript}
-use Rattle.js_tool_logs.specs.Command.{Wanted, Project, Mirror, Relay}
+use Rattle.js_tool.specs.LogCommand.{Wanted, Project, Mirror, Relay}
 use Rattle.js_tool_logs.specs.declared.report.Report.{Report}
 use Rattle.js_tool_logs.specs.declared.report.Report.TheVariants as report
 use Rattle.js_tool_logs.specs.Yields.{ends, ending_of}

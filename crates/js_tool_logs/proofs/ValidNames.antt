@@ -5,7 +5,7 @@ use Rattle.std.specs.Str.{bytes_eq}
 use Rattle.js_base.specs.Subject.{is_valid_subject}
 use Rattle.js_codes.specs.Name.{is_name}
 use Rattle.js_tool.specs.Command.{number_of}
-use Rattle.js_tool_logs.specs.Command.{Wanted, Project, Mirror, Relay, HasNames, project_of, project_up_to, relay_of, three_words, wanted_of}
+use Rattle.js_tool.specs.LogCommand.{Wanted, Project, Mirror, Relay, HasNames, project_of, project_up_to, relay_of, three_words, wanted_of}
 
 abbrev AreNamed : Option Wanted → Type 0
 AreNamed found = IfSome found HasNames

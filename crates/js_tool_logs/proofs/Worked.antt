@@ -3,7 +3,7 @@ use Rattle.std.specs.Prelude.{◌≡◌, ℕ, List, [], ◌∷◌, Some, None, r
 use Rattle.js_base.specs.declared.message.Entry.{Entry}
 use Rattle.js_ordered_table.specs.declared.run.ReplayError.TheVariants.{BadEvent}
 use Rattle.js_ordered_table.specs.declared.setup.OrderedSetup.{OrderedSetup}
-use Rattle.js_tool_logs.specs.Command.{Project, Mirror, Relay, sessions_bookmark, bookmark_number, wanted_of, project_of, project_up_to, relay_of, three_words}
+use Rattle.js_tool.specs.LogCommand.{Project, Mirror, Relay, sessions_bookmark, bookmark_number, wanted_of, project_of, project_up_to, relay_of, three_words}
 use Rattle.js_tool_logs.specs.declared.yields.Ending.TheVariants as ending
 use Rattle.js_tool_logs.specs.declared.report.Report.TheVariants as report
 use Rattle.js_tool_logs.specs.LogTexts.{no_start_text, not_rising_text, hole_text}

@@ -11,7 +11,7 @@ use Rattle.js_tool.specs.Program.{IsUnlessFailed, WritesUnlessFault, HasReadAll}
 use Rattle.js_tool_transcript.specs.Transcript.{transcript}
 use Rattle.js_tool_logs.specs.declared.report.Report.{Report}
 use Rattle.js_tool_logs.specs.declared.report.Report.TheVariants as report
-use Rattle.js_tool_logs.specs.Command.{Wanted}
+use Rattle.js_tool.specs.LogCommand.{Wanted}
 use Rattle.js_tool_logs.specs.Report.{report_of}
 use Rattle.js_tool_logs.specs.Relay.{ServesOf}
 

@@ -1,4 +1,3 @@
-pub mod Command
 pub mod Yields
 pub mod LogTexts
 pub mod Report

@@ -15,7 +15,7 @@ use Rattle.js_tool_logs.specs.declared.yields.Ending.{Ending}
 use Rattle.js_tool_logs.specs.declared.yields.Ending.TheVariants as ending
 use Rattle.js_tool_logs.specs.declared.report.Report.{Report}
 use Rattle.js_tool_logs.specs.declared.report.Report.TheVariants as report
-use Rattle.js_tool_logs.specs.Command.{Wanted, Relay}
+use Rattle.js_tool.specs.LogCommand.{Wanted, Relay}
 
 -- the run of a transcript
 abbrev pub run_of : Transcript → Run

@@ -18,7 +18,7 @@ use Rattle.js_tool_logs.specs.declared.yields.Ending.{Ending}
 use Rattle.js_tool_logs.specs.declared.yields.Ending.TheVariants as ending
 use Rattle.js_tool_logs.specs.declared.report.Report.{Report}
 use Rattle.js_tool_logs.specs.declared.report.Report.TheVariants as report
-use Rattle.js_tool_logs.specs.Command.{Wanted, Project, Mirror, Relay}
+use Rattle.js_tool.specs.LogCommand.{Wanted, Project, Mirror, Relay}
 use Rattle.js_tool_logs.specs.Yields.{ending_of}
 use Rattle.js_tool_logs.specs.LogTexts.{no_start_text, not_rising_text, table_text, mirror_text, served_text}
 

@@ -1,5 +1,5 @@
 -- How far sessions have come as their lines are read, and what the lines that are left say.
-use Rattle.std.specs.Prelude.{◌≡◌, ⊤, ℕ, ◌+◌, ◌<◌, List, [], ◌∷◌, ◌++◌, Option, Some, None, Result, Ok, Err}
+use Rattle.std.specs.Prelude.{◌≡◌, ⊤, ℕ, ◌+◌, ◌^◌, ◌<◌, List, [], ◌∷◌, ◌++◌, length, Option, Some, None, Result, Ok, Err}
 use Rattle.js_log_sessions.specs.declared.error.SessionsError.{SessionsError}
 use Rattle.js_log_sessions.specs.declared.error.SessionsError.TheVariants as errors
 use Rattle.js_log_sessions.specs.declared.session.Line.{Line}
@@ -31,6 +31,10 @@ ReadsNext old new (Ok None) = (old.lines.left ≡ []) × (new.lines.left ≡ [])
 ReadsNext old new (Ok (Some said)) =
     (line : List ℕ) × (old.lines.left ≡ line ∷ new.lines.left) × (numbered (old.number + 1) (session_line line) ≡ Ok said) × (new.number ≡ old.number + 1)
 ReadsNext old new (Err unread) = (line : List ℕ) × (left : List (List ℕ)) × (old.lines.left ≡ line ∷ left) × StopsAt unread (numbered (old.number + 1) (session_line line))
+
+-- the number of each line that is left is below 2 ^ 64
+abbrev pub HasRoom : Reader → Type 0
+HasRoom r = r.number + length r.lines.left < 2 ^ 64
 
 -- what all lines say that are left
 abbrev pub left_said : Reader → Result (List Said) ℕ

@@ -6,14 +6,13 @@ ghost use Rattle.js_tool_io.specs.Causes.{Rose};
 ghost use Rattle.js_tool_logs.specs.SessionInput.{sessions};
 ghost use Rattle.js_tool.specs.Program.{SaysNothing};
 ghost use Rattle.js_tool_transcript.specs.TranscriptReplay.{FirstUnread};
-ghost use Rattle.js_tool_logs.specs.Command.{HasNames, wanted};
+ghost use Rattle.js_tool.specs.LogCommand.{HasNames, wanted};
 ghost use Rattle.js_tool_logs.specs.Sessions.{AnswersSessions};
 ghost use Rattle.js_tool_logs.specs.Answer.{AnswersLog, IsFirstUnread, Writes};
 
-use crate::command::LogCommand;
 use crate::report::{Report, report_on};
 use crate::sessions::report_on_sessions;
-use js_tool::Status;
+use js_tool::{LogCommand, Status};
 use js_tool_io::{Sink, Source, Stop, read_all, write_all};
 use js_tool_transcript::Unread;
 use std::alloc::Global;

@@ -1,4 +1,4 @@
-//! The words over logs and over sessions: `project`, `mirror`, `relay` and `sessions`. All other words are handed to js_tool.
+//! What the words over logs and over sessions ask for: `project`, `mirror`, `relay` and `sessions`. Other commands are js_tool's.
 //!
 //! For the words over logs a transcript is replayed line by line, and what it hands out is kept and nothing else. Then the last
 //! message of each subject is written, or all messages with their holes, or the transcript of a consumer that is sent them again.
@@ -7,7 +7,6 @@
 #![tactic(auto)]
 
 mod answer;
-mod command;
 mod mirror;
 mod program;
 mod project;
@@ -16,5 +15,5 @@ mod report;
 mod sessions;
 mod yields;
 
-pub use js_tool::Status;
+pub use js_tool::{Command, Status, command_of};
 pub use program::{run, run_plain};

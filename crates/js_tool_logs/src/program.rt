@@ -1,4 +1,4 @@
-//! The top call: the words over logs and sessions, and all others.
+//! The top call: what the program does with its words, its source and its sink.
 
 ghost use Rattle.std.specs.Prelude.{◌≡◌, ◌<◌, ◌↔◌, ℕ, List, length, map, Some, None, IfSome, string_bytes};
 ghost use Rattle.std.specs.Io.KnownBytes.{Keeps};
@@ -7,14 +7,13 @@ ghost use Rattle.js_tool.specs.Command.{Replay, Generate, Info, Window, command_
 ghost use Rattle.js_tool.specs.Program.{AnswersReplay, AnswersGenerate, AnswersInfo, AnswersWindow, SaysNothing, without_threads};
 ghost use Rattle.js_tool_transcript.specs.TranscriptReplay.{FirstUnread};
 ghost use Rattle.js_tool_logs.specs.SessionInput.{sessions as sessions_in};
-ghost use Rattle.js_tool_logs.specs.Command.{Wanted, Project, Mirror, Relay, sessions_bookmark as sessions_bookmark_in, wanted_of};
+ghost use Rattle.js_tool.specs.LogCommand.{Wanted, Project, Mirror, Relay, sessions_bookmark as sessions_bookmark_in, wanted_of};
 ghost use Rattle.js_tool_logs.specs.LogPromises.{WritesLogsTable, WritesLogsMirror, WritesLogsRelay};
 ghost use Rattle.js_tool_logs.specs.Sessions.{AnswersSessions, WritesLogsSessions};
 ghost use Rattle.js_tool_logs.specs.Answer.{AnswersLog, IsFirstUnread};
 
 use crate::answer::{answer_log, answer_sessions};
-use crate::command::{log_command_of, sessions_bookmark};
-use js_tool::Status;
+use js_tool::{Command, Status, command_of};
 use js_tool_io::{Sink, Source};
 use std::alloc::Global;
 use std::sync::Wait;
@@ -25,8 +24,8 @@ use std::thread::Threads;
 ///
 /// `project` reads a transcript to its end, replays it, and writes the last entry of each subject that a filter matches.
 /// `mirror` writes all that the replay yields, with the holes between, and `relay` the transcript of another consumer that is
-/// sent all of it. `sessions` reads the lines of sessions to their end, and writes what each comes to, from a bookmark on. All
-/// other words are those of [`js_tool::run`]. It may wait in `window` alone.
+/// sent all of it. `sessions` reads the lines of sessions to their end, and writes what each comes to, from a bookmark on. What
+/// `replay`, `generate`, `info` and `window` do stands at [`js_tool::run`]. It may wait in `window` alone.
 pub fn run<R: Threads + Wait + Sync, S: Source, K: Sink>(
     rt: &R,
     alloc: Global,
@@ -86,12 +85,11 @@ pub fn run<R: Threads + Wait + Sync, S: Source, K: Sink>(
         → wanted_of (map string_bytes words.now) ≡ None → sessions_bookmark_in (map string_bytes words.now) ≡ None
         → input.new ≡ input.old }
 {
-    match log_command_of(words) {
-        Some(command) => answer_log(alloc, command, input, output),
-        None => match sessions_bookmark(words) {
-            Some(next) => answer_sessions(alloc, next, input, output),
-            None => js_tool::run(rt, alloc, words, input, output),
-        },
+    match command_of(words) {
+        Some(Command::Log(command)) => answer_log(alloc, command, input, output),
+        Some(Command::Sessions { next }) => answer_sessions(alloc, next, input, output),
+        Some(Command::Tool(command)) => js_tool::run(rt, alloc, command, input, output),
+        Some(Command::Help | Command::Version | Command::Follow) | None => Status::Usage,
     }
 }
 
@@ -151,11 +149,10 @@ pub fn run_plain<S: Source, K: Sink>(
         → wanted_of (map string_bytes words.now) ≡ None → sessions_bookmark_in (map string_bytes words.now) ≡ None
         → input.new ≡ input.old }
 {
-    match log_command_of(words) {
-        Some(command) => answer_log(alloc, command, input, output),
-        None => match sessions_bookmark(words) {
-            Some(next) => answer_sessions(alloc, next, input, output),
-            None => js_tool::run_plain(alloc, words, input, output),
-        },
+    match command_of(words) {
+        Some(Command::Log(command)) => answer_log(alloc, command, input, output),
+        Some(Command::Sessions { next }) => answer_sessions(alloc, next, input, output),
+        Some(Command::Tool(command)) => js_tool::run_plain(alloc, command, input, output),
+        Some(Command::Help | Command::Version | Command::Follow) | None => Status::Usage,
     }
 }

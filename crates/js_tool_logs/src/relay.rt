@@ -3,7 +3,7 @@
 ghost use Rattle.std.specs.Prelude.{◌≡◌, ◌<◌, ◌-◌, IfOk, IsTrue};
 ghost use Rattle.js_codes.specs.Name.{is_name};
 ghost use Rattle.js_log.specs.RunProjection.{not_rising as not_rising_in};
-ghost use Rattle.js_tool_logs.specs.Command.{Relay};
+ghost use Rattle.js_tool.specs.LogCommand.{Relay};
 ghost use Rattle.js_tool_logs.specs.LogTexts.{served_text};
 ghost use Rattle.js_tool_logs.specs.Report.{Fills, unless_falling};
 ghost use Rattle.js_tool_logs.specs.Relay.{Serves};
@@ -37,8 +37,9 @@ pub(crate) fn relay(
             Ok(done(text))
         }
         Err(MirrorError::NotRising { last }) => not_rising(alloc, last),
+        Err(MirrorError::OutOfMemory) => Err(OutOfMemory),
         // A push refuses for nothing else.
-        Err(_) => Err(OutOfMemory),
+        Err(MirrorError::StartDiffers { .. } | MirrorError::Conflict { .. }) => unreachable!(),
     }
 }
 

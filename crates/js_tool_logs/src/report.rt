@@ -2,20 +2,20 @@
 
 ghost use Rattle.std.specs.Prelude.{◌≡◌, ◌≤◌, ◌<◌, length, IfOk};
 ghost use Rattle.js_tool_transcript.specs.Transcript.{transcript};
-ghost use Rattle.js_tool_logs.specs.Command.{HasNames, wanted};
+ghost use Rattle.js_tool.specs.LogCommand.{HasNames, wanted};
 ghost use Rattle.js_tool_logs.specs.LogTexts.{no_start_text, not_rising_text};
 ghost use Rattle.js_ordered_table.specs.Texts.{configured_start};
 ghost use Rattle.js_tool_logs.specs.Report.{Reports, log_report as log_report_in, report_from, report_of};
 ghost use Rattle.js_tool_logs.specs.Relay.{Serves, ServesFrom, ServesOf};
 ghost use Rattle.js_tool_logs.specs.declared.report.Report.TheVariants.{Done, Refused};
 
-use crate::command::LogCommand;
 use crate::mirror::mirror;
 use crate::project::project;
 use crate::relay::relay;
 use crate::yields::{Ending, read_yields};
 use js_base::{Entry, Items, OutOfMemory};
 use js_ordered::OrderedSetup;
+use js_tool::LogCommand;
 use js_tool_io::{Lines, Pieces};
 use js_tool_transcript::{Cell, Unread, first_line, push_line, refusal_line};
 use std::alloc::{AllocError, Global};

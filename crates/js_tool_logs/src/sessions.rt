@@ -1,6 +1,6 @@
 //! What the word `sessions` makes of the lines of sessions. They are read one after another, replayed, and written as text.
 
-ghost use Rattle.std.specs.Prelude.{◌≡◌};
+ghost use Rattle.std.specs.Prelude.{◌≡◌, ◌≤◌, length};
 ghost use Rattle.js_tool_logs.specs.SessionInput.{sessions as sessions_in};
 ghost use Rattle.js_tool_logs.specs.Sessions.{as_report as as_report_in, report_of, Joins};
 ghost use Rattle.js_tool_logs.specs.Report.{Reports};
@@ -28,6 +28,7 @@ fn as_report(made: SessionsReport) -> Report
 
 /// What the sessions that the bytes say call for, from a bookmark on.
 pub(crate) fn report_on_sessions(alloc: Global, next: u64, bytes: Pieces) -> Result<Report, Unread>
+    requires { length bytes ≤ 67_108_864 }
     ensures { Reports (report_of next) (Joins next) (sessions_in bytes) result }
 {
     match sessions_report(alloc, next, bytes) {

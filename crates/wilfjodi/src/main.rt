@@ -3,7 +3,7 @@
 
 use js_tool_follow::follow;
 use js_tool_io::{ReadSource, WriteSink};
-use js_tool_logs::{Status, run};
+use js_tool_logs::{Command, Status, command_of, run};
 use std::process::ExitCode;
 use std::{env, io};
 
@@ -47,18 +47,18 @@ Exit status, whose name stands on standard error where it is not 0:
 
 fn main(rt: HostRuntime) -> ExitCode {
     let status = match words(&rt) {
-        Ok(words) => match words.as_slice() {
-            [word] if word.as_str() == "--help" => tell(&rt, HELP),
-            [word] if word.as_str() == "--version" => tell(&rt, VERSION),
-            [word] if word.as_str() == "follow" => {
+        Ok(words) => match command_of(&words) {
+            Some(Command::Help) => tell(&rt, HELP),
+            Some(Command::Version) => tell(&rt, VERSION),
+            Some(Command::Follow) => {
                 let mut input = ReadSource::new(rt.reader());
                 let mut output = WriteSink::new(io::writer(&rt));
                 follow(rt.alloc(), &mut input, &mut output)
             }
-            words => {
+            _ => {
                 let mut input = ReadSource::new(rt.reader());
                 let mut output = WriteSink::new(io::writer(&rt));
-                run(&rt, rt.alloc(), words, &mut input, &mut output)
+                run(&rt, rt.alloc(), &words, &mut input, &mut output)
             }
         },
         Err(error) if error.kind() == io::ErrorKind::OutOfMemory => Status::OutOfMemory,

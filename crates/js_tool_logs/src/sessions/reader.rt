@@ -1,11 +1,9 @@
 //! The lines of sessions, one after another, with their numbers.
 
-ghost use Rattle.std.specs.Prelude.{◌≡◌};
-ghost use Rattle.js_tool_logs.specs.SessionProgress.{ReadsNext, ReadsRest};
+ghost use Rattle.std.specs.Prelude.{◌≡◌, OnOk};
+ghost use Rattle.js_tool_logs.specs.SessionProgress.{HasRoom, ReadsNext, ReadsRest};
 
 use crate::sessions::line::{Said, said_line};
-use js_base::OutOfMemory;
-use js_ordered_table::next_number;
 use js_tool_io::{Lines, Pieces};
 use js_tool_transcript::{Payloads, Unread};
 use std::alloc::Global;
@@ -21,22 +19,22 @@ pub(crate) struct Reader {
 impl Reader {
     /// What the next line says, if one is left. Once none was left, none is.
     pub(crate) fn next(&mut self, alloc: Global) -> Result<Option<Said>, Unread>
-        ensures { ReadsNext self.old self.new result }
+        requires { HasRoom self.old }
+        ensures reads { ReadsNext self.old self.new result }
+        ensures room { OnOk result (HasRoom self.new) }
     {
         if !self.lines.read(alloc) {
             self.lines = Lines::new(alloc, Pieces::new(alloc));
             return Ok(None);
         }
-        self.number = match next_number(self.number) {
-            Ok(number) => number,
-            Err(OutOfMemory) => return Err(Unread::OutOfMemory),
-        };
+        self.number += 1;
         let said = said_line(alloc, &mut self.payloads, self.number, self.lines.line())?;
         Ok(Some(said))
     }
 
     /// Reads all lines that are left, and lets go what they say.
     pub(crate) fn read_rest(&mut self, alloc: Global) -> Result<(), Unread>
+        requires { HasRoom self.old }
         ensures { ReadsRest self.old result }
     {
         while let Some(said) = self.next(alloc)? {

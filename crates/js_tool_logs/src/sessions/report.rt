@@ -1,7 +1,7 @@
 //! What the lines of sessions call for.
 
-ghost use Rattle.std.specs.Prelude.{◌≡◌, ◌++◌, [], length, IfOk, OnOk};
-ghost use Rattle.js_tool_logs.specs.SessionProgress.{IsLess, RefusesBy, RefusesIn, RunsOn, rest_of};
+ghost use Rattle.std.specs.Prelude.{◌≡◌, ◌≤◌, ◌++◌, [], length, IfOk, OnOk};
+ghost use Rattle.js_tool_logs.specs.SessionProgress.{HasRoom, IsLess, RefusesBy, RefusesIn, RunsOn, rest_of};
 ghost use Rattle.js_tool_logs.specs.SessionReport.{AreJoined, Reports};
 ghost use Rattle.js_tool_logs.specs.SessionInput.{sessions as sessions_in};
 ghost use Rattle.js_tool_logs.specs.SessionTexts.{sessions_end};
@@ -52,8 +52,10 @@ fn run_session(
     setup: &Setup,
     reader: &mut Reader,
 ) -> Result<Stage, Unread>
+    requires { HasRoom reader.old }
     ensures stage { RunsOn ended setup.now reader.old reader.new result }
     ensures shorter { IfOk result (λ stage. IsLess stage (length reader.new.lines.left) (length reader.old.lines.left)) }
+    ensures room { OnOk result (HasRoom reader.new) }
 {
     let mut session = match SessionText::begin(alloc, ended, setup) {
         Ok(session) => session,
@@ -109,6 +111,7 @@ fn refused(
     refusal: SessionsError,
     reader: &mut Reader,
 ) -> Result<SessionsReport, Unread>
+    requires { HasRoom reader.old }
     ensures { RefusesIn refusal reader.old result }
 {
     reader.read_rest(alloc)?;
@@ -124,6 +127,7 @@ fn run_all(
     first: Setup,
     reader: &mut Reader,
 ) -> Result<SessionsReport, Unread>
+    requires { HasRoom reader.old }
     ensures { Reports next (rest_of [] first [] reader.old) result }
 {
     let mut ended = EndedText {
@@ -168,6 +172,7 @@ pub(crate) fn sessions_report(
     next: u64,
     bytes: Pieces,
 ) -> Result<SessionsReport, Unread>
+    requires { length bytes ≤ 67_108_864 }
     ensures report { Reports next (sessions_in bytes) result }
     ensures joined { IfOk result (λ report. AreJoined next (sessions_in bytes) report) }
 {

@@ -4,7 +4,7 @@ ghost use Rattle.std.specs.Prelude.{◌≡◌, ℕ, ◌<◌, ◌∷◌, ◌++◌
 ghost use Rattle.js_log_sessions.specs.declared.session.Line as lines;
 ghost use Rattle.js_log_sessions.specs.declared.session.Session.{Session};
 ghost use Rattle.js_tool_transcript.specs.declared.transcript.setup.Setup as setups;
-ghost use Rattle.js_tool_logs.specs.SessionProgress.{Begins, Ends, HasText, PassesLines};
+ghost use Rattle.js_tool_logs.specs.SessionProgress.{Begins, Ends, HasRoom, HasText, PassesLines};
 ghost use Rattle.js_tool_logs.specs.SessionTexts.{bookmark_text};
 
 use crate::sessions::line::Said;
@@ -94,7 +94,9 @@ impl<'s> SessionText<'s> {
         alloc: Global,
         reader: &mut Reader,
     ) -> Result<Option<Setup>, Unread>
+        requires { HasRoom reader.old }
         ensures lines { PassesLines self.old reader.old self.new reader.new result }
+        ensures room { OnOk result (HasRoom reader.new) }
         ensures shorter { IfOk result (λ following. IfSome following (λ _. length reader.new.lines.left < length reader.old.lines.left)) }
     {
         while let Some(said) = reader.next(alloc)? {

@@ -1,5 +1,5 @@
 use Rattle.std.proofs.Common.{Err, ap}
-use Rattle.js_tool_logs.specs.Command.{wanted}
+use Rattle.js_tool.specs.LogCommand.{wanted}
 use Rattle.js_tool_transcript.specs.TranscriptReplay.{FirstUnread}
 use Rattle.js_tool_transcript.specs.Transcript.{transcript}
 use Rattle.js_tool.proofs.Called.{of_source}

@@ -5,7 +5,7 @@ use Rattle.js_ordered_table.specs.Texts.{configured_start}
 use Rattle.js_tool_transcript.specs.declared.transcript.Transcript.{Transcript}
 use Rattle.js_tool_transcript.specs.Transcript.{StopsAt, transcript, with_lines}
 use Rattle.js_tool_transcript.proofs.LinesRead.{with_setup}
-use Rattle.js_tool_logs.specs.Command.{wanted}
+use Rattle.js_tool.specs.LogCommand.{wanted}
 use Rattle.js_tool_logs.specs.declared.yields.Ending.{Ending}
 use Rattle.js_tool_logs.specs.Report.{report_from, report_of}
 use Rattle.js_tool_logs.specs.Relay.{ServesFrom}

@@ -3,16 +3,16 @@ use Rattle.js_tool_transcript.specs.TranscriptReplay.{replay_input}
 use Rattle.js_tool_follow.proofs.LineAnswers.{event_so, unread_so}
 use Rattle.js_tool_follow.proofs.answer.Listener.hear.Goals as goal
 
-pub returns-in-Err-BadLine : goal.returns-in-Err-BadLine
-returns-in-Err-BadLine c = λ lines told.
+pub returns-in-Err-BadLine-clause-told : goal.returns-in-Err-BadLine-clause-told
+returns-in-Err-BadLine-clause-told c = λ lines told.
     let same : c.count.result ≡ c.args.self.now.replay.value.count = search rules in
     let counted : c.count.result ≡ length told.es = same ∙ told.come.count in
     let number : c.in-Some.number ≡ length told.es + 2 = c.in-Some.ensures.1 ∙ ap (λ (n : ℕ). n + 2) counted in
     let fails = rw c.in-Err-BadLine.field-0-is at c.in-Err-BadLine.ensures in
     unread_so lines c.args.line.now c.bad_line.result.text.items told.setup told.es _ c.in-Some.number c.bad_line.result.ending _ told.stands number fails c.bad_line.ensures.0 (rw c.in-Err-BadLine.line-is at c.bad_line.ensures.1)
 
-pub returns-in-Ok-passed : goal.returns-in-Ok-passed
-returns-in-Ok-passed c = λ lines told.
+pub returns-in-Ok-passed-clause-told : goal.returns-in-Ok-passed-clause-told
+returns-in-Ok-passed-clause-told c = λ lines told.
     let same : c.count.result ≡ c.args.self.now.replay.value.count = search rules in
     let counted : c.count.result ≡ length told.es = same ∙ told.come.count in
     let number : c.in-Some.number ≡ length told.es + 2 = c.in-Some.ensures.1 ∙ ap (λ (n : ℕ). n + 2) counted in

@@ -8,15 +8,16 @@ use Rattle.js_tool_logs.proofs.sessions.session.SessionText.pass_lines.Goals as 
 pub returns-in-Begins-clause-lines : goal.returns-in-Begins-clause-lines
 returns-in-Begins-clause-lines c =
     going_setup c.args.self.now c.loop-said.self c.args.reader.now c.loop-said.reader c.next.new.self c.in-Begins.setup c.loop-said.invariant.going
-    (next_says c.loop-said.reader c.next.new.self c.in_ok-said.field-0 c.in-Some.said (Begins c.in-Begins.setup) c.in-Some.is c.in-Begins.is c.in_ok-said.ensures)
+    (next_says c.loop-said.reader c.next.new.self c.in_ok-said.field-0 c.in-Some.said (Begins c.in-Begins.setup) c.in-Some.is c.in-Begins.is c.in_ok-said.ensures.reads)
 
 pub loop-said-preserved : goal.loop-said-preserved
 loop-said-preserved c =
     let reads : ReadsNext c.loop-said.reader c.next.new.self (Ok (Some (Says c.in-Says.line))) =
-    next_says c.loop-said.reader c.next.new.self c.in_ok-said.field-0 c.in-Some.said (Says c.in-Says.line) c.in-Some.is c.in-Says.is c.in_ok-said.ensures in
+    next_says c.loop-said.reader c.next.new.self c.in_ok-said.field-0 c.in-Some.said (Says c.in-Says.line) c.in-Some.is c.in-Says.is c.in_ok-said.ensures.reads in
     record {
       going =
           going_next c.args.self.now c.loop-said.self c.pass-passed.new.self c.args.reader.now c.loop-said.reader c.next.new.self c.in-Says.line c.loop-said.invariant.going reads
           c.in-Ok.ensures;
       left = next_left c.loop-said.reader c.next.new.self (Says c.in-Says.line) (length c.args.reader.now.lines.left) reads c.loop-said.invariant.left;
+      room = c.in_ok-said.ensures.room;
     }

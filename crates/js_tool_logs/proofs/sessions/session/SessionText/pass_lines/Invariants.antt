@@ -1,4 +1,5 @@
 use Rattle.std.proofs.Common.{◌≤◌, length}
+use Rattle.js_tool_logs.specs.SessionProgress.{HasRoom}
 use Rattle.js_tool_logs.proofs.LinesLeft.{Going}
 use Rattle.js_tool_logs.proofs.sessions.session.SessionText.pass_lines.Given as goal
 
@@ -6,6 +7,7 @@ abbrev pub invariant-loop-said : goal.invariant-loop-said
 invariant-loop-said l = record {
   going : Going l.initial.self l.initial.reader l.self l.reader;
   left : length l.reader.lines.left ≤ length l.initial.reader.lines.left;
+  room : HasRoom l.reader;
 }
 
 abbrev pub decreases-loop-said : goal.decreases-loop-said

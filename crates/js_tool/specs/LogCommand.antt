@@ -4,8 +4,10 @@ use Rattle.std.specs.Str.{bytes_eq}
 use Rattle.js_base.specs.Subject.{is_valid_subject}
 use Rattle.js_codes.specs.Name.{is_name}
 use Rattle.js_tool.specs.Command.{number_of}
-use Rattle.js_tool_logs.specs.declared.command.LogCommand.{LogCommand}
-use Rattle.js_tool_logs.specs.declared.command.LogCommand.TheVariants as command
+use Rattle.js_tool.specs.declared.command.Command.{Command}
+use Rattle.js_tool.specs.declared.command.Command.TheVariants as command
+use Rattle.js_tool.specs.declared.command.LogCommand.{LogCommand}
+use Rattle.js_tool.specs.declared.command.LogCommand.TheVariants as log
 
 -- what words ask for: the table of the yields whose subject a filter matches, at their end or up to a sequence; the yields with the holes between them; or the transcript of a consumer that is sent the yields, by the names of the stream and of the consumer
 pub data Wanted : Type 0 where
@@ -15,9 +17,18 @@ pub data Wanted : Type 0 where
 
 -- what a command asks for
 abbrev pub wanted : LogCommand → Wanted
-wanted (command.Project filter sequence) = Project filter.now sequence
-wanted command.Mirror = Mirror
-wanted (command.Relay stream name) = Relay stream.now name.now
+wanted (log.Project filter sequence) = Project filter.now sequence
+wanted log.Mirror = Mirror
+wanted (log.Relay stream name) = Relay stream.now name.now
+
+-- so does one of all commands, if it is of this kind
+abbrev pub wanted_of_log : Command → Option Wanted
+wanted_of_log command.Help = None
+wanted_of_log command.Version = None
+wanted_of_log command.Follow = None
+wanted_of_log (command.Tool one) = None
+wanted_of_log (command.Log one) = Some (wanted one)
+wanted_of_log (command.Sessions next) = None
 
 -- its names are valid
 abbrev pub HasNames : Wanted → Type 0
@@ -62,3 +73,12 @@ bookmark_number word = option_and_then above_nothing (number_of word)
 abbrev pub sessions_bookmark : List (List ℕ) → Option ℕ
 sessions_bookmark (name ∷ word ∷ []) = if bytes_eq name (codes "sessions") then bookmark_number word else None
 sessions_bookmark words = None
+
+-- the bookmark of a command, where it is over sessions
+abbrev pub bookmark : Command → Option ℕ
+bookmark command.Help = None
+bookmark command.Version = None
+bookmark command.Follow = None
+bookmark (command.Tool one) = None
+bookmark (command.Log one) = None
+bookmark (command.Sessions next) = Some next
