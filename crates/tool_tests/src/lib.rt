@@ -20,6 +20,8 @@ mod projection;
 #[cfg(test)]
 mod pull;
 #[cfg(test)]
+mod std_io;
+#[cfg(test)]
 mod steps;
 #[cfg(test)]
 mod tables;

@@ -82,7 +82,7 @@ fn add_pair(text: &mut String, name: &str, value: &str) -> Result<(), OutOfMemor
 }
 
 /// The names and values in order.
-fn pairs(alloc: Global, headers: &HeaderMap) -> Result<String, OutOfMemory> {
+pub(crate) fn pairs(alloc: Global, headers: &HeaderMap) -> Result<String, OutOfMemory> {
     let mut text = String::new(alloc);
     for (name, value) in headers.iter() {
         add_pair(&mut text, name, value)?;
@@ -209,7 +209,8 @@ const CAUSES: &[(Cause, &str, &str)] = &[
     ),
 ];
 
-fn text_of(alloc: Global, text: Option<&str>) -> Result<Option<Text>, OutOfMemory> {
+/// A text, where there is one.
+pub(crate) fn text_of(alloc: Global, text: Option<&str>) -> Result<Option<Text>, OutOfMemory> {
     match text {
         None => Ok(None),
         Some(text) => Ok(Some(Text::from_str(alloc, text)?)),

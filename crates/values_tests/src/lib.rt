@@ -1,4 +1,5 @@
-//! Tests of the crates of values: subjects, headers, JSON bodies, the link in memory, messages and their acks.
+//! Tests of the crates of values: subjects, headers, JSON bodies, the link in memory, the bytes of the NATS client protocol, messages
+//! and their acks.
 #![tactic(auto)]
 
 #[cfg(test)]
@@ -23,6 +24,8 @@ mod requests;
 mod stream_rows;
 #[cfg(test)]
 mod tables;
+#[cfg(test)]
+mod wire;
 mod words;
 
 pub use words::word;

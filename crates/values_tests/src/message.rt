@@ -1,6 +1,6 @@
 //! Messages of a stream: their acknowledgement subjects, their acks, and how they are published and stored.
 
-use crate::received::{REPLY, WAIT, delivered, received, reply_of};
+use crate::received::{Headers, REPLY, WAIT, delivered, header_map, received, reply_of};
 use crate::tables::{printed, same, says};
 use bytes::Bytes;
 use js_base::{HeaderMap, OutOfMemory};
@@ -297,11 +297,8 @@ fn bodies_and_headers_are_those_of_the_protocol(rt: HostRuntime) {
     drop(message);
 }
 
-/// Headers of a stored message. Of equal names the last counts.
-type Headers = &'static [(&'static str, &'static str)];
-
 /// What a message with some headers is read as: its sequence, its time in nanoseconds and its subject, or what is printed of the
-/// refusal, which names the header.
+/// refusal, which names the header. Of equal names the last counts.
 const STORED: &[(Headers, &str)] = &[
     (
         &[
@@ -347,11 +344,7 @@ fn headers_of(alloc: Global, pairs: Headers) -> Result<Option<HeaderMap>, OutOfM
     if pairs.is_empty() {
         return Ok(None);
     }
-    let mut headers = HeaderMap::new(alloc);
-    for (name, value) in pairs {
-        headers.append(alloc, name, value)?;
-    }
-    Ok(Some(headers))
+    Ok(Some(header_map(alloc, pairs)?))
 }
 
 fn read_word(alloc: Global, read: &StreamMessage) -> Result<String, OutOfMemory> {

@@ -19,8 +19,21 @@ pub(crate) fn reply_of(alloc: Global, reply: Option<&str>) -> Result<Option<Subj
     }
 }
 
-fn bytes_of(alloc: Global, text: &str) -> Result<Bytes, OutOfMemory> {
+/// The bytes of a text.
+pub(crate) fn bytes_of(alloc: Global, text: &str) -> Result<Bytes, OutOfMemory> {
     Ok(Bytes::copy_from_slice(alloc, text.as_bytes())?)
+}
+
+/// Names and values of headers, in order.
+pub(crate) type Headers = &'static [(&'static str, &'static str)];
+
+/// Those headers.
+pub(crate) fn header_map(alloc: Global, pairs: Headers) -> Result<HeaderMap, OutOfMemory> {
+    let mut headers = HeaderMap::new(alloc);
+    for (name, value) in pairs {
+        headers.append(alloc, name, value)?;
+    }
+    Ok(headers)
 }
 
 /// A message on `events.a`.

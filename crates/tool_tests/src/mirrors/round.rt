@@ -5,7 +5,7 @@ use crate::mirrors::draw::mirror;
 use js_base::{Entry, OutOfMemory};
 use js_json::consumer::DeliverPolicy;
 use js_json::pull::OrderedConfig;
-use js_log::{Mirror, Slot, entry_of, relay};
+use js_log::{Mirror, Slot, entry_of};
 use js_ordered::{Event, OrderedSetup, Output, ReplayError, Run, replay_ordered};
 use js_tool_generate::replay_input;
 use rand_pcg::Pcg32;
@@ -84,7 +84,7 @@ fn is_there(mirror: &Mirror, sequence: u64) -> bool {
 
 /// Whether a mirror of what a replay of the relayed one hands out is the same.
 fn comes_back(alloc: Global, mirror: &Mirror) -> Result<bool, Fail> {
-    let events = relay(alloc, mirror, "events", "gen")?;
+    let events = mirror.relay(alloc, "events", "gen")?;
     let is_back = is_replayed(alloc, mirror, &events);
     drop(events);
     is_back

@@ -4,7 +4,7 @@ use crate::mirrors::calls::fill;
 use crate::mirrors::round::replayed;
 use crate::tables::same;
 use js_base::OutOfMemory;
-use js_log::{Mirror, Projection, RunProjection, project, relay, worked_tables};
+use js_log::{Mirror, Projection, RunProjection, project, worked_tables};
 use js_ordered::{Event, Run};
 use std::alloc::Global;
 use std::process::Abort;
@@ -14,7 +14,7 @@ use std::test::Fail;
 fn events(alloc: Global) -> Result<Vec<Event>, Fail> {
     let mut mirror = Mirror::new(alloc, 3);
     fill(alloc, &mut mirror)?;
-    Ok(relay(alloc, &mirror, "events", "gen")?)
+    Ok(mirror.relay(alloc, "events", "gen")?)
 }
 
 /// The run that hands out entries 4, 5 and 9.

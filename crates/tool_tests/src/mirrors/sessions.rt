@@ -4,7 +4,7 @@ use crate::mirrors::calls::fill;
 use crate::mirrors::round::reader_from;
 use crate::tables::same;
 use js_base::{Entry, Items};
-use js_log::{Mirror, relay};
+use js_log::Mirror;
 use js_log_sessions::{
     Line, Session, SessionEnd, SessionReplay, SessionRun, Sessions, SessionsError, run_sessions,
 };
@@ -49,7 +49,7 @@ fn mirror_with(alloc: Global, entries: Vec<Entry>) -> Result<Mirror, Fail> {
 /// The arrivals of the entries from a sequence on.
 fn events_from(alloc: Global, start: u64) -> Result<Vec<Event>, Fail> {
     let mirror = mirror_with(alloc, entries_from(alloc, start)?)?;
-    let events = relay(alloc, &mirror, "events", "gen");
+    let events = mirror.relay(alloc, "events", "gen");
     drop(mirror);
     Ok(events?)
 }
