@@ -1,4 +1,4 @@
-"""What several tools read of the repository: its crates, what each stands on, and the table of minutes in CONTRIBUTING.md."""
+"""What several tools read of the repository: its crates, what each stands on, and the table of minutes in docs/TIMES.md."""
 import os
 import re
 import shutil
@@ -62,8 +62,8 @@ def edits_of(name, top=TOP):
 
 
 def minutes(top=TOP):
-    """Returns the table of CONTRIBUTING.md: for each crate the minutes of its proof, tests and edits, 0 where it has none."""
-    text = text_of(f"{top}/CONTRIBUTING.md")
+    """Returns the table of docs/TIMES.md: for each crate the minutes of its proof, tests and edits, 0 where it has none."""
+    text = text_of(f"{top}/docs/TIMES.md")
     table = text.partition(TIMES)[2].partition(END_OF_TIMES)[0]
     read = lambda it: 0.0 if it == "–" else float(it)
     return {row[1]: tuple(map(read, row.groups()[1:4])) for row in ROW.finditer(table) if row[1] != "all"}
