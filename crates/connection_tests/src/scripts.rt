@@ -213,11 +213,11 @@ const DAMAGED: &[Row] = &[
     ),
     (
         Step::Bytes(1, "MSG _INBOX.t1.i.1 1 2\r\nhiXX"),
-        "damaged bytes",
+        "damaged bytes at byte 80",
     ),
     (
         Step::Bytes(1, "MSG _INBOX.t1.i.1 1 2\r\nho\r\n"),
-        "damaged bytes",
+        "damaged bytes at byte 80",
     ),
     (Step::Take, "empty"),
 ];

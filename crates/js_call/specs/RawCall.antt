@@ -9,7 +9,7 @@ use Rattle.js_base.specs.declared.message.StatusCode.{StatusCode}
 use Rattle.js_base.specs.declared.turn.Turn.{Turn}
 use Rattle.js_base.specs.declared.turn.Turn.TheVariants as turns
 use Rattle.js_link.specs.LinkView.{LinkView, Waits, Ended}
-use Rattle.js_link.specs.Calls.{Asks, Answers, RefusedSend, FailsToSend}
+use Rattle.js_link.specs.Calls.{Asks, Answers, Forgets, RefusedSend, FailsToSend}
 use Rattle.js_link.specs.declared.link.LinkError.{LinkError}
 use Rattle.js_call.specs.declared.error.RequestErrorKind.{RequestErrorKind}
 use Rattle.js_call.specs.declared.error.RequestErrorKind.TheVariants.{TimedOut, InvalidSubject, NoResponders}
@@ -30,7 +30,7 @@ times_out (Some wait) since now = is_over since wait now
 abbrev pub Shows : OpenRequest → ℕ → Shown → LinkView → LinkView → Type 0
 Shows asked now (Came message) old new = Answers asked.request.0 message old new
 Shows asked now Gone old new = (new ≡ old) × (old.status asked.request.0 ≡ Ended)
-Shows asked now Due old new = (new ≡ old) × (old.status asked.request.0 ≡ Waits) × (times_out asked.timeout asked.since now ≡ true)
+Shows asked now Due old new = Forgets asked.request.0 old new × (old.status asked.request.0 ≡ Waits) × (times_out asked.timeout asked.since now ≡ true)
 Shows asked now Still old new = (new ≡ old) × (old.status asked.request.0 ≡ Waits) × (times_out asked.timeout asked.since now ≡ false)
 
 -- the timeout of the request or its context, and else the connection's

@@ -1,4 +1,4 @@
-//! A request of the API whose reply is any JSON value.
+//! An API request whose reply is any JSON value.
 ghost use Rattle.std.specs.Prelude.{◌≡◌, IfOk};
 ghost use Rattle.serde_json.specs.View.{view};
 ghost use Rattle.js_call.specs.ApiRequest.{value_row, request_error, AskingFor};
@@ -14,11 +14,12 @@ use js_json_members::{ReadError, value_of};
 use serde_json::Value;
 use std::alloc::Global;
 
-/// The row of a request whose reply is any JSON value.
+/// How `ApiScope::request` reads its reply: any JSON value.
 #[derive(Drop)]
 pub struct AskingValue;
 
-/// A request of the API under way. Its answer is the JSON value that the reply's body is, in which no float may stand.
+/// An API request under way. It returns the JSON value in the reply's body. A body that contains a
+/// float cannot be read.
 pub type ApiRequest = Call<AskingValue>;
 
 // The error of the request itself; a reply that does not read is another error, with the read error's text.
@@ -56,7 +57,7 @@ impl ApiCall for AskingValue {
 }
 
 impl ApiScope {
-    /// A request under the prefix with that body. Fails with `OutOfMemory` if memory runs out, and with nothing else.
+    /// Makes a request under the prefix with this body. Fails only with `OutOfMemory`.
     pub fn request(
         &self,
         alloc: Global,

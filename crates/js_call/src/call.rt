@@ -1,4 +1,4 @@
-//! A call of the API: one request, and what its reply means.
+//! An API call: one request, and what its reply means.
 ghost use Rattle.std.specs.Prelude.{◌≡◌, Result};
 ghost use Rattle.js_base.specs.declared.error.Error.{Error};
 ghost use Rattle.js_base.specs.declared.turn.Turn.{Turn};
@@ -16,10 +16,11 @@ use js_json_members::ReadError;
 use js_link::Link;
 use std::alloc::Global;
 
-/// A call of the API under way: its request is sent at its first poll.
+/// An API call under way. The first poll sends its request.
 ///
-/// Refused arguments are answered before anything is sent. A reply for which no memory is left is kept, and read at the next
-/// poll; so is a failure for whose text none is left.
+/// If the arguments are invalid, the first poll returns the error and sends nothing. If memory runs
+/// out while a reply is read or a failure's text is made, the call keeps the reply or the failure,
+/// and the next poll tries again.
 #[derive(Drop)]
 #[must_use = "a call is sent by its first poll"]
 pub struct Call<M> {
@@ -27,13 +28,13 @@ pub struct Call<M> {
     pub(crate) stage: Stage,
 }
 
-/// How far a call is.
+/// How far a call has come.
 #[derive(Drop)]
 pub(crate) enum Stage {
     Asking(RawCall),
-    /// The reply has come, and is not read yet.
+    /// The reply has arrived and is not read yet.
     Answered(Message),
-    /// It has failed, and that is not told yet.
+    /// The call has failed, and has not returned the failure yet.
     Failed(Failure),
 }
 
@@ -51,7 +52,7 @@ impl Stage {
 }
 
 impl<M: ApiCall> Call<M> {
-    /// A call that asks this.
+    /// Makes a call that sends this request.
     pub fn new(api_call: M, asked: RawCall) -> Call<M>
         ensures { result ≡ calling api_call asked }
     {

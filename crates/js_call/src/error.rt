@@ -1,4 +1,4 @@
-//! Why a request has no reply, and why one was not sent.
+//! Why a request got no reply, and why a request was not sent.
 ghost use Rattle.std.specs.Prelude.{◌≡◌, Some};
 ghost use Rattle.js_call.specs.Texts.{request_text, send_text};
 ghost use Rattle.js_call.specs.declared.error.SendError.TheVariants.{OutOfMemory as memory};
@@ -7,16 +7,17 @@ use js_base::Error;
 use std::alloc::AllocError;
 use std::{error, fmt};
 
-/// Why a request has no reply.
+/// Why a request got no reply.
 #[derive(Clone, Copy, Debug, PartialEq, Eq)]
 pub enum RequestErrorKind {
-    /// The timeout is due, and no answer had come.
+    /// The timeout expired before an answer came.
     TimedOut,
-    /// The link failed, the body is longer than it sends, the replier is gone, or the reply does not read.
+    /// The link failed, the body is longer than the link can send, the replier is gone, or the
+    /// reply cannot be read.
     Other,
-    /// The whole subject is none. Nothing was sent.
+    /// The full subject is invalid. Nothing was sent.
     InvalidSubject,
-    /// Nobody answers on the subject: the reply has status 503.
+    /// Nobody listens on the subject: the reply has status 503.
     NoResponders,
 }
 
@@ -33,10 +34,10 @@ impl fmt::Display for RequestErrorKind {
     }
 }
 
-/// Why a request has no reply, as an error.
+/// The error of a request that got no reply.
 pub type RequestError = Error<RequestErrorKind>;
 
-/// Why `send_request` has sent nothing.
+/// Why `send_request` sent nothing.
 #[derive(Clone, Copy, Debug, PartialEq, Eq)]
 pub enum SendError {
     /// The link failed.

@@ -1,4 +1,4 @@
-//! Why a call has no answer of the API, and how an error tells it.
+//! Why a call got no answer from the API, and the text of that failure.
 ghost use Rattle.std.specs.Prelude.{◌≡◌, Some, IfOk, string_bytes};
 ghost use Rattle.js_call.specs.Failure.{failure_text, request_kind, failure_source};
 
@@ -8,17 +8,18 @@ use js_json_members::ReadError;
 use std::alloc::{AllocError, Global};
 use std::fmt;
 
-/// Why a call has no answer of the API. It prints the text of the error that it holds.
+/// Why a call got no answer from the API. Its `Display` is the text of the error that it holds.
 #[derive(Clone, Copy)]
 pub enum Failure {
-    /// The request has no reply.
+    /// The request got no reply.
     Request(RequestErrorKind),
-    /// A reply came, and does not read.
+    /// A reply came and could not be read.
     Read(ReadError),
 }
 
 impl Failure {
-    /// Why the request has no reply that reads: `Other` where one came and does not read.
+    /// Returns why the request got no readable reply: `Other` if a reply came and could not be
+    /// read.
     pub fn kind(self) -> RequestErrorKind
         ensures { result ≡ request_kind self }
     {
@@ -34,7 +35,7 @@ impl Failure {
         format!(in alloc; "{self}")
     }
 
-    /// Its text as the source of an error. Fails with `OutOfMemory` if memory runs out, and with nothing else.
+    /// Returns the failure's text as the source of an error. Fails only with `OutOfMemory`.
     pub fn to_source(self, alloc: Global) -> Result<Source, OutOfMemory>
         ensures { IfOk result (λ source. source ≡ failure_source self) }
     {

@@ -1,8 +1,8 @@
-//! Requests of the API over a link: one request and its answer, and the calls that are made of them.
+//! API requests over a link: a single request and its answer, and the calls built from requests.
 //!
-//! A request is a state. It is handed to `poll` with a link and a moment, and comes back until it is ready. A call of the API is
-//! a request and what its reply means: a type with a `ApiCall`, and a row of a table in the contracts. Calls that follow one
-//! another are a `Then`.
+//! A request is a state. You pass it to `poll` with a link and a moment, and get it back until it
+//! is ready. An API call is a request and the meaning of its reply: a type that implements
+//! `ApiCall`, with its own contract. `Then` runs one call after another.
 #![tactic(auto)]
 
 mod api_call;

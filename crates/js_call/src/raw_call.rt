@@ -14,11 +14,12 @@ use js_base::{
 use js_link::{Link, LinkError};
 use std::alloc::Global;
 
-/// One request, which is sent at its first poll.
+/// One request. The first poll sends it.
 ///
-/// It tests its subject and then the length of its body before it sends, and looks at the answer in the poll that sends. One made
-/// by `ApiScope::call` tests neither: the poll that sends it is pending, and it looks at the answer and the clock from the next
-/// poll on.
+/// The request checks its subject and then the length of its body before it is sent. The poll that
+/// sends it also looks for the answer. A request made by `ApiScope::call` checks neither: the poll
+/// that sends it returns `Pending`, and it looks for the answer and at the clock from the next poll
+/// on.
 #[derive(Drop)]
 #[must_use = "a call is sent by its first poll"]
 pub struct RawCall {
@@ -31,21 +32,21 @@ pub struct RawCall {
     pub(crate) sent: Option<OpenRequest>,
 }
 
-/// What one poll of a request met.
+/// What one poll of a request found.
 #[derive(Drop)]
 pub(crate) enum RequestProgress {
-    /// It may not be sent.
+    /// The request must not be sent.
     Barred(RequestErrorKind),
     /// The link failed to send it.
     Failed,
     OutOfMemory,
-    /// It was sent, and not looked at.
+    /// The request was sent, and the poll did not look for the answer.
     Sent(OpenRequest),
-    /// It has been sent, now or earlier, and shows this.
+    /// The request was sent, now or earlier, and the look found this.
     Shown(OpenRequest, Shown),
 }
 
-/// Whether the status of a reply says that nobody answers: it is 503.
+/// Returns whether the status of a reply says that nobody listens on the subject: it is 503.
 pub fn has_no_responders(status: Option<StatusCode>) -> bool
     ensures { result ≡ has_no_responders status }
 {

@@ -8,13 +8,15 @@ use js_base::{HeaderMap, Nanos, Subject};
 /// What a request carries besides its subject.
 #[derive(Drop)]
 pub struct RawRequest {
-    /// The body. None is an empty one.
+    /// The body. None sends an empty one.
     pub payload: Option<Bytes>,
     /// The headers. None sends a message without any.
     pub headers: Option<HeaderMap>,
-    /// How long the answer is waited for, in nanoseconds. None leaves it to the context and then to the connection; `Some(None)` waits without end.
+    /// How long to wait for the answer, in nanoseconds. None uses the context's timeout, or else
+    /// the connection's. `Some(None)` waits without end.
     pub timeout: Option<Option<Nanos>>,
-    /// Where an answer goes that `send_request` does not wait for. None lets the link choose.
+    /// Where the answer goes in `send_request`, which does not wait for it. None lets the link
+    /// choose.
     pub inbox: Option<Subject>,
 }
 

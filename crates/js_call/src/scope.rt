@@ -1,4 +1,4 @@
-//! Where requests of the API go, and how long they are waited for.
+//! Where API requests go, and how long they wait for an answer.
 ghost use Rattle.std.specs.Prelude.{◌≡◌, false, IfOk, string_bytes};
 ghost use Rattle.serde_json.specs.View.{view};
 ghost use Rattle.js_call.specs.Scope.{under, own_timeout, applied, recovery_timeout, asking, raw_asking, Calling, IsTextOf};
@@ -10,12 +10,14 @@ use js_base::{Nanos, OutOfMemory, Subject, Text, TryClone, both};
 use serde_json::Value;
 use std::alloc::{AllocError, Global};
 
-/// Where requests of the API go, and how long they are waited for: what handles keep of a context.
+/// Where API requests go, and how long they wait for an answer. Handles keep this part of a
+/// context.
 #[derive(Debug, PartialEq, Eq, Drop)]
 pub struct ApiScope {
-    /// What subjects begin with, before a dot.
+    /// The prefix of the subjects, without the dot that follows it.
     pub prefix: Text,
-    /// How long the context waits for an answer, in nanoseconds, or none where it leaves that to the connection.
+    /// How long the context waits for an answer, in nanoseconds. None uses the connection's
+    /// timeout.
     pub timeout: Option<Nanos>,
 }
 
@@ -42,7 +44,7 @@ pub(crate) fn body_text(alloc: Global, value: &Value) -> Result<Bytes, OutOfMemo
 }
 
 impl ApiScope {
-    /// The request with the context's timeout, where it has none of its own.
+    /// Returns the request, with the context's timeout if it has none of its own.
     pub fn apply_timeout(&self, request: RawRequest) -> RawRequest
         ensures { result ≡ applied self.now request }
     {
@@ -53,8 +55,9 @@ impl ApiScope {
         RawRequest { timeout, ..request }
     }
 
-    /// The scope by which a lost consumer is made anew. Its timeout is the context's; it has none where only the connection has
-    /// one, and else ten seconds. Fails with `OutOfMemory` if memory runs out, and with nothing else.
+    /// Returns the scope for recreating a lost consumer. Its timeout is the context's if there is
+    /// one, none if only the connection has one, and ten seconds otherwise. Fails only with
+    /// `OutOfMemory`.
     pub fn recovery_context(&self, connection: Option<Nanos>) -> Result<ApiScope, OutOfMemory>
         ensures { IfOk result (λ scope. scope ≡ record self.now { timeout = recovery_timeout self.now.timeout connection }) }
     {
@@ -69,11 +72,12 @@ impl ApiScope {
         })
     }
 
-    /// A request under the prefix with that body, which tests neither its subject nor the size of its body: the caller knows that
-    /// they are good. So it never answers `InvalidSubject`, and its `Other` never comes from the body's size.
+    /// Makes a request under the prefix with this body. It checks neither its subject nor the size
+    /// of its body: the caller must know that both are valid. So it never returns `InvalidSubject`,
+    /// and its `Other` never comes from the body's size.
     ///
-    /// The poll that sends it is pending, and the answer and the clock are looked at from the next poll on. Fails with
-    /// `OutOfMemory` if memory runs out, and with nothing else.
+    /// The poll that sends it returns `Pending`. It looks for the answer and at the clock from the
+    /// next poll on. Fails only with `OutOfMemory`.
     pub fn call(&self, alloc: Global, subject: &str, body: &Value) -> Result<RawCall, OutOfMemory>
         ensures { IfOk result (λ call. Calling self.now subject.now (view body.now) false call) }
     {
@@ -85,8 +89,8 @@ impl ApiScope {
         })
     }
 
-    /// A request under the prefix with that body, which tests its subject and its body's size before it is sent. Fails with
-    /// `OutOfMemory` if memory runs out, and with nothing else.
+    /// Makes a request under the prefix with this body. It checks its subject and the size of its
+    /// body before it is sent. Fails only with `OutOfMemory`.
     pub fn ask(&self, alloc: Global, subject: &str, body: Bytes) -> Result<RawCall, OutOfMemory>
         ensures { IfOk result (λ call. call ≡ asking self.now subject.now body) }
     {
@@ -100,8 +104,8 @@ impl ApiScope {
         })
     }
 
-    /// A request under the prefix on the words of a call and a name, as `STREAM.INFO` and `events`, with that body. Fails with
-    /// `OutOfMemory` if memory runs out, and with nothing else.
+    /// Makes a request under the prefix with this body. Its subject is the words of a call and a
+    /// name, for example `STREAM.INFO` and `events`. Fails only with `OutOfMemory`.
     pub fn ask_named(
         &self,
         alloc: Global,
@@ -115,8 +119,7 @@ impl ApiScope {
         self.ask(alloc, subject.as_str(), body)
     }
 
-    /// A request on that subject, which stands for itself, without the prefix. Fails with `OutOfMemory` if memory runs out, and
-    /// with nothing else.
+    /// Makes a request on exactly this subject, without the prefix. Fails only with `OutOfMemory`.
     pub fn raw_request(
         &self,
         alloc: Global,

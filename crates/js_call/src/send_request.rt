@@ -1,4 +1,4 @@
-//! A request whose answer is not waited for.
+//! Requests that do not wait for their answer.
 ghost use Rattle.std.specs.Prelude.{◌≡◌};
 ghost use Rattle.js_link.specs.LinkView.{LinkView};
 ghost use Rattle.js_call.specs.SendRequest.{RepliesOf, SendsRequest};
@@ -48,11 +48,12 @@ fn reply_subject<L: Link>(
 }
 
 impl ApiScope {
-    /// Publishes the request under the prefix. Its answer goes to the request's inbox, or else to a fresh subject of the link.
+    /// Publishes the request under the prefix. Its answer goes to the request's inbox, or else to a
+    /// fresh subject of the link.
     ///
-    /// Fails with `LinkFailed` if the link failed in this call, and with `OutOfMemory` if memory runs out. Then nothing was
-    /// sent, and nothing has changed but that the link has counted its failure, and that one fresh subject may have been named where
-    /// the request has no inbox.
+    /// Fails with `LinkFailed` if the link failed in this call, and with `OutOfMemory` if memory
+    /// runs out. Nothing was sent then. Nothing else has changed, except that the link counts a
+    /// failure of its own and, if the request has no inbox, may have generated one fresh subject.
     #[tactic(auto, using(crate::proofs::RefusedRequest::named_none, crate::proofs::RefusedRequest::no_reply, crate::proofs::RefusedRequest::not_published))]
     pub fn send_request<L: Link>(
         &self,

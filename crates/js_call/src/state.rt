@@ -1,4 +1,4 @@
-//! What is polled until it is ready.
+//! Calls that you poll until they are ready.
 ghost use Rattle.std.specs.Prelude.{◌≡◌, ◌<◌, ◌^◌, ℕ, Option};
 ghost use Rattle.js_base.specs.declared.turn.Turn.{Turn};
 ghost use Rattle.js_link.specs.LinkView.{LinkView};
@@ -11,26 +11,28 @@ use js_base::{Moment, Turn};
 use js_link::{Link, RequestId};
 use std::alloc::Global;
 
-/// A call under way: it is polled until it is ready.
+/// A call under way. Poll it until it is ready.
 ///
-/// After `Pending` it may be left alone until the answer to its `request` has come, that request is gone, or its `wakes_at` has come:
-/// a poll before that changes nothing.
+/// After `Pending` you may wait until the answer to its `request` has come, that request is gone,
+/// or the moment `wakes_at` has come. Polling earlier changes nothing.
 pub trait State: Drop {
-    /// What the call answers in the end.
+    /// What the call finally returns.
     type Answer: Drop;
 
-    /// What a poll at a moment does: what it answers, between these two views of the link.
+    /// What a poll at a given moment does: what it returns, and how it changes the view of the
+    /// link.
     ghost polled: { Self → ℕ → Turn Self Self.Answer → LinkView → LinkView → Type 0 };
 
-    /// The request whose answer it waits for.
+    /// The request whose answer the call waits for.
     ghost waits_for: { Self → Option OpenRequest };
 
-    /// The request whose answer it waits for, with its clock. None where it waits for none: it was not sent, or what it answers is
-    /// known already. It is then to be polled at once.
+    /// Returns the request whose answer the call waits for, with its clock. None if it waits for no
+    /// answer: its request was not sent, or it knows already what it returns. Poll it at once then.
     fn waits_for(&self) -> Option<OpenRequest>
         ensures { result ≡ waits_for self.now };
 
-    /// The number of the request whose answer it waits for. None where it is to be polled at once.
+    /// Returns the number of the request whose answer the call waits for. None if you should poll
+    /// the call at once.
     fn request(&self) -> Option<RequestId>
         ensures { result ≡ request_of (waits_for self.now) }
     {
@@ -40,7 +42,8 @@ pub trait State: Drop {
         }
     }
 
-    /// The first moment at which it has something to do by itself: its time is over. None where it waits without end, or for nothing.
+    /// Returns the moment at which the call's timeout expires, the first at which polling has an
+    /// effect without an answer. None if it waits without end, or waits for nothing.
     fn wakes_at(&self) -> Option<Moment>
         ensures { (now : ℕ) → now < 2 ^ 64 → has_come result now ≡ is_due (waits_for self.now) now }
     {
@@ -50,10 +53,11 @@ pub trait State: Drop {
         }
     }
 
-    /// Goes on as far as it can without waiting.
+    /// Advances the call as far as possible without waiting.
     ///
-    /// `Pending` hands the state back where no answer has come and its time is not over. `OutOfMemory` hands it back as
-    /// it was before the step that wanted memory, and the next poll takes up that step.
+    /// Returns `Pending` with the state if no answer has come and the timeout has not expired.
+    /// Returns `OutOfMemory` with the state as it was before the step that ran out of memory; the
+    /// next poll repeats that step.
     fn poll<L: Link>(self, alloc: Global, link: &mut L, now: Moment) -> Turn<Self, Self::Answer>
         ensures polled { polled self now result (L.view link.old) (L.view link.new) }
         ensures sleeps { Sleeps (waits_for self) now self result (L.view link.old) (L.view link.new) }

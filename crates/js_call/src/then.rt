@@ -12,16 +12,16 @@ use js_base::{Moment, Turn};
 use js_link::Link;
 use std::alloc::Global;
 
-/// Whether a first answer is the last.
+/// Decides whether the first call's answer is final.
 pub trait Decision<A, B>: Drop {
-    /// The last answer, or none where the second call follows.
+    /// The final answer, or none if the second call follows.
     ghost decides: { Self → A → Option B };
 
     fn decide(self, first: A) -> Option<B>
         ensures { result ≡ decides self first };
 }
 
-/// The second call follows where the first found nothing.
+/// Runs the second call if the first found nothing.
 #[derive(Clone, Copy, Drop)]
 pub struct IfAbsent;
 
@@ -37,7 +37,7 @@ impl<T: Drop, E: Drop> Decision<Result<Option<T>, E>, Result<T, E>> for IfAbsent
     }
 }
 
-/// A call, and another one that follows in the same poll where the first answer asks for it.
+/// Two calls in sequence. If the first answer asks for it, the second call starts in the same poll.
 #[derive(Drop)]
 #[must_use = "a call is sent by its first poll"]
 pub enum Then<A, B, D> {

@@ -15,7 +15,7 @@ use Rattle.js_link.specs.declared.sent.Sent.{Sent}
 use Rattle.js_link.specs.declared.sent.Sent.TheVariants as sents
 use Rattle.js_link.specs.declared.link.Taken.TheVariants as taken
 use Rattle.js_link.specs.LinkView.{LinkView, Numbers, Status, Waits, put}
-use Rattle.js_link.specs.Calls.{Takes, TakesOf, Closes, Opens, Asks, Answers}
+use Rattle.js_link.specs.Calls.{Takes, TakesOf, Closes, Opens, Asks, Answers, EndsRequest}
 use Rattle.js_link.specs.Memory.{Queue, is_open_at, messages_at, request_at, status_of, reply_of, request_after, answered_by, memory_numbers, memory_view, Delivers, DeliversAs, Responds, RespondsAs}
 use Rattle.js_link.proofs.Places.{reads_set, reads_push, get_set, get_past, get_push, set_back}
 use Rattle.js_link.proofs.Updates.{put_same}
@@ -197,6 +197,22 @@ answers_at m r dest message e n l at =
     let view = λ (d : Request). memory_view (record m { requests = with_item m.requests (r - 1) d }) in
     subst (λ (d : Request). Answers r message (memory_view m) (view d)) (sym e)
     (subst (λ (x : ℕ). Answers x message (memory_view m) (view requests.Ended)) (sym n) (answers_set m (r - 1) message l at))
+
+-- a request was given up
+ends_set : (m : MemoryLink) (k : ℕ) → k < length m.requests.items → EndsRequest (suc k) (memory_view m) (memory_view (record m { requests = with_item m.requests k requests.Ended }))
+ends_set m k l =
+    let xs = m.requests.items in
+    same_requests (memory_view m) _ _ _ _ _ _ _
+    (numbers_request_set m k requests.Ended)
+    (fun_ext (request_set status_of xs k requests.Ended l))
+    (fun_ext (request_set reply_of xs k requests.Ended l))
+
+-- the same, at a request's number
+pub ends_at : (m : MemoryLink) (r : ℕ) (dest : Request) → dest ≡ requests.Ended → r ≡ suc (r - 1) → r - 1 < length m.requests.items → EndsRequest r (memory_view m) (memory_view (record m { requests = with_item m.requests (r - 1) dest }))
+ends_at m r dest e n l =
+    let view = λ (d : Request). memory_view (record m { requests = with_item m.requests (r - 1) d }) in
+    subst (λ (d : Request). EndsRequest r (memory_view m) (view d)) (sym e)
+    (subst (λ (x : ℕ). EndsRequest x (memory_view m) (view requests.Ended)) (sym n) (ends_set m (r - 1) l))
 
 -- what is told of a request that was answered
 status_after : (reply : Option Message) → status_of (Some (request_after reply)) ≡ answered_by reply

@@ -1,5 +1,5 @@
 -- What each call of a link does to what the link means.
-use Rattle.std.specs.Prelude.{ℕ, ◌≡◌, ◌≢◌, ◌+◌, ◌≤◌, ◌<◌, true, false, Option, Some, None, IfSome, List, [], ◌∷◌, Result, Ok, Err}
+use Rattle.std.specs.Prelude.{ℕ, ◌≡◌, ◌≢◌, ◌+◌, ◌≤◌, ◌<◌, true, false, Option, Some, None, IfSome, List, [], ◌∷◌, Result, Ok, Err, ◌⊎◌}
 use Rattle.js_base.specs.declared.headers.Header.{Header}
 use Rattle.js_base.specs.declared.message.Message.{Message}
 use Rattle.js_base.specs.declared.subject.Subject.{Subject}
@@ -102,6 +102,14 @@ pub record Answers (number : ℕ) (message : Message) (old new : LinkView) : Typ
     status = put old.status number Ended;
     reply = put old.reply number (new.reply number);
   }
+
+-- a request is no more, and an answer that came to it is lost
+abbrev pub EndsRequest : ℕ → LinkView → LinkView → Type 0
+EndsRequest number old new = new ≡ record old { status = put old.status number Ended; reply = put old.reply number None }
+
+-- nobody awaits the answer to a request any more: it is no more, or the link keeps it as it is
+abbrev pub Forgets : ℕ → LinkView → LinkView → Type 0
+Forgets number old new = (new ≡ old) ⊎ EndsRequest number old new
 
 -- what `take` gives
 abbrev pub TakesOf : ℕ → Taken → LinkView → LinkView → Type 0

@@ -1,4 +1,4 @@
-//! Copies of what a link is handed to send.
+//! Copies of what a caller hands to a link to send.
 ghost use Rattle.std.specs.Prelude.{◌≡◌, IfOk};
 ghost use Rattle.std.specs.Option.{option_copied};
 
@@ -6,7 +6,8 @@ use bytes::Bytes;
 use js_base::{HeaderMap, OutOfMemory, Subject, Text, TryClone};
 use std::alloc::Global;
 
-/// A copy of headers, where there are any.
+/// Returns a copy of the headers, or `None` if there are none. Fails with `OutOfMemory` if memory
+/// runs out.
 pub fn copy_headers(headers: Option<&HeaderMap>) -> Result<Option<HeaderMap>, OutOfMemory>
     ensures { IfOk result (λ copy. copy ≡ option_copied headers.entry) }
 {
@@ -16,7 +17,8 @@ pub fn copy_headers(headers: Option<&HeaderMap>) -> Result<Option<HeaderMap>, Ou
     }
 }
 
-/// A subject of a text, where there is one.
+/// Returns a text as a subject, or `None` if there is no text. Fails with `OutOfMemory` if memory
+/// runs out.
 pub fn copy_subject(alloc: Global, text: Option<&str>) -> Result<Option<Subject>, OutOfMemory>
     ensures { IfOk result (λ copy. copy ≡ option_copied text.entry) }
 {
@@ -26,7 +28,8 @@ pub fn copy_subject(alloc: Global, text: Option<&str>) -> Result<Option<Subject>
     }
 }
 
-/// A copy of a text, where there is one.
+/// Returns a copy of a text, or `None` if there is none. Fails with `OutOfMemory` if memory runs
+/// out.
 pub fn copy_text(alloc: Global, text: Option<&str>) -> Result<Option<Text>, OutOfMemory>
     ensures { IfOk result (λ copy. copy ≡ option_copied text.entry) }
 {
@@ -36,7 +39,7 @@ pub fn copy_text(alloc: Global, text: Option<&str>) -> Result<Option<Text>, OutO
     }
 }
 
-/// A copy of a body.
+/// Returns a copy of a payload. Fails with `OutOfMemory` if memory runs out.
 pub fn copy_payload(alloc: Global, payload: &[u8]) -> Result<Bytes, OutOfMemory>
     ensures { IfOk result (λ copy. copy ≡ payload.now) }
 {

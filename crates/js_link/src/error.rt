@@ -1,4 +1,4 @@
-//! What a link's refusals are made of, and how they are printed.
+//! How a link's errors are printed, and which errors of others become them.
 ghost use Rattle.std.specs.Prelude.{Some};
 ghost use Rattle.js_link.specs.Texts.{link_text};
 

@@ -1,8 +1,10 @@
-//! The connection over which polled states run: the trait [`Link`], by what it sends and what it has received.
+//! The connection over which this client's states are polled: the trait [`Link`], described by what
+//! it sends and what it has received.
 //!
-//! A link has one ghost member, its `view`, and each call says by one clause what it does to that view; what a link can't tell is `None`
-//! there. A row of a reader tells the link its wish and is told what it met ([`Wish`], [`Met`]). [`MemoryLink`] is a link in memory that
-//! tells all, and [`ScriptedServer`] one that answers requests from a script.
+//! A link has one ghost member, its `view`. The contract of each call says in one clause what the
+//! call does to that view. What a link cannot tell is `None` there. A reader asks its link for one
+//! thing at a time ([`Wish`]) and is told what came of it ([`Met`]). [`MemoryLink`] is a link in
+//! memory that tells everything, and [`ScriptedServer`] is one that answers requests from a script.
 #![tactic(auto)]
 
 mod copies;

@@ -1,41 +1,42 @@
-//! The trait of a connection: what its calls answer, and what an adapter to a real one owes.
+//! The trait of a connection: what its calls return, and what an adapter to a real one must do.
 ghost use Rattle.std.specs.Prelude.{◌≡◌, ℕ, false, IfSome, length};
 ghost use Rattle.std.specs.Option.{option_copied};
 ghost use Rattle.js_link.specs.LinkView.{LinkView};
-ghost use Rattle.js_link.specs.Calls.{Closes, NamesOf, SubscribesOf, OpensOf, PublishesOf, AsksOf, TakesOf, AnswersOf};
+ghost use Rattle.js_link.specs.Calls.{Closes, NamesOf, SubscribesOf, OpensOf, PublishesOf, AsksOf, TakesOf, AnswersOf, Forgets};
 
 use crate::sent::{InboxId, RequestId};
 use js_base::{HeaderMap, Message, Nanos, State, Subject};
 use std::alloc::Global;
 
-/// Why a call of a link was refused.
+/// Why a call of a link failed.
 #[derive(Clone, Copy, Debug, PartialEq, Eq)]
 pub enum LinkError {
     /// The link could not do it. Nothing was sent, and no number was used up.
     Failed,
-    /// Memory ran out. The link is what it was.
+    /// Memory ran out. The link is unchanged.
     OutOfMemory,
 }
 
-/// What an inbox gives.
+/// What `take` found in an inbox.
 #[derive(Debug, PartialEq, Eq, Drop)]
 pub enum Taken {
-    /// The first message that lay in it.
+    /// The inbox's first message.
     Message(Message),
-    /// No message lies in it.
+    /// The inbox has no message.
     Empty,
-    /// It was closed, or never opened.
+    /// The inbox was closed, or never opened.
     Closed,
 }
 
-/// What has become of a request.
+/// The state of a request.
 #[derive(Debug, PartialEq, Eq, Drop)]
 pub enum Answer {
-    /// No answer has come.
+    /// No answer has come yet.
     Waiting,
-    /// None will come: nobody is left to answer, the answer was given already, or the request was never made.
+    /// No answer will come: nobody is left to answer, the answer was returned already, or the
+    /// request was never made.
     Gone,
-    /// The answer, which is given once.
+    /// The answer. It is returned once.
     Got(Message),
 }
 
@@ -43,48 +44,53 @@ pub enum Answer {
 #[derive(Clone, Copy, Debug, PartialEq, Eq)]
 pub enum Watch {
     State(State),
-    /// Nothing more will be told of the connection.
+    /// The connection's state will not be reported any more.
     Ended,
 }
 
-/// A connection: it sends, and what it has received lies in its inboxes until it is taken.
+/// A connection that sends messages and keeps what it receives in inboxes until you take it.
 ///
-/// No call waits. The states of this client ask a link again and again, with a moment that the caller hands in.
+/// No call waits. This client's states poll a link repeatedly, each time with the current moment
+/// from the caller.
 ///
-/// # What an adapter to a real connection owes
+/// # What an adapter to a real connection must do
 ///
-/// - It moves what it has received into its buffers in a call of its own, between two polls: no call of this trait puts
-///   a message into an inbox or brings an answer.
-/// - It counts its faults, and the count never falls. A call answers `Failed` only where it counted a fault in that call;
-///   it has then sent nothing, and the number that it would have given is given to the next. No other call counts one.
-/// - It gives each inbox and each request a number that none has had before. A number that it never gave is that of a closed
-///   inbox and of a request that is gone.
-/// - It gives the messages of an inbox in the order in which they came, each once, and the answer to a request once. What the
-///   server sends with a status is a message too: an answer of status 503 is an answer, and `Gone` is for a request that none
-///   can reach any more.
-/// - A call that finds no memory has sent nothing and changed nothing.
-/// - Nothing reaches the wire that a server would read as something else. A call refuses as `Failed`, and sends nothing of: a
-///   subject, a reply subject or a queue group that is none (`is_valid_subject` is the test); headers that are not sendable
-///   (`HeaderMap::is_sendable` is the test: no CR, LF or NUL in a value; none of those, no colon and no space in a name); and a
-///   body that with its headers is longer than the server takes. The states of this client test a part of this before they call.
-///   What else their caller handed them, such as the reply subject of a message that is acknowledged, comes to the link as it is.
-/// - What it may tell besides (the numbers and the subjects that come next, what lies in its inboxes, which answers have come,
-///   what it sent) it tells truly or not at all.
-/// - Where it tells whether it is up, it tells the truth: it fails no send while it is up, and none goes out while it is
-///   down. An adapter that cannot know this beforehand, as one that refuses what must not reach the wire cannot, tells nothing of
-///   it, and may then fail at any time. Whether it is up changes in a call of its own alone, and so does what `state` answers.
+/// - Move what it received into its buffers in a call of its own, between two polls. No call of this
+///   trait puts a message into an inbox or brings an answer.
+/// - Count its faults. The count never falls. A call fails with `Failed` only if it counted a fault
+///   in that call. It has then sent nothing, and the number that it would have given goes to the next
+///   inbox or request. No other call counts a fault.
+/// - Give each inbox and each request a number that none had before. A number that it never gave
+///   counts as that of a closed inbox and of a request that is gone.
+/// - Return the messages of an inbox in the order in which they came, each once, and the answer to a
+///   request once. A message with a status from the server is a message too: an answer of status 503
+///   is an answer. `Gone` is for a request that no answer can reach any more.
+/// - Send nothing and change nothing in a call that runs out of memory.
+/// - Send nothing that a server would read as something else. A call fails with `Failed` and sends
+///   nothing if it is given a subject, reply subject or queue group that is not valid (test with
+///   `is_valid_subject`), headers that are not sendable (test with `HeaderMap::is_sendable`: no CR,
+///   LF or NUL in a value; none of those, no colon and no space in a name), or a body that together
+///   with its headers is longer than the server accepts. This client's states test some of this
+///   before they call. Anything else from their caller reaches the link as it is, such as the reply
+///   subject of a message that is acknowledged.
+/// - Tell the truth or nothing about the rest: the numbers and subjects that come next, what its
+///   inboxes hold, which answers have come, and what it sent.
+/// - If it tells whether it is up, tell the truth: no send fails while it is up, and none succeeds
+///   while it is down. An adapter that cannot know this beforehand tells nothing of it, and may then
+///   fail at any time. Every adapter that refuses what must not reach the wire is of this kind.
+///   Whether it is up, and what `state` returns, change only in a call of its own.
 ///
-/// # While a connection is being made anew
+/// # During a reconnect
 ///
-/// Whether the link counts as up while its connection is being made anew is the adapter's choice. Prefer to count it as
-/// up and to hold back what is sent until the connection stands again: then a consumer that was lost is made anew as soon as
-/// the server is back. Where the link counts as down, every try of a recreation fails at once, and its waits, of up to ten
-/// seconds each, run on after the server has come back.
+/// The adapter chooses whether the link counts as up during a reconnect. Prefer to count it as up
+/// and to hold back what is sent until the connection is restored: a lost consumer is then recreated
+/// as soon as the server is back. If the link counts as down, each attempt to recreate a consumer
+/// fails at once, and its waits, of up to ten seconds each, run on after the server has come back.
 pub trait Link {
-    /// What the link means, in the words of `LinkView`.
+    /// The state of the link, as a `LinkView`.
     ghost view: { Self → LinkView };
 
-    /// Opens an inbox for a subject, in a queue group where one is named.
+    /// Opens an inbox for a subject, in a queue group if one is given.
     fn subscribe(
         &mut self,
         alloc: Global,
@@ -93,15 +99,15 @@ pub trait Link {
     ) -> Result<InboxId, LinkError>
         ensures { SubscribesOf result subject.now (option_copied group.entry) (view self.old) (view self.new) };
 
-    /// Opens an inbox under a new subject of the link's choice.
+    /// Opens an inbox under a new subject that the link chooses, and returns both.
     fn open_inbox(&mut self, alloc: Global) -> Result<(InboxId, Subject), LinkError>
         ensures { OpensOf result (view self.old) (view self.new) };
 
-    /// A new subject of the link's choice, under which nothing is opened.
+    /// Returns a new subject that the link chooses. No inbox is opened under it.
     fn fresh_subject(&mut self, alloc: Global) -> Result<Subject, LinkError>
         ensures { NamesOf result (view self.old) (view self.new) };
 
-    /// Closes an inbox; what lies in it is lost.
+    /// Closes an inbox. The messages in it are lost.
     fn unsubscribe(&mut self, inbox: InboxId)
         ensures { Closes inbox.0 (view self.old) (view self.new) };
 
@@ -116,7 +122,7 @@ pub trait Link {
     ) -> Result<(), LinkError>
         ensures { PublishesOf result subject.now (option_copied reply.entry) (option_copied headers.entry) payload.now (view self.old) (view self.new) };
 
-    /// Sends a request, to which one answer may come.
+    /// Sends a request. At most one answer comes to it.
     fn request(
         &mut self,
         alloc: Global,
@@ -130,26 +136,34 @@ pub trait Link {
     fn take(&mut self, inbox: InboxId) -> Taken
         ensures { TakesOf inbox.0 result (view self.old) (view self.new) };
 
-    /// What has become of a request.
+    /// Returns the state of a request, with its answer once it has come.
     fn answer(&mut self, request: RequestId) -> Answer
         ensures { AnswersOf request.0 result (view self.old) (view self.new) };
 
-    /// Where the connection stands.
+    /// Ends a request whose answer nobody awaits any more, for example after its timeout. The states
+    /// of this client call it when they give a request up. A link that keeps something for each open
+    /// request lets go of it here. By default nothing happens.
+    fn forget(&mut self, _request: RequestId)
+        ensures { Forgets _request.0 (view self.old) (view self.new) }
+    {}
+
+    /// Returns the connection's state.
     fn state(&mut self) -> Watch
         ensures value { result ≡ (view self.old).watch }
         ensures same { view self.new ≡ view self.old };
 
-    /// The longest body that may be sent, in bytes.
+    /// Returns the greatest length of a body that may be sent, in bytes.
     fn max_payload(&self) -> u64
         ensures { result ≡ (view self.now).max_payload };
 
-    /// How long a request waits for its answer where nothing else is said, or none where it waits for ever.
+    /// Returns how long a request waits for its answer by default, in nanoseconds, or `None` if it
+    /// waits for ever.
     fn request_timeout(&self) -> Option<Nanos>
         ensures { result ≡ (view self.now).request_timeout };
 
     /// A closed inbox holds no message.
     ghost closed_is_empty: { (link : Self) (inbox : ℕ) → (view link).is_open inbox ≡ false → (view link).count inbox ≡ 0 };
 
-    /// A told buffer has as many messages as the link counts.
+    /// A told buffer holds as many messages as the link counts.
     ghost counts_buffer: { (link : Self) (inbox : ℕ) → IfSome ((view link).buffer inbox) (λ messages. length messages ≡ (view link).count inbox) };
 }

@@ -1,7 +1,8 @@
-//! A link in memory, which tells all: what it sends is kept, and what it receives is given to it.
+//! A link in memory, which tells everything: it keeps what it sends, and a test gives it what it
+//! receives.
 ghost use Rattle.std.specs.Prelude.{◌≡◌, ◌≢◌, IfOk, OnOk, OnErr, MatchOption, Some, None, string_bytes};
 ghost use Rattle.std.specs.Option.{option_copied};
-ghost use Rattle.js_link.specs.Calls.{Fails, AsksOf};
+ghost use Rattle.js_link.specs.Calls.{Fails, AsksOf, EndsRequest};
 ghost use Rattle.js_link.specs.LinkView.{Waits};
 ghost use Rattle.js_link.specs.Memory.{memory_view, new_view, inbox_subject, fresh_subject, request_after, closed_is_empty, counts_buffer, HasReply, Delivers, Responds, WaitsAt};
 
@@ -11,7 +12,7 @@ use js_base::{HeaderMap, Message, Nanos, OutOfMemory, State, Subject, Text};
 use std::alloc::Global;
 use std::collections::VecDeque;
 
-/// What has become of a request.
+/// The state of a request.
 #[derive(Drop)]
 enum Request {
     Waits,
@@ -19,13 +20,14 @@ enum Request {
     Ended,
 }
 
-/// A link in memory: what it sends is kept, and what it receives is given to it.
+/// A link in memory for tests: it keeps what it sends, and you give it what it receives.
 ///
-/// It tells all of itself, so no send fails while it is up: it has no wire, and refuses no subject, no header and no length. What it
-/// was handed stands in `sent` as it came, which shows a test what an adapter would have been asked to send.
+/// It tells everything about itself, so no send fails while it is up: it has no wire, and refuses no
+/// subject, header or length. `sent` returns what it was handed, unchanged, which shows a test what
+/// an adapter would have been asked to send.
 ///
-/// Inboxes are numbered from 0 and requests from 1, in the order in which they are made. Both take memory, so that their
-/// numbers never come to their type's end.
+/// Inboxes are numbered from 0 and requests from 1, in the order in which they are made. Both take
+/// memory, so the numbers never reach the end of their type.
 #[derive(Drop)]
 pub struct MemoryLink {
     prefix: Text,
@@ -64,8 +66,9 @@ fn fresh_text(alloc: Global, prefix: &str, number: u64) -> Result<String, OutOfM
 }
 
 impl MemoryLink {
-    /// A link that is up and connected, with no limit to a body and a request timeout of ten seconds. Its own subjects begin
-    /// with the prefix and a dot.
+    /// Creates a link that is up and connected, with no limit on a body and a request timeout of ten
+    /// seconds. Its own subjects begin with the prefix and a dot. Fails with `OutOfMemory` if memory
+    /// runs out.
     pub fn new(alloc: Global, inbox_prefix: &str) -> Result<MemoryLink, OutOfMemory>
         ensures { IfOk result (λ link. memory_view link ≡ new_view inbox_prefix.now) }
     {
@@ -92,14 +95,15 @@ impl MemoryLink {
         LinkError::Failed
     }
 
-    /// What it has sent, in order.
+    /// Returns what it has sent, in order.
     pub fn sent(&self) -> &[Sent]
         ensures { (memory_view self.now).sent ≡ Some result.now }
     {
         self.sent.as_slice()
     }
 
-    /// Puts a message behind the others of an inbox. For an inbox that is closed or was never opened, it is passed over.
+    /// Appends a message to an inbox. If the inbox is closed or was never opened, the message is
+    /// ignored. Fails with `OutOfMemory` if memory runs out; the link is then unchanged.
     pub fn deliver(&mut self, inbox: InboxId, message: Message) -> Result<(), OutOfMemory>
         ensures ok { OnOk result (Delivers inbox.0 message (memory_view self.old) (memory_view self.new)) }
         ensures err { OnErr result (memory_view self.new ≡ memory_view self.old) }
@@ -121,8 +125,8 @@ impl MemoryLink {
         }
     }
 
-    /// Answers a request that waits; without a reply, its replier is gone. For a request that does not wait, it is passed
-    /// over.
+    /// Answers a waiting request. Without a reply, the request becomes `Gone`. If the request is not
+    /// waiting, the reply is ignored. After `OutOfMemory` the link is unchanged.
     pub fn respond(&mut self, request: RequestId, reply: Option<Message>) -> Result<(), OutOfMemory>
         ensures ok { OnOk result (Responds request.0 reply (memory_view self.old) (memory_view self.new)) }
         ensures err { OnErr result (memory_view self.new ≡ memory_view self.old) }
@@ -156,21 +160,21 @@ impl MemoryLink {
         }
     }
 
-    /// Sets whether it is up. While it is down, its sends fail.
+    /// Sets whether the link is up. While it is down, its sends fail.
     pub fn set_up(&mut self, up: bool)
         ensures { memory_view self.new ≡ record (memory_view self.old) { up = Some up } }
     {
         self.up = up;
     }
 
-    /// Sets what `state` answers.
+    /// Sets what `state` returns.
     pub fn set_watch(&mut self, watch: Watch)
         ensures { memory_view self.new ≡ record (memory_view self.old) { watch = watch } }
     {
         self.watch = watch;
     }
 
-    /// Sets what `max_payload` and `request_timeout` answer.
+    /// Sets what `max_payload` (bytes) and `request_timeout` (nanoseconds) return.
     pub fn set_limits(&mut self, max_payload: u64, request_timeout: Option<Nanos>)
         ensures { memory_view self.new ≡ record (memory_view self.old) { max_payload = max_payload; request_timeout = request_timeout } }
     {
@@ -292,6 +296,16 @@ impl Link for MemoryLink {
                 Request::Waits | Request::Ended => Answer::Gone,
             },
         }
+    }
+
+    fn forget(&mut self, request: RequestId)
+        ensures { EndsRequest request.0 (memory_view self.old) (memory_view self.new) }
+    {
+        if request.0 == 0 || request.0 > self.requests.len() as u64 {
+            return;
+        }
+        let i = (request.0 - 1) as usize;
+        drop(std::mem::replace(&mut self.requests[i], Request::Ended));
     }
 
     fn state(&mut self) -> Watch {

@@ -1,4 +1,4 @@
-//! What a link has sent, and how its inboxes and requests are named.
+//! What a link has sent, and the numbers of its inboxes and requests.
 ghost use Rattle.std.specs.Prelude.{◌≡◌, IfOk};
 ghost use Rattle.std.specs.Option.{option_copied};
 ghost use Rattle.js_link.specs.declared.sent.Sent.TheVariants as sents;
@@ -8,11 +8,11 @@ use bytes::Bytes;
 use js_base::{HeaderMap, OutOfMemory, Subject, Text, all_3, all_4, both};
 use std::alloc::Global;
 
-/// Names an inbox of a link.
+/// The number of an inbox of a link.
 #[derive(Clone, Copy, Debug, PartialEq, Eq)]
 pub struct InboxId(pub u64);
 
-/// Names a request of a link.
+/// The number of a request of a link.
 #[derive(Clone, Copy, Debug, PartialEq, Eq)]
 pub struct RequestId(pub u64);
 
@@ -33,7 +33,7 @@ pub enum Sent {
         headers: Option<HeaderMap>,
         payload: Bytes,
     },
-    /// A new inbox, in a queue group where it has one.
+    /// A new inbox, in a queue group if it has one.
     Subscribe {
         inbox: u64,
         subject: Subject,

@@ -3,7 +3,7 @@ ghost use Rattle.std.specs.Prelude.{◌≡◌, [], ◌∷◌, ◌++◌, OnOk, On
 ghost use Rattle.std.specs.List.{position};
 ghost use Rattle.std.specs.Borrow.{sem};
 ghost use Rattle.std.specs.Option.{option_copied};
-ghost use Rattle.js_link.specs.Calls.{Closes, NamesOf, SubscribesOf, OpensOf, PublishesOf, TakesOf, AnswersOf};
+ghost use Rattle.js_link.specs.Calls.{Closes, NamesOf, SubscribesOf, OpensOf, PublishesOf, TakesOf, AnswersOf, EndsRequest};
 ghost use Rattle.js_link.specs.Memory.{closed_is_empty, counts_buffer};
 ghost use Rattle.js_link.specs.Server.{AsksServerOf, LendsLink, UsesReply, is_for, link_of, script_of, server_view};
 
@@ -13,15 +13,17 @@ use crate::sent::{InboxId, RequestId};
 use js_base::{HeaderMap, Message, Nanos, OutOfMemory, Subject, both};
 use std::alloc::Global;
 
-/// A reply of a script, and the subject of the requests that it answers.
+/// A scripted reply, and the subject of the requests that it answers.
 #[derive(Drop)]
 struct Scripted {
     subject: Subject,
     reply: Message,
 }
 
-/// A link in memory that answers its requests from a script: a request takes the first unused reply for its subject, and
-/// one for which none is left waits, as at the link itself.
+/// A link in memory that answers its requests from a script.
+///
+/// A request takes the first unused reply for its subject. If none is left, the request waits, as on
+/// the [`MemoryLink`] itself.
 #[derive(Drop)]
 pub struct ScriptedServer {
     link: MemoryLink,
@@ -29,7 +31,7 @@ pub struct ScriptedServer {
 }
 
 impl ScriptedServer {
-    /// A server over a link, with no reply in its script. It takes no memory.
+    /// Creates a server over a link, with an empty script. It allocates nothing.
     pub fn new(alloc: Global, link: MemoryLink) -> ScriptedServer
         ensures link { link_of result ≡ link }
         ensures script { script_of result ≡ [] }
@@ -40,7 +42,8 @@ impl ScriptedServer {
         }
     }
 
-    /// The link itself, to deliver to, to set up and down, and to look at what was sent.
+    /// Returns the link itself, to deliver messages, to set it up or down, and to look at what was
+    /// sent.
     pub fn link(&mut self) -> &mut MemoryLink
         ensures* writes_back { sem 𝓛 (LendsLink self.entry result) }
         ensures value { result.now ≡ link_of self.old }
@@ -48,7 +51,8 @@ impl ScriptedServer {
         &mut self.link
     }
 
-    /// Adds a reply to the script, behind all others. After a refusal, which drops the reply, the server is what it was.
+    /// Adds a reply at the end of the script. Fails with `OutOfMemory` if memory runs out; the reply
+    /// is then dropped, and the server is unchanged.
     pub fn script(
         &mut self,
         alloc: Global,
@@ -168,6 +172,13 @@ impl Link for ScriptedServer {
         ensures script { script_of self.new ≡ script_of self.old }
     {
         self.link.answer(request)
+    }
+
+    fn forget(&mut self, request: RequestId)
+        ensures call { EndsRequest request.0 (server_view self.old) (server_view self.new) }
+        ensures script { script_of self.new ≡ script_of self.old }
+    {
+        self.link.forget(request);
     }
 
     fn state(&mut self) -> Watch

@@ -1,4 +1,4 @@
-//! What a row asks of its link, what it meets there, and the one function that asks a link.
+//! What a row of a reader asks of its link, what came of it, and the function that asks the link.
 ghost use Rattle.std.specs.Prelude.{◌≡◌, IfOk, OnErr, is_some};
 ghost use Rattle.std.specs.Option.{option_copied};
 ghost use Rattle.js_link.specs.Wish.{message_of, reply_of, GoesAs, is_shut, reply_met, watch_met};
@@ -10,7 +10,7 @@ use bytes::Bytes;
 use js_base::{Message, OutOfMemory, State, Subject};
 use std::alloc::Global;
 
-/// What a row asks of its link: one call at most.
+/// What a row of a reader asks of its link: at most one call.
 #[derive(Drop)]
 pub enum Wish {
     Nothing,
@@ -36,7 +36,7 @@ pub enum Wish {
     Watches,
 }
 
-/// What it meets there.
+/// What came of a [`Wish`].
 #[derive(Drop)]
 pub enum Met {
     Unasked,
@@ -45,19 +45,19 @@ pub enum Met {
     Dropped,
     Requested { number: u64 },
     Opened { inbox: u64, subject: Subject },
-    /// No message lies in the inbox.
+    /// The inbox has no message.
     Empty,
     /// The inbox is closed.
     Shut,
     Took(Message),
     /// No answer has come yet.
     Waiting,
-    /// None will come any more.
+    /// No answer will come any more.
     Gone,
     Got(Message),
     /// The connection's state.
     Stands(State),
-    /// Nothing more will be told of the connection.
+    /// The connection's state will not be reported any more.
     WatchOver,
 }
 
@@ -122,7 +122,7 @@ fn open_inbox<L: Link>(alloc: Global, link: &mut L) -> Result<Met, OutOfMemory>
     }
 }
 
-/// The first message of an inbox is taken, if there is one.
+/// Takes the first message of an inbox, if it has one.
 pub fn take<L: Link>(link: &mut L, inbox: u64) -> Met
     ensures { Meets (Wish.Reads inbox) result (L.view link.old) (L.view link.new) }
 {
@@ -151,7 +151,8 @@ fn watch<L: Link>(link: &mut L) -> Met
     watched(link.state())
 }
 
-/// A link is asked for what a row wishes. Where there is no memory, nothing was asked.
+/// Makes the call that a wish asks for, and returns what came of it. Fails with `OutOfMemory` if
+/// memory runs out; the link is then unchanged.
 pub fn ask<L: Link>(alloc: Global, link: &mut L, wish: &Wish) -> Result<Met, OutOfMemory>
     ensures met { IfOk result (λ met. Meets wish.now met (L.view link.old) (L.view link.new)) }
     ensures unchanged { OnErr result (L.view link.new ≡ L.view link.old) }
@@ -176,7 +177,7 @@ pub fn ask<L: Link>(alloc: Global, link: &mut L, wish: &Wish) -> Result<Met, Out
 }
 
 impl Met {
-    /// The number of the request that went out, or none where it was refused.
+    /// Returns the number of the request that was sent, or `None` if it was refused.
     pub fn request(&self) -> Option<u64>
         ensures { GoesAs result self.now }
     {
@@ -198,7 +199,7 @@ impl Met {
         }
     }
 
-    /// The message that was taken.
+    /// Returns the message that was taken.
     pub fn message(&self) -> Option<&Message>
         ensures { option_copied result ≡ message_of self.now }
     {
@@ -220,7 +221,7 @@ impl Met {
         }
     }
 
-    /// The inbox that was looked at is closed.
+    /// Returns whether the inbox that was read is closed.
     pub fn is_shut(&self) -> bool
         ensures { result ≡ is_shut self.now }
     {
@@ -242,7 +243,7 @@ impl Met {
         }
     }
 
-    /// The message that was taken.
+    /// Returns the message that was taken.
     pub fn into_message(self) -> Option<Message>
         ensures { result ≡ message_of self }
     {
@@ -251,7 +252,7 @@ impl Met {
         message
     }
 
-    /// The message that was taken, and the reply that came.
+    /// Returns the message that was taken, and the reply that came.
     pub fn into_parts(self) -> (Option<Message>, Option<Message>)
         ensures { result ≡ (message_of self, reply_met self) }
     {
@@ -273,7 +274,7 @@ impl Met {
         }
     }
 
-    /// An answer has come, or none will.
+    /// Returns whether an answer has come, or none will.
     pub fn is_answer(&self) -> bool
         ensures { result ≡ is_some (reply_of self.now) }
     {

@@ -1,5 +1,5 @@
 -- A connection: how it is made, kept alive and lost.
-use Rattle.std.specs.Prelude.{ℕ, ◌≡◌, ◌+◌, ◌==◌, nat_le, Bool, true, false, not, List, [], ◌∷◌, filter, length, None, Result, Ok, Err, if◌then◌else◌, refl}
+use Rattle.std.specs.Prelude.{ℕ, ◌≡◌, ◌+◌, ◌==◌, nat_le, Bool, true, false, not, List, [], ◌∷◌, filter, is_some, length, None, Result, Ok, Err, if◌then◌else◌, refl}
 use Rattle.std.specs.Borrow.{Lends, MutBor, Fml}
 use Rattle.js_base.specs.Clock.{is_due}
 use Rattle.js_base.specs.declared.clock.Timer.{Timer}
@@ -7,6 +7,7 @@ use Rattle.js_base.specs.declared.message.State.{State}
 use Rattle.js_link.specs.LinkView.{LinkView, Ended, put}
 use Rattle.js_link_outbox.specs.Calls.{watch_after}
 use Rattle.js_link_outbox.specs.NewOutbox.{IsOpened, front_of}
+use Rattle.js_link_outbox.specs.Numbered.{at}
 use Rattle.js_link_outbox.specs.Outbox.{front, outgoing}
 use Rattle.js_link_outbox.specs.declared.outbox.OutboxLink.{OutboxLink}
 use Rattle.js_link_outbox.specs.contracts.outbox.OutboxLink as link
@@ -140,3 +141,7 @@ pub record IsNew (options : ConnectOptions) (connection : Connection) : Type 0 w
 -- requests without one that ended
 abbrev pub without_request : ℕ → List ℕ → List ℕ
 without_request request requests = filter (λ number. not (number == request)) requests
+
+-- requests without those that were given up over the link
+abbrev pub those_open : OutboxLink → List ℕ → List ℕ
+those_open link requests = filter (λ number. is_some (at link.requests number)) requests

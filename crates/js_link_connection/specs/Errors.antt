@@ -1,5 +1,5 @@
--- Why frames are not written.
-use Rattle.std.specs.Prelude.{◌≡◌, List, [], ◌∷◌, Option, Some, None, codes, refl}
+-- Why a call of a connection fails, how it is printed, and why frames are not written.
+use Rattle.std.specs.Prelude.{◌≡◌, ℕ, List, [], ◌∷◌, ◌++◌, Option, Some, None, codes, decimal, refl}
 use Rattle.js_link_wire.specs.declared.frame.ClientFrame.{ClientFrame}
 use Rattle.js_link_wire.specs.declared.frame.ClientFrame.TheVariants.{Publish, Ping}
 use Rattle.js_link_wire.specs.declared.refusals.WriteError.{WriteError}
@@ -7,6 +7,17 @@ use Rattle.js_link_wire.specs.declared.refusals.WriteError.TheVariants as refuse
 use Rattle.js_link_wire.specs.Written.{refusal}
 use Rattle.js_link_connection.specs.declared.error.ConnectionError.{ConnectionError}
 use Rattle.js_link_connection.specs.declared.error.ConnectionError.TheVariants as failed
+
+-- how an error is printed: what is wrong, and after how many bytes
+abbrev pub connection_text : ConnectionError → List ℕ
+connection_text (failed.Damaged damage place) = codes "damaged bytes at byte " ++ decimal place
+connection_text (failed.BadHeaders damage place) = codes "damaged headers at byte " ++ decimal place
+connection_text (failed.BadInfo place) = codes "bad INFO at byte " ++ decimal place
+connection_text (failed.Refused text) = text
+connection_text failed.Silent = codes "no answer to PING"
+connection_text (failed.Unwritable cause) = codes "a frame cannot be written"
+connection_text failed.OutOfMemory = codes "out of memory"
+connection_text failed.Unread = codes "out of memory"
 
 -- what a connection fails by where a frame is not written: want of memory, or a refusal
 abbrev pub error_of : WriteError → ConnectionError

@@ -1,4 +1,4 @@
-//! Bytes that come in at one end and go out at the other.
+//! A buffer of bytes: appended at the end, removed from the front.
 
 ghost use Rattle.std.specs.Prelude.{◌≡◌, ◌≤◌, ◌++◌, ◌∷◌, [], None, length, drop, OnOk, OnErr, IfErr};
 ghost use Rattle.js_link_wire.specs.Written.{written, refusal};
@@ -10,7 +10,7 @@ use js_link_wire::{ClientFrame, write_frame};
 use std::alloc::Global;
 use std::marker::Model;
 
-/// Bytes of which the front ones are done with. Contracts see those that are left.
+/// Bytes, of which those at the front are done with. Contracts see those that are left.
 #[derive(Drop)]
 pub(crate) struct Buffer {
     held: Vec<u8>,

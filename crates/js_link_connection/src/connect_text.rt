@@ -1,4 +1,4 @@
-//! What the client says of itself in CONNECT.
+//! The JSON text with which the client introduces itself in CONNECT.
 
 ghost use Rattle.std.specs.Prelude.{◌≡◌, IfOk, string_bytes};
 ghost use Rattle.serde_json.specs.Data.{string};

@@ -18,27 +18,28 @@ use crate::options::ConnectOptions;
 use crate::server_info::ServerInfo;
 use crate::writer::{Phase, Writer, end_wait};
 use js_base::{OutOfMemory, Text, Timer};
-use js_link::{LinkError, RequestId};
+use js_link::{Link, LinkError, RequestId};
 use js_link_outbox::OutboxLink;
 use js_link_wire::ClientFrame;
 use std::alloc::Global;
 
-/// A connection to a server, without input and output: it is told which bytes came, and says which bytes are to be sent.
+/// A connection to a server, without input and output: you tell it which bytes came, and it says
+/// which bytes to send.
 ///
-/// It owns the link over which the states of this client are polled. What it keeps is that link, less than a whole frame of what
-/// came (more only after an error, until `received` was called again), the bytes that are to be sent, the subscriptions that are
-/// open, and the numbers of the requests that wait for an answer.
+/// It owns the link over which this client's states are polled. It keeps that link, less than a
+/// whole frame of what came (more only after an error, until you call `received` again), the bytes
+/// to send, the open subscriptions, and the numbers of the requests that wait for an answer.
 #[derive(Drop)]
 pub struct Connection {
     pub(crate) link: OutboxLink,
     pub(crate) writer: Writer,
     pub(crate) keep_alive: KeepAlive,
     pub(crate) info: Option<ServerInfo>,
-    /// The bytes of which no frame was read.
+    /// The bytes that were not read as frames yet.
     pub(crate) came: Buffer,
-    /// How many bytes came before these, up to the type's end.
+    /// How many bytes came before these, up to `u64::MAX`.
     pub(crate) place: u64,
-    /// How many bytes a body has at most.
+    /// The greatest length of a body, in bytes.
     pub(crate) most: u64,
 }
 
@@ -81,11 +82,13 @@ fn over(alloc: Global, link: OutboxLink, json: Text, options: &ConnectOptions) -
 }
 
 impl Connection {
-    /// A connection that is not made yet. Poll over its link at once, if you like: what is to be sent is held back until it is made.
+    /// Creates a connection that is not made yet. You may poll over its link at once: it holds back
+    /// what is to be sent until the connection is made.
     ///
     /// # Errors
     ///
-    /// `Failed` exactly where prefix or token of the inboxes is no subject, and else want of memory.
+    /// `Failed` exactly if the prefix or the token of the inboxes is not a valid subject, and
+    /// `OutOfMemory` if memory runs out.
     pub fn new(alloc: Global, options: &ConnectOptions) -> Result<Connection, LinkError>
         ensures new { IfOk result (λ connection. IsNew options.now connection) }
         ensures cause { FailsUnless (is_valid_subject options.now.inbox_prefix && is_valid_subject options.now.inbox_token) result }
@@ -101,15 +104,15 @@ impl Connection {
         }
     }
 
-    /// The link over which states are polled.
+    /// Returns the link over which states are polled.
     pub fn link(&self) -> &OutboxLink
         ensures { result.now ≡ self.now.link }
     {
         &self.link
     }
 
-    /// The link over which states are polled, to call what the trait `Link` has. What an adapter does with a link, this connection
-    /// does: take nothing from it, and end a request by `forget` of this connection.
+    /// Returns the link over which states are polled, to call the methods of the trait `Link`. This
+    /// connection is the link's adapter: take nothing from the link yourself.
     pub fn link_mut(&mut self) -> &mut OutboxLink
         ensures* writes_back { sem 𝓛 (LendsLink self.entry result) }
         ensures value { result.now ≡ self.old.link }
@@ -117,8 +120,9 @@ impl Connection {
         &mut self.link
     }
 
-    /// Ends a request whose answer nobody awaits any more, as after its timeout. It leaves nothing behind, and an answer that
-    /// still comes is wanted by nobody.
+    /// Ends a request whose answer nobody awaits any more, for example that of a call that you drop.
+    /// It leaves nothing behind. If an answer still comes, nobody gets it. If the request is ended
+    /// over the link, as calls do after a timeout, `woken` lets go of what is kept of it here.
     pub fn forget(&mut self, request: RequestId)
         ensures link { outbox_view self.new.link ≡ ended_view (request.0 ∷ []) (outbox_view self.old.link) }
         ensures sends { SendsNothing self.old.link self.new.link }
@@ -129,21 +133,24 @@ impl Connection {
         end_wait(&mut self.writer.requests, request.0);
     }
 
-    /// What the server said of itself last, if it has said anything since the connection was made.
+    /// Returns the server's last INFO, or `None` if none has come since the connection was made.
     pub fn info(&self) -> &Option<ServerInfo>
         ensures { result.now ≡ self.now.info }
     {
         &self.info
     }
 
-    /// Writes what is to be written behind the bytes that are to be sent: CONNECT if INFO has come, PONGs, a PING if one is due, the
-    /// open subscriptions that this connection has not written, and what the link has to send. Call it after each poll and each call
-    /// of `received` and `woken`, and then send the bytes of `to_send`. While no INFO has come, it writes nothing.
+    /// Appends what is due to the bytes to send: CONNECT if INFO has come, PONGs, a PING if one is
+    /// due, the open subscriptions not yet written over this connection, and what the link has to
+    /// send. While no INFO has come, it writes nothing.
+    ///
+    /// Call it after each poll and after each call of `received` and `woken`, and then send the
+    /// bytes of `to_send`.
     ///
     /// # Errors
     ///
-    /// Want of memory, after which nothing is lost: what was not written is written by the next call. `Unwritable` if the next frame
-    /// is refused.
+    /// `OutOfMemory` if memory runs out. Nothing is lost: the next call writes what was not written.
+    /// `Unwritable` if the next frame is refused.
     pub fn write(&mut self, alloc: Global) -> Result<(), ConnectionError>
         ensures writes { Writes self.old.writer (outgoing self.old.link) self.new.writer (outgoing self.new.link) }
         ensures all { OnOk result (due self.new.writer (outgoing self.new.link) ≡ []) }
@@ -155,14 +162,15 @@ impl Connection {
         self.writer.write_all(alloc, &mut self.link)
     }
 
-    /// The bytes that are to be sent next.
+    /// Returns the bytes to send next.
     pub fn to_send(&self) -> &[u8]
         ensures { result.now ≡ to_send self.now }
     {
         self.writer.out.left()
     }
 
-    /// So many bytes of `to_send` were sent, from the front.
+    /// Tells that the first `count` bytes of `to_send` were sent. `count` must not exceed its
+    /// length.
     pub fn sent(&mut self, count: usize)
         requires { count ≤ length (to_send self.old) }
         ensures sent { to_send self.new ≡ drop count (to_send self.old) }

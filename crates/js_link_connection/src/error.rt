@@ -1,49 +1,60 @@
-//! What a connection can fail by.
+//! Why a call of a connection can fail.
 
-ghost use Rattle.std.specs.Prelude.{◌≡◌};
-ghost use Rattle.js_link_connection.specs.Errors.{error_of};
+ghost use Rattle.std.specs.Prelude.{◌≡◌, Some};
+ghost use Rattle.js_link_connection.specs.Errors.{connection_text, error_of};
 
 use js_base::{OutOfMemory, Text};
 use js_link_wire::{Damage, HeadersDamage, WriteError};
 use std::{error, fmt};
 
-/// Why a call of a connection did not do all of it.
+/// Why a call of a connection did not do all of its work.
+///
+/// It prints what is wrong, and at which byte if bytes are damaged; a refusal in the server's words.
 #[derive(Debug, Drop)]
 pub enum ConnectionError {
-    /// The server's bytes at this place begin with no frame, whatever follows: so many bytes came before, since the connection
-    /// was made. Nothing from there on is delivered, and each further call says the same. Close the connection, and call `lost`.
+    /// The server's bytes at `place` do not begin with a frame, whatever follows. `place` counts the
+    /// bytes before, since the connection was made. Nothing from there on is delivered, and each
+    /// further call fails in the same way. Close the connection, and call `lost`.
     Damaged { damage: Damage, place: u64 },
-    /// The headers of the message at this place do not read. As for `Damaged`, nothing from there on is delivered.
+    /// The headers of the message at `place` cannot be read. As for `Damaged`, nothing from there on
+    /// is delivered.
     BadHeaders { damage: HeadersDamage, place: u64 },
-    /// The INFO at this place is no JSON object, or names no `max_payload` that is a number. As for `Damaged`, nothing from there
-    /// on is delivered.
+    /// The INFO at `place` is not a JSON object, or has no `max_payload` that is a number. As for
+    /// `Damaged`, nothing from there on is delivered.
     BadInfo { place: u64 },
-    /// The server refused something, in these words (-ERR). What came before is delivered. What came behind it is kept: call
-    /// `received` again, with the bytes that come next or with none.
+    /// The server refused something, in these words (-ERR). What came before was delivered, and what
+    /// came after it is kept. Call `received` again, with the next bytes or with none.
     Refused { text: Text },
     /// No answer came to two PINGs, or no INFO came at all. Close the connection, and call `lost`.
     Silent,
-    /// The next frame that is to be written is refused for this reason. It stays where it is, and each further call says the same.
+    /// The next frame to write is refused for this reason. It stays where it is, and each further
+    /// call fails in the same way.
     Unwritable(WriteError),
-    /// Memory ran out. In `received` none of the bytes was taken: call it again with the same ones. In `write` nothing is lost:
-    /// call it again.
+    /// Memory ran out. `received` took none of the bytes: call it again with the same ones. `write`
+    /// lost nothing: call it again.
     OutOfMemory,
-    /// Memory ran out while what had come was read. The bytes are kept, and none is lost: call `received` again, with the bytes
-    /// that come next or with none, and never with the same ones.
+    /// Memory ran out while reading what had come. The bytes are kept, and none is lost. Call
+    /// `received` again, with the next bytes or with none, and never with the same ones.
     Unread,
 }
 
 impl fmt::Display for ConnectionError {
+    ghost output = { λ error. Some (connection_text error) };
+
     fn fmt<W: fmt::Write>(&self, f: &mut fmt::Formatter<W>) -> fmt::Result {
-        f.write_str(match self {
-            ConnectionError::Damaged { .. } => "damaged bytes",
-            ConnectionError::BadHeaders { .. } => "damaged headers",
-            ConnectionError::BadInfo { .. } => "bad INFO",
-            ConnectionError::Refused { text } => text.as_str(),
-            ConnectionError::Silent => "no answer to PING",
-            ConnectionError::Unwritable(_) => "a frame cannot be written",
-            ConnectionError::OutOfMemory | ConnectionError::Unread => "out of memory",
-        })
+        match self {
+            ConnectionError::Damaged { place, .. } => write!(f, "damaged bytes at byte {place}"),
+            ConnectionError::BadHeaders { place, .. } => write!(
+                f,
+                "damaged headers at byte {place}"
+            ),
+            ConnectionError::BadInfo { place } => write!(f, "bad INFO at byte {place}"),
+            ConnectionError::Refused { text } => write!(f, "{text}"),
+            ConnectionError::Silent => f.write_str("no answer to PING"),
+            ConnectionError::Unwritable(_) => f.write_str("a frame cannot be written"),
+            ConnectionError::OutOfMemory => f.write_str("out of memory"),
+            ConnectionError::Unread => f.write_str("out of memory"),
+        }
     }
 }
 

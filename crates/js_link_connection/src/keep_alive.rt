@@ -7,14 +7,14 @@ ghost use Rattle.js_link_connection.specs.Connection.{quiet_after, wake, wake_in
 use crate::writer::Phase;
 use js_base::{Moment, Timer};
 
-/// What a moment asks for at which a connection is woken.
+/// What to do at the moment at which a connection is woken.
 #[derive(Clone, Copy, Debug, PartialEq, Eq)]
 pub(crate) enum Wake {
-    /// Nothing: it is too early.
+    /// Do nothing: it is too early.
     Early,
-    /// A PING.
+    /// Send a PING.
     Ping,
-    /// An end: the server does not answer.
+    /// End the connection: the server does not answer.
     Silent,
 }
 
@@ -25,7 +25,7 @@ pub(crate) struct KeepAlive {
     pub(crate) unanswered: u8,
 }
 
-/// After how many PINGs without an answer a connection counts as lost.
+/// The number of PINGs without an answer after which a connection counts as lost.
 pub(crate) const MOST_UNANSWERED: u8 = 2;
 
 impl KeepAlive {

@@ -1,4 +1,4 @@
-//! What the definitions of receiving say of each other.
+//! What is proved of receiving.
 
 ghost use Rattle.std.specs.Prelude.{◌≡◌, ◌≢◌, ℕ, ◌++◌, List, Some, Ok, Err};
 ghost use Rattle.js_link_wire.specs.declared.damage.Damage.{Damage};
@@ -7,9 +7,10 @@ ghost use Rattle.js_link_wire.specs.FrameReader.{next_frame, AreRead};
 ghost use Rattle.js_link_connection.specs.declared.connection.Connection.{Connection};
 ghost use Rattle.js_link_connection.specs.Receiving.{TakesAll};
 
-/// It does not matter in which pieces bytes come. The frames of some bytes, and then those of what is left of them and more, are
-/// those of all the bytes together, and what they do one after another is what they do together; and the frames of some bytes, up
-/// to where none begins, are these alone.
+/// It does not matter in which pieces bytes come. Read frames from some bytes, and then from what is
+/// left together with more: these are the frames of all the bytes together, and taking them in two
+/// steps does the same as taking them at once. Reading some bytes, up to where no frame begins,
+/// gives only these frames.
 pub fn pieces_are_received_as_one()
     ensures read { (most : ℕ) (bytes more left last : List ℕ) (frames others : List ServerFrame) → AreRead most bytes frames left → AreRead most (left ++ more) others last
         → AreRead most (bytes ++ more) (frames ++ others) last }
@@ -19,7 +20,7 @@ pub fn pieces_are_received_as_one()
         → (frames ≡ others) × (left ≡ last) }
 {}
 
-/// What follows a damage does not matter: nothing is read of the bytes, however many more come.
+/// Bytes that follow a damage do not matter: nothing is read, however many more come.
 pub fn damage_stays()
     ensures { (most : ℕ) (left more : List ℕ) (damage : Damage) → next_frame most left ≡ Err damage → next_frame most (left ++ more) ≡ Err damage }
 {}

@@ -1,18 +1,19 @@
-//! A connection to a NATS server, without input and output: it stands between a socket and the states that are polled.
+//! A connection to a NATS server, without input and output, between a socket and the states that are
+//! polled.
 //!
-//! A [`Connection`] is told which bytes came, in pieces of any size, and says which bytes are to be sent. It reads and writes the
-//! frames of js_link_wire, and owns the link of js_link_outbox, over which the states of this client are polled. Whoever has the
-//! socket and the clock
+//! You tell a [`Connection`] which bytes came, in pieces of any size, and it says which bytes to
+//! send. It reads and writes the frames of js_link_wire, and owns the link of js_link_outbox, over
+//! which this client's states are polled. Whoever has the socket and the clock does this:
 //!
-//! - tells by [`Connection::made`] and [`Connection::lost`] that a connection was made or lost;
-//! - hands what came to [`Connection::received`];
-//! - calls [`Connection::write`] after that and after each poll, sends the bytes of [`Connection::to_send`], and tells by
-//!   [`Connection::sent`] how many went out;
-//! - calls [`Connection::woken`] at the moment of [`Connection::wakes_at`].
+//! - Call [`Connection::made`] or [`Connection::lost`] when a connection is made or lost.
+//! - Hand what came to [`Connection::received`].
+//! - Call [`Connection::write`] after that and after each poll, send the bytes of
+//!   [`Connection::to_send`], and tell [`Connection::sent`] how many went out.
+//! - Call [`Connection::woken`] at the moment that [`Connection::wakes_at`] returns.
 //!
-//! What is to be sent is CONNECT, then PONGs and PINGs, the subscriptions that are open, and what the link has to send, each once
-//! and in order, and nothing is lost where memory runs out. What is delivered does not depend on how the bytes were cut, and from
-//! a damage on nothing is delivered.
+//! It sends CONNECT, then PONGs and PINGs, the open subscriptions, and what the link has to send,
+//! each once and in order. Nothing is lost if memory runs out. What it delivers does not depend on
+//! how the bytes were cut. Once the bytes are damaged, it delivers nothing more.
 #![tactic(auto)]
 
 mod buffer;

@@ -1,17 +1,17 @@
-//! How a connection begins, is kept alive, and ends.
+//! How a connection begins, stays alive, and ends.
 
 ghost use Rattle.std.specs.Prelude.{◌≡◌, ◌<◌, ◌^◌, ℕ};
 ghost use Rattle.js_base.specs.Clock.{has_come};
 ghost use Rattle.js_link_outbox.specs.Calls.{SendsNothing};
 ghost use Rattle.js_link_outbox.specs.Outbox.{front, outbox_view, outgoing};
-ghost use Rattle.js_link_connection.specs.Connection.{IsFresh, IsWoken, Outlasts, after_wake, ended_view, in_state, is_quiet, ping_after, wake_in};
+ghost use Rattle.js_link_connection.specs.Connection.{IsFresh, IsWoken, Outlasts, after_wake, ended_view, in_state, is_quiet, ping_after, those_open, wake_in};
 
 use crate::connection::Connection;
 use crate::error::ConnectionError;
 use crate::keep_alive::Wake;
 use crate::writer::Phase;
 use js_base::{Moment, State, replace_with};
-use js_link::RequestId;
+use js_link::{Link, RequestId};
 use js_link_outbox::OutboxLink;
 
 // The requests of these numbers get no answer any more.
@@ -24,9 +24,18 @@ fn end_requests(link: &mut OutboxLink, numbers: &[u64])
     }
 }
 
+// The numbers of requests that were given up over the link are kept no longer.
+fn drop_forgotten(link: &OutboxLink, requests: &mut Vec<u64>)
+    ensures { requests.new.items ≡ those_open link.now requests.old.items }
+{
+    requests.retain(|number| link.has_request(RequestId(*number)));
+}
+
 impl Connection {
-    /// A connection was made, at `now`: the next bytes that are received are its first. CONNECT is written once its INFO has come,
-    /// then the subscriptions that are open, then what was held back. What was left of an earlier connection is as after `lost`.
+    /// Tells that a connection was made at `now`: the next bytes received are its first.
+    ///
+    /// Once its INFO has come, CONNECT is written, then the open subscriptions, then what was held
+    /// back. Anything left of an earlier connection is treated as after `lost`.
     pub fn made(&mut self, now: Moment)
         ensures link { outbox_view self.new.link ≡ in_state State.Disconnected (ended_view self.old.writer.requests.items (outbox_view self.old.link)) }
         ensures fresh { IsFresh self.new }
@@ -39,8 +48,9 @@ impl Connection {
         self.keep_alive.quiet.set = now;
     }
 
-    /// The connection is lost. The requests that were written and have no answer end; subscriptions stay open; bytes that were to be
-    /// sent are gone, and what the link has to send besides is held back until a connection is made again.
+    /// Tells that the connection is lost. Requests that were written and have no answer end.
+    /// Subscriptions stay open. Bytes that were to be sent are gone. Anything else that the link has
+    /// to send is held back until a connection is made again.
     pub fn lost(&mut self)
         ensures link { outbox_view self.new.link ≡ in_state State.Disconnected (ended_view self.old.writer.requests.items (outbox_view self.old.link)) }
         ensures fresh { IsFresh self.new }
@@ -61,7 +71,8 @@ impl Connection {
         replace_with(&mut self.info, None);
     }
 
-    /// The moment at which `woken` is to be called, if nothing comes before it. None while there is no connection.
+    /// Returns the moment at which to call `woken` if nothing comes before it, or `None` while there
+    /// is no connection.
     pub fn wakes_at(&self) -> Option<Moment>
         ensures { (now : ℕ) → now < 2 ^ 64 → has_come result now ≡ is_quiet self.now.writer.phase self.now.keep_alive now }
     {
@@ -73,17 +84,21 @@ impl Connection {
         }
     }
 
-    /// It is `now`: after a time in which nothing came a PING is due, which the next `write` writes.
+    /// Tells that it is `now`. If nothing has come for the quiet time, a PING is due, which the next
+    /// `write` writes. What is kept of requests that were given up over the link is let go.
     ///
     /// # Errors
     ///
-    /// `Silent` exactly where two PINGs had no PONG, or no INFO came in that time. Then nothing has changed.
+    /// `Silent` exactly if two PINGs have no PONG, or if no INFO came in that time. Nothing else has
+    /// changed then.
     pub fn woken(&mut self, now: Moment) -> Result<(), ConnectionError>
         ensures result { IsWoken result (wake_in self.old.writer.phase self.old.keep_alive now) }
         ensures keep_alive { self.new.keep_alive ≡ after_wake (wake_in self.old.writer.phase self.old.keep_alive now) self.old.keep_alive now }
         ensures ping { self.new.writer.is_ping_due ≡ ping_after (wake_in self.old.writer.phase self.old.keep_alive now) self.old.writer.is_ping_due }
-        ensures same { self.new ≡ record self.old { writer = record self.old.writer { is_ping_due = self.new.writer.is_ping_due }; keep_alive = self.new.keep_alive } }
+        ensures requests { self.new.writer.requests.items ≡ those_open self.old.link self.old.writer.requests.items }
+        ensures same { self.new ≡ record self.old { writer = record self.old.writer { is_ping_due = self.new.writer.is_ping_due; requests = self.new.writer.requests }; keep_alive = self.new.keep_alive } }
     {
+        drop_forgotten(&self.link, &mut self.writer.requests);
         match self.keep_alive.wake_in(self.writer.phase, now) {
             Wake::Early => Ok(()),
             Wake::Ping => {

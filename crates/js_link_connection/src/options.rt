@@ -1,4 +1,4 @@
-//! What a connection is made with.
+//! The options of a connection.
 
 ghost use Rattle.std.specs.Prelude.{◌≡◌, IfOk};
 ghost use Rattle.js_link_connection.specs.ConnectText.{plain_options};
@@ -6,7 +6,7 @@ ghost use Rattle.js_link_connection.specs.ConnectText.{plain_options};
 use js_base::{Nanos, OutOfMemory, Text, both};
 use std::alloc::Global;
 
-/// What a client shows to a server that asks who it is.
+/// How a client identifies itself to a server that asks.
 #[derive(Debug, PartialEq, Eq, Drop)]
 pub enum Credentials {
     /// Nothing.
@@ -17,26 +17,29 @@ pub enum Credentials {
     Token(Text),
 }
 
-/// What a connection is made with.
+/// The options of a connection.
 #[derive(Debug, PartialEq, Eq, Drop)]
 pub struct ConnectOptions {
-    /// The client's name, which a server shows in its lists, if it has one.
+    /// The client's name, if it has one. A server shows it in its lists.
     pub name: Option<Text>,
-    /// What the client shows where the server asks who it is.
+    /// How the client identifies itself if the server asks.
     pub credentials: Credentials,
-    /// What the subjects of inboxes begin with, as `_INBOX`.
+    /// The prefix of the subjects of inboxes, for example `_INBOX`.
     pub inbox_prefix: Text,
-    /// What stands behind it. No other client of the server may have the same: take a random one.
+    /// The token after the prefix. No other client of the server may have the same: take a random
+    /// one.
     pub inbox_token: Text,
-    /// After how long a time in which nothing came a PING is sent, in nanoseconds.
+    /// The time in nanoseconds after which a PING is sent if nothing came.
     pub quiet_time: Nanos,
-    /// How many bytes a message that is taken from the server has at most, headers and payload together. A longer one is a damage.
+    /// The greatest length in bytes of a message that is accepted from the server, headers and
+    /// payload together. A longer one counts as damage.
     pub longest_body: u64,
 }
 
 impl ConnectOptions {
-    /// A client without a name and credentials, with inboxes under `_INBOX`, a PING after a minute, and bodies of at most 64 MiB,
-    /// which is the most that a server allows.
+    /// Creates the options of a client without name and credentials, with inboxes under `_INBOX`, a
+    /// PING after a minute, and bodies of at most 64 MiB, which is the most that a server allows.
+    /// Fails with `OutOfMemory` if memory runs out.
     pub fn new(alloc: Global, inbox_token: Text) -> Result<ConnectOptions, OutOfMemory>
         ensures { IfOk result (λ options. options ≡ plain_options inbox_token) }
     {

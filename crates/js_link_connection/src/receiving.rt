@@ -1,4 +1,4 @@
-//! What came is read and delivered.
+//! Reads and delivers what came.
 
 ghost use Rattle.std.specs.Prelude.{◌≡◌, ◌≤◌, ◌<◌, ◌++◌, ◌-◌, IfOk, IfErr, OnOk, OnErr, Ok, Some, length, drop, true, false};
 ghost use Rattle.js_link_wire.specs.FrameReader.{next_frame};
@@ -216,12 +216,14 @@ impl Connection {
         Ok(())
     }
 
-    /// Takes bytes that came from the server at `now`, in pieces of any size, and delivers the messages that are whole. It does not
-    /// matter how the bytes are cut. Each PING is answered by the next `write`. Call it only between `made` and `lost`.
+    /// Takes bytes that came from the server at `now`, in pieces of any size, and delivers the
+    /// messages that are whole. It does not matter how the bytes are cut. The next `write` answers
+    /// each PING. Call it only between `made` and `lost`.
     ///
     /// # Errors
     ///
-    /// As each [`ConnectionError`] says. After `OutOfMemory` none of the bytes is taken; after each other error all of them are.
+    /// See each [`ConnectionError`]. After `OutOfMemory` it has taken none of the bytes; after any
+    /// other error it has taken all of them.
     pub fn received(
         &mut self,
         alloc: Global,

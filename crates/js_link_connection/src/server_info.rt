@@ -1,4 +1,4 @@
-//! What a server says of itself in INFO.
+//! What a server tells about itself in INFO.
 
 ghost use Rattle.std.specs.Prelude.{◌≡◌, IfOk};
 ghost use Rattle.serde_json.specs.View.{view};
@@ -8,16 +8,17 @@ use js_base::{OutOfMemory, Text};
 use serde_json::Value;
 use std::alloc::Global;
 
-/// What a server says of itself. Other members of its INFO are read past.
+/// What a server tells about itself. Other members of its INFO are ignored.
 #[derive(Debug, PartialEq, Eq, Drop)]
 pub struct ServerInfo {
-    /// Its name for itself, unique among servers (`server_id`); empty where it does not say it.
+    /// The server's name for itself, unique among servers (`server_id`). Empty if it gives none.
     pub server_id: Text,
-    /// How many bytes a message has at most that it takes, headers and payload together (`max_payload`).
+    /// The greatest length in bytes of a message that it accepts, headers and payload together
+    /// (`max_payload`).
     pub max_payload: u64,
-    /// Whether it knows headers (`headers`).
+    /// Whether it supports headers (`headers`).
     pub headers: bool,
-    /// Whether it asks who the client is (`auth_required`).
+    /// Whether it asks the client to identify itself (`auth_required`).
     pub auth_required: bool,
 }
 

@@ -18,7 +18,7 @@ use std::alloc::Global;
 /// How far a connection has come.
 #[derive(Clone, Copy, Debug, PartialEq, Eq)]
 pub(crate) enum Phase {
-    /// There is none.
+    /// No connection is made.
     Lost,
     /// It was made, and the server has not sent INFO yet.
     Awaiting,
@@ -28,20 +28,20 @@ pub(crate) enum Phase {
     Up,
 }
 
-/// One thing that a link has to send, as a frame, and the request that it makes, if it makes one.
+/// One thing that a link has to send, as a frame, with the request that it makes, if any.
 #[derive(Drop)]
 pub(crate) struct Item {
     pub(crate) frame: ClientFrame,
     pub(crate) request: Option<RequestId>,
 }
 
-/// What is to be written, in the order in which it stands here, and what was written.
+/// What is to be written, in the order of these fields, and what was written.
 #[derive(Drop)]
 pub(crate) struct Writer {
-    /// The bytes that are to be sent first.
+    /// The bytes to send first.
     pub(crate) out: Buffer,
     pub(crate) phase: Phase,
-    /// CONNECT.
+    /// The CONNECT frame.
     pub(crate) connect: ClientFrame,
     /// How many PINGs of the server have no PONG yet.
     pub(crate) pongs: u64,
@@ -49,9 +49,9 @@ pub(crate) struct Writer {
     pub(crate) is_ping_due: bool,
     /// The subscriptions that were written and have not ended.
     pub(crate) subscribed: Vec<ClientFrame>,
-    /// How many of them, from the front, were written over this connection.
+    /// How many of these, from the front, were written over this connection.
     pub(crate) resubscribed: usize,
-    /// What was taken from the link and is to be written next.
+    /// What was taken from the link and is written next.
     pub(crate) taken: Option<Item>,
     /// The requests that were written and have no answer yet.
     pub(crate) requests: Vec<u64>,

@@ -1,9 +1,9 @@
 //! What an adapter calls: it takes what is to be sent, and brings what came.
-ghost use Rattle.std.specs.Prelude.{◌≡◌, ◌++◌, ◌∷◌, [], ◌&&◌, None, Some, IfOk, OnErr, IfErr, length, string_bytes};
+ghost use Rattle.std.specs.Prelude.{◌≡◌, ◌++◌, ◌∷◌, [], ◌&&◌, None, Some, IfOk, OnErr, IfErr, is_some, length, string_bytes};
 ghost use Rattle.js_base.specs.Subject.{is_valid_subject};
 ghost use Rattle.js_link.specs.Calls.{Fails};
-ghost use Rattle.js_link.specs.LinkView.{Ended, put};
 ghost use Rattle.js_link_outbox.specs.Calls.{Brings, IsWantedBy, SendsNothing, TakesNext, closed_view, watch_after};
+ghost use Rattle.js_link_outbox.specs.Numbered.{at};
 ghost use Rattle.js_link_outbox.specs.NewOutbox.{IsOpened, front_of};
 ghost use Rattle.js_link_outbox.specs.Outbox.{front, open_inboxes, open_requests, outbox_view, outgoing};
 ghost use Rattle.js_link_outbox.specs.Wire.{FailsUnless};
@@ -26,14 +26,18 @@ fn front_text(alloc: Global, inbox_prefix: &str, token: &str) -> Result<String, 
 }
 
 impl OutboxLink {
-    /// A link that is not connected yet, with no limit to a body and a request timeout of ten seconds. Its own subjects begin with the
-    /// prefix, a dot, the token and a dot; no other client of the server may have the same prefix and token. The first thing that is to be sent is the
-    /// subscription of all answers, which has the number 0.
+    /// Creates a link that is not connected yet, with no limit on a body and a request timeout of
+    /// ten seconds.
     ///
-    /// Tell it by `set_state` that it is connected before a reader is polled over it: an ordered push consumer that finds it unconnected makes its
-    /// consumer anew.
+    /// Its own subjects begin with the prefix, a dot, the token and a dot. No other client of the
+    /// server may have the same prefix and token. The first thing to send is the subscription of all
+    /// answers, which has the number 0.
     ///
-    /// `Failed` comes exactly where prefix or token is no subject.
+    /// Call `set_state` when it is connected, before you poll a reader over it: an ordered push
+    /// consumer that finds it unconnected recreates its consumer.
+    ///
+    /// Fails with `Failed` exactly if the prefix or the token is not a valid subject, and with
+    /// `OutOfMemory` if memory runs out.
     pub fn new(alloc: Global, inbox_prefix: &str, token: &str) -> Result<OutboxLink, LinkError>
         ensures opened { IfOk result (λ link. IsOpened (front_of inbox_prefix.now token.now) link) }
         ensures cause { FailsUnless (is_valid_subject inbox_prefix.now && is_valid_subject token.now) result }
@@ -62,7 +66,7 @@ impl OutboxLink {
         })
     }
 
-    /// The first thing that is to be sent, which is gone from here once it was taken.
+    /// Removes and returns the first thing to send. It is returned once.
     pub fn next_outgoing(&mut self) -> Option<Outgoing>
         ensures first { TakesNext result (outgoing self.old) (outgoing self.new) }
         ensures front { front self.new ≡ front self.old }
@@ -71,32 +75,39 @@ impl OutboxLink {
         self.outgoing.pop_front()
     }
 
-    /// How many things are to be sent.
+    /// Returns how many things are to be sent.
     pub fn outgoing_len(&self) -> usize
         ensures { result ≡ length (outgoing self.now) }
     {
         self.outgoing.len()
     }
 
-    /// How many inboxes are open, each of which it keeps with what lies in it, and no other.
+    /// Returns how many inboxes are open. It keeps these with their messages, and no others.
     pub fn inbox_count(&self) -> usize
         ensures { result ≡ length (open_inboxes self.now) }
     {
         self.inboxes.map.len()
     }
 
-    /// How many requests are open, each of which it keeps with its answer, and no other.
+    /// Returns how many requests are open. It keeps these with their answers, and no others.
     pub fn request_count(&self) -> usize
         ensures { result ≡ length (open_requests self.now) }
     {
         self.requests.map.len()
     }
 
-    /// Brings a message that came for a subscription, and answers who wants it: the inbox of that number, or, under the
-    /// subscription of all answers, the open request whose reply subject is the message's subject. Where nobody wants it, the message is let go
-    /// and nothing has changed.
+    /// Returns whether a request is open: its answer may still come, or lies here and is not taken.
+    pub fn has_request(&self, request: RequestId) -> bool
+        ensures { result ≡ is_some (at self.now.requests request.0) }
+    {
+        self.requests.map.contains_key(&request.0)
+    }
+
+    /// Delivers a message that came for a subscription, and returns who gets it: the inbox of that
+    /// number, or, under the subscription of all answers, the open request whose reply subject is
+    /// the message's subject. If nobody wants it, the message is dropped and nothing changes.
     ///
-    /// A refusal is want of memory. It hands the message back, and nothing has changed.
+    /// Fails only if memory runs out. The error hands the message back, and nothing has changed.
     pub fn deliver(
         &mut self,
         subscription: u64,
@@ -135,7 +146,7 @@ impl OutboxLink {
         }
     }
 
-    /// Sets what `state` answers. A closed link stays closed.
+    /// Sets what `state` returns. A closed link stays closed.
     pub fn set_state(&mut self, state: State)
         ensures view { outbox_view self.new ≡ record (outbox_view self.old) { watch = watch_after (outbox_view self.old).watch state } }
         ensures outgoing { SendsNothing self.old self.new }
@@ -145,8 +156,9 @@ impl OutboxLink {
         }
     }
 
-    /// Sets what `max_payload` and `request_timeout` answer: the longest body that the server takes, in bytes, with its headers, and
-    /// how long a request waits where nothing else is said, or none where it waits for ever.
+    /// Sets what `max_payload` and `request_timeout` return: the greatest length of a body with its
+    /// headers that the server accepts, in bytes, and how long a request waits by default, in
+    /// nanoseconds, or `None` if it waits for ever.
     pub fn set_limits(&mut self, max_payload: u64, request_timeout: Option<Nanos>)
         ensures view { outbox_view self.new ≡ record (outbox_view self.old) { max_payload = max_payload; request_timeout = request_timeout } }
         ensures outgoing { SendsNothing self.old self.new }
@@ -155,16 +167,8 @@ impl OutboxLink {
         self.request_timeout = request_timeout;
     }
 
-    /// Ends a request whose answer nobody awaits any more, as after its timeout. It leaves nothing behind, and an answer that still comes is
-    /// wanted by nobody.
-    pub fn forget(&mut self, request: RequestId)
-        ensures view { outbox_view self.new ≡ record (outbox_view self.old) { status = put (outbox_view self.old).status request.0 Ended; reply = put (outbox_view self.old).reply request.0 None } }
-        ensures outgoing { SendsNothing self.old self.new }
-    {
-        self.requests.remove(request.0);
-    }
-
-    /// Closes the link: its inboxes are closed, its requests are gone, nothing is to be sent any more, and each later send fails.
+    /// Closes the link: its inboxes are closed, its requests are gone, nothing more is to be sent,
+    /// and each later send fails.
     pub fn close(&mut self)
         ensures view { outbox_view self.new ≡ closed_view (outbox_view self.old) }
         ensures outgoing { outgoing self.new ≡ [] }

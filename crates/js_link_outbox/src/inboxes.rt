@@ -1,4 +1,4 @@
-//! What lies in open inboxes.
+//! The messages in open inboxes.
 ghost use Rattle.std.specs.Prelude.{◌≡◌, ◌++◌, ◌∷◌, [], None, Some, is_some, OnErr, IfErr, IfOk};
 ghost use Rattle.std.specs.BTreeMap.{btree_map_len};
 ghost use Rattle.js_link_outbox.specs.Inboxes.{PutsInto, Keeps, TakesFrom};

@@ -1,8 +1,8 @@
-//! The link over which states are polled.
+//! How [`OutboxLink`] is a [`Link`] over which states are polled.
 ghost use Rattle.std.specs.Prelude.{◌≡◌, ◌&&◌, None, Some, IfOk};
 ghost use Rattle.std.specs.Bool.{MatchBool};
 ghost use Rattle.std.specs.Option.{option_copied};
-ghost use Rattle.js_link.specs.Calls.{AsksOf, AnswersOf, Closes, NamesOf, OpensOf, PublishesOf, SubscribesOf, TakesOf};
+ghost use Rattle.js_link.specs.Calls.{AsksOf, AnswersOf, Closes, EndsRequest, NamesOf, OpensOf, PublishesOf, SubscribesOf, TakesOf};
 ghost use Rattle.js_link.specs.LinkView.{Waits};
 ghost use Rattle.js_link_outbox.specs.Calls.{Adds, AddsUnlessRefused, SendsNothing, can_request, can_open, is_live};
 ghost use Rattle.js_link_outbox.specs.Outbox.{answer_subject, closed_is_empty, counts_buffer, front, outbox_view};
@@ -148,6 +148,13 @@ impl Link for OutboxLink {
         ensures sends { SendsNothing self.old self.new }
     {
         take_answer(&mut self.requests, request.0)
+    }
+
+    fn forget(&mut self, request: RequestId)
+        ensures call { EndsRequest request.0 (outbox_view self.old) (outbox_view self.new) }
+        ensures sends { SendsNothing self.old self.new }
+    {
+        self.requests.remove(request.0);
     }
 
     fn state(&mut self) -> Watch

@@ -7,7 +7,8 @@ use js_base::OutOfMemory;
 use std::alloc::Global;
 use std::collections::BTreeMap;
 
-/// Values by their numbers, and the number that comes next. A number is given once, and one whose value was removed takes no memory.
+/// Values by their numbers, and the next number. A number is given once. A removed value takes no
+/// memory.
 #[derive(Drop)]
 pub(crate) struct Numbered<T> {
     pub(crate) map: BTreeMap<u64, T>,

@@ -12,17 +12,20 @@ use std::collections::VecDeque;
 /// The subscription under which all answers come.
 pub(crate) const ANSWERS: u64 = 0;
 
-/// The end of a connection that does no input or output itself: what is to be sent is taken from it, and what came is brought to it.
+/// The end of a connection that does no input or output itself: an adapter takes from it what to
+/// send, and delivers to it what came.
 ///
-/// It keeps what lies in its open inboxes, one entry for each request that is open, and what is to be sent. An inbox that was
-/// closed and a request that has ended leave nothing behind. A request ends when its answer is taken, when [`OutboxLink::forget`]
-/// names it, or when the link is closed.
+/// It keeps the messages in its open inboxes, one entry for each open request, and what is still to
+/// be sent. A closed inbox and an ended request leave nothing behind. A request ends when its answer
+/// is taken, when `forget` is called for it, as the states of this client do after a timeout, or
+/// when you close the link.
 ///
-/// All answers come under one subscription, for each subject of one token behind the link's own front: a request is a message whose reply subject
-/// is the front and the request's number.
+/// All answers come under one subscription, which covers each subject of one more token behind the
+/// link's own front. A request is a message whose reply subject is the front and the request's
+/// number.
 ///
-/// It cannot know beforehand whether a send will fail, so it tells nothing of whether it is up. Of what it sent it tells what was
-/// not taken yet.
+/// It cannot know beforehand whether a send will fail, so it does not tell whether it is up. Of what
+/// it sent it tells only what was not taken yet.
 #[derive(Drop)]
 pub struct OutboxLink {
     /// What its own subjects begin with: the prefix of inboxes, a dot, the token, and a dot.
@@ -35,6 +38,7 @@ pub struct OutboxLink {
     pub(crate) watch: Watch,
     pub(crate) max_payload: u64,
     pub(crate) request_timeout: Option<Nanos>,
-    /// Each open inbox keeps a place for the item that ends its subscription, which therefore needs no memory.
+    /// Each open inbox reserves a place for the item that ends its subscription, so closing it needs
+    /// no memory.
     ghost room: { deque_len outgoing + btree_map_len inboxes.map ≤ deque_capacity outgoing },
 }

@@ -1,4 +1,4 @@
-//! What has become of open requests.
+//! The state of open requests.
 ghost use Rattle.std.specs.BTreeMap.{btree_map_len};
 ghost use Rattle.std.specs.Prelude.{◌≡◌};
 ghost use Rattle.js_link_outbox.specs.Requests.{GivesAnswer, TakesAnswer};

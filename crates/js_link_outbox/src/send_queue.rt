@@ -1,4 +1,5 @@
-//! How a link sends: what may be sent goes behind what is to be sent, and what may not is refused.
+//! How a link sends: what may be sent is appended to what is to be sent, and anything else is
+//! refused.
 ghost use Rattle.std.specs.Prelude.{◌≡◌, ◌+◌, ◌<◌, ◌≤◌, ◌^◌, ◌-◌, None, Some, IfOk, OnErr, OnOk};
 ghost use Rattle.std.specs.BTreeMap.{btree_map_len};
 ghost use Rattle.std.specs.VecDeque.{deque_capacity, deque_len};
