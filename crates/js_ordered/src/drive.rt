@@ -1,7 +1,9 @@
-//! A replay passes the rows of its events one by one: what a row wishes is given to it by its event, and what it sends is put out.
+//! A replay passes the rows of its events one by one. The event gives a row what it wishes, and
+//! what the row sends is put out.
 //!
-//! What a row needs takes memory before the row changes anything. So after want of memory the rows that are left, with what was put out so far, come to
-//! what the whole event comes to. They are counted, and each turn of the loop over them passes one: so it ends.
+//! A row takes the memory that it needs before it changes anything. So if memory runs out, the rows
+//! that are left, with what was put out so far, still lead to what the whole event leads to. These
+//! rows are counted, and each turn of the loop over them passes one, so the loop ends.
 ghost use Rattle.std.specs.Prelude.{◌≡◌, ◌+◌, ◌<◌, ◌≤◌, ◌++◌, ◌∷◌, [], OnErr, OnOk, false, length, true, vec_capacity, vec_len};
 ghost use Rattle.js_ordered.specs.Driven.{IsLeft, IsTry, LeadsOn, PassesOn, PassesTo, first_held, first_rows, left_rows, left_to_do, matter_now};
 ghost use Rattle.js_ordered_table.specs.Tasks.{heard_rows, hearings_of, next_rows, rows_of};

@@ -1,4 +1,4 @@
-//! A consumer beside what happens to it.
+//! A consumer, with what happens to it.
 ghost use Rattle.std.specs.Prelude.{◌≡◌};
 ghost use Rattle.std.specs.Option.{option_copied};
 ghost use Rattle.js_ordered.specs.Driven.{matter_now};
@@ -11,7 +11,8 @@ ghost use Rattle.js_pull.specs.Rows.{brought};
 use js_base::Message;
 use js_ordered_table::{Change, ConsumerContext, EventKind, RequestOutcome, change_of};
 
-/// What a consumer is made with, at a moment, and the event of that moment. The opening has none: nothing has come yet.
+/// What a consumer is created with, the current moment, and the event of that moment. The opening
+/// has no event, since nothing has come yet.
 #[derive(Clone, Copy)]
 pub(crate) struct EventContext<'a> {
     pub(crate) consumer: ConsumerContext<'a>,

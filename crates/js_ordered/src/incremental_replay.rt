@@ -1,4 +1,4 @@
-//! A replay that is told its events one by one.
+//! A replay that takes its events one by one.
 ghost use Rattle.std.specs.Prelude.{◌≡◌, ◌+◌, ◌∷◌, ◌++◌, [], ℕ, List, Some, None, IfOk, OnOk, OnErr, Err, if◌then◌else◌};
 ghost use Rattle.js_ordered.specs.IncrementalReplay.{HasCome, IsEnd, IsWithin, replay_given, rest_of_replay};
 ghost use Rattle.js_ordered.specs.Driven.{IsLeft};
@@ -21,10 +21,11 @@ use js_ordered_table::{
 use std::alloc::Global;
 use std::mem;
 
-/// What the events of a replay have led to so far.
+/// A replay that takes its events one by one.
 ///
-/// It goes as [`replay_ordered`](crate::replay_ordered) does, but is told one event after another and keeps none of them, so that what an event
-/// puts out can be written, and both let go, before the next one. Where the replay is refused, its end says so.
+/// It works as [`replay_ordered`](crate::replay_ordered) does, but keeps none of its events. So you
+/// can write what an event puts out, and drop both, before the next event. If the input is refused,
+/// [`end`](IncrementalReplay::end) says so.
 #[derive(Drop)]
 pub struct IncrementalReplay<'a> {
     settings: &'a Settings,
@@ -66,7 +67,8 @@ fn empty(alloc: Global, outputs: &mut Items<Output>)
 }
 
 impl<'a> IncrementalReplay<'a> {
-    /// The opening, with no events yet. The arguments are those of `replay_ordered`.
+    /// Opens a replay that has had no events yet. The arguments are those of `replay_ordered`.
+    /// Fails with `OutOfMemory` if memory runs out.
     pub fn open(
         alloc: Global,
         settings: &'a Settings,
@@ -176,8 +178,10 @@ impl<'a> IncrementalReplay<'a> {
     ///
     /// # Errors
     ///
-    /// Want of memory, also where the number of events would go past a `u64`. The replay then stands within that event, and nothing of it is lost: it
-    /// goes on there when it is given the same event again. Another event in its place would be taken for the rest of it.
+    /// Fails with `OutOfMemory` if memory runs out, or if the number of events would exceed a
+    /// `u64`. The replay then stands within that event, and loses nothing of it: pass the same
+    /// event again to continue. Do not pass another event in its place, since it would be taken for
+    /// the rest of that event.
     pub fn advance(&mut self, alloc: Global, event: &Event) -> Result<(), OutOfMemory>
         ensures passed { (g : ReplayInput) → (start : ℕ) → (es : List events.Event) → HasCome g start es self.old
             → OnOk result (HasCome g start (es ++ event.now ∷ []) self.new) }
@@ -201,18 +205,25 @@ impl<'a> IncrementalReplay<'a> {
         Ok(())
     }
 
-    /// What the last event has put out, or the opening before the first.
+    /// Returns what the last event has put out or, before the first event, what the opening has.
     pub fn outputs(&self) -> &[Output]
         ensures { result.now ≡ self.now.outputs }
     {
         self.outputs.as_slice()
     }
 
-    /// The number of events so far.
+    /// Returns the number of events so far.
     pub fn count(&self) -> u64
         ensures { result ≡ self.now.count }
     {
         self.count
+    }
+
+    /// Returns the consumer as the events so far have left it, beside the link of the replay.
+    pub fn state(&self) -> &ReplayState
+        ensures { result.now ≡ self.now.state }
+    {
+        &self.state
     }
 
     // What is wrong with what the replay was opened with.
@@ -228,11 +239,12 @@ impl<'a> IncrementalReplay<'a> {
         refuse_input(&context, &[])
     }
 
-    /// Whether the consumer has ended, where no more events come.
+    /// Returns whether the consumer has ended, if no more events come.
     ///
     /// # Errors
     ///
-    /// The refusal that applies, by the order of `replay_ordered`. Within an event that was refused for want of memory it is that.
+    /// Fails with the refusal that applies, in the order of `replay_ordered`. Fails with
+    /// `OutOfMemory` within an event for which memory ran out.
     pub fn end(&self) -> Result<bool, ReplayError>
         ensures ended { (g : ReplayInput) → (start : ℕ) → (es : List events.Event) → HasCome g start es self.now → IsEnd g start es result }
         ensures within { IsLeft self.now.todo.tasks.items → result ≡ Err ReplayError.OutOfMemory }

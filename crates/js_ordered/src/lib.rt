@@ -1,9 +1,11 @@
-//! The replay of an ordered consumer: what it would do with a list of events, or with one event after another.
+//! The replay of an ordered consumer: what it would do with a list of events, or with one event
+//! after another.
 //!
-//! [`replay_ordered`] answers the run of js_ordered_table's table over the events, or the refusal that applies, or that memory ran
-//! out, and never refuses valid input. [`IncrementalReplay`] is the same replay, told its events one by one: it keeps none of them,
-//! and at its end answers the refusal that applies, or whether the run has ended. After memory ran out it stands within its event
-//! and goes on there.
+//! [`replay_ordered`] returns the run of js_ordered_table's table over the events, or fails with
+//! the refusal that applies or with `OutOfMemory`. It never refuses valid input.
+//! [`IncrementalReplay`] is the same replay, but it takes its events one by one and keeps none of
+//! them. Its end returns whether the run has ended, or fails with the refusal that applies. If
+//! memory runs out, it stops within its event and continues there.
 #![tactic(auto)]
 
 mod drive;

@@ -345,31 +345,35 @@ fn replay(
     run(alloc, context, events)
 }
 
-/// What an ordered consumer does at its opening and at each event, and whether it has ended after the last one.
+/// Returns what an ordered consumer does at its opening and at each event, and whether it has ended
+/// after the last one.
 ///
-/// `first` is what the server told of the consumer that was made before the opening, at the moment `start`. That
-/// consumer's inbox has the number 0, sends go through, and the connection is up.
+/// `first` is the info that the server sent of the consumer created before the opening, at the
+/// moment `start`. That consumer's inbox has the number 0, sends go through, and the connection is
+/// up.
 ///
-/// The run has one step for each event, in their order, and no step begins more than one recreation. An event after the
-/// end of the consumer is passed over and puts out nothing; its moment still has to be in order.
+/// The run has one step for each event, in their order, and no step begins more than one
+/// recreation. An event after the end of the consumer is skipped and puts out nothing, but its
+/// moment still has to be in order.
 ///
-/// On one inbox the consumer numbers of the yields are 1, 2, 3 and so on. Where the server is honest, the yields leave no gap: they are messages of
-/// the stream that the filter selects, in rising order, and every such message between two of them, or from a configured start up to the first, was
-/// removed.
+/// On one inbox the consumer sequences of the yields are 1, 2, 3 and so on. If the server is
+/// honest, the yields leave no gap: they are messages of the stream that the filter selects, in
+/// rising order. Every such message between two of them, or from a configured start up to the
+/// first, was removed.
 ///
 /// # Errors
 ///
-/// The first of these that applies:
+/// Fails with the first of these that applies:
 ///
-/// - `NoDeliverSubject`: push, and `first` has no deliver subject.
-/// - `BadSettings`: a field is no valid name or subject; the first one, in the order of `Field`. An empty filter is
-///   none, and the deliver subject is looked at for push alone.
-/// - `BadEvent`: the moment of the event at this place is below the one before it, or below `start` for the first. All
-///   events are looked at, also those after the end.
-/// - `SequenceEnd`: at the event at this place a recreation has no sequence to start from, since the last of all
-///   sequences was yielded.
+/// - `NoDeliverSubject`: the setup is push, and `first` has no deliver subject.
+/// - `BadSettings`: a field is not a valid name or subject; the first such field, in the order of
+///   `Field`. An empty filter is no filter, and the deliver subject is checked for push only.
+/// - `BadEvent`: the moment of the event at this place is before that of the previous event, or
+///   before `start` for the first. All events are checked, also those after the end.
+/// - `SequenceEnd`: at the event at this place a recreation has no sequence to start from, because
+///   the last of all sequences was yielded.
 ///
-/// `OutOfMemory` may come in place of a run or of any of them.
+/// Instead of a run or of any of these, it may fail with `OutOfMemory`.
 #[tactic(auto, using(js_ordered_table::proofs::Promises::folded_answers, js_ordered_table::proofs::Promises::folded_valid))]
 pub fn replay_ordered(
     alloc: Global,

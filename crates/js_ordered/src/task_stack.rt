@@ -1,4 +1,4 @@
-//! The rows that are left of an event.
+//! The rows of an event that are still to be passed.
 ghost use Rattle.std.specs.Prelude.{◌≡◌, ◌==◌, ◌+◌, ◌≤◌, ◌++◌, ◌∷◌, [], OnOk, length, vec_capacity, vec_len};
 ghost use Rattle.js_ordered.specs.Driven.{IsLeft, left_rows};
 ghost use Rattle.js_ordered_table.specs.Tasks.{next_rows};
@@ -8,7 +8,7 @@ use js_base::OutOfMemory;
 use js_ordered_table::transitions::{NextTasks, Task};
 use std::alloc::Global;
 
-/// The rows that are left of an event, the first of which lies last.
+/// The rows of an event that are still to be passed. The first of them is stored last.
 #[derive(Drop)]
 pub(crate) struct TaskStack {
     tasks: Vec<Task>,

@@ -63,9 +63,6 @@ idle_row g now one c done v (asks, does) sees to =
     (ap (λ (w : Wish). row_at g (row_input now Unasked) (matter_of w Unasked) one c.phase c) asks ∙ does)
     (record { consumer = refl; outputs = refl; next = refl }) refl (if_look one (true ≡ true) refl) to
 
-never_false : true ≡ false → ⊥
-never_false e = cc
-
 false_true : false ≡ true → ⊥
 false_true e = cc
 

@@ -136,9 +136,6 @@ leaves_turn : (setup : OrderedSetup) (row : Row) (passed : Passed) → has_one s
 leaves_turn setup row passed more turning =
     record { plain = turning.plain; turn = turning.turn; one = λ e. absurd (false_true (sym more ∙ e)); deaf = if_deaf row (AreDeaf passed.next) turning.deaf }
 
-turns_one : (setup : OrderedSetup) (passed : Passed) → Calm setup passed → Turning setup passed
-turns_one setup passed calm = record { plain = calm.plain; turn = one_turn setup passed.next calm.one; deaf = calm.deaf }
-
 -- ---- what a reader tells, and what push hears
 
 message_calm : (setup : OrderedSetup) (place : Option Place) (message : Message) (c : Consumer) → is_plain setup c.phase ≡ true → Calm setup (message_row place message c)

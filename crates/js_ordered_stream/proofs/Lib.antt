@@ -5,6 +5,7 @@ mod ReaderRows
 mod PushRows
 mod NextRow
 mod Strides
+mod Life
 mod Opening
 mod Elsewhere
 mod LeftRows
@@ -12,3 +13,10 @@ mod FollowingRows
 mod SteadyStates
 mod TurnsLeft
 mod Measure
+mod WorkedLink
+mod WorkedPolls
+mod WorkedLife
+mod WorkedPull
+mod WorkedAgain
+mod WorkedPush
+mod FixedMet

@@ -25,9 +25,9 @@ use Rattle.js_ordered_table.specs.declared.setup.Settings.{Settings}
 use Rattle.js_ordered_table.specs.Gapless.{Server}
 use Rattle.js_ordered_table.specs.Invariant.{IsKeptOn}
 use Rattle.js_ordered_table.specs.Texts.{configured_start}
-use Rattle.js_ordered_table.specs.Lifetime.{IsGaplessFrom}
+use Rattle.js_ordered_stream.specs.Life.{IsGaplessLife, serving}
 use Rattle.js_ordered_table.specs.Walk.{Position}
-use Rattle.js_ordered_table.proofs.Lifetime.{polls_gapless}
+use Rattle.js_ordered_stream.proofs.Life.{life_gapless}
 
 abbrev position_at : Consumer → List Row → Position
 position_at c todo = record { consumer = c; todo = todo }
@@ -67,6 +67,12 @@ opens_pushed g given c left o settings config first old new (inbox, opens, is) s
 
 -- ---- nothing was yielded yet
 
+abbrev pull_given : Settings → pull_config.OrderedConfig → Info → ReplayInput
+pull_given settings config first = record { settings = settings; setup = Pull config; first = first }
+
+abbrev push_given : Settings → push_config.OrderedConfig → Info → ReplayInput
+push_given settings config first = record { settings = settings; setup = Push config; first = first }
+
 -- a consumer that was just opened is kept
 fresh_kept : (setup : OrderedSetup) (s : Server) (inbox : ℕ) → IfSome (configured_start setup) (λ sequence. s.starts inbox ≡ sequence) → IsKeptOn setup s 0 0 0 inbox
 fresh_kept setup s inbox starts = record {
@@ -75,30 +81,29 @@ fresh_kept setup s inbox starts = record {
   later = λ fresh some. absurd (omega arith);
 }
 
+-- so whatever is polled from an opening on is gapless
+pub opened_gapless : (settings : Settings) (config : pull_config.OrderedConfig) (first : Info) (inbox : ℕ) (subject : List ℕ)
+    → IsGaplessLife (pull_given settings config first) Meets (opened_at (pull_given settings config first) inbox subject)
+opened_gapless settings config first inbox subject s whole starts answers polls =
+    let given : ReplayInput = pull_given settings config first in
+    life_gapless given Meets s whole answers (opened_at given inbox subject)
+    (record { kept = record { consumer = ((tt, fresh_kept (Pull config) (serving s 0) inbox starts), refl); todo = (tt, (tt, tt)) }; plain = refl; turn = refl }) refl polls
+
+pub listens_gapless : (settings : Settings) (config : push_config.OrderedConfig) (first : Info) (inbox : ℕ)
+    → IsGaplessLife (push_given settings config first) Meets (position_at (listens_first (push_given settings config first) inbox) (Arm ∷ []))
+listens_gapless settings config first inbox s whole starts answers polls =
+    let given : ReplayInput = push_given settings config first in
+    life_gapless given Meets s whole answers (position_at (listens_first given inbox) (Arm ∷ []))
+    (record { kept = record { consumer = ((tt, fresh_kept (Push config) (serving s 0) inbox starts), refl); todo = (tt, tt) }; plain = refl; turn = refl }) refl polls
+
 pub pull_gapless : (o : pulls.Ordered) (settings : Settings) (config : pull_config.OrderedConfig) (first : Info) (old new : LinkView)
     → OpensOrdered (Ok o) settings config first old new → IsGaplessPull o
 pull_gapless o settings config first old new (inbox, subject, opens, given_is, at) =
-    subst (λ (p : Position). IsGaplessFrom (input_of_pull o) Meets p) (sym at)
-    (subst (λ (g : ReplayInput). IsGaplessFrom g Meets (opened_at g inbox subject)) (sym given_is) from_there)
-  where
-    given : ReplayInput
-    given = record { settings = with_retries settings; setup = Pull config; first = first }
-
-    from_there : IsGaplessFrom given Meets (opened_at given inbox subject)
-    from_there = λ s whole starts answers polls.
-        polls_gapless given Meets s whole answers (opened_at given inbox subject)
-        (record { consumer = ((tt, fresh_kept (Pull config) s inbox starts), refl); todo = (tt, (tt, tt)) }) refl polls
+    subst (λ (p : Position). IsGaplessLife (input_of_pull o) Meets p) (sym at)
+    (subst (λ (g : ReplayInput). IsGaplessLife g Meets (opened_at g inbox subject)) (sym given_is) (opened_gapless (with_retries settings) config first inbox subject))
 
 pub push_gapless : (o : pushes.Ordered) (settings : Settings) (config : push_config.OrderedConfig) (first : Info) (old new : LinkView)
     → OpensPushed (Ok o) settings config first old new → IsGaplessPush o
 push_gapless o settings config first old new (inbox, opens, given_is, at) =
-    subst (λ (p : Position). IsGaplessFrom (input_of_push o) Meets p) (sym at)
-    (subst (λ (g : ReplayInput). IsGaplessFrom g Meets (position_at (listens_first g inbox) (Arm ∷ []))) (sym given_is) from_there)
-  where
-    given : ReplayInput
-    given = record { settings = with_retries settings; setup = Push config; first = first }
-
-    from_there : IsGaplessFrom given Meets (position_at (listens_first given inbox) (Arm ∷ []))
-    from_there = λ s whole starts answers polls.
-        polls_gapless given Meets s whole answers (position_at (listens_first given inbox) (Arm ∷ []))
-        (record { consumer = ((tt, fresh_kept (Push config) s inbox starts), refl); todo = (tt, tt) }) refl polls
+    subst (λ (p : Position). IsGaplessLife (input_of_push o) Meets p) (sym at)
+    (subst (λ (g : ReplayInput). IsGaplessLife g Meets (position_at (listens_first g inbox) (Arm ∷ []))) (sym given_is) (listens_gapless (with_retries settings) config first inbox))

@@ -1,6 +1,6 @@
 -- A row that was passed over a link is the row of the table at what it met.
 use Rattle.std.proofs.Common.{◌≡◌, ℕ, Bool, true, false, List, [], ◌∷◌, ◌++◌, drop, map, Option, Some, None, refl, sym, ap, ◌∙◌, subst}
-use Rattle.std.specs.Prelude.{◌==◌, ◌&&◌, codes, is_some, option_map, Result, Ok, Err, IfOk, if◌then◌else◌}
+use Rattle.std.specs.Prelude.{◌&&◌, codes, is_some, option_map, Result, Ok, Err, IfOk, if◌then◌else◌}
 use Rattle.js_base.specs.declared.message.Message.{Message}
 use Rattle.js_json.specs.declared.consumer.info.Info.{Info}
 use Rattle.js_json.specs.declared.pull.OrderedConfig as pull_config
@@ -20,7 +20,6 @@ use Rattle.js_ordered_table.specs.declared.transitions.task.RowOutput.{RowOutput
 use Rattle.js_ordered_table.specs.declared.transitions.task.Task.{Task}
 use Rattle.js_ordered_table.specs.declared.transitions.task.Task.TheVariants as task
 use Rattle.js_ordered_table.specs.Tasks.{IsAnswered, Listens, StepsTo, answered_rows, at_moment, create_outputs, held_rows, next_rows, opening_to, requested, requesting, rows_of, subscribed, told_outputs}
-use Rattle.js_ordered_stream.specs.declared.remaining_rows.Reply.{Reply}
 use Rattle.js_ordered_stream.specs.declared.remaining_rows.Seen.{Seen}
 use Rattle.js_ordered_stream.specs.declared.remaining_rows.Seen.TheVariants as sight
 use Rattle.js_ordered_stream.specs.declared.rows.RowItem.{RowItem}
@@ -396,19 +395,3 @@ pub told_boxed : {E : Type 0} (reply read : Option Message) (found told : Result
     → IfOk told (λ info. found ≡ Ok info) → IfOk told (λ info. info ≡ info_of_reply reply)
 told_boxed reply read found (Err e) is tells same = tt
 told_boxed reply read found (Ok info) is tells same = subst (λ r. IfOk r (λ x. x ≡ info_of_reply read)) same tells ∙ ap info_of_reply is
-
--- what a reply tells, to the request that it answers
-pub reply_told : {E : Type 0} (request : ℕ) (seen : Seen) (reply : Reply) (told : Result (Option Info) E) → seen ≡ sight.Reply reply → is_some (reply_to request (answer_in seen)) ≡ true
-    → IfOk told (λ info. info ≡ info_of_reply reply.message) → IfOk told (λ info. option_map info_of_reply (reply_to request (answer_in seen)) ≡ Some info)
-reply_told request seen reply (Err e) is met tells = tt
-reply_told request seen reply (Ok info) is met tells =
-    ap (λ (s : Seen). option_map info_of_reply (reply_to request (answer_in s))) is
-    ∙ by_test (request == reply.request) (sym (ap (λ (s : Seen). is_some (reply_to request (answer_in s))) is) ∙ met)
-    ∙ ap (λ (i : Option Info). Some i) (sym tells)
-  where
-    unmet : false ≡ true → ⊥
-    unmet e = cc
-
-    by_test : (b : Bool) → is_some (if b then Some reply.message else None) ≡ true → option_map info_of_reply (if b then Some reply.message else None) ≡ Some (info_of_reply reply.message)
-    by_test true e = refl
-    by_test false e = absurd (unmet e)

@@ -3,3 +3,8 @@ pub mod Polled
 pub mod Ordered
 pub mod Opening
 pub mod Inbox
+pub mod Life
+pub mod WorkedLink
+pub mod FixedRows
+pub mod WorkedLife
+pub mod Health

@@ -11,6 +11,7 @@ use Rattle.js_ordered_stream.specs.declared.pull.Ordered as pulls
 use Rattle.js_ordered_stream.specs.declared.push.Ordered as pushes
 use Rattle.js_ordered_stream.specs.declared.push.OpenError.{OpenError}
 use Rattle.js_ordered_stream.specs.declared.push.OpenError.TheVariants as refusal
+use Rattle.js_ordered_stream.specs.Life.{IsGaplessLife}
 use Rattle.js_ordered_stream.specs.Ordered.{first_at, given_to, position_of, with_retries}
 use Rattle.js_pull.specs.Reader.{new_reader, opening}
 use Rattle.js_ordered_table.specs.declared.consumer.Consumer.{Consumer}
@@ -21,7 +22,6 @@ use Rattle.js_ordered_table.specs.declared.setup.OrderedSetup.TheVariants.{Pull,
 use Rattle.js_ordered_table.specs.declared.setup.Settings.{Settings}
 use Rattle.js_ordered_table.specs.Arrivals.{armed}
 use Rattle.js_ordered_table.specs.Texts.{configured_start, source_of}
-use Rattle.js_ordered_table.specs.Lifetime.{IsGaplessFrom}
 use Rattle.js_ordered_table.specs.Walk.{Position}
 
 -- ---- pull
@@ -57,7 +57,7 @@ OpensOrdered (Err e) settings config first old new = RefusedSend e old new
 
 -- however it is polled from here on, what it yields is gapless where the server is honest
 abbrev pub IsGaplessPull : pulls.Ordered → Type 0
-IsGaplessPull o = IsGaplessFrom (input_of_pull o) Meets (position_of_pull o)
+IsGaplessPull o = IsGaplessLife (input_of_pull o) Meets (position_of_pull o)
 
 -- ---- push
 
@@ -108,4 +108,4 @@ OpensPushed (Err e) settings config first old new = RefusesOpen e first old new
 
 -- however it is polled from here on, what it yields is gapless where the server is honest
 abbrev pub IsGaplessPush : pushes.Ordered → Type 0
-IsGaplessPush o = IsGaplessFrom (input_of_push o) Meets (position_of_push o)
+IsGaplessPush o = IsGaplessLife (input_of_push o) Meets (position_of_push o)

@@ -1,4 +1,4 @@
-//! What the answer to a create tells, as a recreation reads it.
+//! What the answer to a create says, as a recreation reads it.
 ghost use Rattle.std.specs.Prelude.{◌≡◌, IfOk, Ok, Some, is_some, option_map, true};
 ghost use Rattle.js_ordered_stream.specs.Rows.{answer_in};
 ghost use Rattle.js_pull.specs.Reader.{info_of_reply as info_in, reply_to};

@@ -1,4 +1,4 @@
-//! What an ordered stream tells of in place of a message.
+//! The errors that an ordered stream returns in place of a message.
 ghost use Rattle.std.specs.Prelude.{◌≡◌, None, Some};
 ghost use Rattle.js_base.specs.Error.{kind_of, source_of};
 ghost use Rattle.js_ordered_stream.specs.Ordered.{error_kind, kind_text, source_by};
@@ -8,28 +8,31 @@ use js_ordered_table::ItemKind;
 use js_pull::description_of;
 use std::{error, fmt};
 
-/// What an ordered stream tells of in place of a message.
+/// What an ordered stream reports in place of a message.
 #[derive(Clone, Copy, Debug, PartialEq, Eq)]
 pub enum OrderedErrorKind {
-    /// Push: nothing was heard of the server for ten seconds. The consumer is made anew.
+    /// Push: nothing came from the server for ten seconds. The stream recreates its consumer.
     MissingHeartbeat,
-    /// A pull request was not sent, or the consumer's info was asked for six times in vain.
+    /// A pull request was not sent, or the consumer's info was requested six times in vain.
     Pull,
-    /// An arrival that can't be read; or, for push, the end of the connection's watcher, after which the stream has ended.
+    /// An arrival cannot be read. For push also: the connection's watcher has ended, and so has the
+    /// stream.
     Other,
-    /// The consumer could not be made anew, as often as it was tried. The next poll tries again.
+    /// All attempts to recreate the consumer failed. The next poll tries again.
     Recreate,
-    /// The server refuses requests of this size, twice without a message between. The stream has ended. Its source is the server's description, where it sent one.
+    /// The server refused requests of this size twice, with no message in between. The stream has
+    /// ended. The source is the server's description, if it sent one.
     RequestLimitExceeded,
     /// The consumer is a push consumer. The stream has ended.
     PushBasedConsumer,
-    /// A recreation is due after the last of all sequences. The stream has ended.
+    /// The consumer would have to be recreated after the last possible sequence. The stream has
+    /// ended.
     SequenceEnd,
-    /// Never given: a consumer that is deleted is made anew.
+    /// Never returned: the stream recreates a consumer that was deleted.
     ConsumerDeleted,
-    /// Never given: where nobody answers a pull request, the consumer is made anew.
+    /// Never returned: if nobody answers a pull request, the stream recreates its consumer.
     NoResponders,
-    /// Never given: a stream of a consumer that delivers to no subject is not opened.
+    /// Never returned: a stream is not opened for a consumer that delivers to no subject.
     PullBasedConsumer,
 }
 

@@ -7,7 +7,8 @@ ghost use Rattle.js_ordered_stream.specs.Rows.{is_held, later_row, waiting_due a
 use js_ordered_table::transitions::Task;
 use js_pull::Due;
 
-/// A row that waits while the one before it is passed, with what follows that at once. It reads nothing that was met.
+/// A row that waits until the row before it and what follows that one at once are passed. It reads
+/// nothing that was met.
 #[derive(Clone, Copy)]
 pub(crate) enum LaterRow {
     /// A pull reader arms its heartbeat.

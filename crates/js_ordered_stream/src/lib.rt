@@ -1,14 +1,17 @@
-//! The polled stream of an ordered consumer, by pull or by push: it reads over any link, row after row, and may stop between any
-//! two.
+//! Polled streams of ordered consumers, by pull or by push. They read over any link, step by step,
+//! and may stop after any step.
 //!
-//! The rows are those of js_ordered_table. A row is passed in three steps: what it asks for is made, which is all that takes
-//! memory; the link is asked; and the row is passed with what was met. So a poll that finds no memory leaves the stream to be
-//! polled again. However it is polled, what it hands out has no gap where the server is honest. `inbox` tells which inbox is open
-//! for it, `close` lets go of it and closes that one, and `wakes_at` tells when it has something to do although nothing came.
+//! The steps are the rows of js_ordered_table. A row is passed in three parts: make what it asks
+//! for, which is all that takes memory; ask the link; pass the row with what was met. So a poll
+//! that runs out of memory leaves a stream that you can poll again. However you poll a stream, its
+//! messages have no gap if the server is honest. `inbox` returns the inbox that is open for it,
+//! `close` ends it and closes that inbox, and `wakes_at` returns when it has something to do
+//! although nothing came.
 #![tactic(auto)]
 
 mod answer;
 mod error;
+mod health;
 mod inbox;
 mod later_row;
 mod listening;
@@ -20,8 +23,13 @@ mod reading;
 mod recreation;
 mod remaining_rows;
 mod rows;
+mod same_rows;
 mod standing;
 mod success;
 mod wakes;
+mod worked;
 
 pub use error::{OrderedError, OrderedErrorKind};
+pub use health::{Activity, Health};
+pub use same_rows::links_fix_rows;
+pub use worked::worked_lives_leave_no_gap;

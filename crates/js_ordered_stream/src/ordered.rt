@@ -1,4 +1,5 @@
-//! An ordered consumer over its link, by pull or by push: it passes row after row, and may stop between any two.
+//! An ordered consumer over its link, by pull or by push. It passes row after row, and may stop
+//! between any two.
 ghost use Rattle.std.specs.Prelude.{◌≡◌, ◌<◌, ◌^◌, ◌||◌, ◌&&◌, ◌++◌, IfOk, OnErr, false, is_some, not, true, ℕ};
 ghost use Rattle.js_link.specs.Meets.{Meets};
 ghost use Rattle.js_ordered_table.specs.Tasks.{next_rows};
@@ -26,11 +27,12 @@ use js_ordered_table::{
 };
 use std::alloc::Global;
 
-/// An ordered consumer: it yields the messages of its stream in order and without a gap, and makes its server-side consumer anew where one shows.
+/// An ordered consumer: it yields the messages of its stream in order and without a gap, and
+/// recreates its server-side consumer if a gap shows.
 #[derive(Drop)]
 pub(crate) struct Ordered {
     given: Boxed<ReplayInput>,
-    consumer: Consumer,
+    pub(crate) consumer: Consumer,
     left: RemainingRows,
 }
 
@@ -39,10 +41,10 @@ pub(crate) struct Ordered {
 pub(crate) enum RowOutcome {
     /// Nothing is handed out.
     Silent { stirs: bool },
-    /// The message that was taken, which lies in its place: it is large.
+    /// The message that was taken. It stays in its place, since it is large.
     Hands,
     Tells(ItemKind),
-    /// There is no sequence to go on from.
+    /// No sequence is left to go on from.
     Exhausted,
     Closed,
     OutOfMemory,
@@ -344,7 +346,7 @@ impl Ordered {
     {
         let was_reading = is_reading(&self.consumer.phase);
         match self.pass_over(alloc, link, now) {
-            Ok(done) => self.settle(done, was_reading),
+            Ok(done) => self.keep_remaining(done, was_reading),
             Err(Stop::Closed) => {
                 self.close();
                 RowOutcome::Closed
@@ -354,7 +356,7 @@ impl Ordered {
     }
 
     // Keeps what is left after a row. A message that is to be handed out stays in its place.
-    fn settle(&mut self, done: Stepped, was_reading: bool) -> RowOutcome
+    fn keep_remaining(&mut self, done: Stepped, was_reading: bool) -> RowOutcome
         requires plain { is_plain (given_to self.old).setup self.old.consumer.phase ≡ true }
         requires turn { is_turn (given_to self.old).setup (next_rows (read_in (kept_if done.looked self.old.left.seen)) done.next ++ later_of self.old.left.todo) ≡ true }
         requires held { hold_none done.next ≡ true }

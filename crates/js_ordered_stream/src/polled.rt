@@ -1,4 +1,4 @@
-//! An ordered consumer, with what holds of it between any two rows of its polls.
+//! An ordered consumer, with what holds for it between any two rows of its polls.
 ghost use Rattle.std.specs.Prelude.{◌≡◌, ◌<◌, ◌^◌, false, true, ℕ};
 ghost use Rattle.js_base.specs.Clock.{has_come};
 ghost use Rattle.js_link.specs.Meets.{Meets};
@@ -16,10 +16,11 @@ use js_link::{InboxId, Link};
 use js_ordered_table::{Consumer, ReplayInput};
 use std::alloc::Global;
 
-/// An ordered consumer that may be polled: no message is held for it, its reader is not pinned, and at most one row waits behind its next one.
+/// An ordered consumer that may be polled: it holds no message, its reader is not pinned, and at
+/// most one row waits behind its next one.
 #[derive(Drop)]
 pub(crate) struct Polled {
-    ordered: Ordered,
+    pub(crate) ordered: Ordered,
     ghost plain: { is_plain ordered.given.setup ordered.consumer.phase ≡ true },
     ghost turn: { is_turn ordered.given.setup (left_rows ordered.left) ≡ true },
     ghost stands: { is_first_idle (read_in ordered.left.seen) ordered.left.todo ≡ false },

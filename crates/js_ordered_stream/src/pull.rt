@@ -24,11 +24,12 @@ use js_ordered_table::{
 use js_pull::{PullSource, Reader};
 use std::alloc::Global;
 
-/// The stream of an ordered pull consumer: it yields the messages of its stream in order and without a gap, and makes its consumer anew where one shows.
+/// The stream of an ordered pull consumer: the messages in order and without a gap. If a gap shows,
+/// it recreates its consumer.
 #[derive(Drop)]
 #[must_use = "messages come by polls"]
 pub struct Ordered {
-    polled: Polled,
+    pub(crate) polled: Polled,
 }
 
 // Whom the reader of the first consumer asks, but for its inbox.
@@ -81,16 +82,21 @@ fn open_consumer<L: Link>(
 }
 
 impl Ordered {
-    /// Opens an inbox, and a stream that reads the consumer of this info there. It asks for nothing before its first poll.
+    /// Opens an inbox, and a stream that reads the consumer of `first` there. It requests nothing
+    /// before its first poll.
     ///
-    /// However it is polled from here on, what it yields is gapless where the server is honest along its polls, and delivers to this inbox from the
-    /// configured start on, where there is one.
+    /// However you poll it, its messages have no gap if the server is honest along its polls and
+    /// delivers to this inbox from the configured start on, if there is one. This holds,
+    /// too, over a link that gives the number of a closed inbox again: what the server delivers is
+    /// told by the order in which inboxes are opened.
     ///
-    /// The settings' number of retries does not count: a consumer is tried to be made anew 4,294,967,295 times.
+    /// The number of retries in `settings` has no effect: the stream tries 4,294,967,295 times to
+    /// recreate a consumer.
     ///
     /// # Errors
     ///
-    /// A refused subscription, and want of memory.
+    /// Fails with `Failed` if the link refuses the subscription, and with `OutOfMemory` if memory
+    /// runs out.
     pub fn open<L: Link>(
         alloc: Global,
         link: &mut L,
@@ -113,15 +119,17 @@ impl Ordered {
         }
     }
 
-    /// Reads the next message or error. It waits after a turn in which nothing came.
+    /// Reads the next message or error. Returns `Pending` after a turn in which nothing came.
     ///
-    /// Each row that it passes does its one thing at the link (`polls`): so a pull request goes out in the poll that comes to it, or the link
-    /// refuses it.
+    /// Each step makes at most one request of the link (`polls`). The poll that comes to a pull
+    /// request sends it, unless the link refuses it.
     ///
-    /// The source of an error of kind `RequestLimitExceeded` is the server's description, where it sent one. No other error has a source.
+    /// The source of an error of kind `RequestLimitExceeded` is the server's description, if it
+    /// sent one. No other error has a source.
     ///
-    /// After `Pending` it may be left alone until something comes for it or `wakes_at` has come: a poll before that does nothing.
-    /// What comes is a message in its inbox, the end of its inbox, an answer that it waits for, and a change of the connection.
+    /// After `Pending` you may sleep until something comes for it or `wakes_at` has come. Polling
+    /// earlier does nothing. What may come is a message in its inbox, the end of its inbox, an
+    /// answer that it waits for, or a change of the connection.
     pub fn poll_next<L: Link>(
         &mut self,
         alloc: Global,
@@ -137,12 +145,18 @@ impl Ordered {
         self.polled.poll_next(alloc, link, now)
     }
 
-    /// The first moment at which it has something to do by itself, where there is one: at once where a row is left, else when a timer of its reader is due,
-    /// or while its consumer is made anew the answer that it waits for is overdue, or its next try is due. One that has neither an inbox
-    /// nor a consumer that is being made begins one at once. A stream that has ended has no such moment.
+    /// Returns the first moment at which it has something to do by itself:
     ///
-    /// A row is left where a poll stopped before its turn was over. So where there was no memory for the request that deletes the old
-    /// consumer, this is `Some(0)`, though no timer is set, and the next poll sends it.
+    /// - `Some(0)` if it was never polled, if work of an earlier poll is left, or if it has neither
+    ///   an inbox nor an open recreation (the next poll then begins one);
+    /// - while it recreates its consumer, when the answer that it waits for is overdue, or when its
+    ///   next try is due;
+    /// - otherwise, when a timer of its reader is due;
+    /// - `None` if there is no such moment, or if it has ended.
+    ///
+    /// Work is left if a poll stopped before its turn was over. For example, if there was no memory
+    /// for the request that deletes the old consumer, this is `Some(0)`, though no timer is set,
+    /// and the next poll sends the request.
     pub fn wakes_at(&self) -> Option<Moment>
         ensures value { (now : ℕ) → now < 2 ^ 64 → has_come result now ≡ something_due now (position_of_pull self.now) }
         ensures sleeps { SleepsUntil (input_of_pull self.now) result (position_of_pull self.now) }
@@ -150,18 +164,20 @@ impl Ordered {
         self.polled.wakes_at()
     }
 
-    /// The inbox that is open for it: the one that it reads, or the one of the consumer that is being made. None in between, and at its end.
+    /// Returns the inbox that is open for it: the one that it reads, or the one of the consumer
+    /// that is being created. `None` in between, and at its end.
     ///
-    /// One that ends with `RequestLimitExceeded` or `PushBasedConsumer` leaves its inbox open at the link, and names it no more: what asks
-    /// before the poll can close it.
+    /// If it ends with `RequestLimitExceeded` or `PushBasedConsumer`, its inbox stays open at the
+    /// link, and `inbox` no longer returns it. To close that inbox, call `inbox` before the poll.
     pub fn inbox(&self) -> Option<InboxId>
         ensures { result ≡ inbox_of (position_of_pull self.now).consumer.phase }
     {
         self.polled.inbox()
     }
 
-    /// Lets go of it, and closes its inbox, where it has one: what lies in it is lost. One that is let go without this leaves its inbox
-    /// open. The server's consumer is not deleted; it goes when nobody has asked for messages for its inactive threshold.
+    /// Ends it, and closes its inbox if it has one. What lies in the inbox is lost. Dropping it
+    /// instead leaves the inbox open. This does not delete the server's consumer, which goes away
+    /// when nobody has asked for messages for its inactive threshold.
     pub fn close<L: Link>(self, link: &mut L)
         ensures { ClosesInbox (inbox_of (position_of_pull self).consumer.phase) (L.view link.old) (L.view link.new) }
     {

@@ -24,9 +24,9 @@ use std::{error, fmt};
 /// Why an ordered push consumer was not opened.
 #[derive(Clone, Copy, Debug, PartialEq, Eq)]
 pub enum OpenError {
-    /// The consumer's info names no subject that it delivers to.
+    /// The consumer's info names no subject to which it delivers.
     NoDeliverSubject,
-    /// The subscription was refused.
+    /// The link refused the subscription.
     Failed,
     /// Memory ran out.
     OutOfMemory,
@@ -57,12 +57,13 @@ impl From<OutOfMemory> for OpenError {
     }
 }
 
-/// The stream of an ordered push consumer: it yields the messages of its stream in order and without a gap, answers what the server's flow control asks,
-/// and makes its consumer anew where a gap shows, where the server is silent, and where the connection comes or goes.
+/// The stream of an ordered push consumer: the messages in order and without a gap. It answers the
+/// server's flow control. It recreates its consumer if a gap shows, if the server is silent, and if
+/// the connection comes or goes.
 #[derive(Drop)]
 #[must_use = "messages come by polls"]
 pub struct Ordered {
-    polled: Polled,
+    pub(crate) polled: Polled,
 }
 
 // Subscribes to what the consumer delivers to.
@@ -109,18 +110,21 @@ fn open_consumer<L: Link>(
 }
 
 impl Ordered {
-    /// Subscribes to the deliver subject of this info, in no group, and listens to its consumer there. The server is heard from the first poll on:
-    /// then the heartbeat is armed.
+    /// Subscribes to the deliver subject of `first`, in no queue group, and reads its consumer
+    /// there. The first poll arms the heartbeat; the server is heard from then on.
     ///
-    /// However it is polled from here on, what it yields is gapless where the server is honest along its polls, and delivers to this inbox from the
-    /// configured start on, where there is one.
+    /// However you poll it, its messages have no gap if the server is honest along its polls and
+    /// delivers to this inbox from the configured start on, if there is one. This holds,
+    /// too, over a link that gives the number of a closed inbox again: what the server delivers is
+    /// told by the order in which inboxes are opened.
     ///
-    /// The settings' number of retries does not count: a consumer is tried to be made anew 4,294,967,295 times.
+    /// The number of retries in `settings` has no effect: the stream tries 4,294,967,295 times to
+    /// recreate a consumer.
     ///
     /// # Errors
     ///
-    /// - `NoDeliverSubject`: the info names no deliver subject; nothing was subscribed.
-    /// - `Failed`: the subscription was refused.
+    /// - `NoDeliverSubject`: the info names no deliver subject. Nothing was subscribed.
+    /// - `Failed`: the link refused the subscription.
     /// - `OutOfMemory`: memory ran out.
     pub fn open<L: Link>(
         alloc: Global,
@@ -144,14 +148,15 @@ impl Ordered {
         }
     }
 
-    /// Reads the next message or error. It waits after a turn in which nothing came.
+    /// Reads the next message or error. Returns `Pending` after a turn in which nothing came.
     ///
-    /// Each row that it passes does its one thing at the link (`polls`): so a heartbeat that asks for an answer, as flow control does, gets an
-    /// empty one in the poll that hears it, or the link refuses it.
+    /// Each step makes at most one request of the link (`polls`). A heartbeat that asks for an
+    /// answer, as flow control does, gets an empty one in the poll that hears it, unless the link
+    /// refuses it.
     ///
-    /// After `Pending` it may be left alone until something comes for it or `wakes_at` has come: a poll before that does nothing.
-    /// What comes is a message in its inbox, the end of its inbox, an answer that it waits for, a change of the connection, and the end
-    /// of the watcher.
+    /// After `Pending` you may sleep until something comes for it or `wakes_at` has come. Polling
+    /// earlier does nothing. What may come is a message in its inbox, the end of its inbox, an
+    /// answer that it waits for, a change of the connection, or the end of the watcher.
     pub fn poll_next<L: Link>(
         &mut self,
         alloc: Global,
@@ -167,12 +172,18 @@ impl Ordered {
         self.polled.poll_next(alloc, link, now)
     }
 
-    /// The first moment at which it has something to do by itself, where there is one: at once where a row is left, else when its heartbeat is missing,
-    /// or while its consumer is made anew the answer that it waits for is overdue, or its next try is due. One that has neither an inbox
-    /// nor a consumer that is being made begins one at once. A stream that has ended has no such moment.
+    /// Returns the first moment at which it has something to do by itself:
     ///
-    /// A row is left where a poll stopped before its turn was over. So where there was no memory for the request that deletes the old
-    /// consumer, this is `Some(0)`, though no timer is set, and the next poll sends it.
+    /// - `Some(0)` if it was never polled, if work of an earlier poll is left, or if it has neither
+    ///   an inbox nor an open recreation (the next poll then begins one);
+    /// - while it recreates its consumer, when the answer that it waits for is overdue, or when its
+    ///   next try is due;
+    /// - otherwise, when its heartbeat is missing;
+    /// - `None` if there is no such moment, or if it has ended.
+    ///
+    /// Work is left if a poll stopped before its turn was over. For example, if there was no memory
+    /// for the request that deletes the old consumer, this is `Some(0)`, though no timer is set,
+    /// and the next poll sends the request.
     pub fn wakes_at(&self) -> Option<Moment>
         ensures value { (now : ℕ) → now < 2 ^ 64 → has_come result now ≡ something_due now (position_of_push self.now) }
         ensures sleeps { SleepsUntil (input_of_push self.now) result (position_of_push self.now) }
@@ -180,17 +191,20 @@ impl Ordered {
         self.polled.wakes_at()
     }
 
-    /// The inbox that is open for it: the one that it reads, or the one of the consumer that is being made. None in between, and at its end.
+    /// Returns the inbox that is open for it: the one that it reads, or the one of the consumer
+    /// that is being created. `None` in between, and at its end.
     ///
-    /// One that ends with the connection's watcher leaves its inbox open at the link, and names it no more: what asks before the poll can close it.
+    /// If it ends with the connection's watcher, its inbox stays open at the link, and `inbox` no
+    /// longer returns it. To close that inbox, call `inbox` before the poll.
     pub fn inbox(&self) -> Option<InboxId>
         ensures { result ≡ inbox_of (position_of_push self.now).consumer.phase }
     {
         self.polled.inbox()
     }
 
-    /// Lets go of it, and closes its inbox, where it has one: what lies in it is lost. One that is let go without this leaves its inbox
-    /// open. The server's consumer is not deleted; it goes when nobody has listened to it for its inactive threshold.
+    /// Ends it, and closes its inbox if it has one. What lies in the inbox is lost. Dropping it
+    /// instead leaves the inbox open. This does not delete the server's consumer, which goes away
+    /// when nobody has listened to it for its inactive threshold.
     pub fn close<L: Link>(self, link: &mut L)
         ensures { ClosesInbox (inbox_of (position_of_push self).consumer.phase) (L.view link.old) (L.view link.new) }
     {

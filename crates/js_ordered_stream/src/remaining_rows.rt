@@ -20,11 +20,11 @@ use std::mem;
 #[derive(Drop)]
 pub(crate) struct Reply {
     pub request: u64,
-    /// None where the replier is gone.
+    /// `None` if the replier is gone.
     pub message: Option<Message>,
 }
 
-/// What a row has looked at. It lies in one place from row to row, since a message is large.
+/// What a row has looked at. It stays in one place from row to row, since a message is large.
 #[derive(Drop)]
 pub(crate) enum Seen {
     Nothing,
@@ -32,7 +32,7 @@ pub(crate) enum Seen {
     Reply(Reply),
     /// A message that was taken.
     Message {
-        /// The inbox on which push has still to hear it.
+        /// The inbox on which push still has to hear it.
         unheard: Option<u64>,
         message: Message,
     },

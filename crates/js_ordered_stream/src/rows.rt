@@ -1,6 +1,7 @@
-//! One row of the table, passed over a link: what it asks is made first, then its link is asked, and it is passed with what it met.
+//! Passes one row of the table over a link: makes what the row asks for, asks the link, and passes
+//! the row with what was met.
 //!
-//! Until the link was asked nothing has changed. After that a row takes no memory.
+//! Nothing changes until the link was asked. After that a row takes no memory.
 ghost use Rattle.std.specs.Prelude.{◌≡◌, IfOk, OnErr, Option, false, true};
 ghost use Rattle.js_base.specs.declared.message.Message.{Message as SpecMessage};
 ghost use Rattle.js_ordered_table.specs.Tasks.{rows_of, told_outputs};
@@ -52,11 +53,11 @@ pub(crate) enum RowItem {
     Error(ItemKind),
 }
 
-/// What a row comes to that was passed. It is small: what the row looked at lies in its place.
+/// What a row that was passed comes to. It is small: what the row looked at stays in its place.
 #[derive(Drop)]
 pub(crate) struct Stepped {
     pub handed: RowItem,
-    /// It looked at something. Else what lies there is an earlier row's.
+    /// Whether it looked at something. If not, what lies there is an earlier row's.
     pub looked: bool,
     /// The rows that follow at once.
     pub next: NextTasks,

@@ -1,4 +1,5 @@
-//! Whether a task that follows stands for a row: one that reads what was met stands for none where that was not met.
+//! Whether a task that follows stands for a row. A task that reads what was met stands for none if
+//! nothing was met.
 ghost use Rattle.std.specs.Prelude.{◌≡◌};
 ghost use Rattle.js_ordered_table.specs.Tasks.{hearings_of, rows_of};
 ghost use Rattle.js_ordered_stream.specs.Rows.{is_left, read_in};

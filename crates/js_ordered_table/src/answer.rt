@@ -1,4 +1,4 @@
-//! What an event brings to those who wait.
+//! What an event brings for an open request, for an inbox, or from the connection.
 ghost use Rattle.std.specs.Prelude.{◌≡◌, option_map};
 ghost use Rattle.std.specs.Option.{option_copied};
 ghost use Rattle.js_ordered_table.specs.Fold.{matter_of};
@@ -11,16 +11,16 @@ use js_base::{Message, State};
 
 /// What became of a request in an event.
 pub enum RequestOutcome<'a> {
-    /// It was not answered in this event.
+    /// The event did not answer it.
     Waiting,
     /// The replier is gone.
     Gone,
-    /// It was answered with this message.
+    /// This message answered it.
     Got(&'a Message),
 }
 
 impl EventKind {
-    /// What became of this request in the event.
+    /// Returns what became of this request in the event.
     pub fn reply_to(&self, number: u64) -> RequestOutcome<'_>
         ensures { reply_shown result ≡ reply_to number (matter_of self.now).answer }
     {
@@ -33,7 +33,7 @@ impl EventKind {
         }
     }
 
-    /// The message that arrives on this inbox in the event.
+    /// Returns the message that arrives on this inbox in the event.
     pub fn message_on(&self, number: u64) -> Option<&Message>
         ensures { option_copied result ≡ message_on number (matter_of self.now).arrival }
     {
@@ -44,17 +44,17 @@ impl EventKind {
     }
 }
 
-/// What an event says of the connection.
+/// What an event says about the connection.
 pub enum Change {
     /// Nothing.
     Unchanged,
-    /// It is in this state from now on, which may be the one in which it was.
+    /// It is in this state from now on, which may be the state that it was in before.
     Becomes(State),
-    /// Its state is watched no longer.
+    /// Its state is no longer watched.
     WatcherEnds,
 }
 
-/// What an event says of the connection.
+/// Returns what an event says about the connection.
 pub fn change_of(what: &EventKind) -> Change
     ensures { change_shown result ≡ (matter_of what.now).change }
 {

@@ -1,4 +1,4 @@
-//! What an ordered consumer is made with, and what it is at.
+//! What an ordered consumer is created with, and its state.
 use crate::ordered_core::OrderedCore;
 use crate::run::Start;
 use crate::setup::{OrderedSetup, Settings};
@@ -6,12 +6,12 @@ use js_base::{Items, Message, State, Subject, Text, Timer};
 use js_json::consumer;
 use js_pull::Reader;
 
-/// What a consumer is made with.
+/// What a consumer is created with.
 #[derive(Drop)]
 pub struct ReplayInput {
     pub settings: Settings,
     pub setup: OrderedSetup,
-    /// What the server told of the first consumer.
+    /// The first consumer's info, as the server sent it.
     pub first: consumer::Info,
 }
 
@@ -22,13 +22,14 @@ pub enum Stage {
     Between,
     /// The answer to the request that deletes the old consumer.
     Deleting { request: u64, timeout: Timer },
-    /// The answer to the request that makes the new one.
+    /// The answer to the request that creates the new one.
     Creating { request: u64, timeout: Timer },
-    /// The next try.
+    /// The time of the next try.
     Waiting { wait: Timer },
 }
 
-/// The inbox of a push create, with the arrivals that are held until the create is answered.
+/// The inbox that push opened for a create request, with the arrivals that are held until the
+/// request is answered.
 #[derive(Drop)]
 pub struct Opened {
     pub inbox: u64,
@@ -36,30 +37,32 @@ pub struct Opened {
     pub held: Items<Message>,
 }
 
-/// An open recreation: the old consumer is deleted, and a new one made.
+/// An open recreation: it deletes the old consumer and creates a new one.
 #[derive(Drop)]
 pub struct Recreation {
     pub old_name: Text,
     pub new_name: Text,
     pub start: Start,
-    /// The tries that have failed.
+    /// The number of tries that have failed.
     pub failures: u64,
     pub opened: Option<Opened>,
     pub stage: Stage,
 }
 
-/// What a consumer is at.
+/// What a consumer is doing.
 #[derive(Drop)]
 pub enum Phase {
-    /// A pull reader has the current inbox.
+    /// Pull: a reader has the current inbox.
     Pulls(Reader),
-    /// Push: the current inbox, and when it was last heard.
+    /// Push: the current inbox, and its heartbeat timer, which started when the inbox last received
+    /// something.
     Pushes { inbox: u64, heartbeat_timer: Timer },
     Recreates(Recreation),
-    /// Neither a current inbox nor an open recreation. The next event begins one.
+    /// The consumer has neither a current inbox nor an open recreation. The next event begins a
+    /// recreation.
     Idle,
     Ended,
-    /// Ended, since a recreation had no sequence to start from.
+    /// Ended, because a recreation had no sequence to start from.
     Exhausted,
 }
 
@@ -67,13 +70,13 @@ pub enum Phase {
 #[derive(Drop)]
 pub struct Consumer {
     pub phase: Phase,
-    /// What was yielded, and where it is made anew from.
+    /// What was yielded, and where a recreation starts.
     pub core: OrderedCore,
-    /// The name of the last consumer that was asked for.
+    /// The name of the consumer that was requested last.
     pub name: Text,
-    /// Pull: a heartbeat is missing, and nothing was handed out since.
+    /// Pull: whether a heartbeat is missing, and nothing was handed out since.
     pub missed: bool,
-    /// Pull: a limit was met, and nothing was accepted since.
+    /// Pull: whether a limit was met, and nothing was accepted since.
     pub limited: bool,
     pub connection: State,
 }

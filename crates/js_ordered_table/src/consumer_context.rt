@@ -1,19 +1,19 @@
-//! What a consumer is made with, at a moment.
+//! What a consumer is created with, and the current moment.
 use crate::setup::{OrderedSetup, Settings};
 use js_base::Moment;
 use js_json::consumer::Info;
 
-/// What a consumer is made with, and the moment that it is now.
+/// What a consumer is created with, and the current moment.
 ///
-/// It says nothing of what happens at that moment: a row is told that by its other arguments.
+/// It says nothing about what happens at that moment. The other arguments of a row say that.
 #[derive(Clone, Copy)]
 pub struct ConsumerContext<'a> {
-    /// What it is told of its connection.
+    /// What the consumer is told about its connection.
     pub settings: &'a Settings,
     /// How it was set up: for pull or for push.
     pub setup: &'a OrderedSetup,
-    /// What the server told of the first consumer.
+    /// The first consumer's info, as the server sent it.
     pub first: &'a Info,
-    /// When its rows are passed. Timers that a row arms begin here.
+    /// The moment at which its rows are passed. Timers that a row arms start here.
     pub moment: Moment,
 }

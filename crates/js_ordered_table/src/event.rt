@@ -1,7 +1,8 @@
 //! What happens to an ordered consumer, and when.
 use js_base::{Boxed, Message, Moment, State};
 
-/// Something that happens at a moment. The message lies in a box, since most events of a long transcript carry none.
+/// Something that happens at a moment. The message is boxed because most events of a long
+/// transcript carry none.
 #[derive(Debug, PartialEq, Eq, Drop)]
 pub struct Event {
     pub at: Moment,
@@ -13,17 +14,19 @@ pub struct Event {
 pub enum EventKind {
     /// Only time passes.
     Tick,
-    /// A message arrives on the inbox with this number, from 0 in the order of subscribing.
+    /// A message arrives on the inbox with this number. Inboxes are numbered from 0 in the order of
+    /// subscribing.
     Arrival {
         inbox: u64,
         message: Boxed<Message>,
     },
-    /// The request with this number, from 1 in the order of sending, is answered. None: its replier is gone.
+    /// The request with this number is answered. Requests are numbered from 1 in the order of
+    /// sending. A reply of `None` means that the replier is gone.
     Answer {
         request: u64,
         reply: Option<Boxed<Message>>,
     },
-    /// From now on sends go through, or they fail.
+    /// From now on sends go through (`up`), or they fail.
     Link {
         up: bool,
     },
@@ -31,6 +34,6 @@ pub enum EventKind {
     Connection {
         state: State,
     },
-    /// The connection's state is watched no longer.
+    /// The connection's state is no longer watched.
     WatcherEnded,
 }

@@ -1,4 +1,4 @@
-//! What an arrival is to a push reader.
+//! What an arrival means to a push reader.
 ghost use Rattle.std.specs.Prelude.{◌≡◌, codes};
 ghost use Rattle.js_base.specs.Headers.{all_headers, last_value};
 ghost use Rattle.js_pull.specs.Kind.{number_told};
@@ -7,14 +7,15 @@ ghost use Rattle.js_ordered_table.specs.Arrivals as reading;
 use js_base::{HeaderMap, Message, StatusCode};
 use js_pull::{HeaderNumber, header_number};
 
-/// What an arrival is, by its status and its headers.
+/// What an arrival is, judged by its status and headers.
 #[derive(Clone, Copy)]
 pub enum PushKind {
     /// One of the stream's messages.
     Delivered,
-    /// A heartbeat, or a flow-control message: with the consumer sequence of the last message that was sent, where it says so.
+    /// A heartbeat or a flow-control message, with the consumer sequence of the last message that
+    /// was sent, if it states one.
     Beat(Option<u64>),
-    /// A beat whose number can't be read.
+    /// A heartbeat or flow-control message whose number can't be read.
     Bad,
     /// Any other status.
     OtherStatus,
@@ -39,7 +40,7 @@ fn beat(last: HeaderNumber) -> PushKind
     }
 }
 
-/// The kind of an arrival.
+/// Returns the kind of an arrival.
 pub fn push_kind(message: &Message) -> PushKind
     ensures { result ≡ reading.push_kind message.now }
 {

@@ -1,15 +1,19 @@
-//! The ordered consumer as a table: what it is made of, what each event does to it, row by row, and what is proved of every run.
+//! The ordered consumer as a table: what it consists of, what each event does to it, row by row,
+//! and what is proved of every run.
 //!
-//! An ordered consumer reads a stream in order. Where a message is missing, its heartbeats stop or the server has lost it, it is
-//! made anew behind the last message that it handed out. The table in `specs/` is its whole behaviour: a row takes the consumer and
-//! what happened, and answers the consumer after it, what it puts out, and the rows that follow at once. What is proved of the
-//! table holds for whoever follows it: where the server is honest, what is handed out has no gap; the consumer numbers of one inbox
-//! are 1, 2, 3 and so on; and each step makes the consumer anew at most once.
+//! An ordered consumer reads a stream in order. If a message is missing, its heartbeats stop or the
+//! server has lost it, it is recreated after the last message that it handed out. The table in
+//! `specs/` is its whole behaviour: a row takes the consumer and what happened, and returns the
+//! consumer after it, its outputs, and the rows that follow at once. What is proved of the table
+//! holds for all code that follows it: if the server is honest, the messages handed out have no
+//! gap; the consumer sequences of one inbox are 1, 2, 3 and so on; and each step recreates the
+//! consumer at most once.
 //!
-//! The module [`transitions`] has the rows as code, one function each. A function is told what its row met, takes no memory and
-//! always succeeds. The replay (js_ordered) and the polled readers (js_ordered_stream) pass the same functions. In `specs/` and
-//! `proofs/` stands also what a polled reader does with them, in one poll and in all polls from its opening on.
-//! [`worked_runs_leave_no_gap`] is a law: worked runs meet the premises and the conclusion of the theorem on gaps.
+//! The module [`transitions`] has the rows as code, one function each. A function is told what its
+//! row met, takes no memory and always succeeds. The replay (js_ordered) and the polled readers
+//! (js_ordered_stream) use the same functions. `specs/` and `proofs/` also say what a polled reader
+//! does with them, in one poll and in all polls since its opening. [`worked_runs_leave_no_gap`] is
+//! a law: worked runs meet the premises and the conclusion of the theorem on gaps.
 #![tactic(auto)]
 
 mod answer;
@@ -25,6 +29,7 @@ mod row;
 mod run;
 mod setup;
 pub mod texts;
+mod timers;
 pub mod transitions;
 mod worked;
 
@@ -40,4 +45,5 @@ pub use replay_state::{ReplayState, next_number};
 pub use row::{Arrival, Row};
 pub use run::{Field, ItemKind, Output, ReplayError, Run, Start, Step};
 pub use setup::{OrderedSetup, Settings};
+pub use timers::phase_wakes_at;
 pub use worked::worked_runs_leave_no_gap;

@@ -1,4 +1,4 @@
-//! The core of an ordered consumer: which message it yields next, and where it is made anew from.
+//! The core of an ordered consumer: which message it yields next, and where a recreation starts.
 ghost use Rattle.std.specs.Prelude.{◌≡◌, ◌<◌, ◌+◌, ◌==◌, ◌↔◌, IfOk, IsErr, OnErr, OnOk, true, false};
 ghost use Rattle.js_pull.specs.Reader.{u64_max};
 ghost use Rattle.js_ordered_table.specs.OrderedCore as cores;
@@ -8,17 +8,17 @@ use crate::run::Start;
 /// The numbers of an ordered consumer, and its configured start.
 #[derive(Clone, Copy, Debug, PartialEq, Eq)]
 pub struct OrderedCore {
-    /// The last yielded stream sequence; 0 where nothing was yielded.
+    /// The last yielded stream sequence; 0 if nothing was yielded.
     pub stream_sequence: u64,
-    /// The last accepted consumer sequence; 0 where nothing was accepted on the current inbox.
+    /// The last accepted consumer sequence; 0 if nothing was accepted on the current inbox.
     pub consumer_sequence: u64,
     /// The number of recreations.
     pub recreation_count: u64,
-    /// The sequence from which the first consumer starts, where the setup names one above 0.
+    /// The sequence from which the first consumer starts, if the setup names one above 0.
     pub start: Option<u64>,
 }
 
-/// The last of all stream sequences was yielded: no recreation can start after it.
+/// The last of all stream sequences was yielded, so no recreation can start after it.
 #[derive(Clone, Copy, Debug, PartialEq, Eq)]
 pub struct AtEnd;
 
@@ -37,7 +37,7 @@ fn start_after(start: Option<u64>, last: u64) -> Start
 }
 
 impl OrderedCore {
-    /// Nothing was yielded yet, and no consumer was made anew.
+    /// Creates the core of a consumer that has yielded nothing and was not recreated.
     pub fn new(start: Option<u64>) -> OrderedCore
         ensures { result ≡ cores.new_core start }
     {
@@ -49,7 +49,8 @@ impl OrderedCore {
         }
     }
 
-    /// Accepts the message with this consumer sequence where it is the next one; both numbers are then the last ones.
+    /// Accepts the message with this consumer sequence if it is the next one, and keeps both
+    /// numbers as the last ones. Returns whether it accepted the message.
     pub fn accept(&mut self, stream_sequence: u64, consumer_sequence: u64) -> bool
         ensures accepted { result ≡ (consumer_sequence == self.old.consumer_sequence + 1) }
         ensures kept { result ≡ true → self.new ≡ cores.after_yield stream_sequence consumer_sequence self.old }
@@ -63,11 +64,12 @@ impl OrderedCore {
         true
     }
 
-    /// Begins a recreation, whose consumer counts from 1 again, and tells where it starts.
+    /// Begins a recreation, whose consumer counts from 1 again, and returns where it starts.
     ///
     /// # Errors
     ///
-    /// `AtEnd`: the last of all stream sequences was yielded. Nothing has changed.
+    /// Fails with `AtEnd` if the last of all stream sequences was yielded. Nothing has changed
+    /// then.
     pub fn restart(&mut self) -> Result<Start, AtEnd>
         ensures ended { IsErr result ↔ (self.old.stream_sequence ≡ u64_max) }
         ensures stays { OnErr result (self.new ≡ self.old) }

@@ -1,4 +1,4 @@
-//! Where a message stands: in its stream, and among what its consumer was sent.
+//! The place of a message in its stream, and among the messages that its consumer was sent.
 ghost use Rattle.std.specs.Prelude.{◌≡◌, ◌+◌, ◌↔◌, IfOk, IsTrue, option_map};
 ghost use Rattle.js_message.specs.AckSubject.{readable_as};
 ghost use Rattle.js_ordered_table.specs.Passes.{place_shown, yielding};
@@ -8,7 +8,7 @@ use crate::run::Output;
 use js_base::{Message, OutOfMemory, TryClone};
 use js_message::parse_info;
 
-/// The stream sequence of a message, and its number among what its consumer was sent.
+/// The stream sequence of a message, and its number among the messages that its consumer was sent.
 #[derive(Clone, Copy)]
 pub struct Place {
     pub sequence: u64,
@@ -16,7 +16,7 @@ pub struct Place {
 }
 
 impl Place {
-    /// The message is the next one after the one with this number.
+    /// Returns whether the message is the next one after the one with this number.
     pub fn is_after(self, number: u64) -> bool
         ensures { IsTrue result ↔ (self.number ≡ number + 1) }
     {
@@ -24,7 +24,7 @@ impl Place {
     }
 }
 
-/// The place that the reply of a message tells, where it tells one.
+/// Returns the place that the reply subject of a message states, or `None` if it states none.
 pub fn place_of(message: &Message) -> Option<Place>
     ensures { option_map place_shown result ≡ readable_as message.now.reply }
 {
@@ -40,7 +40,8 @@ pub fn place_of(message: &Message) -> Option<Place>
     }
 }
 
-/// The yield of a message.
+/// Returns the output that hands a message to the user. Fails with `OutOfMemory` if memory runs
+/// out.
 pub fn yield_of(message: &Message, place: Place) -> Result<Output, OutOfMemory>
     ensures { IfOk result (λ output. output ≡ Output.Yield place.sequence place.number message.now.subject message.now.payload) }
 {
@@ -60,7 +61,7 @@ pub fn yield_of(message: &Message, place: Place) -> Result<Output, OutOfMemory>
 }
 
 impl Consumer {
-    /// The message at this place is yielded, where it is the next one.
+    /// Counts the message at this place as yielded, if it is the next one.
     #[inline]
     pub fn accept(&mut self, place: Place)
         ensures { self.new ≡ yielding (place_shown place) self.old }

@@ -1,4 +1,4 @@
-//! Which input is refused before anything of it is passed.
+//! Which input is refused before any of it is passed.
 ghost use Rattle.std.specs.Prelude.{◌≡◌};
 ghost use Rattle.js_ordered_table.specs.Passes.{input_of};
 ghost use Rattle.js_ordered_table.specs.Refusal as refusals;
@@ -86,7 +86,8 @@ fn first_early(start: Moment, events: &[Event]) -> Option<u64>
     None
 }
 
-/// The first refusal that needs no replay: no subject, a bad field, or an early event.
+/// Returns the first refusal that needs no replay: no deliver subject, a bad field, or an early
+/// event.
 #[tactic(auto, unfolding(crate::specs::Refusal::refuse_input))]
 pub fn refuse_input(context: &ConsumerContext<'_>, events: &[Event]) -> Option<ReplayError>
     ensures { result ≡ refusals.refuse_input (input_of context.now) context.now.moment events.now }

@@ -1,27 +1,27 @@
-//! A consumer beside the link of a replay.
+//! A consumer, with the link of its replay.
 ghost use Rattle.std.specs.Prelude.{◌≡◌, ◌+◌, IfOk, OnErr};
 ghost use Rattle.js_pull.specs.Reader.{u64_max};
 
 use crate::consumer::{Consumer, Phase};
 use js_base::{OutOfMemory, replace_with};
 
-/// A consumer beside the link of a replay.
+/// A consumer, with the link of its replay.
 #[derive(Drop)]
 pub struct ReplayState {
     pub consumer: Consumer,
-    /// Sends go through.
+    /// Whether sends go through.
     pub link_up: bool,
-    /// The requests so far.
+    /// The number of requests so far.
     pub requests_sent: u64,
-    /// The inboxes so far.
+    /// The number of inboxes so far.
     pub inboxes_opened: u64,
 }
 
-/// The number after this one.
+/// Returns the number after this one.
 ///
 /// # Errors
 ///
-/// `OutOfMemory`, where this is the last of all numbers. Who counts one by one does not come there.
+/// Fails with `OutOfMemory` if `number` is `u64::MAX`. Counting one by one never gets there.
 pub fn next_number(number: u64) -> Result<u64, OutOfMemory>
     ensures next { IfOk result (λ next. next ≡ number + 1) }
     ensures last { OnErr result (number ≡ u64_max) }
@@ -35,7 +35,7 @@ pub fn next_number(number: u64) -> Result<u64, OutOfMemory>
 impl ReplayState {
     ghost use Rattle.js_ordered_table.specs.Passes.{at};
 
-    /// The consumer is at this phase from now on.
+    /// Sets the consumer's phase.
     pub fn set_phase(&mut self, phase: Phase)
         ensures { self.new ≡ at phase self.old }
     {

@@ -1,45 +1,46 @@
-//! The rows of the table: one thing that a consumer does.
+//! The rows of the table. Each is one thing that a consumer does.
 use js_base::Message;
 use js_json::consumer;
 
-/// A message on an inbox, which definitions alone use.
+/// A message on an inbox. Only definitions use this type.
 #[derive(Drop)]
 pub struct Arrival {
     pub inbox: u64,
     pub message: Message,
 }
 
-/// A row of the table, which definitions alone use: one thing that a consumer does. It asks the link for one thing at most. `Task` is its form in code.
+/// A row of the table: one thing that a consumer does. It asks the link for at most one thing. Only
+/// definitions use this type; code uses `Task`.
 #[derive(Drop)]
 pub enum Row {
-    /// What an event does first.
+    /// Begins an event.
     Event,
-    /// A recreation begins.
+    /// Begins a recreation.
     Start,
-    /// A try, whose first request deletes the old consumer.
+    /// Begins a try. Its first request deletes the old consumer.
     Try,
-    /// Push subscribes its inbox.
+    /// Push: subscribes the new inbox.
     Create,
-    /// The create request.
+    /// Sends the create request.
     Ask,
-    /// What an open recreation waits for: an answer, or its time.
+    /// Checks whether what an open recreation waits for has come: an answer, or its time.
     Await,
-    /// A create was answered: the reply is read. It is none where the replier is gone.
+    /// Reads the reply to the create request. The reply is `None` if the replier is gone.
     Answered(Option<Message>),
-    /// Push holds what arrives on the inbox of a create.
+    /// Push: holds what arrives on the inbox of a create request.
     Hold,
-    /// A create was answered well.
+    /// Handles a create request that succeeded.
     Succeed(consumer::Info),
-    /// A try has failed.
+    /// Handles a try that failed.
     Fail,
-    /// Push looks for an arrival.
+    /// Push: looks for an arrival.
     CheckArrival,
-    /// Push reads an arrival.
+    /// Push: reads an arrival.
     Hear(Arrival),
-    /// Push looks at its heartbeat.
+    /// Push: checks its heartbeat.
     CheckSilence,
-    /// Push arms its heartbeat.
+    /// Push: arms its heartbeat timer.
     Arm,
-    /// Pull reads.
+    /// Pull: passes a row of the reader.
     Read(js_pull::Row),
 }

@@ -5,61 +5,62 @@ use js_base::{Items, Subject};
 /// Where a recreated consumer starts.
 #[derive(Clone, Copy, Debug, PartialEq, Eq)]
 pub enum Start {
-    /// At the first message that is left.
+    /// At the first message that the stream still has.
     All,
     /// At this stream sequence.
     From(u64),
 }
 
-/// What an error item tells.
+/// The kind of an error item.
 #[derive(Clone, Copy, Debug, PartialEq, Eq)]
 pub enum ItemKind {
-    /// Push: nothing was heard of the server for ten seconds.
+    /// Push: nothing came from the server for ten seconds.
     MissingHeartbeat,
-    /// Pull: the server refuses requests of this size, twice without a message between. The consumer has ended.
+    /// Pull: the server refused requests of this size twice, with no message in between. The
+    /// consumer has ended.
     RequestLimitExceeded,
     /// Pull: the consumer is a push consumer. The consumer has ended.
     PushBasedConsumer,
-    /// A pull request was not sent, or the consumer's info was asked for six times in vain.
+    /// A pull request was not sent, or six requests for the consumer's info failed.
     Pull,
     /// A recreation has used up its tries. The next event begins another one.
     Recreate,
-    /// An arrival that can't be read; or, for push, the end of the watcher.
+    /// An arrival can't be read; or, for push, the connection's state is no longer watched.
     Other,
 }
 
 /// What an event puts out.
 #[derive(Debug, PartialEq, Eq, Drop)]
 pub enum Output {
-    /// A message is handed to the user.
+    /// Hands a message to the user.
     Yield {
         stream_sequence: u64,
         consumer_sequence: u64,
         subject: Subject,
         payload: Bytes,
     },
-    /// An error is handed to the user.
+    /// Hands an error to the user.
     Item {
         kind: ItemKind,
     },
-    /// A recreation begins.
+    /// Begins a recreation.
     Recreate {
         recreation_count: u64,
         start: Start,
     },
-    /// An API request goes out. Requests are numbered from 1.
+    /// Sends an API request. Requests are numbered from 1.
     Request {
         number: u64,
         subject: Subject,
         payload: Bytes,
     },
-    /// A pull request or an answer to flow control goes out.
+    /// Sends a pull request or an answer to flow control.
     Publish {
         subject: Subject,
         reply: Option<Subject>,
         payload: Bytes,
     },
-    /// A new inbox. Inboxes are numbered from 0, which is the first consumer's.
+    /// Opens an inbox. Inboxes are numbered from 0, which is the first consumer's.
     Subscribe {
         inbox: u64,
         subject: Subject,
@@ -77,11 +78,11 @@ pub struct Step {
 pub struct Run {
     pub opening: Step,
     pub steps: Items<Step>,
-    /// The consumer has ended.
+    /// Whether the consumer has ended.
     pub ended: bool,
 }
 
-/// The field of a setup that fails its test.
+/// The field of a setup that is not valid.
 #[derive(Clone, Copy, Debug, PartialEq, Eq)]
 pub enum Field {
     StreamName,
@@ -92,16 +93,18 @@ pub enum Field {
     DeliverSubject,
 }
 
-/// Why a replay is refused. The tests come in this order; want of memory may come before or after any of them.
+/// Why a replay is refused. The checks come in this order; `OutOfMemory` may come before or after
+/// any of them.
 #[derive(Clone, Copy, Debug, PartialEq, Eq)]
 pub enum ReplayError {
-    /// Push, and the first consumer's info has no deliver subject.
+    /// The setup is push, and the first consumer's info has no deliver subject.
     NoDeliverSubject,
-    /// This field is no valid name or subject.
+    /// This field is not a valid name or subject.
     BadSettings { field: Field },
-    /// The moment of the event at this place, from 0, is below the one before it or below the start.
+    /// The moment of the event at `place`, from 0, is before that of the previous event or before
+    /// the start.
     BadEvent { place: u64 },
-    /// At the event at this place, from 0, a recreation is due after the last of all sequences.
+    /// At the event at `place`, from 0, a recreation is due after the last of all stream sequences.
     SequenceEnd { place: u64 },
     OutOfMemory,
 }

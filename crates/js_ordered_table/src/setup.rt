@@ -2,18 +2,18 @@
 use js_base::{Nanos, Text};
 use js_json::{pull, push};
 
-/// What an ordered consumer is told of its connection.
+/// What an ordered consumer is told about its connection.
 #[derive(Debug, PartialEq, Eq, Drop)]
 pub struct Settings {
-    /// What the subjects of API requests begin with, as `$JS.API`.
+    /// The prefix of the subjects of API requests, such as `$JS.API`.
     pub api_prefix: Text,
-    /// What the subjects of inboxes begin with.
+    /// The prefix of the subjects of inboxes.
     pub inbox_prefix: Text,
-    /// How long an API request is waited for, where the context says so. In nanoseconds.
+    /// How long an API request waits for its answer, in nanoseconds, if the context sets it.
     pub context_timeout: Option<Nanos>,
-    /// The same, where the connection says so. It counts where the context says nothing.
+    /// The same, if the connection sets it. It counts only if the context sets none.
     pub request_timeout: Option<Nanos>,
-    /// How many further tries a recreation has after its first.
+    /// How many further tries a recreation makes after its first.
     pub retries: u32,
 }
 

@@ -31,7 +31,8 @@ fn timeout(settings: &Settings) -> Option<Nanos>
     }
 }
 
-/// How long the requests of a recreation are waited for: ten seconds where nobody says.
+/// Returns how long the requests of a recreation wait for their answers, in nanoseconds: ten
+/// seconds if no setting says otherwise.
 pub fn recreation_timeout(settings: &Settings) -> Nanos
     ensures { result ≡ texts.recreation_timeout settings.now }
 {
@@ -78,7 +79,7 @@ impl OrderedSetup {
         }
     }
 
-    /// The one filter, which may be empty.
+    /// Returns the one filter subject, which may be empty.
     pub fn filter_subject(&self) -> &str
         ensures { result.now ≡ (texts.config_of self.now).filter_subject }
     {
@@ -97,7 +98,7 @@ impl OrderedSetup {
         }
     }
 
-    /// The sequence from which the setup starts, where it names one above 0.
+    /// Returns the sequence from which the setup starts, if it names one above 0.
     pub fn configured_start(&self) -> Option<u64>
         ensures { result ≡ texts.configured_start self.now }
     {
@@ -118,7 +119,8 @@ fn numbered(alloc: Global, base: &str, mark: &str, number: u64) -> Result<String
     format!(in alloc; "{base}{mark}{number}")
 }
 
-/// The name of the consumer that the recreation with this serial makes.
+/// Returns the name of the consumer that the recreation with this number creates. Fails with
+/// `OutOfMemory` if memory runs out.
 pub fn consumer_name(
     alloc: Global,
     context: &ConsumerContext<'_>,
@@ -129,7 +131,7 @@ pub fn consumer_name(
     Ok(Text::from(numbered(alloc, context.first.name.as_str(), "_", recreation_count)?))
 }
 
-/// The subject of the inbox with this number.
+/// Returns the subject of the inbox with this number. Fails with `OutOfMemory` if memory runs out.
 pub fn inbox_subject(
     alloc: Global,
     context: &ConsumerContext<'_>,
@@ -176,7 +178,8 @@ fn filtered_subject(
     Ok(Subject::from(whole?))
 }
 
-/// The subject of the request that deletes the old consumer.
+/// Returns the subject of the request that deletes the old consumer. Fails with `OutOfMemory` if
+/// memory runs out.
 pub fn delete_subject(
     alloc: Global,
     context: &ConsumerContext<'_>,
@@ -192,7 +195,8 @@ pub fn delete_subject(
     )
 }
 
-/// The subject of the request that makes the new one.
+/// Returns the subject of the request that creates the new consumer. Fails with `OutOfMemory` if
+/// memory runs out.
 pub fn create_subject(
     alloc: Global,
     context: &ConsumerContext<'_>,
@@ -303,7 +307,8 @@ fn request_body<R: ToValue + Drop>(alloc: Global, request: R) -> Result<Bytes, O
     }
 }
 
-/// The body of the request that makes the new consumer.
+/// Returns the body of the request that creates the new consumer. Fails with `OutOfMemory` if
+/// memory runs out.
 #[tactic(auto, using(crate::proofs::CreateBodies::create_written))]
 pub fn create_body(
     alloc: Global,
@@ -331,7 +336,8 @@ pub fn create_body(
 
 // ---- readers
 
-/// Whom the reader of a consumer with this info asks.
+/// Returns the pull source for the reader of a consumer with this info. Fails with `OutOfMemory` if
+/// memory runs out.
 pub fn source_of(
     context: &ConsumerContext<'_>,
     recreation_count: u64,
@@ -359,7 +365,8 @@ pub fn source_of(
     }
 }
 
-/// Whom the reader of a consumer with this info asks, but for its inbox.
+/// Returns the same as [`source_of`], but with no inbox yet: its number is 0 and its subject is
+/// empty. Fails with `OutOfMemory` if memory runs out.
 pub fn source_without_inbox(
     alloc: Global,
     context: &ConsumerContext<'_>,

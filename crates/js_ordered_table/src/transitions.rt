@@ -1,5 +1,6 @@
-//! The rows of an ordered consumer, in code: each is one function that knows no link and takes no memory. A replay passes them with what its events
-//! bring, a polled reader with what its link answers.
+//! The rows of an ordered consumer, as code. Each row is a function that knows no link and takes no
+//! memory. A replay passes them with what its events bring, a polled reader with what its link
+//! returns.
 
 pub mod event;
 pub mod pull;

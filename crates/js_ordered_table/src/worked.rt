@@ -2,8 +2,10 @@
 ghost use Rattle.std.specs.Prelude.{[], ◌∷◌};
 ghost use Rattle.js_ordered_table.specs.Worked as worked;
 
-/// The premises of the theorem on gaps hold of worked runs, and so does its conclusion: of messages in order, of a gap with its recreation, of
-/// a push consumer that holds an arrival, of a sequence that was removed, and of a filter with a configured start. A law, which takes no steps.
+/// States that worked runs meet the premises and the conclusion of the theorem on gaps. The runs
+/// show messages in order, a gap with its recreation, a push consumer that holds an arrival, a
+/// sequence that was removed, and a filter with a configured start. This is a law; calling it does
+/// nothing.
 pub fn worked_runs_leave_no_gap()
     ensures in_order { worked.LeavesNoGap worked.server_in_order worked.by_pull worked.in_order (1 ∷ 2 ∷ []) }
     ensures gap { worked.LeavesNoGap worked.server_gap worked.by_pull worked.gap (1 ∷ 2 ∷ []) }

@@ -1,4 +1,5 @@
-//! The arrivals of a pull reader in a replay: the event lends them, and what is put out of one is made before it is heard.
+//! The arrivals of a pull reader in a replay. A row borrows the arrival from the event, and makes
+//! the output of a message before it handles it.
 ghost use Rattle.std.specs.Prelude.{◌≡◌, ◌≢◌, ◌+◌, ◌≤◌, ◌∷◌, ◌↔◌, [], IfOk, OnOk, OnErr, IsTrue, option_to_list, vec_capacity, vec_len};
 ghost use Rattle.js_ordered.specs.Driven.{Arrives, PassesTo, matter_now};
 ghost use Rattle.js_pull.specs.Kind.{pull_kind as kind_of};
@@ -19,7 +20,8 @@ use js_ordered_table::{ConsumerContext, Output, Phase, ReplayState};
 use js_pull::{Due, Kind, Reader, pull_kind};
 use std::alloc::Global;
 
-/// A message of the stream, looked at before it is heard: what it is to the consumer, and what is put out of it.
+/// A message of the stream, examined before it is handled: what it means to the consumer, and what
+/// is put out of it.
 #[derive(Drop)]
 struct ReadyArrival {
     heard: Heard,

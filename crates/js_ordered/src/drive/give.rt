@@ -1,4 +1,4 @@
-//! What a replay gives to the sends of a row: where the link is up they go out, with the next number.
+//! How a replay sends what a row sends: if the link is up, it goes out with the next number.
 ghost use Rattle.std.specs.Prelude.{◌≡◌, ◌+◌, ◌≤◌, ◌++◌, ◌∷◌, [], ℕ, List, Bool, true, Some, IfOk, option_to_list, vec_capacity, vec_len};
 ghost use Rattle.js_ordered.specs.Giving.{IsOpening, IsSending, Sends, Subscribes};
 ghost use Rattle.js_ordered_table.specs.Tasks.{told_outputs};

@@ -1,4 +1,5 @@
-//! The rows by which push reads its inbox, in a replay: what arrives is lent by the event, and what is put out of it is made first.
+//! The rows by which push reads its inbox, in a replay. A row borrows what arrives from the event,
+//! and what is put out of it is made first.
 ghost use Rattle.std.specs.Prelude.{◌≡◌, ◌+◌, ◌≤◌, ◌++◌, ◌∷◌, [], IfOk, List, is_some, option_to_list, vec_capacity, vec_len};
 ghost use Rattle.js_ordered.specs.Driven.{PassesOn, PassesTo, matter_now};
 ghost use Rattle.js_ordered_table.specs.Tasks.{heard_outputs, next_rows};

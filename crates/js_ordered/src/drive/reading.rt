@@ -1,4 +1,5 @@
-//! The rows of a pull reader in a replay: what it sends and what is put out of an arrival is made first.
+//! The rows of a pull reader in a replay. What a row sends, and what is put out of an arrival, is
+//! made first.
 ghost use Rattle.std.specs.Prelude.{◌≡◌, ◌+◌, ◌≤◌, ◌∷◌, [], IfOk, List, codes, vec_capacity, vec_len};
 ghost use Rattle.js_ordered.specs.Driven.{Finishes, PassesOn, PassesTo, matter_now};
 ghost use Rattle.js_ordered.specs.Giving.{IsPublishing, IsSending};

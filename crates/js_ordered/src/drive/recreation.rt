@@ -1,4 +1,5 @@
-//! The rows of a recreation in a replay: their texts are made first, so that a row for which there is no memory changes nothing.
+//! The rows of a recreation in a replay. Their texts are made first, so a row that runs out of
+//! memory changes nothing.
 ghost use Rattle.std.specs.Prelude.{◌≡◌, ◌+◌, ◌≤◌, ◌∷◌, [], Some, IfOk, OnOk, OnErr, codes, is_some, option_map, vec_capacity, vec_len};
 ghost use Rattle.js_ordered.specs.Driven.{PassesTo, matter_now};
 ghost use Rattle.js_ordered.specs.Giving.{IsOpening, IsSending};

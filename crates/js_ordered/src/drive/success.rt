@@ -1,4 +1,4 @@
-//! The end of a recreation in a replay: what the next reader needs is made before it reads.
+//! The end of a recreation in a replay. What the next reader needs is made before it reads.
 ghost use Rattle.std.specs.Prelude.{◌≡◌, ◌+◌, ◌≤◌, ◌∷◌, [], IfOk, vec_capacity, vec_len};
 ghost use Rattle.js_ordered.specs.Driven.{PassesTo};
 ghost use Rattle.js_ordered.specs.Giving.{IsOpening};
@@ -22,7 +22,7 @@ use js_ordered_table::{
 use js_pull::PullSource;
 use std::alloc::Global;
 
-/// What pull needs for its next reader: its source, and its inbox where the link is up.
+/// What pull needs for its next reader: its source and, if the link is up, its inbox.
 #[derive(Drop)]
 struct NextReader {
     source: PullSource,

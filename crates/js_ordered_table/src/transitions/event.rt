@@ -1,4 +1,5 @@
-//! What an event does first: the connection, and then a recreation that starts or goes on, or the reader's part.
+//! How an event begins: first the connection, then a recreation that starts or continues, or the
+//! reader's part.
 ghost use Rattle.std.specs.Prelude.{◌≡◌, [], false};
 ghost use Rattle.js_link.specs.RowInput.{RowInput};
 ghost use Rattle.js_ordered_table.specs.Tasks.{StepsTo, at_moment, goes_on, is_lost as is_lost_at, next_rows, told_outputs};
@@ -25,7 +26,7 @@ fn is_connected(state: State) -> bool
     }
 }
 
-/// The consumer has ended.
+/// Returns whether the consumer has ended.
 pub fn is_over(phase: &Phase) -> bool
     ensures { result ≡ has_ended phase.now }
 {
@@ -39,7 +40,7 @@ pub fn is_over(phase: &Phase) -> bool
     }
 }
 
-/// Nothing is put out.
+/// Returns the result of a row that puts out nothing, with the rows that follow it.
 #[inline]
 pub fn silent_row(next: NextTasks) -> PassedTask
     ensures { result ≡ record { told = RowOutput.Nothing; next = next } }
@@ -104,7 +105,8 @@ fn change_state(context: &ConsumerContext<'_>, consumer: &mut Consumer, state: S
     go_on(context, consumer, Some(state))
 }
 
-/// What an event does first, with what it says of the connection. An ended consumer passes nothing, and is not asked for here.
+/// Begins an event, with what it says about the connection. Do not call it for a consumer that has
+/// ended: such a consumer passes no rows.
 #[inline]
 pub fn pass_event(
     context: &ConsumerContext<'_>,

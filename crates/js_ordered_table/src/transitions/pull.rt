@@ -1,4 +1,4 @@
-//! The rows of a pull reader, and what the consumer makes of what its reader tells.
+//! The rows of a pull reader, and what the consumer does with what its reader reports.
 ghost use Rattle.std.specs.Prelude.{ℕ, ◌≡◌, [], false, None, Option, map};
 ghost use Rattle.js_base.specs.declared.message.Message.{Message as SpecMessage};
 ghost use Rattle.js_json.specs.declared.consumer.info.Info.{Info as SpecInfo};
@@ -33,7 +33,7 @@ fn tasks_of(todo: DueRows) -> NextTasks
     }
 }
 
-/// What an event does first, with the connection's change.
+/// Begins an event, with the connection's change, and returns the rows that follow.
 #[inline]
 pub fn begin(reader: &mut Reader, now: Moment, change: Option<State>) -> NextTasks
     ensures reader { (p : RowInput) → reader.new ≡ (reads.begin_row (at_moment now p) change reader.old).reader }
@@ -42,7 +42,8 @@ pub fn begin(reader: &mut Reader, now: Moment, change: Option<State>) -> NextTas
     tasks_of(reader.begin(now, change))
 }
 
-/// A pull request has gone out, or was refused, of which the user is told. The expiry is armed in both cases.
+/// Counts a pull request that has gone out, or reports the error if it was refused. Arms the expiry
+/// timer in both cases.
 pub fn ask(reader: &mut Reader, now: Moment, reason: Reason, goes_out: bool) -> Read
     ensures { (p : RowInput) → (reply : Option SpecMessage) → (message : Option SpecMessage)
         → ReadsTo reply message (reads.ask (record p { now = now; up = goes_out }) reason reader.old) reader.new result }
@@ -50,14 +51,14 @@ pub fn ask(reader: &mut Reader, now: Moment, reason: Reason, goes_out: bool) -> 
     reader.pass_ask(now, reason, goes_out)
 }
 
-/// Where little is pending a request follows.
+/// Lets a pull request follow if little is pending.
 pub fn threshold(reader: &mut Reader) -> Read
     ensures { (reply : Option SpecMessage) → (message : Option SpecMessage) → ReadsTo reply message (reads.threshold reader.old) reader.new result }
 {
     reader.pass_threshold()
 }
 
-/// The info was asked for, under this number, or the request was refused.
+/// Records the number of the info request. If it was refused, the try has failed.
 pub fn inquire(reader: &mut Reader, now: Moment, failures: u64, request: Option<u64>) -> Read
     ensures { (p : RowInput) → (reply : Option SpecMessage) → (message : Option SpecMessage)
         → ReadsTo reply message (reads.inquire (requesting now request p) failures reader.old) reader.new result }
@@ -65,7 +66,8 @@ pub fn inquire(reader: &mut Reader, now: Moment, failures: u64, request: Option<
     reader.pass_inquire(now, failures, request)
 }
 
-/// A try failed: the next one waits, and after the sixth the user is told.
+/// Handles a failed info request: the next try waits. After the sixth failure it reports the error
+/// `Pull`, and a pull request follows.
 pub fn fail_inquiry(reader: &mut Reader, now: Moment, failures: u64) -> Read
     ensures { (p : RowInput) → (reply : Option SpecMessage) → (message : Option SpecMessage)
         → ReadsTo reply message (reads.fail_inquiry (at_moment now p) failures reader.old) reader.new result }
@@ -73,7 +75,8 @@ pub fn fail_inquiry(reader: &mut Reader, now: Moment, failures: u64) -> Read
     reader.pass_fail_inquiry(now, failures)
 }
 
-/// The answer was read.
+/// Handles an answer to an info request that was read: a pull request follows, or, without a
+/// reason, the try has failed.
 pub fn answered(reader: &mut Reader, failures: u64, informed: Option<Reason>) -> Read
     ensures { (reply : Option SpecMessage) → (message : Option SpecMessage) → informed ≡ informed_by (reads.info_of_reply reply)
         → ReadsTo reply message (reads.answered failures (reads.info_of_reply reply) reader.old) reader.new result }
@@ -81,7 +84,7 @@ pub fn answered(reader: &mut Reader, failures: u64, informed: Option<Reason>) ->
     reader.pass_answered(failures, informed)
 }
 
-/// After a request has expired another one follows.
+/// Lets a pull request follow if the last one has expired.
 #[inline]
 pub fn check_expiry(reader: &mut Reader, now: Moment) -> Read
     ensures { (p : RowInput) → (reply : Option SpecMessage) → (message : Option SpecMessage)
@@ -90,7 +93,7 @@ pub fn check_expiry(reader: &mut Reader, now: Moment) -> Read
     reader.pass_check_expiry(now)
 }
 
-/// A missing heartbeat is told, and armed anew.
+/// Reports a missing heartbeat, and arms its timer again.
 #[inline]
 pub fn check_silence(reader: &mut Reader, now: Moment) -> Read
     ensures { (p : RowInput) → (reply : Option SpecMessage) → (message : Option SpecMessage)
@@ -101,7 +104,7 @@ pub fn check_silence(reader: &mut Reader, now: Moment) -> Read
 
 // ---- what the consumer makes of what its reader tells
 
-/// The reader's row follows.
+/// Returns the reader's row as the row that follows.
 #[inline]
 pub fn after(due: Option<Due>) -> NextTasks
     ensures { (m : Matter) → next_rows m result ≡ reader_rows m due }
@@ -167,7 +170,7 @@ fn take_error(consumer: &mut Consumer, kind: MessagesErrorKind, due: Option<Due>
     }
 }
 
-/// What the reader tells without a message.
+/// Handles what the reader reports without a message.
 pub fn take_notice(consumer: &mut Consumer, notice: Notice, due: Option<Due>) -> PassedTask
     ensures { (m : Matter) → StepsTo m (with_sent [] (reader_rows m due) (told_by (told_shown notice None) consumer.old)) (told_outputs result.told) consumer.new result.next }
 {
@@ -178,7 +181,8 @@ pub fn take_notice(consumer: &mut Consumer, notice: Notice, due: Option<Due>) ->
     }
 }
 
-/// A message that the reader hands out is yielded where it is the consumer's next one, is told, or shows a gap.
+/// Handles a message that the reader hands out. The consumer's next message is yielded, another one
+/// shows a gap, and one that can't be read is reported.
 #[inline]
 pub fn take_message(consumer: &mut Consumer, heard: Heard, due: Option<Due>) -> NextTasks
     requires { IsOfStream heard }

@@ -1,4 +1,5 @@
-//! The rows by which push reads its inbox: its arrivals are yielded, told, or show that the consumer must be made anew.
+//! The rows by which push reads its inbox. An arrival is yielded, is reported, or shows that the
+//! consumer must be recreated.
 ghost use Rattle.std.specs.Prelude.{◌≡◌, is_some};
 ghost use Rattle.js_base.specs.declared.message.Message.{Message as SpecMessage};
 ghost use Rattle.js_link.specs.RowInput.{RowInput};
@@ -15,7 +16,7 @@ use crate::transitions::task::{Heard, NextTasks, PassedTask, RowOutput, Task};
 use crate::{Consumer, ConsumerContext, ItemKind, Phase, PushKind, place_of, push_kind};
 use js_base::{Message, Moment, Nanos, Timer};
 
-/// The server is heard at least this often.
+/// The server sends something at least this often, in nanoseconds.
 const HEARTBEAT: Nanos = 10_000_000_000;
 
 // The heartbeat from now on.
@@ -28,7 +29,7 @@ fn armed(now: Moment) -> Timer
     }
 }
 
-/// The consumer listens to this inbox, whose heartbeat is armed.
+/// Makes this inbox the current one, and arms its heartbeat timer.
 #[inline]
 pub fn listen(context: &ConsumerContext<'_>, consumer: &mut Consumer, inbox: u64)
     ensures { consumer.new ≡ at_phase (Phase.Pushes inbox (reading.armed context.now.moment)) consumer.old }
@@ -45,7 +46,8 @@ pub fn listen(context: &ConsumerContext<'_>, consumer: &mut Consumer, inbox: u64
 
 // ---- what is looked for
 
-/// Push looks for an arrival: it is heard, and without one the heartbeat is looked at.
+/// Returns the row that follows when push looks for an arrival: one that reads it or, if none is
+/// there, one that checks the heartbeat.
 #[inline]
 pub fn arrival_next(inbox: u64, is_there: bool) -> NextTasks
     ensures { (m : Matter) → is_there ≡ is_some (message_on inbox m.arrival) → next_rows m result ≡ table.push_rows inbox (message_on inbox m.arrival) }
@@ -56,7 +58,7 @@ pub fn arrival_next(inbox: u64, is_there: bool) -> NextTasks
     NextTasks::One(Task::CheckSilence)
 }
 
-/// A heartbeat that is missing is an item, and a recreation starts.
+/// If the heartbeat is missing, reports an error item and lets a recreation follow.
 #[inline]
 pub fn pass_silence(context: &ConsumerContext<'_>, heartbeat_timer: Timer) -> PassedTask
     ensures { (m : Matter) → (p : RowInput) → (c : SpecConsumer)
@@ -73,7 +75,7 @@ pub fn pass_silence(context: &ConsumerContext<'_>, heartbeat_timer: Timer) -> Pa
 
 // ---- what is heard
 
-/// What a message of the stream is, after the one with this number.
+/// Returns what a message of the stream means after the one with this number.
 #[inline]
 pub fn heard_from(number: u64, message: &Message) -> Heard
     ensures { IsHeardFrom number message.now result }
@@ -90,7 +92,7 @@ pub fn heard_from(number: u64, message: &Message) -> Heard
     }
 }
 
-/// What an arrival is to a consumer that has accepted the message with this number.
+/// Returns what an arrival means to a consumer that has accepted the message with this number.
 #[inline]
 pub fn heard_as(number: u64, message: &Message) -> Heard
     ensures { IsHeard number message.now result }
@@ -119,7 +121,7 @@ fn beat_next(last: Option<u64>, number: u64) -> NextTasks
     }
 }
 
-/// An arrival on the current inbox is heard, which arms its heartbeat.
+/// Handles an arrival on the current inbox, and arms its heartbeat timer.
 #[inline]
 pub fn pass_hear(
     context: &ConsumerContext<'_>,

@@ -1,4 +1,5 @@
-//! The rows of a recreation: the old consumer is deleted, and a new one is made that goes on after the last yield.
+//! The rows of a recreation: it deletes the old consumer, and creates a new one that continues
+//! after the last yield.
 ghost use Rattle.std.specs.Prelude.{ℕ, ◌≡◌, ◌<◌, ◌+◌, [], ◌∷◌, codes, is_some, min};
 ghost use Rattle.js_link.specs.RowInput.{RowInput};
 ghost use Rattle.js_ordered_table.specs.Tasks.{IsAnswered, Listens, StepsTo, at_moment, create_outputs, next_rows, opening_to, requested, requesting, rows_of, subscribed, told_outputs};
@@ -20,7 +21,7 @@ use js_pull::{Due, PullSource, Reader, retry_wait};
 use std::alloc::Global;
 use std::mem;
 
-/// The consumer is at this phase from now on.
+/// Sets the consumer's phase.
 pub(crate) fn set_phase(consumer: &mut Consumer, phase: Phase)
     ensures { consumer.new ≡ record consumer.old { phase = phase } }
 {
@@ -29,7 +30,8 @@ pub(crate) fn set_phase(consumer: &mut Consumer, phase: Phase)
 
 // ---- a recreation starts
 
-/// A recreation starts: what is current was dropped, and the first try follows. The name is the next consumer's.
+/// Begins a recreation: drops what is current, and the first try follows. Both names are the next
+/// consumer's. If no sequence is left to start from, the consumer ends.
 pub fn pass_start(
     context: &ConsumerContext<'_>,
     consumer: &mut Consumer,
@@ -76,7 +78,8 @@ fn timeout(context: &ConsumerContext<'_>) -> Timer
     }
 }
 
-/// A try begins: the deletion of the old consumer was asked for with this number, or is passed over.
+/// Begins a try. `request` is the number of the request that deletes the old consumer; without one,
+/// the deletion is skipped.
 pub fn pass_try(
     context: &ConsumerContext<'_>,
     consumer: &mut Consumer,
@@ -110,7 +113,8 @@ fn hold_on(recreation: &mut Recreation, opened: Option<Opened>)
     replace_with(&mut recreation.opened, opened);
 }
 
-/// The new consumer is to be asked for. Push has opened its inbox before that, or could not.
+/// Goes on to the create request. Push has opened its inbox before that; if it could not, the try
+/// has failed.
 pub fn pass_create(
     alloc: Global,
     context: &ConsumerContext<'_>,
@@ -147,7 +151,7 @@ pub fn pass_create(
     }
 }
 
-/// The new consumer was asked for with this number, or could not be.
+/// Records the number of the create request. If it could not be sent, the try has failed.
 pub fn pass_ask(
     context: &ConsumerContext<'_>,
     consumer: &mut Consumer,
@@ -190,7 +194,8 @@ fn rest(recreation: &mut Recreation, now: Moment)
     };
 }
 
-/// A try has failed: after more failures than retries an item closes the recreation, otherwise the next try waits.
+/// Handles a failed try. If there were more failures than retries, an error item ends the
+/// recreation; otherwise the next try waits.
 pub fn pass_fail(
     context: &ConsumerContext<'_>,
     consumer: &mut Consumer,
@@ -272,7 +277,7 @@ fn stage_next(context: &ConsumerContext<'_>, stage: Stage, is_answered: bool) ->
     }
 }
 
-/// An open recreation goes on where what it waits for has come: an answer, or its time.
+/// Continues an open recreation if what it waits for has come: an answer, or its time.
 pub fn pass_await(
     context: &ConsumerContext<'_>,
     consumer: &mut Consumer,
@@ -316,7 +321,8 @@ fn answered(setup: &OrderedSetup, info: Option<Boxed<Info>>) -> Task
     }
 }
 
-/// The reply to a create was read.
+/// Handles the reply to a create request. The try has failed if the reply held no info or, for
+/// push, if the info has no deliver subject.
 pub fn pass_answered(
     context: &ConsumerContext<'_>,
     consumer: &mut Consumer,
@@ -331,7 +337,8 @@ pub fn pass_answered(
     NextTasks::One(task)
 }
 
-/// A create was answered well: pull reads the inbox that was opened, or could not be. The source knows no inbox yet.
+/// Handles a create request of pull that succeeded: the reader reads the inbox that was opened. If
+/// none could be opened, the try has failed. The source names no inbox yet.
 pub fn pass_succeed_pull(
     context: &ConsumerContext<'_>,
     consumer: &mut Consumer,
@@ -359,7 +366,8 @@ pub fn pass_succeed_pull(
     }
 }
 
-/// Push's inbox becomes the current one: what was held is heard, and then the heartbeat is armed.
+/// Makes push's new inbox the current one, and returns what was held. That is read next, and then
+/// the heartbeat timer is armed.
 pub fn pass_succeed_push(
     context: &ConsumerContext<'_>,
     consumer: &mut Consumer,

@@ -1,10 +1,12 @@
-//! The rows that are left, as the code keeps them. They are small, since a poll moves them at each row: what a row reads lies beside them, in an event of a replay or in what a poll has met, and what was held for push in a box.
+//! The rows that are still to be passed, as the code keeps them. They are small because a poll
+//! moves them at each row. What a row reads is kept beside them: in an event of a replay, or in
+//! what a poll has met. What was held for push is in a box.
 use crate::{ItemKind, Place, Start};
 use js_base::{Boxed, Items, Message, Subject};
 use js_json::consumer::Info;
 use js_pull::Due;
 
-/// What was held for the inbox of a create, from a place on.
+/// The messages that were held for the inbox of a create request, from a place on.
 #[derive(Drop)]
 pub struct Held {
     pub inbox: u64,
@@ -12,7 +14,7 @@ pub struct Held {
     pub place: usize,
 }
 
-/// A row that is still to be passed, or several that are alike.
+/// A row that is still to be passed, or several alike.
 #[derive(Drop)]
 pub enum Task {
     Event,
@@ -21,15 +23,15 @@ pub enum Task {
     Create,
     Ask,
     Await,
-    /// The reply to this request is read, which the event brings.
+    /// Reads the reply to this request, which the event brings.
     Answered { request: u64 },
     Hold,
     Succeed(Boxed<Info>),
     Fail,
     CheckArrival,
-    /// What the event brings on this inbox is heard.
+    /// Reads what the event brings on this inbox.
     Hear { inbox: u64 },
-    /// What was held is heard, one message after the other.
+    /// Reads the messages that were held, one after the other.
     HearHeld(Box<Held>),
     CheckSilence,
     Arm,
@@ -45,7 +47,7 @@ pub enum NextTasks {
     Two(Task, Task),
 }
 
-/// What a row puts out beside what it sends.
+/// What a row puts out, apart from what it sends.
 #[derive(Clone, Copy)]
 pub enum RowOutput {
     Nothing,
@@ -53,7 +55,7 @@ pub enum RowOutput {
     Tells(ItemKind),
 }
 
-/// What passing a row comes to.
+/// What a passed row puts out, and the rows that follow it.
 #[derive(Drop)]
 pub struct PassedTask {
     pub told: RowOutput,
@@ -67,16 +69,16 @@ pub struct Inbox {
     pub subject: Subject,
 }
 
-/// What an arrival is to push.
+/// What an arrival means to the consumer.
 #[derive(Clone, Copy)]
 pub enum Heard {
-    /// The consumer's next message, which stands at this place.
+    /// The consumer's next message, at this place.
     Yields(Place),
-    /// It can't be read.
+    /// The arrival can't be read.
     Unreadable,
-    /// Another message than the next one.
+    /// A message other than the next one.
     Gap,
-    /// The server is there, and says which message was the last.
+    /// A sign that the server is there. It may say which message was the last.
     Beat(Option<u64>),
     OtherStatus,
 }

@@ -15,4 +15,4 @@ returns-then-not-is_empty c = λ now m small stands.
 pub returns : goal.returns
 returns c = λ now m small stands.
     timer_due now (record { consumer = c.args.consumer.now; todo = todo_rows m c.args.todo.now }) c.is_over.result false _ c.is_over.ensures c.if-is_over.false (not_rested m c.args.todo.now c.is_empty.result stands c.is_empty.ensures c.if-not-is_empty.false) refl
-    (c.phase_end.ensures now small)
+    (c.phase_wakes_at.ensures now small)

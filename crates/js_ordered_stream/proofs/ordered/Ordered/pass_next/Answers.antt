@@ -7,24 +7,24 @@ use Rattle.js_ordered_stream.proofs.NextRow.{next_passed, next_closed, next_lack
 use Rattle.js_ordered_stream.proofs.SteadyStates.{lacks_steady, settles_at}
 use Rattle.js_ordered_stream.proofs.ordered.Ordered.pass_next.Goals as goal
 
-pub settle-requires-clause-plain : goal.settle-requires-clause-plain
-settle-requires-clause-plain g c =
+pub keep_remaining-requires-clause-plain : goal.keep_remaining-requires-clause-plain
+keep_remaining-requires-clause-plain g c =
     let view = g.L.Link.view in
     let old = c.args.self.now in
     let new = c.pass_over.new.self in
     let done = c.in-Ok.done in
     (settles_at (given_to old) (given_to new) c.args.now old.left new.left old.consumer new.consumer (view c.args.link.now) (view c.pass_over.new.link) (kept_if done.looked new.left.seen) done c.pass_over.ensures.given c.in-Ok.ensures.todo c.requires c.in-Ok.ensures.passes).plain
 
-pub settle-requires-clause-turn : goal.settle-requires-clause-turn
-settle-requires-clause-turn g c =
+pub keep_remaining-requires-clause-turn : goal.keep_remaining-requires-clause-turn
+keep_remaining-requires-clause-turn g c =
     let view = g.L.Link.view in
     let old = c.args.self.now in
     let new = c.pass_over.new.self in
     let done = c.in-Ok.done in
     (settles_at (given_to old) (given_to new) c.args.now old.left new.left old.consumer new.consumer (view c.args.link.now) (view c.pass_over.new.link) (kept_if done.looked new.left.seen) done c.pass_over.ensures.given c.in-Ok.ensures.todo c.requires c.in-Ok.ensures.passes).turn
 
-pub settle-requires-clause-held : goal.settle-requires-clause-held
-settle-requires-clause-held g c =
+pub keep_remaining-requires-clause-held : goal.keep_remaining-requires-clause-held
+keep_remaining-requires-clause-held g c =
     let view = g.L.Link.view in
     let old = c.args.self.now in
     let new = c.pass_over.new.self in
@@ -38,9 +38,9 @@ returns-in-Ok-clause-turns g c =
     let done = c.in-Ok.done in
     let kept = kept_if done.looked c.pass_over.new.self.left.seen in
     let m = read_in kept in
-    next_passed (given_to old) c.args.now old.left c.settle.new.self.left old.consumer c.pass_over.new.self.consumer c.settle.new.self.consumer kept done c.is_reading-was_reading.result c.settle.result (view c.args.link.now) (view c.pass_over.new.link)
-    c.in-Ok.ensures.passes c.settle.ensures.consumer c.is_reading-was_reading.ensures c.settle.ensures.seen
-    (c.settle.ensures.left ∙ ap (λ (t : TaskQueue). next_rows m done.next ++ later_of t) c.in-Ok.ensures.todo) c.settle.ensures.turned
+    next_passed (given_to old) c.args.now old.left c.keep_remaining.new.self.left old.consumer c.pass_over.new.self.consumer c.keep_remaining.new.self.consumer kept done c.is_reading-was_reading.result c.keep_remaining.result (view c.args.link.now) (view c.pass_over.new.link)
+    c.in-Ok.ensures.passes c.keep_remaining.ensures.consumer c.is_reading-was_reading.ensures c.keep_remaining.ensures.seen
+    (c.keep_remaining.ensures.left ∙ ap (λ (t : TaskQueue). next_rows m done.next ++ later_of t) c.in-Ok.ensures.todo) c.keep_remaining.ensures.turned
 
 pub returns-in-Err-Closed-clause-turns : goal.returns-in-Err-Closed-clause-turns
 returns-in-Err-Closed-clause-turns g c =

@@ -4,7 +4,7 @@ use Rattle.js_ordered_stream.specs.Rows.{kept_if, later_of, read_in}
 use Rattle.js_ordered_stream.specs.Ordered.{given_to}
 use Rattle.js_ordered_stream.proofs.NextRow.{turn_short}
 use Rattle.js_ordered_stream.proofs.SteadyStates.{settled_steady}
-use Rattle.js_ordered_stream.proofs.ordered.Ordered.settle.Goals as goal
+use Rattle.js_ordered_stream.proofs.ordered.Ordered.keep_remaining.Goals as goal
 
 pub follow-requires-clause-short : goal.follow-requires-clause-short
 follow-requires-clause-short c =
