@@ -8,3 +8,4 @@ pub mod QueuePoll
 pub mod Pending
 pub mod AnswerOutcome
 pub mod Confirm
+pub mod Health

@@ -1,4 +1,4 @@
-//! A message that is published, and whose ack is awaited, as one call.
+//! Publishing a message and awaiting its ack, as one call.
 ghost use Rattle.std.specs.Prelude.{◌≡◌, ◌+◌, ◌<◌, ◌^◌, ◌++◌, ℕ, IfOk, None};
 ghost use Rattle.js_message.specs.PublishMessage.{outbound};
 ghost use Rattle.js_base.specs.Clock.{has_come};
@@ -17,18 +17,19 @@ use js_link::{Link, RequestId};
 use std::alloc::Global;
 use std::sync::Wait;
 
-/// A message that is published and confirmed: it is sent at a poll that finds a permit free, and then its ack is awaited.
+/// A message that is published and confirmed: a poll sends it if a permit is free, and from then on
+/// polls await its ack.
 ///
-/// It is spent: polled until it is ready, or given to `detach`.
+/// Poll it until it is ready, or call `detach`.
 #[must_use = "a message is sent by a poll"]
 pub enum Confirming {
-    /// It is to be sent.
+    /// The message is not sent yet.
     Sends(Sending),
-    /// It was sent, and its ack is awaited.
+    /// The message was sent, and its ack is awaited.
     Awaits(PublishAckFuture),
 }
 
-/// What one poll answers.
+/// What one poll returns.
 type Polled = Turn<Confirming, Result<PublishAck, PublishError>>;
 
 // Looks at the ack.
@@ -54,13 +55,16 @@ fn look<R: Wait, L: Link>(
 }
 
 impl Confirming {
-    /// Sends the message where it was not sent, as [`Sending::poll`] does, and then looks at its ack, as [`PublishAckFuture::poll`] does. The errors are
-    /// those of the two; each comes with no permit held. A message that was not sent is sent by a later poll, and one that was sent never again.
+    /// Sends the message if it is not sent yet, as [`Sending::poll`] does, then looks at its ack,
+    /// as [`PublishAckFuture::poll`] does. The errors are those of the two; after an error the
+    /// message holds no permit. A message that was not sent is sent by a later poll; one that was
+    /// sent is never sent again.
     ///
-    /// The caller is the context that sent the message.
+    /// The caller must pass the context that sent the message.
     ///
-    /// After `Pending` one that was not sent waits for a permit, as [`Sending::poll`] says. One that was sent may be left alone until the answer to its
-    /// `request` has come, that request is gone, or its `wakes_at` has come: a poll before that changes neither it nor the link.
+    /// After `Pending`, a message that was not sent waits for a permit, as [`Sending::poll`] says.
+    /// If it was sent, you may wait until the answer to its `request` has come, that request is
+    /// gone, or its `wakes_at` has come. Polling earlier changes neither it nor the link.
     pub fn poll<R: Wait, L: Link>(
         self,
         rt: &R,
@@ -86,7 +90,8 @@ impl Confirming {
         }
     }
 
-    /// The number of the request whose answer it waits for. None where it was not sent, or its ack is to be polled at once.
+    /// Returns the number of the request whose answer it waits for. Returns `None` if the message
+    /// was not sent, or if you should poll its ack at once.
     pub fn request(&self) -> Option<RequestId>
         ensures { result ≡ request_of (confirming_waits_for self.now) }
     {
@@ -96,8 +101,8 @@ impl Confirming {
         }
     }
 
-    /// The moment from which on the clock of its ack is due. None where it was not sent, its ack is to be polled at once, or that clock would end past
-    /// `u64::MAX`.
+    /// Returns the moment at which the clock of its ack is due. Returns `None` if the message was
+    /// not sent, if you should poll its ack at once, or if that clock would end past `u64::MAX`.
     pub fn wakes_at(&self) -> Option<Moment>
         ensures { (now : ℕ) → now < 2 ^ 64 → has_come result now ≡ is_due (confirming_waits_for self.now) now }
     {
@@ -107,7 +112,8 @@ impl Confirming {
         }
     }
 
-    /// From here on nobody awaits it. A message that was not sent is let go; the ack of one that was sent is looked after by `Context::reap`.
+    /// Stops awaiting the message. One that was not sent is dropped. The ack of one that was sent
+    /// is left to `Context::reap`.
     pub fn detach(self, context: &mut Context)
         requires { BelongsTo self context.old }
         ensures awaited { context.new.awaited + permits self ≡ context.old.awaited }
@@ -121,10 +127,10 @@ impl Confirming {
     }
 }
 
-/// The call that publishes a message and awaits its ack.
+/// Adds the call that publishes a message and awaits its ack.
 pub trait PublishCalls {
-    /// Publishes a payload to a subject, and awaits the ack. The one refusal here is want of memory; the errors of [`Confirming::poll`]
-    /// come later.
+    /// Publishes a payload to a subject and awaits the ack. Fails here only with `OutOfMemory`;
+    /// other errors come from [`Confirming::poll`].
     fn publish_and_confirm(
         &mut self,
         alloc: Global,

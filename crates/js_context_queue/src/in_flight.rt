@@ -1,4 +1,4 @@
-//! Messages that were sent, and whose acks are awaited.
+//! Messages in flight: they were sent, and their acks are awaited.
 ghost use Rattle.js_context_queue.specs.InFlight.{AreAwaited, Detaches};
 
 use crate::published::Tag;
@@ -11,7 +11,7 @@ pub(crate) struct InFlight {
     pub(crate) future: PublishAckFuture,
 }
 
-/// From here on nobody awaits these acks: the context looks after them.
+/// Detaches all these acks, so that the context settles them.
 pub(crate) fn detach_all(context: &mut Context, mut in_flight: VecDeque<InFlight>)
     requires { AreAwaited in_flight.items context.old }
     ensures { Detaches in_flight.items context.old context.new }

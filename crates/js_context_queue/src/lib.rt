@@ -1,17 +1,19 @@
 //! Publishing many messages under the permits of one context.
 //!
-//! A [`PublishQueue`] is made of a context. Messages are pushed, each of which gets a [`Tag`], and polls hand out what became of
-//! them, in the order in which that is known:
+//! Create a [`PublishQueue`] from a context. Push messages; each gets a [`Tag`]. Polls return the
+//! outcome of each message as soon as it is known:
 //!
-//! - A message is sent by a poll that finds a permit free. One that finds none, or whose send fails, stays in front of those behind
-//!   it, and a later poll sends it, until its time is over. Its headers stay as they are, its id among them, so that a server that
-//!   has it already knows it for a duplicate.
-//! - A message that was sent has its outcome when its ack comes, or when the context's timeout is due.
+//! - A poll sends a message if a permit is free. If none is free, or the send fails, the message
+//!   stays in front of those behind it, and a later poll sends it, until its time is over. Its
+//!   headers stay the same, its id among them, so a server that already has the message recognizes
+//!   the duplicate.
+//! - A sent message has its outcome when its ack comes, or when the context's timeout is due.
 //!
-//! Each message has one outcome, which is what its own ack answered or why it was given up. `close` hands back the messages that
-//! were not sent, and the context. `wakes_at` tells when the queue has something to do although nothing came.
+//! Each message has one outcome: what its own ack said, or why it was given up. `close` returns the
+//! messages that were not sent, and the context. `wakes_at` tells when the queue has something to
+//! do even if nothing arrives.
 //!
-//! One message alone is published and confirmed by [`PublishCalls::publish_and_confirm`].
+//! To publish and confirm a single message, use [`PublishCalls::publish_and_confirm`].
 #![tactic(auto)]
 
 mod confirm;
@@ -23,5 +25,5 @@ mod unsent;
 
 pub use confirm::{Confirming, PublishCalls};
 pub use published::{Published, Tag};
-pub use queue::{Closed, PublishQueue};
+pub use queue::{Closed, PublishQueue, QueueHealth};
 pub use unsent::Unsent;

@@ -1,4 +1,4 @@
-//! What became of a message.
+//! The outcome of a message.
 use js_context::PublishError;
 use js_json::PublishAck;
 
@@ -6,11 +6,11 @@ use js_json::PublishAck;
 #[derive(Clone, Copy, Debug, PartialEq, Eq)]
 pub struct Tag(pub u64);
 
-/// What became of a message.
+/// The outcome of a message.
 #[derive(Debug, Drop)]
 pub struct Published {
-    /// Which message it is.
+    /// The message's tag.
     pub tag: Tag,
-    /// Where it is stored, or why that is not known.
+    /// Where the message is stored, or why that is not known.
     pub outcome: Result<PublishAck, PublishError>,
 }

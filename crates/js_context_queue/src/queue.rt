@@ -1,4 +1,4 @@
-//! A queue of messages that are published under the permits of one context, and its polls.
+//! A queue that publishes messages under the permits of one context, and its polls.
 ghost use Rattle.std.specs.Prelude.{◌≡◌, ◌<◌, ◌≤◌, ◌+◌, ◌^◌, ◌++◌, ◌∷◌, [], ℕ, None, IfOk, OnOk, OnErr, length};
 ghost use Rattle.js_message.specs.PublishMessage.{outbound};
 ghost use Rattle.js_window.specs.Caller.{held};
@@ -25,9 +25,14 @@ use std::collections::VecDeque;
 use std::marker::Model;
 use std::sync::Wait;
 
-/// Messages that are published under the permits of one context, each of which has one outcome.
+mod health;
+
+pub use health::QueueHealth;
+
+/// Publishes messages under the permits of one context, and returns one outcome for each.
 ///
-/// Where it is dropped, the permits of messages that were sent are never free again: close it.
+/// Call `close` when you are done. If you drop the queue instead, the permits of messages in flight
+/// are never free again.
 #[must_use = "messages are sent by polls"]
 pub struct PublishQueue {
     context: Context,
@@ -62,17 +67,18 @@ impl Drop for PublishQueue {
     }
 }
 
-/// What a closed queue hands back.
+/// What closing a queue returns.
 #[derive(Drop)]
 #[must_use = "what is left was not stored"]
 pub struct Closed {
-    /// Its context. The acks of messages that were sent are detached: `Context::reap` looks after them.
+    /// The queue's context. The acks of messages that were sent are detached: `Context::reap`
+    /// settles them.
     pub context: Context,
     /// The messages that were not sent, in the order in which they were pushed.
     pub unsent: VecDeque<Unsent>,
 }
 
-/// What a step came to.
+/// The result of a step.
 enum StepResult {
     /// The step was made.
     Made,
@@ -85,7 +91,8 @@ enum StepResult {
 }
 
 impl PublishQueue {
-    /// A queue without messages. A message waits as long as `send_timeout` for its sending, in nanoseconds, from its push on.
+    /// Creates an empty queue. `send_timeout` is how long a message may wait to be sent, in
+    /// nanoseconds, from its push on.
     pub fn new(alloc: Global, context: Context, send_timeout: Nanos) -> PublishQueue
         ensures { result ≡ record { context = context; unsent = []; in_flight = []; next = 0; send_timeout = send_timeout } }
     {
@@ -98,7 +105,8 @@ impl PublishQueue {
         }
     }
 
-    /// Puts a message behind the others. A refusal is want of memory, or of a tag after `u64::MAX` pushes, and the message is let go.
+    /// Appends a message to the queue. Fails with `OutOfMemory` if memory runs out, or if no tag is
+    /// left after `u64::MAX` pushes; the message is then dropped.
     pub fn push(&mut self, message: OutboundMessage, now: Moment) -> Result<Tag, OutOfMemory>
         ensures tag { IfOk result (λ tag. tag.0 ≡ self.old.next) }
         ensures fresh { times self.old.next (open_tags self.old) ≡ 0 }
@@ -119,7 +127,7 @@ impl PublishQueue {
         Ok(tag)
     }
 
-    /// Puts a message with this payload and no headers behind the others. The refusals are those of `push`.
+    /// Appends a message with this payload and no headers to the queue. Fails as `push` does.
     pub fn publish(
         &mut self,
         alloc: Global,
@@ -138,21 +146,30 @@ impl PublishQueue {
         self.push(OutboundMessage::new(subject, payload, None), now)
     }
 
-    /// Sends what permits allow, then looks at the acks, and hands out an outcome.
+    /// Sends as many messages as permits allow, then looks at the acks, and returns an outcome if
+    /// one is known.
     ///
-    /// The outcome of a message that was sent is what its own ack answered, as [`PublishAckFuture::poll`](js_context::PublishAckFuture::poll) says. One that
-    /// can't be sent is over at once: `Other` where its subject is none, `MaxPayloadExceeded` where it is longer than the link sends. One that could be sent is
-    /// over at the poll that fails to send it when it has waited for the queue's `send_timeout`: `MaxAckPending` where no permit was free, `Other` where the link failed.
+    /// The outcome of a sent message is what its own ack said, as
+    /// [`PublishAckFuture::poll`](js_context::PublishAckFuture::poll) describes. A message that
+    /// cannot be sent ends at once: with `Other` if its subject is invalid, with
+    /// `MaxPayloadExceeded` if it is longer than the link sends. A message that could be sent ends
+    /// at a poll that fails to send it after it has waited for the queue's `send_timeout`: with
+    /// `MaxAckPending` if no permit was free, with `Other` if the link failed.
     ///
-    /// `Pending` comes where no outcome is known and messages are left, `End` where none is left. Before it is pending, a poll has looked at each ack in flight:
-    /// the link waits for the answer, and its clock is not due. And it has tried the first message that it leaves unsent, after it sent those before it: no
-    /// permit was free, or the link failed, and the message's time is not over.
+    /// Returns `Pending` if no outcome is known and messages are left, and `End` if no message is
+    /// left. Before it returns `Pending`, the poll has looked at each ack in flight: the link waits
+    /// for its answer, and its clock is not due. It has also tried the first message that it leaves
+    /// unsent, after sending those before it: no permit was free or the link failed, and the
+    /// message's time is not over.
     ///
-    /// After `Pending`, where each message was sent, or those in flight hold all permits of the window, it may be left alone until an answer to one has come,
-    /// the request of one is gone, or `wakes_at` has come: a poll before that sends nothing, hands out nothing, and leaves the queue what it was, though its
-    /// pass may have asked for a permit once more. `in_flight` tells whether they hold them all.
+    /// If, after `Pending`, every message was sent, or those in flight hold all permits of the
+    /// window, you may wait until an answer to one has come, the request of one is gone, or
+    /// `wakes_at` has come. Polling earlier sends nothing, returns nothing and leaves the queue
+    /// unchanged, except that it may ask for a permit once more. Use `in_flight` to tell whether
+    /// they hold all permits.
     ///
-    /// Else a message that was not sent waits for a permit that another caller of the window holds, or for a link that is up again: each poll tries to send it.
+    /// Otherwise an unsent message waits for a permit that another context of the window holds, or
+    /// for the link to recover: each poll tries to send it.
     pub fn poll_next<R: Wait, L: Link>(
         &mut self,
         rt: &R,
@@ -201,8 +218,8 @@ impl PublishQueue {
         }
     }
 
-    /// How many messages were sent and have no ack yet. Each of them bears a permit that the context holds, so that they are never more than the
-    /// permits of its window.
+    /// Returns how many messages were sent and have no ack yet. Each of them holds a permit of the
+    /// context, so they never outnumber the permits of its window.
     pub fn in_flight(&self) -> usize
         ensures count { result ≡ length self.now.in_flight }
         ensures held { result ≤ held self.now.context.pass }
@@ -211,9 +228,13 @@ impl PublishQueue {
         self.in_flight.len()
     }
 
-    /// The first moment at which the clock of an ack is due, or the time of the first message is over that was not sent: those behind it wait for it. None
-    /// where there is none such. It is of use after `Pending`, when each ack in flight has its clock; after a push, an outcome or want of memory the queue is
-    /// to be polled at once. It tells nothing of permits that another caller gives back: see `poll_next`.
+    /// Returns the first moment at which the clock of an ack is due, or the time of the first
+    /// unsent message is over; the messages behind it wait for it. Returns `None` if there is no
+    /// such moment.
+    ///
+    /// Use it after `Pending`, when each ack in flight has its clock. After a push, an outcome or
+    /// `OutOfMemory`, poll the queue at once. It tells nothing of permits that another context
+    /// gives back: see `poll_next`.
     pub fn wakes_at(&self) -> Option<Moment>
         ensures { (now : ℕ) → now < 2 ^ 64 → has_come result now ≡ queue_due self.now now }
     {
@@ -378,8 +399,8 @@ impl PublishQueue {
         }
     }
 
-    /// Ends the queue: the messages that were not sent are handed back, and the context. The acks of those that were sent are detached, so that
-    /// no permit is lost.
+    /// Ends the queue and returns its context and the messages that were not sent. The acks of
+    /// messages in flight are detached, so no permit is lost.
     pub fn close(self) -> Closed
         ensures unsent { result.unsent.items ≡ self.unsent }
         ensures context { Detaches self.in_flight self.context result.context }

@@ -9,19 +9,19 @@ use js_message::OutboundMessage;
 use std::alloc::Global;
 use std::sync::Wait;
 
-/// What a try to send a message came to.
+/// The result of one try to send a message.
 pub(crate) enum SendResult {
-    /// It was sent.
+    /// The message was sent.
     Went(PublishAckFuture),
-    /// It was not sent, and a later try may send it.
+    /// The message was not sent; a later try may send it.
     Stays(PublishErrorKind),
-    /// It can't be sent.
+    /// The message cannot be sent.
     Fails(PublishError),
-    /// Memory ran out, and it was not sent.
+    /// Memory ran out, and the message was not sent.
     NoMemory,
 }
 
-/// Tries to send a message, which is kept for a later try.
+/// Tries to send a message. The caller keeps it for a later try.
 pub(crate) fn try_to_send<R: Wait, L: Link>(
     message: &OutboundMessage,
     rt: &R,

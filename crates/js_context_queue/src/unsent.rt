@@ -9,16 +9,16 @@ use js_message::OutboundMessage;
 /// A message that was not sent.
 #[derive(Drop)]
 pub struct Unsent {
-    /// Which message it is.
+    /// The message's tag.
     pub tag: Tag,
-    /// The message, as it was pushed.
+    /// The message as it was pushed.
     pub message: OutboundMessage,
     /// When it was pushed.
     pub since: Moment,
 }
 
 impl Unsent {
-    /// Its tag. The message is let go.
+    /// Returns its tag and drops the message.
     pub(crate) fn into_tag(self) -> Tag
         ensures { result ≡ self.tag }
     {
@@ -27,7 +27,7 @@ impl Unsent {
         tag
     }
 
-    /// Whether it has waited for as long as a message may.
+    /// Returns whether it has waited for `send_timeout` nanoseconds.
     pub(crate) fn is_over(&self, now: Moment, send_timeout: Nanos) -> bool
         ensures { result ≡ is_over self.now.since send_timeout now }
     {
