@@ -4,3 +4,5 @@ pub mod DefaultLimits
 mod PushPolls
 mod GivenKinds
 mod KeptInboxes
+mod UntimedPolls
+pub mod RisingSequences

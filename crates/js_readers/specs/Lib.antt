@@ -14,3 +14,5 @@ pub mod PushMessages
 pub mod PushCalls
 pub mod OrderedOpening
 pub mod OrderedPolls
+pub mod OrderedConsumers
+pub mod Rising

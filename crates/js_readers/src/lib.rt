@@ -1,16 +1,17 @@
-//! How a consumer is read, by the calls that it has for that: a pull consumer, a push consumer, and an ordered one of either kind.
+//! The calls that read a consumer: a pull consumer, a push consumer, and an ordered consumer of
+//! either kind.
 //!
-//! - [`pull`] has the calls of a pull consumer: `messages` and `stream` read without an end, `fetch` and `batch` read one batch,
-//!   and `sequence` batch after batch. At their builders all can be set that a pull request asks for. A batch gives at most as many
-//!   messages as were asked for.
-//! - [`push`] has `messages` of a push consumer, which subscribes to the subject that the consumer delivers to. Missing heartbeats
-//!   are told, and a heartbeat that asks for an answer gets it.
-//! - [`ordered`] has `messages` of ordered consumers, over the stream of js_ordered_stream: it hands out messages in order and
-//!   without a gap.
+//! - [`pull`] has the calls of a pull consumer: `messages` and `stream` read without an end,
+//!   `fetch` and `batch` read one batch, and `sequence` reads batch after batch. Their builders set
+//!   all that a pull request can ask for. A batch gives at most as many messages as were asked for.
+//! - [`push`] has `messages` of a push consumer, which subscribes to the consumer's deliver
+//!   subject. It reports missing heartbeats, and answers a heartbeat that asks for an answer.
+//! - [`ordered`] has `messages` of ordered consumers, built on the streams of js_ordered_stream: it
+//!   returns messages in order and without a gap.
 //!
-//! Messages can be acknowledged and tell where they stand in their stream. Each reader tells the inbox that it reads, by which a
-//! program with many readers finds the one that a message came for. `close` lets go of a reader and closes its inbox; one that is
-//! dropped leaves it open.
+//! Messages can be acknowledged, and tell their place in the stream. `inbox` of a reader returns
+//! the inbox that it reads, so a program with many readers finds the one that a message came for.
+//! `close` ends a reader and closes its inbox. Dropping a reader leaves its inbox open.
 #![tactic(auto)]
 
 pub mod ordered;

@@ -1,6 +1,8 @@
-//! The calls of a pull consumer: streams that ask again and again, single batches, and batches one after the other.
+//! The calls of a pull consumer: streams that ask again and again, single batches, and batches one
+//! after another.
 //!
-//! What is asked for stands in one table, by the builder (`specs/Builder.antt`): what was set, and else the default of the builder's row.
+//! One table by builder (`specs/Builder.antt`) fixes what a request asks for: what was set, or else
+//! the default of the builder.
 
 mod advance;
 mod batch;

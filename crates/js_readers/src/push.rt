@@ -1,6 +1,7 @@
-//! The calls of a push consumer: its messages are read from the subject that it delivers to.
+//! Reading a push consumer: its messages come on its deliver subject.
 //!
-//! What a reader does stands in one table of rows (`specs/PushRows.antt`): what a row asks of the link, and what it makes of what it meets there.
+//! One table (`specs/PushRows.antt`) fixes what a reader does: what each step asks of the link, and
+//! what it makes of the result.
 
 mod calls;
 mod error;

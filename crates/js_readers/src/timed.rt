@@ -1,4 +1,4 @@
-//! The answer of a reader, whose message is handed out with how long a double ack of it waits.
+//! A reader's answer, with how long a double ack of its message waits.
 ghost use Rattle.std.specs.Prelude.{◌≡◌};
 ghost use Rattle.js_readers.specs.Stream.{IsTimed, untimed};
 

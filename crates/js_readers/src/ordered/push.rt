@@ -1,9 +1,10 @@
-//! An ordered push consumer: the call that reads it, and what reads it.
+//! Reading an ordered push consumer.
 ghost use Rattle.std.specs.Prelude.{◌≡◌, ◌<◌, ◌^◌, ℕ, IfOk};
 ghost use Rattle.js_base.specs.Clock.{has_come};
 ghost use Rattle.js_json.specs.declared.push.OrderedConfig.{OrderedConfig};
 ghost use Rattle.js_link.specs.Meets.{Meets};
 ghost use Rattle.js_call_consumers.specs.declared.consumer.Consumer.{Consumer};
+ghost use Rattle.js_ordered_stream.specs.Health.{health_of};
 ghost use Rattle.js_ordered_stream.specs.Inbox.{ClosesInbox, inbox_of};
 ghost use Rattle.js_ordered_stream.specs.Opening.{IsGaplessPush, input_of_push, position_of_push};
 ghost use Rattle.js_ordered_stream.specs.Ordered.{IsGivenKind, SleepsUntil, something_due};
@@ -20,15 +21,16 @@ use js_base::{Error, Moment, Nanos, Next};
 use js_call_consumers::OrderedPushConsumer;
 use js_link::{InboxId, Link};
 use js_message::Message;
-use js_ordered_stream::OrderedError;
 use js_ordered_stream::push::OpenError;
+use js_ordered_stream::{Health, OrderedError};
 use std::alloc::Global;
 
-/// The messages of an ordered push consumer, in order and without a gap. It answers what the server's flow control asks, and makes its
-/// consumer anew where a message is missing, where the server is silent, and where the connection comes or goes.
+/// The messages of an ordered push consumer, in order and without a gap. It answers the server's
+/// flow control. It recreates its consumer if a message is missing, if the server is silent, and if
+/// the connection comes or goes.
 ///
-/// Its messages want no acknowledgement. One that is let go leaves its inbox open, to which the server goes on delivering: `close` lets go
-/// of it and closes its inbox.
+/// Its messages need no acknowledgement. Call `close` when you are done with it. Dropping it leaves
+/// its inbox open, and the server goes on delivering.
 #[derive(Drop)]
 #[must_use = "messages come by polls"]
 pub struct Ordered {
@@ -37,16 +39,20 @@ pub struct Ordered {
     timeout: Nanos,
 }
 
-/// The calls of an ordered push consumer.
+/// The call that reads an ordered push consumer.
 pub trait OrderedPushCalls: Drop {
-    /// The consumer that is read.
+    /// The consumer that it reads.
     ghost reads: { Self → Consumer OrderedConfig };
 
-    /// Subscribes to the subject that the consumer delivers to, as its cached info has it, and reads it there: it makes its consumer anew where a message is
-    /// missing. Its requests go where those of the consumer's scope go, and wait as long. However it is polled from then on, what it yields is gapless
-    /// where the server is honest. A double ack of its messages waits as long as the scope says, or five seconds.
+    /// Subscribes to the consumer's deliver subject, as its cached info has it, and reads the
+    /// consumer there. The reader recreates its consumer if a message is missing.
     ///
-    /// `Other` comes where the info has no such subject, or where the link failed, and `OutOfMemory` where memory ran out. Nothing was sent then.
+    /// It sends its requests with the API prefix of the consumer's scope, and waits for answers as
+    /// long as the scope says. However you poll it, its messages have no gap if the server is
+    /// honest. A double ack of a message waits as long as the scope says, or five seconds.
+    ///
+    /// Fails with `Other` if the info has no deliver subject or the link fails, and with
+    /// `OutOfMemory` if memory runs out. Nothing was sent then.
     fn messages<L: Link>(self, alloc: Global, link: &mut L) -> Result<Ordered, StreamError>
         ensures opens { OpensPush result (reads self) (L.view link.old) (L.view link.new) }
         ensures gapless { IfOk result (λ ordered. IsGaplessPush ordered.reader) };
@@ -63,32 +69,35 @@ fn open_error_kind(error: OpenError) -> StreamErrorKind
 }
 
 impl Ordered {
-    /// The inbox that is open for it: the one that it reads, or the one of the consumer that is being made. It has another one each time its
-    /// consumer was made anew, and none in between and at its end.
+    /// Returns the inbox that is open for it: the one that it reads, or the one of the consumer
+    /// that is being created. This changes each time the consumer is recreated. `None` in between,
+    /// and at its end.
     ///
-    /// One that ends with the connection's watcher leaves its inbox open at the link, and names it no more: what asks before the poll can
-    /// close it.
+    /// If it ends with the connection's watcher, its inbox stays open at the link, and `inbox` no
+    /// longer returns it. To close that inbox, call `inbox` before the poll.
     pub fn inbox(&self) -> Option<InboxId>
         ensures { result ≡ inbox_of (position_of_push self.now.reader).consumer.phase }
     {
         self.reader.inbox()
     }
 
-    /// Lets go of it, and closes its inbox, where it has one: what lies in it is lost. The server's consumer is not deleted: it goes when
-    /// nobody has listened to it for its inactive threshold.
+    /// Ends it, and closes its inbox if it has one. What lies in the inbox is lost. This does not
+    /// delete the server's consumer, which goes away when nobody has listened to it for its
+    /// inactive threshold.
     pub fn close<L: Link>(self, link: &mut L)
         ensures { ClosesInbox (inbox_of (position_of_push self.reader).consumer.phase) (L.view link.old) (L.view link.new) }
     {
         self.reader.close(link);
     }
 
-    /// Reads the next message or error, as the reader below does (`js_ordered_stream::push::Ordered::poll_next`): it waits after a turn in
-    /// which nothing came. Its messages tell their place by `info`. They want no acknowledgement; where one is double-acked, it waits for the
-    /// answer as long as the scope of the consumer says, or five seconds.
+    /// Reads the next message or error, as `js_ordered_stream::push::Ordered::poll_next` does.
+    /// Returns `Pending` after a turn in which nothing came. `info` of a message tells its place in
+    /// the stream. Messages need no acknowledgement. If you double-ack one, the double ack waits
+    /// for its answer as long as the scope of the consumer says, or five seconds.
     ///
-    /// After `Pending` it may be left alone until something comes for it or `wakes_at` has come: a poll before that does nothing.
-    /// What comes is a message in its inbox, the end of its inbox, an answer that it waits for, a change of the connection, and the end
-    /// of the watcher.
+    /// After `Pending` you may sleep until something comes for it or `wakes_at` has come. Polling
+    /// earlier does nothing. What may come is a message in its inbox, the end of its inbox, an
+    /// answer that it waits for, a change of the connection, or the end of the watcher.
     pub fn poll_next<L: Link>(
         &mut self,
         alloc: Global,
@@ -106,17 +115,30 @@ impl Ordered {
         timed(self.reader.poll_next(alloc, link, now), self.timeout)
     }
 
-    /// The first moment at which it has something to do by itself, where there is one: at once where a row is left, else when
-    /// its heartbeat is missing, or while its consumer is made anew the answer that it waits for is overdue, or its next try is due. One that
-    /// has neither an inbox nor a consumer that is being made begins one at once. One that has ended has no such moment.
+    /// Returns the first moment at which it has something to do by itself:
     ///
-    /// A row is left where a poll stopped before its turn was over. So where there was no memory for the request that deletes the old
-    /// consumer, this is `Some(0)`, though no timer is set, and the next poll sends it.
+    /// - `Some(0)` if it was never polled, if work of an earlier poll is left, or if it has neither
+    ///   an inbox nor an open recreation (the next poll then begins one);
+    /// - while it recreates its consumer, when the answer that it waits for is overdue, or when its
+    ///   next try is due;
+    /// - otherwise, when its heartbeat is missing;
+    /// - `None` if there is no such moment, or if it has ended.
+    ///
+    /// Work is left if a poll stopped before its turn was over. For example, if there was no memory
+    /// for the request that deletes the old consumer, this is `Some(0)`, though no timer is set,
+    /// and the next poll sends the request.
     pub fn wakes_at(&self) -> Option<Moment>
         ensures value { (now : ℕ) → now < 2 ^ 64 → has_come result now ≡ something_due now (position_of_push self.now.reader) }
         ensures sleeps { SleepsUntil (input_of_push self.now.reader) result (position_of_push self.now.reader) }
     {
         self.reader.wakes_at()
+    }
+
+    /// Returns what it is doing, and how far it has come. Takes no memory, and looks at no link.
+    pub fn health(&self) -> Health
+        ensures { result ≡ health_of (position_of_push self.now.reader) }
+    {
+        self.reader.health()
     }
 }
 

@@ -1,4 +1,4 @@
-//! The settings of the reader of an ordered consumer, by the scope of its calls.
+//! The settings of an ordered consumer's reader, from the scope of its calls.
 ghost use Rattle.std.specs.Prelude.{◌≡◌};
 ghost use Rattle.js_readers.specs.OrderedOpening.{settings_of};
 

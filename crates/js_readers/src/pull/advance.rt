@@ -1,4 +1,4 @@
-//! What one part of an event of a stream hands out.
+//! What one part of a stream's event returns.
 ghost use Rattle.std.specs.Prelude.{◌≡◌};
 ghost use Rattle.js_readers.specs.Stream.{IsTimedAdvance, untimed_advance};
 
@@ -10,15 +10,15 @@ use js_pull::MessagesError;
 #[derive(Drop)]
 #[must_use = "it holds the message"]
 pub enum Advance {
-    /// Something to tell in place of a message.
+    /// What the stream reports in place of a message.
     Item(MessagesError),
     /// A message.
     Message(Message),
-    /// The inbox is closed: nothing comes any more.
+    /// The inbox is closed. Nothing more will come.
     Closed,
     /// The event is over.
     Done,
-    /// Memory ran out. The next call goes on where this one stopped.
+    /// Memory ran out. The next call goes on from where this one stopped.
     OutOfMemory,
 }
 

@@ -1,4 +1,4 @@
-//! One batch of messages, and how it is polled.
+//! One batch of messages, and how you poll it.
 ghost use Rattle.std.specs.Prelude.{◌≡◌, ◌<◌, ◌==◌, ◌^◌, ℕ, Some};
 ghost use Rattle.js_link.specs.Calls.{Closes};
 ghost use Rattle.js_base.specs.Clock.{has_come};
@@ -12,27 +12,27 @@ use js_base::{Moment, Nanos, Next, Timer, is_any_due};
 use js_link::{InboxId, Link, Taken};
 use js_message::Message;
 
-/// One batch of messages. It gives at most as many as were asked for, and then it has ended.
+/// One batch of messages. It returns at most as many as were asked for, and then ends.
 ///
-/// Where it ends it closes its inbox. One that is let go before that leaves its inbox open, also one of no messages that was never
-/// polled: `close` lets go of it and closes its inbox.
+/// It closes its inbox when it ends. Dropping it earlier leaves the inbox open, even if it asked
+/// for no messages and was never polled. Call `close` to end it and close its inbox.
 #[derive(Drop)]
 #[must_use = "messages come by polls"]
 pub struct Batch {
-    /// Its inbox, until it has ended.
+    /// Its inbox; `None` once it has ended.
     inbox: Option<u64>,
     /// How many messages are still to come.
     left: u64,
-    /// How long it waits, where there is a bound.
+    /// How long it waits; `None` for no limit.
     timer: Option<Timer>,
     /// How long a double ack of its messages waits, in nanoseconds.
     timeout: Nanos,
 }
 
-/// What a batch makes of what its inbox gave.
+/// What a batch makes of what came from its inbox.
 #[derive(Drop)]
 pub(crate) enum BatchOutcome {
-    /// A heartbeat: the next one is looked at.
+    /// A heartbeat: the batch looks at what comes next.
     Skips,
     /// Nothing has come, and its time is not over.
     Waits,
@@ -79,7 +79,7 @@ impl Batch {
         }
     }
 
-    /// The inbox that it reads. One that has ended has none.
+    /// Returns the inbox that it reads; `None` once it has ended.
     pub fn inbox(&self) -> Option<InboxId>
         ensures { result ≡ inbox_id self.now.inbox }
     {
@@ -89,8 +89,8 @@ impl Batch {
         }
     }
 
-    /// Lets go of it, and closes its inbox where that is still open: what lies in it is lost. Its request that is open at the server runs
-    /// out by itself.
+    /// Ends it, and closes its inbox if that is still open. What lies in the inbox is lost. Its
+    /// request that is open at the server expires by itself.
     pub fn close<L: Link>(self, link: &mut L)
         ensures { ClosesInbox (inbox_id self.inbox) (L.view link.old) (L.view link.new) }
     {
@@ -140,11 +140,13 @@ impl Batch {
 
     /// Reads the next message, or what the server says in place of one.
     ///
-    /// It waits where its inbox is empty and its time is not over. It ends after as many messages as were asked for, at status 404 or 408,
-    /// where its inbox is empty and its time is over, and where its inbox is closed. A heartbeat is passed over, and any other status is one
-    /// error, after which it has ended. Takes no memory.
+    /// Returns `Pending` if its inbox is empty and its time is not over. It ends after as many
+    /// messages as were asked for, at status 404 or 408, if its inbox is empty and its time is
+    /// over, and if its inbox is closed. It skips heartbeats. Any other status is returned as one
+    /// error, and ends the batch. Takes no memory.
     ///
-    /// After `Pending` it may be left alone until something comes for it or `wakes_at` has come: a poll before that does nothing.
+    /// After `Pending` you may sleep until something comes for it or `wakes_at` has come. Polling
+    /// earlier does nothing.
     pub fn poll_next<L: Link>(
         &mut self,
         link: &mut L,
@@ -188,8 +190,9 @@ impl Batch {
         }
     }
 
-    /// The first moment at which it has something to do by itself, where there is one: when its time is over. One of which nothing is to
-    /// come any more ends at once, and one that has ended has no such moment.
+    /// Returns the first moment at which it has something to do by itself: when its time is over,
+    /// or `Some(0)` if no message is left to come, since it then ends at the next poll. `None` if
+    /// it has no time limit, or has ended.
     pub fn wakes_at(&self) -> Option<Moment>
         ensures { (now : ℕ) → now < 2 ^ 64 → has_come result now ≡ batch_due now self.now }
     {
@@ -202,12 +205,13 @@ impl Batch {
     }
 }
 
-/// A batch gives at most as many messages as were asked for, however it is polled. A law, which takes no steps.
+/// A batch returns at most as many messages as were asked for, however you poll it. A law: calling
+/// it does nothing.
 pub fn batches_keep_their_number()
     ensures { KeepsItsNumber }
 {}
 
-/// A batch that has ended only ends. A law, which takes no steps.
+/// A batch that has ended returns only `End`. A law: calling it does nothing.
 pub fn ended_batches_stay_ended()
     ensures { StaysEnded }
 {}

@@ -1,12 +1,13 @@
-//! What a batch gives in place of a message.
+//! What a batch returns in place of a message.
 ghost use Rattle.std.specs.Prelude.{◌≡◌, Some};
 ghost use Rattle.js_readers.specs.BatchItem.{arrival_of, item_text};
 
 use js_base::{StatusCode, Text};
 use std::{error, fmt};
 
-/// What the server says in place of a message, as status 409 where the consumer is deleted or the request was too large, and 503 where
-/// nobody listens. It prints the status, and the description after a colon where there is one.
+/// What the server says in place of a message: for example status 409 if the consumer was deleted
+/// or the request was too large, and 503 if nobody listens. It prints the status, followed by a
+/// colon and the description if there is one.
 #[derive(Debug, PartialEq, Eq, Drop)]
 pub struct BatchItemError {
     pub status: StatusCode,
@@ -27,13 +28,13 @@ impl fmt::Display for BatchItemError {
 
 impl error::Error for BatchItemError {}
 
-/// What an arrival is to a batch, by its status.
+/// What an arrival means to a batch, by its status.
 #[derive(Clone, Copy)]
 pub(crate) enum ArrivalKind {
     /// One of the stream's messages.
     Delivered,
     Heartbeat,
-    /// The request is over: no message is there, or its time is.
+    /// The request is over: there is no message, or its time is up.
     Over,
     /// The server says something else.
     Refusal(StatusCode),

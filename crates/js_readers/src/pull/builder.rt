@@ -1,4 +1,5 @@
-//! How a pull consumer's messages are asked for. One builder serves each row of the table of builders: streams, batches of what is there, and batches that wait.
+//! How to ask for a pull consumer's messages. One builder serves streams, batches of what is there,
+//! and batches that wait.
 ghost use Rattle.std.specs.Prelude.{◌≡◌, Some, IfOk};
 ghost use Rattle.js_readers.specs.Builder.{asked_for, defaults_for, unset};
 ghost use Rattle.js_readers.specs.Batch.{OpensBatch};
@@ -18,22 +19,22 @@ use js_link::Link;
 use std::alloc::Global;
 use std::marker::PhantomData;
 
-/// A row of the table of builders.
+/// A kind of builder.
 pub trait Row: Drop {
     ghost kind: { Kind };
 
-    /// Which row it is.
+    /// Returns which kind it is.
     fn kind() -> BuilderKind
         ensures { result ≡ kind };
 }
 
-/// A row whose builder opens one batch.
+/// A kind whose builder opens one batch.
 pub trait SingleBatch: Row {}
 
-/// A row whose requests may have a priority.
+/// A kind whose requests may have a priority.
 pub trait Prioritized: Row {}
 
-/// Streams of messages, by request after request.
+/// Streams of messages: one request after another.
 #[derive(Clone, Copy, Drop)]
 pub struct Streams;
 
@@ -47,7 +48,7 @@ impl Row for Streams {
 
 impl Prioritized for Streams {}
 
-/// Batches of what is there.
+/// Batches of the messages that are there.
 #[derive(Clone, Copy, Drop)]
 pub struct Fetches;
 
@@ -77,7 +78,7 @@ impl Row for Batches {
 
 impl SingleBatch for Batches {}
 
-/// How messages are asked for, by a row of the table of builders: what is set, and else the row's default.
+/// Configures how to ask for messages. What you do not set has the default of the kind of builder.
 #[derive(Drop)]
 #[must_use = "nothing is asked for before `messages`"]
 pub struct Builder<'a, R> {
@@ -86,13 +87,16 @@ pub struct Builder<'a, R> {
     row: PhantomData<R>,
 }
 
-/// How a stream of messages is asked for: 200 messages at a time, each request for 30 seconds, and both as the consumer's info limits them.
+/// Configures a stream of messages. By default each request asks for 200 messages and lasts 30
+/// seconds, both lowered to the limits in the consumer's info.
 pub type StreamBuilder<'a> = Builder<'a, Streams>;
 
-/// How a batch is asked for that takes what is there: 200 messages, and the server answers at once where none is left.
+/// Configures a batch of the messages that are there: 200 by default. The server answers at once if
+/// none is left.
 pub type FetchBuilder<'a> = Builder<'a, Fetches>;
 
-/// How a batch is asked for that waits for its messages: 200 of them, for as long as is set, and five seconds more.
+/// Configures a batch that waits for its messages: 200 by default. It waits for the time that
+/// `expires` sets, and five seconds more.
 pub type BatchBuilder<'a> = Builder<'a, Batches>;
 
 impl<'a, R> Builder<'a, R> {
@@ -109,7 +113,7 @@ impl<'a, R> Builder<'a, R> {
 }
 
 impl<'a, R: Row> Builder<'a, R> {
-    /// A builder for this consumer, by the defaults.
+    /// Returns a builder for this consumer, with nothing set.
     pub fn new(consumer: &'a PullConsumer) -> Builder<'a, R>
         ensures consumer { result.consumer.now ≡ consumer.entry.now }
         ensures settings { result.settings ≡ unset }
@@ -117,8 +121,9 @@ impl<'a, R: Row> Builder<'a, R> {
         Builder::with(consumer, Settings::new())
     }
 
-    /// How often the server shows that it is there while a request waits, in nanoseconds; 0 for never. A stream's is lowered to half the expiry where
-    /// that is not set. A server refuses one above half the expiry.
+    /// Sets how often the server sends a heartbeat while a request waits, in nanoseconds; 0 for
+    /// never. If the expiry of a stream is not set, its heartbeat is lowered to at most half of the
+    /// default expiry. A server refuses a heartbeat above half the expiry.
     pub fn heartbeat(self, heartbeat: Nanos) -> Builder<'a, R>
         ensures consumer { result.consumer.now ≡ self.entry.consumer.now }
         ensures settings { result.settings ≡ record self.entry.settings { heartbeat = heartbeat } }
@@ -132,8 +137,9 @@ impl<'a, R: Row> Builder<'a, R> {
         Builder::with(consumer, settings)
     }
 
-    /// How long the server keeps a request, in nanoseconds, whatever the consumer's limit is. A batch waits for its messages as long, and five seconds more. Of a
-    /// stream, 0 has the server keep the requests until they are full, and none follows by itself.
+    /// Sets how long the server keeps a request, in nanoseconds. The consumer's limit does not
+    /// lower it. A batch waits this long for its messages, and five seconds more. For a stream, 0
+    /// makes the server keep requests until they are full, and no request follows by itself.
     pub fn expires(self, expires: Nanos) -> Builder<'a, R>
         ensures consumer { result.consumer.now ≡ self.entry.consumer.now }
         ensures settings { result.settings ≡ record self.entry.settings { expires = Some expires } }
@@ -147,7 +153,7 @@ impl<'a, R: Row> Builder<'a, R> {
         Builder::with(consumer, settings)
     }
 
-    /// Only where at least so many messages are not yet delivered is the request served.
+    /// Lets the server serve the request only if at least this many messages are not yet delivered.
     pub fn min_pending(self, min_pending: u64) -> Builder<'a, R>
         ensures consumer { result.consumer.now ≡ self.entry.consumer.now }
         ensures settings { result.settings ≡ record self.entry.settings { min_pending = Some min_pending } }
@@ -161,7 +167,8 @@ impl<'a, R: Row> Builder<'a, R> {
         Builder::with(consumer, settings)
     }
 
-    /// Only where at least so many messages wait for their acknowledgement is the request served.
+    /// Lets the server serve the request only if at least this many messages wait for their
+    /// acknowledgement.
     pub fn min_ack_pending(self, min_ack_pending: u64) -> Builder<'a, R>
         ensures consumer { result.consumer.now ≡ self.entry.consumer.now }
         ensures settings { result.settings ≡ record self.entry.settings { min_ack_pending = Some min_ack_pending } }
@@ -175,7 +182,8 @@ impl<'a, R: Row> Builder<'a, R> {
         Builder::with(consumer, settings)
     }
 
-    /// The priority group that it reads for. The one refusal is want of memory, at which the builder is given up.
+    /// Sets the priority group to read for. Fails only with `OutOfMemory`, and the builder is then
+    /// lost.
     pub fn group(self, alloc: Global, group: &str) -> Result<Builder<'a, R>, OutOfMemory>
         ensures consumer { IfOk result (λ builder. builder.consumer.now ≡ self.entry.consumer.now) }
         ensures settings { IfOk result (λ builder. builder.settings ≡ record self.entry.settings { group = Some group.now }) }
@@ -190,7 +198,7 @@ impl<'a, R: Row> Builder<'a, R> {
 }
 
 impl<'a, R: Prioritized> Builder<'a, R> {
-    /// Its priority in the group: 0 is served first, 9 last.
+    /// Sets the priority within the group: the server serves 0 first, 9 last.
     pub fn priority(self, priority: u64) -> Builder<'a, R>
         ensures consumer { result.consumer.now ≡ self.entry.consumer.now }
         ensures settings { result.settings ≡ record self.entry.settings { priority = Some priority } }
@@ -206,7 +214,7 @@ impl<'a, R: Prioritized> Builder<'a, R> {
 }
 
 impl<'a> StreamBuilder<'a> {
-    /// How many bytes each request asks for at most; 0 for no bound.
+    /// Sets how many bytes each request asks for at most; 0 for no limit.
     pub fn max_bytes_per_batch(self, max_bytes: u64) -> StreamBuilder<'a>
         ensures consumer { result.consumer.now ≡ self.entry.consumer.now }
         ensures settings { result.settings ≡ record self.entry.settings { max_bytes = max_bytes } }
@@ -220,7 +228,8 @@ impl<'a> StreamBuilder<'a> {
         Builder::with(consumer, settings)
     }
 
-    /// How many messages each request asks for, whatever the consumer's limit is. With 0 a request goes out at the start and after each arrival.
+    /// Sets how many messages each request asks for. The consumer's limit does not lower it. With
+    /// 0, a request goes out at the start and after each arrival.
     pub fn max_messages_per_batch(self, batch: u64) -> StreamBuilder<'a>
         ensures consumer { result.consumer.now ≡ self.entry.consumer.now }
         ensures settings { result.settings ≡ record self.entry.settings { batch = Some batch } }
@@ -234,9 +243,10 @@ impl<'a> StreamBuilder<'a> {
         Builder::with(consumer, settings)
     }
 
-    /// Opens an inbox for the stream. It asks for nothing before its first poll.
+    /// Opens an inbox for the stream. The stream requests nothing before its first poll.
     ///
-    /// `Other` comes where the link failed to open the inbox, and `OutOfMemory` where memory ran out. Nothing was sent in either case.
+    /// Fails with `Other` if the link fails to open the inbox, and with `OutOfMemory` if memory
+    /// runs out. Nothing was sent in either case.
     pub fn messages<L: Link>(self, alloc: Global, link: &mut L) -> Result<Stream, StreamError>
         ensures { OpensMessages result self.entry.consumer.now (asked_for (defaults_for BuilderKind.Streams self.entry.consumer.now) self.entry.settings) (L.view link.old) (L.view link.new) }
     {
@@ -252,7 +262,7 @@ impl<'a> StreamBuilder<'a> {
 }
 
 impl<'a, R: SingleBatch> Builder<'a, R> {
-    /// How many bytes are asked for at most; 0 for no bound.
+    /// Sets how many bytes to ask for at most; 0 for no limit.
     pub fn max_bytes(self, max_bytes: u64) -> Builder<'a, R>
         ensures consumer { result.consumer.now ≡ self.entry.consumer.now }
         ensures settings { result.settings ≡ record self.entry.settings { max_bytes = max_bytes } }
@@ -266,7 +276,7 @@ impl<'a, R: SingleBatch> Builder<'a, R> {
         Builder::with(consumer, settings)
     }
 
-    /// How many messages are asked for.
+    /// Sets how many messages to ask for.
     pub fn max_messages(self, batch: u64) -> Builder<'a, R>
         ensures consumer { result.consumer.now ≡ self.entry.consumer.now }
         ensures settings { result.settings ≡ record self.entry.settings { batch = Some batch } }
@@ -280,10 +290,11 @@ impl<'a, R: SingleBatch> Builder<'a, R> {
         Builder::with(consumer, settings)
     }
 
-    /// Asks for the batch. What comes waits in an inbox that is opened for it.
+    /// Asks for the batch, and opens an inbox for what comes.
     ///
-    /// A consumer with pinned clients is refused first, and nothing is sent: `PinnedClient`. `Subscribe` comes where the link failed to open
-    /// the inbox, `Pull` where it failed to send the request, and `OutOfMemory` where memory ran out. No inbox is left open then.
+    /// Fails with `PinnedClient`, before anything is sent, if the consumer pins one of its clients.
+    /// Fails with `Subscribe` if the link fails to open the inbox, with `Pull` if it fails to send
+    /// the request, and with `OutOfMemory` if memory runs out. No inbox stays open then.
     pub fn messages<L: Link>(
         self,
         alloc: Global,

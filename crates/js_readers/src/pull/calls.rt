@@ -1,4 +1,4 @@
-//! The calls of a pull consumer that read it.
+//! The calls that read a pull consumer.
 ghost use Rattle.std.specs.Prelude.{◌≡◌};
 ghost use Rattle.js_json.specs.declared.pull.Config as pull;
 ghost use Rattle.js_call_consumers.specs.declared.consumer.Consumer.{Consumer};
@@ -19,40 +19,44 @@ use js_json::pull::BatchConfig;
 use js_link::{Link, LinkError};
 use std::alloc::Global;
 
-/// The calls of a pull consumer that read it.
+/// The calls that read a pull consumer.
 pub trait PullCalls {
-    /// The consumer that is read.
+    /// The consumer that it reads.
     ghost pulls: { Self → Consumer pull.Config };
 
-    /// Opens a stream of messages by the defaults of `stream`, with a heartbeat of 15 seconds. Its errors are those of
-    /// `StreamBuilder::messages`.
+    /// Opens a stream of messages with the defaults of `stream` and a heartbeat of 15 seconds.
+    /// Fails as `StreamBuilder::messages` does.
     fn messages<L: Link>(&self, alloc: Global, link: &mut L) -> Result<Stream, StreamError>
         ensures { OpensMessages result (pulls self.now) (messages_config (pulls self.now)) (L.view link.old) (L.view link.new) };
 
-    /// A stream that asks again and again, to be set.
+    /// Returns a builder for a stream, which sends one request after another.
     fn stream(&self) -> StreamBuilder<'_>
         ensures consumer { result.consumer.now ≡ pulls self.now }
         ensures settings { result.settings ≡ unset };
 
-    /// A batch of what is there, to be set.
+    /// Returns a builder for a batch of the messages that are there.
     fn fetch(&self) -> FetchBuilder<'_>
         ensures consumer { result.consumer.now ≡ pulls self.now }
         ensures settings { result.settings ≡ unset };
 
-    /// A batch that waits for its messages, to be set.
+    /// Returns a builder for a batch that waits for its messages.
     fn batch(&self) -> BatchBuilder<'_>
         ensures consumer { result.consumer.now ≡ pulls self.now }
         ensures settings { result.settings ≡ unset };
 
-    /// Batches of so many messages, one after the other, for which each request is kept 60 seconds. Nothing is sent before the first poll.
+    /// Returns a sequence of batches of `batch` messages, one after another. The server keeps each
+    /// request for 60 seconds. Nothing is sent before the first poll.
     ///
-    /// A consumer with pinned clients is refused first: `PinnedClient`. `OutOfMemory` comes where memory ran out.
+    /// Fails with `PinnedClient` if the consumer pins one of its clients, and with `OutOfMemory` if
+    /// memory runs out.
     fn sequence(&self, alloc: Global, batch: u64) -> Result<Sequence, BatchError>
         ensures { OpensSequence result (pulls self.now) (sequence_config batch) };
 
-    /// Sends one pull request. What it asks for comes to the subject of that inbox, which the caller has opened.
+    /// Sends one pull request. What it asks for comes to the subject `inbox`, which you must have
+    /// opened.
     ///
-    /// `Publish` comes where the link failed, and `OutOfMemory` where memory ran out. Nothing was sent in either case.
+    /// Fails with `Publish` if the link fails, and with `OutOfMemory` if memory runs out. Nothing
+    /// was sent in either case.
     fn request_batch<L: Link>(
         &self,
         alloc: Global,

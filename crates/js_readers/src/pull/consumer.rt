@@ -1,4 +1,5 @@
-//! What readers take from a pull consumer: whether one of its clients is pinned, and how long is waited.
+//! What readers need to know of a pull consumer: whether it pins one of its clients, and how long
+//! they wait.
 ghost use Rattle.std.specs.Prelude.{◌≡◌};
 ghost use Rattle.js_readers.specs.PullConsumer.{info_timeout, is_pinned, message_timeout};
 
@@ -16,7 +17,8 @@ pub(crate) fn is_pinned(policy: PriorityPolicy) -> bool
     }
 }
 
-/// How long a double ack of a message waits, in nanoseconds: the scope's timeout, or else five seconds.
+/// Returns how long a double ack of a message waits, in nanoseconds: the scope's timeout, or five
+/// seconds if it has none.
 pub fn message_timeout(scope: &ApiScope) -> Nanos
     ensures { result ≡ message_timeout scope.now.timeout }
 {

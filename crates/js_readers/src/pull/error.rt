@@ -1,4 +1,4 @@
-//! The errors of opening a stream, of opening a batch, and of asking for one.
+//! The errors of opening a stream, opening a batch, and sending a pull request.
 ghost use Rattle.std.specs.Prelude.{◌≡◌, Some};
 ghost use Rattle.js_readers.specs.PullError.{batch_text, request_text, stream_text};
 ghost use Rattle.js_readers.specs.Stream.{stream_error_kind};
@@ -10,7 +10,7 @@ use std::fmt;
 /// Why no stream of messages was opened.
 #[derive(Clone, Copy, Debug, PartialEq, Eq)]
 pub enum StreamErrorKind {
-    /// Never given.
+    /// Never returned.
     TimedOut,
     /// The link failed to open an inbox. Nothing was sent.
     Other,
@@ -33,7 +33,7 @@ impl fmt::Display for StreamErrorKind {
     }
 }
 
-/// Why nothing was opened, where the link refused its subscription.
+/// Returns why nothing was opened, if the link refused the subscription with `error`.
 pub fn stream_error_kind(error: LinkError) -> StreamErrorKind
     ensures { result ≡ stream_error_kind error }
 {
@@ -43,24 +43,26 @@ pub fn stream_error_kind(error: LinkError) -> StreamErrorKind
     }
 }
 
-/// Why no batch was asked for.
+/// Why no batch was opened.
 #[derive(Clone, Copy, Debug, PartialEq, Eq)]
 pub enum BatchErrorKind {
     /// The link failed to open an inbox. Nothing was sent.
     Subscribe,
-    /// The link failed to send the request. The inbox that was opened for the batch is closed again.
+    /// The link failed to send the request. The inbox that was opened for the batch is closed
+    /// again.
     Pull,
-    /// Never given.
+    /// Never returned.
     Flush,
-    /// Never given.
+    /// Never returned.
     Serialize,
-    /// Clients of the consumer are pinned, and only a stream tells the server which one it is. Nothing was sent.
+    /// The consumer pins one of its clients, and only a stream tells the server which client it is.
+    /// Nothing was sent.
     PinnedClient,
-    /// Memory ran out. No request was sent, and no inbox is left open.
+    /// Memory ran out. No request was sent, and no inbox stays open.
     OutOfMemory,
 }
 
-/// Why no batch was asked for, as an error.
+/// Why no batch was opened, as an error.
 pub type BatchError = Error<BatchErrorKind>;
 
 impl fmt::Display for BatchErrorKind {
@@ -83,9 +85,9 @@ impl fmt::Display for BatchErrorKind {
 pub enum BatchRequestErrorKind {
     /// The link failed. Nothing was sent.
     Publish,
-    /// Never given.
+    /// Never returned.
     Flush,
-    /// Never given.
+    /// Never returned.
     Serialize,
     /// Memory ran out. Nothing was sent.
     OutOfMemory,

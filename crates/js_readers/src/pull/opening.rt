@@ -1,4 +1,4 @@
-//! How a batch is opened.
+//! How a batch opens.
 ghost use Rattle.std.specs.Prelude.{◌≡◌};
 ghost use Rattle.js_readers.specs.Batch.{OpensBatch, batch_fault, batch_timer};
 

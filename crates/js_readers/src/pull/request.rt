@@ -1,4 +1,4 @@
-//! A pull request: what it needs, and how it is sent.
+//! A pull request: its texts, and how it is sent.
 ghost use Rattle.std.specs.Prelude.{◌≡◌, None, Some, IfOk, codes};
 ghost use Rattle.js_link.specs.Calls.{PublishesOf};
 ghost use Rattle.js_ordered_stream.specs.Inbox.{ClosesInbox};
@@ -15,14 +15,14 @@ use js_json_members::ReadError;
 use js_link::{InboxId, Link, LinkError};
 use std::alloc::Global;
 
-/// A pull request with its texts: sending it needs no more of them.
+/// A pull request with its texts. Sending it makes no further ones.
 #[derive(Drop)]
 pub(crate) struct PullRequest {
     subject: Subject,
     payload: Bytes,
 }
 
-/// An inbox that is open for what a request asks for.
+/// An inbox that is open for the messages of a request.
 #[derive(Drop)]
 pub(crate) struct OpenInbox {
     pub id: InboxId,
@@ -32,7 +32,7 @@ pub(crate) struct OpenInbox {
 /// Why no inbox waits for the messages of a request.
 #[derive(Clone, Copy)]
 pub(crate) enum OpenFault {
-    /// None was opened.
+    /// No inbox was opened.
     Subscribe,
     /// The request was not sent, and the inbox is closed.
     Pull,
@@ -110,7 +110,7 @@ fn subject_of(alloc: Global, api: &str, stream: &str, name: &str) -> Result<Subj
 }
 
 impl PullRequest {
-    /// The request to a consumer for so much.
+    /// Makes the request that asks a consumer for what `config` says.
     pub fn of(
         alloc: Global,
         consumer: &PullConsumer,
@@ -125,7 +125,7 @@ impl PullRequest {
         Ok(PullRequest { subject, payload })
     }
 
-    /// Sends it. What it asks for comes to that inbox.
+    /// Sends the request. What it asks for comes to `inbox`.
     pub fn publish<L: Link>(
         &self,
         alloc: Global,
@@ -143,9 +143,11 @@ impl PullRequest {
         )
     }
 
-    /// Sends it for what comes to the inbox that was kept, or to one that is opened.
+    /// Sends the request for the inbox that was kept, or for one that it opens. Returns the number
+    /// of the inbox.
     ///
-    /// Where memory ran out, the inbox that is open is kept for the next try. Where the link failed to send, it is closed.
+    /// If memory runs out, it keeps the open inbox for the next try. If the link fails to send, it
+    /// closes the inbox.
     pub fn ask<L: Link>(
         &self,
         alloc: Global,
@@ -171,7 +173,7 @@ impl PullRequest {
         }
     }
 
-    /// Opens an inbox, and sends the request for what comes to it. No inbox stays open where that fails.
+    /// Opens an inbox and sends the request for it. If that fails, no inbox stays open.
     pub fn open<L: Link>(&self, alloc: Global, link: &mut L) -> Result<u64, OpenFault>
         ensures { OpensFor result self.now (L.view link.old) (L.view link.new) }
     {

@@ -1,4 +1,4 @@
-//! Batches of one size, one after the other.
+//! Batches of one size, one after another.
 ghost use Rattle.std.specs.Prelude.{◌≡◌, ◌<◌, ◌^◌, ℕ, true};
 ghost use Rattle.js_pull.specs.Reader.{timer_from};
 ghost use Rattle.js_base.specs.Clock.{has_come, second};
@@ -17,10 +17,12 @@ use js_link::{InboxId, Link};
 use js_pull::{MessagesError, MessagesErrorKind};
 use std::alloc::Global;
 
-/// Batches of one size, one after the other. It never ends, and never waits: each poll asks for another batch.
+/// Batches of one size, one after another. It never ends and never waits: each poll asks for
+/// another batch.
 ///
-/// The inbox of a batch is the batch's own. Only where memory ran out for a request, it keeps the inbox that is open for it, up to the
-/// next poll. One that is let go then leaves that inbox open: `close` lets go of it and closes its inbox.
+/// Each batch has an inbox of its own. If memory runs out for a request, the sequence keeps the
+/// inbox that is open for it until the next poll. Dropping the sequence then leaves that inbox
+/// open: `close` ends the sequence and closes the inbox.
 #[derive(Drop)]
 #[must_use = "batches are asked for by polls"]
 pub struct Sequence {
@@ -29,7 +31,7 @@ pub struct Sequence {
     batch: u64,
     /// How long a double ack of its messages waits, in nanoseconds.
     timeout: Nanos,
-    /// An inbox that is open for the next batch, whose request was not sent for want of memory.
+    /// An inbox that is open for the next batch. Its request was not sent because memory ran out.
     kept: Option<OpenInbox>,
 }
 
@@ -56,24 +58,26 @@ impl Sequence {
         }
     }
 
-    /// The inbox that it keeps for the next batch. It has one only after a poll that ran out of memory when the inbox was open.
+    /// Returns the inbox that it keeps for the next batch. It has one only after a poll that ran
+    /// out of memory when the inbox was open.
     pub fn inbox(&self) -> Option<InboxId>
         ensures { result ≡ kept_inbox self.now.kept }
     {
         kept_inbox(&self.kept)
     }
 
-    /// Lets go of it, and closes the inbox that it keeps, where there is one. The batches that it gave go on.
+    /// Ends it, and closes the inbox that it keeps, if any. The batches that it returned go on.
     pub fn close<L: Link>(self, link: &mut L)
         ensures { ClosesInbox (kept_inbox self.kept) (L.view link.old) (L.view link.new) }
     {
         close_kept(link, self.kept);
     }
 
-    /// Asks for the next batch, which waits 60 seconds at most from this moment on.
+    /// Asks for the next batch, which waits at most 60 seconds from `now`.
     ///
-    /// `Pull` comes where the link failed to open an inbox or to send the request, and the next poll tries again. No inbox is left open
-    /// then. Where memory ran out no request was sent: an inbox that is open for it is kept, and the next poll begins with the request.
+    /// Returns an error of kind `Pull` if the link fails to open an inbox or to send the request.
+    /// No inbox stays open then, and the next poll tries again. If memory runs out, no request was
+    /// sent: the sequence keeps the inbox if it is open, and the next poll begins with the request.
     pub fn poll_next<L: Link>(
         &mut self,
         alloc: Global,
@@ -99,7 +103,8 @@ impl Sequence {
         }
     }
 
-    /// The first moment at which it has something to do: it always has. Takes no memory.
+    /// Returns the moment at which it has something to do. This is always `Some(0)`. Takes no
+    /// memory.
     pub fn wakes_at(&self) -> Option<Moment>
         ensures { (now : ℕ) → has_come result now ≡ true }
     {

@@ -1,4 +1,4 @@
-//! What a pull request asks for: what was set at its builder, and else the default of the builder's row.
+//! What a pull request asks for: what was set at its builder, or else the builder's default.
 ghost use Rattle.std.specs.Prelude.{◌≡◌, IfOk, Some};
 ghost use Rattle.js_readers.specs.Builder.{KeepsLimits, asked_for, defaults_of, heartbeat_of, unset};
 
@@ -10,7 +10,7 @@ use std::alloc::Global;
 
 const SECOND: Nanos = 1_000_000_000;
 
-/// What was set at a builder. What was not is left to the builder's row.
+/// What was set at a builder. What was not set has the builder's default.
 #[derive(Drop)]
 pub(crate) struct Settings {
     pub batch: Option<u64>,
@@ -18,7 +18,7 @@ pub(crate) struct Settings {
     pub expires: Option<Nanos>,
     /// In nanoseconds; 0 for none.
     pub heartbeat: Nanos,
-    /// 0 for no bound.
+    /// In bytes; 0 for no limit.
     pub max_bytes: u64,
     pub min_pending: Option<u64>,
     pub min_ack_pending: Option<u64>,
@@ -26,7 +26,7 @@ pub(crate) struct Settings {
     pub priority: Option<u64>,
 }
 
-/// The rows of the table of builders.
+/// The kinds of builders. Each has its own defaults.
 #[derive(Clone, Copy)]
 pub enum BuilderKind {
     Streams,
@@ -34,14 +34,14 @@ pub enum BuilderKind {
     Batches,
 }
 
-/// A row: what is asked for where nothing is set.
+/// The defaults of a kind of builder: what is asked for if nothing is set.
 #[derive(Clone, Copy)]
 pub(crate) struct Defaults {
     pub batch: u64,
     pub expires: Option<Nanos>,
-    /// Whether the server answers at once where no message is there.
+    /// Whether the server answers at once if it has no message.
     pub no_wait: bool,
-    /// Under the default expiry a heartbeat is lowered to half of it.
+    /// Whether the heartbeat is lowered to half of the expiry if that is the default.
     pub lowers: bool,
 }
 
@@ -82,7 +82,7 @@ fn heartbeat_of(defaults: Defaults, expires: Option<Nanos>, heartbeat: Nanos) ->
 }
 
 impl Settings {
-    /// Nothing is set.
+    /// Returns settings in which nothing is set.
     pub fn new() -> Settings
         ensures { result ≡ unset }
     {
@@ -98,7 +98,7 @@ impl Settings {
         }
     }
 
-    /// With that group. Where memory runs out the settings are given up.
+    /// Sets the group. If memory runs out, it fails with `OutOfMemory` and the settings are lost.
     pub fn with_group(self, alloc: Global, group: &str) -> Result<Settings, OutOfMemory>
         ensures { IfOk result (λ settings. settings ≡ record self { group = Some group.now }) }
     {
@@ -114,7 +114,7 @@ impl Settings {
         }
     }
 
-    /// What is asked for, by that row.
+    /// Returns what a request asks for, with these defaults for what was not set.
     pub fn request(self, defaults: Defaults) -> BatchConfig
         ensures { result ≡ asked_for defaults self }
     {
@@ -132,8 +132,8 @@ impl Settings {
     }
 }
 
-/// A default never passes a limit of the consumer, and under a default expiry a stream's heartbeat is at most half of it. A law, which
-/// takes no steps.
+/// A default never exceeds a limit of the consumer. If a stream's expiry is the default, its
+/// heartbeat is at most half of it. A law: calling it does nothing.
 pub fn defaults_keep_limits()
     ensures { KeepsLimits }
 {}

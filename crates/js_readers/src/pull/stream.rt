@@ -1,4 +1,4 @@
-//! A stream of messages: it asks a pull consumer again and again.
+//! A stream of messages: it sends a pull consumer one request after another.
 ghost use Rattle.std.specs.Prelude.{◌≡◌, ◌<◌, ◌^◌, ℕ};
 ghost use Rattle.js_link.specs.Calls.{Closes};
 ghost use Rattle.js_link.specs.Meets.{Meets};
@@ -21,10 +21,11 @@ use js_message::Message;
 use js_pull::{Consumer, MessagesError};
 use std::alloc::Global;
 
-/// A stream of the messages of a pull consumer. It keeps requests open at the server, as many as it takes.
+/// The messages of a pull consumer, as a stream without an end. It keeps as many requests open at
+/// the server as it needs.
 ///
-/// One that is let go leaves its inbox open, to which the server goes on delivering what was asked for: `close` lets go of it and closes
-/// its inbox.
+/// Call `close` when you are done with it. Dropping it leaves its inbox open, and the server goes
+/// on delivering what was asked for.
 #[derive(Drop)]
 #[must_use = "messages come by polls"]
 pub struct Stream {
@@ -34,15 +35,18 @@ pub struct Stream {
 }
 
 impl Stream {
-    /// Opens an inbox for a stream of the consumer that an info tells of, which asks for so much at a time. `pinned` tells
-    /// whether the consumer's priority policy is `PinnedClient`. It asks for nothing before its first poll.
+    /// Opens an inbox for a stream of the consumer that `info` describes. Each request of the
+    /// stream asks for what `batch` says. `pinned` says whether the consumer's priority policy is
+    /// `PinnedClient`. The stream requests nothing before its first poll.
     ///
-    /// A limit in `batch` that a builder would have lowered is sent as it stands: [`StreamBuilder`](crate::pull::StreamBuilder)
-    /// and `messages` of a consumer choose limits that the server takes.
+    /// It sends limits in `batch` as they are, even those that a builder would lower.
+    /// [`StreamBuilder`](crate::pull::StreamBuilder) and `messages` of a consumer choose limits
+    /// that the server accepts.
     ///
     /// # Errors
     ///
-    /// `Other` where the link failed to open the inbox, and `OutOfMemory` where memory ran out. Nothing was sent in either case.
+    /// Fails with `Other` if the link fails to open the inbox, and with `OutOfMemory` if memory
+    /// runs out. Nothing was sent in either case.
     pub fn open<L: Link>(
         alloc: Global,
         link: &mut L,
@@ -75,29 +79,32 @@ impl Stream {
         }
     }
 
-    /// The inbox that it reads.
+    /// Returns the inbox that it reads.
     pub fn inbox(&self) -> InboxId
         ensures { result.0 ≡ (position_of self.now.reader).reader.source.inbox }
     {
         self.reader.inbox()
     }
 
-    /// Lets go of it, and closes its inbox: what lies in it is lost, and so is a message that was taken and is held. The requests
-    /// that are open at the server run out by themselves.
+    /// Ends it, and closes its inbox. What lies in the inbox is lost, and so is a message that it
+    /// has taken and holds. Its requests that are open at the server expire by themselves.
     pub fn close<L: Link>(self, link: &mut L)
         ensures { Closes (position_of self.reader).reader.source.inbox (L.view link.old) (L.view link.new) }
     {
         self.reader.close(link);
     }
 
-    /// Runs one event in parts, for a program that counts events itself: the next item or message of the event that has begun,
-    /// or `Done` at its end. The call after `Done` begins the next event; the first is the stream's start alone. `change` is the
-    /// connection's change of the event that begins, and is passed over in the middle of one. A message is handed out before the
-    /// stream looks whether to ask for more, so one that is let go there sends no request. After `Closed`, and after an item
-    /// that ends the stream, its events are empty and every call returns `Done`.
+    /// Runs one event in parts, for a program that counts events itself. Returns the next item or
+    /// message of the event that has begun, or `Done` at its end.
     ///
-    /// Use either this or `poll_next`, which runs whole events and learns of the connection's changes from the link. Messages
-    /// wait for the answer to a double ack as those of `poll_next` do.
+    /// The call after `Done` begins the next event. The first event is only the stream's start.
+    /// `change` is the change of the connection in the event that begins; it is ignored in the
+    /// middle of an event. A message is returned before the stream checks whether to ask for more:
+    /// if you drop the stream there, it sends no request. After `Closed`, and after an item that
+    /// ends the stream, events are empty and every call returns `Done`.
+    ///
+    /// Use either this or `poll_next`, which runs whole events and learns of changes of the
+    /// connection from the link. A double ack of a message waits as long as one of `poll_next`.
     pub fn advance<L: Link>(
         &mut self,
         alloc: Global,
@@ -112,10 +119,12 @@ impl Stream {
         timed_advance(self.reader.advance(alloc, link, now, change), self.timeout)
     }
 
-    /// Reads the next message or error, as the stream below does (`js_pull::Stream::poll_next`). Its messages are acknowledged
-    /// over the link, and wait for an answer as long as the scope of the consumer says, or five seconds.
+    /// Reads the next message or error, as `js_pull::Stream::poll_next` does. Its messages are
+    /// acknowledged over the link. A double ack waits for its answer as long as the scope of the
+    /// consumer says, or five seconds.
     ///
-    /// After `Pending` it may be left alone until something comes for it or `wakes_at` has come: a poll before that does nothing.
+    /// After `Pending` you may sleep until something comes for it or `wakes_at` has come. Polling
+    /// earlier does nothing.
     pub fn poll_next<L: Link>(
         &mut self,
         alloc: Global,
@@ -130,7 +139,8 @@ impl Stream {
         timed(self.reader.poll_next(alloc, link, now), self.timeout)
     }
 
-    /// The first moment at which one of its timers is due, where one is set. A stream that has ended has none.
+    /// Returns the first moment at which one of its timers is due. `None` if no timer is set, or if
+    /// the stream has ended.
     pub fn wakes_at(&self) -> Option<Moment>
         ensures { (now : ℕ) → now < 2 ^ 64 → has_come result now ≡ timer_due now (position_of self.now.reader).reader }
     {

@@ -1,4 +1,4 @@
-//! The calls of a push consumer that read it.
+//! The call that reads a push consumer.
 ghost use Rattle.std.specs.Prelude.{◌≡◌};
 ghost use Rattle.std.specs.Option.{option_copied};
 ghost use Rattle.js_json.specs.declared.push.Config as push;
@@ -12,15 +12,16 @@ use js_call_consumers::PushConsumer;
 use js_link::Link;
 use std::alloc::Global;
 
-/// The calls of a push consumer that read it.
+/// The call that reads a push consumer.
 pub trait PushCalls: Drop {
-    /// The consumer that is read.
+    /// The consumer that it reads.
     ghost pushes: { Self → Consumer push.Config };
 
-    /// Opens an inbox for the subject that the consumer delivers to, as its cached info has it, in its queue group where it has one.
-    /// Nothing else is sent.
+    /// Subscribes to the consumer's deliver subject, as its cached info has it, in its queue group
+    /// if it has one. It sends nothing else.
     ///
-    /// `Other` comes where the info has no such subject, or where the link failed, and `OutOfMemory` where memory ran out. Nothing was sent then.
+    /// Fails with `Other` if the info has no deliver subject or the link fails, and with
+    /// `OutOfMemory` if memory runs out. Nothing was sent then.
     fn messages<L: Link>(self, alloc: Global, link: &mut L) -> Result<Messages, StreamError>
         ensures { OpensMessages result (pushes self) (L.view link.old) (L.view link.new) };
 }

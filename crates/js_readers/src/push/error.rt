@@ -1,24 +1,25 @@
-//! What a reader of a push consumer tells of in place of a message.
+//! What a reader of a push consumer reports in place of a message.
 ghost use Rattle.std.specs.Prelude.{Some};
 ghost use Rattle.js_readers.specs.PushError.{messages_text};
 
 use js_base::Error;
 use std::fmt;
 
-/// What a reader of a push consumer tells of in place of a message.
+/// What a reader of a push consumer reports in place of a message.
 #[derive(Clone, Copy, Debug, PartialEq, Eq)]
 pub enum MessagesErrorKind {
-    /// Nothing came for twice the configured heartbeat. The reader goes on, and its timer begins anew.
+    /// Nothing came for twice the configured heartbeat. The reader goes on, and its timer starts
+    /// again.
     MissingHeartbeat,
-    /// Never given.
+    /// Never returned.
     ConsumerDeleted,
-    /// Never given.
+    /// Never returned.
     PullBasedConsumer,
-    /// Never given.
+    /// Never returned.
     Other,
 }
 
-/// What a reader of a push consumer tells of in place of a message, as an error.
+/// What a reader of a push consumer reports in place of a message, as an error.
 pub type MessagesError = Error<MessagesErrorKind>;
 
 impl fmt::Display for MessagesErrorKind {

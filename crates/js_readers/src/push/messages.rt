@@ -1,4 +1,5 @@
-//! The reader of a push consumer: it hands out messages, answers flow control, and tells where heartbeats are missing.
+//! The reader of a push consumer: it returns messages, answers flow control, and reports missing
+//! heartbeats.
 ghost use Rattle.std.specs.Prelude.{◌≡◌, ◌<◌, ◌^◌, ℕ};
 ghost use Rattle.js_link.specs.Calls.{Closes};
 ghost use Rattle.js_base.specs.Clock.{has_come};
@@ -19,15 +20,15 @@ use std::mem;
 
 /// The messages of a push consumer, in the order in which they come.
 ///
-/// It answers flow control, and tells where heartbeats are missing. One that is let go leaves its inbox open, to which the server goes on
-/// delivering: `close` lets go of it and closes its inbox.
+/// It answers flow control, and reports missing heartbeats. Call `close` when you are done with it.
+/// Dropping it leaves its inbox open, and the server goes on delivering.
 #[derive(Drop)]
 #[must_use = "messages come by polls"]
 pub struct Messages {
     inbox: u64,
-    /// The configured heartbeat of the consumer, in nanoseconds; 0 where it has none.
+    /// The configured heartbeat of the consumer, in nanoseconds; 0 if it has none.
     heartbeat: Nanos,
-    /// Twice the heartbeat, from the last arrival on.
+    /// Runs for twice the heartbeat, from the last arrival on.
     heartbeat_timer: Option<Timer>,
     next: Row,
     /// How long a double ack of its messages waits, in nanoseconds.
@@ -54,15 +55,15 @@ impl Messages {
         }
     }
 
-    /// The inbox that it reads.
+    /// Returns the inbox that it reads.
     pub fn inbox(&self) -> InboxId
         ensures { result.0 ≡ self.now.inbox }
     {
         InboxId(self.inbox)
     }
 
-    /// Lets go of it, and closes its inbox: what lies in it is lost, and the server delivers nothing more to it. A heartbeat that is still to
-    /// be answered stays without an answer.
+    /// Ends it, and closes its inbox. What lies in the inbox is lost, and the server delivers
+    /// nothing more to it. A heartbeat that is still to be answered gets no answer.
     pub fn close<L: Link>(self, link: &mut L)
         ensures { Closes self.inbox (L.view link.old) (L.view link.new) }
     {
@@ -160,13 +161,18 @@ impl Messages {
 
     /// Reads the next message or error.
     ///
-    /// A message with a status is passed over. A heartbeat, of status 100, is answered by an empty message where it has a reply subject,
-    /// or else the header `Nats-Consumer-Stalled`; an answer that the link refuses is passed over too. `MissingHeartbeat` comes where the
-    /// inbox is empty and nothing has come for twice the configured heartbeat, where that is above 0; the timer then begins anew. It begins
-    /// at the first poll, and at each message that comes. A closed inbox is the end, for ever.
+    /// It skips messages that have a status. It answers a heartbeat, status 100, with an empty
+    /// message to the heartbeat's reply subject, or else to the subject in its header
+    /// `Nats-Consumer-Stalled`, if it has either. It ignores an answer that the link refuses.
     ///
-    /// After `Pending` it may be left alone until something comes for it or `wakes_at` has come: a poll before that does nothing. Only an
-    /// answer takes memory: one for which there was none is given by the next poll.
+    /// Returns the error `MissingHeartbeat` if the inbox is empty and nothing has come for twice
+    /// the configured heartbeat, provided that is above 0; the timer then starts again. The timer
+    /// starts at the first poll, and at each message that comes. A closed inbox is the end, for
+    /// good.
+    ///
+    /// After `Pending` you may sleep until something comes for it or `wakes_at` has come. Polling
+    /// earlier does nothing. Only an answer takes memory. If memory runs out for one, the next poll
+    /// sends it.
     pub fn poll_next<L: Link>(
         &mut self,
         alloc: Global,
@@ -204,8 +210,9 @@ impl Messages {
         }
     }
 
-    /// The first moment at which it has something to do by itself, where there is one: at once where a row is left, else when its heartbeat
-    /// is missing. One that has ended has no such moment.
+    /// Returns the first moment at which it has something to do by itself: `Some(0)` if it was
+    /// never polled or work of an earlier poll is left, otherwise the moment from which its
+    /// heartbeat is missing. `None` if it has no heartbeat, or has ended.
     pub fn wakes_at(&self) -> Option<Moment>
         ensures { (now : ℕ) → now < 2 ^ 64 → has_come result now ≡ something_due now self.now }
     {

@@ -1,4 +1,4 @@
-//! The rows of a reader, what they tell, and how a heartbeat is answered.
+//! The steps of a reader, what they report, and how a heartbeat is answered.
 ghost use Rattle.std.specs.Prelude.{◌≡◌, [], None, OnErr, OnOk, codes};
 ghost use Rattle.std.specs.Option.{option_copied};
 ghost use Rattle.js_base.specs.Headers.{all_headers, last_value};
@@ -12,17 +12,17 @@ use std::alloc::Global;
 /// What a reader does next.
 #[derive(Drop)]
 pub(crate) enum Row {
-    /// Its timer begins. A new reader begins with this.
+    /// It starts its timer. A new reader begins with this.
     Arm,
-    /// Its inbox is looked at.
+    /// It looks at its inbox.
     CheckArrival,
-    /// A heartbeat is answered, where it asks for an answer.
+    /// It answers a heartbeat, if the heartbeat asks for an answer.
     Answer(Message),
-    /// Its inbox was closed: nothing is done any more.
+    /// Its inbox was closed. It does nothing more.
     Ended,
 }
 
-/// What a row tells.
+/// What a step reports.
 #[derive(Drop)]
 pub(crate) enum RowOutcome {
     Nothing,
