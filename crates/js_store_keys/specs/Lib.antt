@@ -1,3 +1,5 @@
+pub mod Answer
+pub mod Get
 pub mod Key
 pub mod Operation
 pub mod Refusal

@@ -1,5 +1,5 @@
 -- What a message does to its key.
-use Rattle.std.specs.Prelude.{ℕ, ◌≡◌, ◌||◌, if◌then◌else◌, List, [], ◌∷◌, codes, Option, Some, None, refl}
+use Rattle.std.specs.Prelude.{ℕ, ◌≡◌, ◌||◌, Bool, true, false, if◌then◌else◌, List, [], ◌∷◌, codes, Option, Some, None, refl}
 use Rattle.std.specs.Str.{bytes_eq}
 use Rattle.js_base.specs.Headers.{first_value}
 use Rattle.js_base.specs.declared.headers.Header.{Header}
@@ -32,6 +32,12 @@ operation_in headers = named_or_marked (first_value (codes "KV-Operation") heade
 abbrev pub operation_by : Option (List Header) → Operation
 operation_by None = Put
 operation_by (Some headers) = operation_in headers
+
+-- whether an entry gives its key a value
+abbrev pub is_put : Operation → Bool
+is_put Put = true
+is_put Delete = false
+is_put Purge = false
 
 -- ---- worked messages
 

@@ -1,20 +1,23 @@
 //! Where the keys of a bucket are.
 use js_base::Text;
 
-/// Where the keys of a bucket are: what is known of a bucket of keys (`kv::Store`), as far as its keys are concerned.
+/// Where the keys of a bucket are: the part of a bucket's description (`kv::Store`) that concerns
+/// its keys.
 ///
-/// The value of a key stands under `prefix` and the key. It is put under `put_prefix` and the key where there is one, and else under
-/// `prefix`; where `api_prefix` is one, it and a dot stand before the subject that is put to.
+/// The value of a key has the subject `prefix` followed by the key. To write it, publish to
+/// `put_prefix` followed by the key, or to `prefix` followed by the key if `put_prefix` is `None`.
+/// If `api_prefix` is set, it and a dot stand before the subject that you publish to.
 #[derive(Debug, PartialEq, Eq, Drop)]
 pub struct KeyPlaces {
     /// The bucket's name.
     pub bucket: Text,
-    /// What the subjects of its keys begin with, as `$KV.config.`.
+    /// What the subjects of the bucket's keys begin with, such as `$KV.config.`.
     pub prefix: Text,
-    /// What the subjects begin with that values are put to, where that is another prefix: the bucket is a mirror of one elsewhere.
+    /// What the subjects of writes begin with, if that is another prefix: the bucket is then a
+    /// mirror of one elsewhere.
     pub put_prefix: Option<Text>,
-    /// The prefix of the API, where it stands before subjects that are put to: it is not `$JS.API`.
+    /// The API prefix, if it stands before the subjects of writes: it is then not `$JS.API`.
     pub api_prefix: Option<Text>,
-    /// How many entries of a key the bucket keeps; 0 stands for 1.
+    /// How many entries of a key the bucket keeps; 0 means 1.
     pub history: u64,
 }

@@ -17,8 +17,8 @@ fn has_only_key_bytes(bytes: &[u8]) -> bool
     bytes.iter().all(|byte| is_key_byte(*byte))
 }
 
-/// Whether a text is a key: it is not empty, has ASCII letters, digits, `-`, `/`, `_`, `=` and `.` alone, and neither begins nor
-/// ends with a dot.
+/// Returns whether a text is a key: it is not empty, contains only ASCII letters, digits, `-`, `/`,
+/// `_`, `=` and `.`, and neither begins nor ends with a dot.
 pub fn is_valid_key(key: &str) -> bool
     ensures { result ≡ is_key key.now }
 {

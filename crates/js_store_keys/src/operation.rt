@@ -10,9 +10,9 @@ use js_base::HeaderMap;
 pub enum Operation {
     /// The key has the entry's value, which may be empty.
     Put,
-    /// The key has no value from here on.
+    /// The key has no value from this entry on.
     Delete,
-    /// The key has no value from here on, and its earlier entries are gone.
+    /// The key has no value from this entry on, and its earlier entries are gone.
     Purge,
 }
 
@@ -52,11 +52,12 @@ fn operation_in(headers: &HeaderMap) -> Operation
     }
 }
 
-/// What a message with these headers does to its key.
+/// Returns what a message with these headers does to its key.
 ///
-/// The header `KV-Operation` tells it: `DEL` is a deletion, `PURGE` a purge, and any other word a put. Without that header a marker
-/// that the server has put, which the header `Nats-Marker-Reason` tells, is a purge where its reason is `MaxAge` or `Purge`, and
-/// else a deletion. Any other message is a put, whatever its payload: an empty one is a value.
+/// The header `KV-Operation` decides: `DEL` is a deletion, `PURGE` a purge, and any other value a
+/// put. Without that header, the header `Nats-Marker-Reason` shows a marker that the server placed:
+/// it is a purge if the reason is `MaxAge` or `Purge`, and otherwise a deletion. Any other message
+/// is a put, even with an empty payload: an empty value is a value.
 pub fn operation_of(headers: Option<&HeaderMap>) -> Operation
     ensures { result ≡ operation_by (option_copied headers.entry) }
 {

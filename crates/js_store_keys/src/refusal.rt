@@ -11,14 +11,14 @@ use js_message::read_u64;
 /// Why the server refused a write that expects a revision. It stored nothing.
 #[derive(Clone, Copy, Debug, PartialEq, Eq)]
 pub enum WriteRefusal {
-    /// The key was to have no entry, and has one, which may be a deletion.
+    /// The key was expected to have no entry but has one, which may be a deletion.
     AlreadyExists {
-        /// The revision of its last entry, where the server names it.
+        /// The revision of the key's last entry, if the server names it.
         last: Option<u64>,
     },
-    /// The key's last entry has another revision than was expected.
+    /// The key's last entry has another revision than expected.
     WrongRevision {
-        /// Its revision, where the server names it.
+        /// The revision of the key's last entry, if the server names it.
         last: Option<u64>,
     },
 }
@@ -61,11 +61,11 @@ fn refused_with(expected: u64, last: Option<u64>) -> WriteRefusal
     }
 }
 
-/// Why the server refused a write that was sent with this expected revision, which is 0 for `create`, by the error that publishing
-/// answered.
+/// Returns why the server refused a write. `expected` is the revision that the write expected, 0
+/// for `create`; `error` is what publishing returned.
 ///
-/// It is none where the error is not the server's, or has another number than 10071 and 10164: then the write failed for another
-/// reason, or it is not known whether it was stored.
+/// Returns `None` if the error is not the server's or has a code other than 10071 and 10164. The
+/// write then failed for another reason, or it is unknown whether it was stored.
 pub fn refusal_of<K>(expected: u64, error: &Error<K>) -> Option<WriteRefusal>
     ensures { result ≡ refused_write expected (sent_by_api (source_of error.now)) }
 {

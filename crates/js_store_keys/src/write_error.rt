@@ -1,14 +1,14 @@
-//! Why the message of a write was not made.
+//! Why the message of a write, or the request for a key, could not be built.
 ghost use Rattle.std.specs.Prelude.{Some};
 ghost use Rattle.js_store_keys.specs.Writes.{write_error_text};
 
 use js_base::OutOfMemory;
 use std::{error, fmt};
 
-/// Why the message of a write was not made.
+/// Why the message of a write, or the request for a key, could not be built.
 #[derive(Clone, Copy, Debug, PartialEq, Eq)]
 pub enum WriteError {
-    /// The text is no key.
+    /// The text is not a key.
     InvalidKey,
     /// Memory ran out.
     OutOfMemory,

@@ -49,11 +49,12 @@ fn addressed(
     }
 }
 
-/// The message that gives a key a value, whatever it has. An empty value is a value.
+/// Returns the message that sets a key's value, whatever the key has. An empty value is a value.
 ///
 /// # Errors
 ///
-/// `InvalidKey` comes exactly where the text is no key (`is_valid_key`). The other is want of memory.
+/// Fails with `InvalidKey` exactly if the text is not a key (`is_valid_key`). Otherwise fails only
+/// with `OutOfMemory`.
 pub fn put(
     alloc: Global,
     places: &KeyPlaces,
@@ -70,9 +71,11 @@ pub fn put(
     Ok(addressed(alloc, places, key, message)?)
 }
 
-/// The message that gives a key a value where its last entry has this revision. The server refuses it else, and stores nothing.
+/// Returns the message that sets a key's value if its last entry has this revision. Otherwise the
+/// server refuses the message and stores nothing.
 ///
-/// The revision of a key that never had an entry is 0. The last entry may be a deletion: then its revision is the one to name.
+/// The revision of a key that never had an entry is 0. If the last entry is a deletion, pass the
+/// revision of the deletion.
 ///
 /// # Errors
 ///
@@ -95,8 +98,8 @@ pub fn update(
     Ok(addressed(alloc, places, key, message)?)
 }
 
-/// The message that gives a key its first value: it is stored only where the key has no entry. A key that was deleted has one still,
-/// whose revision `update` names.
+/// Returns the message that gives a key its first value. The server stores it only if the key has
+/// no entry. A deleted key still has one; to write to it, pass its revision to `update`.
 ///
 /// # Errors
 ///
@@ -112,7 +115,8 @@ pub fn create(
     update(alloc, places, key, value, 0)
 }
 
-/// The message that deletes a key: it is an entry of its own, and earlier entries stay as the bucket keeps them.
+/// Returns the message that deletes a key. The deletion is itself an entry. The bucket keeps
+/// earlier entries as usual.
 ///
 /// # Errors
 ///
@@ -127,7 +131,8 @@ pub fn delete(alloc: Global, places: &KeyPlaces, key: &str) -> Result<OutboundMe
     Ok(addressed(alloc, places, key, message)?)
 }
 
-/// The message that deletes a key with its earlier entries: the server keeps the message alone.
+/// Returns the message that deletes a key together with its earlier entries: the server keeps only
+/// this message.
 ///
 /// # Errors
 ///

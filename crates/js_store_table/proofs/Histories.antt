@@ -8,7 +8,7 @@ use Rattle.std.proofs.lemmas.List.{map_push, length_push, length-drop}
 use Rattle.std.proofs.lemmas.List.Sums.{fold_push}
 use Rattle.js_store_keys.specs.declared.operation.Operation.{Operation}
 use Rattle.js_store_keys.specs.declared.operation.Operation.TheVariants.{Put, Delete, Purge}
-use Rattle.js_store_table.specs.declared.entry.Entry.{Entry}
+use Rattle.js_store_keys.specs.declared.entry.Entry.{Entry}
 use Rattle.js_store_table.specs.History.{overtaken, with_entry, changes_of, history_of, keys_of}
 use Rattle.js_store_table.specs.Rows.{most}
 
@@ -47,7 +47,7 @@ left_most h Put kept l = omega arith
 left_most h Delete kept l = omega arith
 left_most h Purge kept l = omega arith
 
-bounded_with : (h : ℕ) (kept : List Entry) (e : Entry) → length kept ≤ most h → length (with_entry h kept e) ≤ most h
+pub bounded_with : (h : ℕ) (kept : List Entry) (e : Entry) → length kept ≤ most h → length (with_entry h kept e) ≤ most h
 bounded_with h kept e l =
     let count = overtaken h e.operation (length kept) in
     omega (arith, length_push (drop count kept) e, length-drop count kept, left_most h e.operation (length kept) l)

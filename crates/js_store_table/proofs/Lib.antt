@@ -1,6 +1,9 @@
+pub mod HonestBucket
+pub mod KeptChanges
+pub mod ResumedRows
+pub mod WorkedBuckets
 pub mod KeyCuts
 pub mod Histories
 pub mod NotedRows
 pub mod ShownKeys
 mod WorkedTables
-mod UntimedPolls

@@ -5,7 +5,7 @@ use Rattle.std.specs.declared.alloc.Global.{Global}
 use Rattle.std.specs.List.{cons_option}
 use Rattle.std.specs.Map.{keys_of as keys_of_pairs}
 use Rattle.std.specs.BTreeMap.{get}
-use Rattle.js_store_table.specs.declared.entry.Entry.{Entry}
+use Rattle.js_store_keys.specs.declared.entry.Entry.{Entry}
 use Rattle.js_store_table.specs.History.{history_of, last_of, is_shown, keys_matching}
 use Rattle.js_store_table.specs.Rows.{KeyRows, kept_in, IsTable, shown_keys}
 

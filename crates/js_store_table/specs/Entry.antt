@@ -5,7 +5,7 @@ use Rattle.std.specs.Result.{result_ok}
 use Rattle.js_base.specs.declared.message.Message.{Message}
 use Rattle.js_message.specs.AckSubject.{Info, ack}
 use Rattle.js_store_keys.specs.Operation.{operation_by}
-use Rattle.js_store_table.specs.declared.entry.Entry.{Entry}
+use Rattle.js_store_keys.specs.declared.entry.Entry.{Entry}
 use Rattle.js_store_table.specs.declared.message_entry.Untold.{Untold}
 use Rattle.js_store_table.specs.declared.message_entry.Untold.TheVariants.{NoEntry, OutOfMemory}
 

@@ -1,5 +1,5 @@
 -- Which entries of a key are kept, and what a table of keys has.
-use Rattle.std.specs.Prelude.{ℕ, ◌-◌, ◌&&◌, Bool, true, false, if◌then◌else◌, List, [], ◌∷◌, ◌++◌, length, map, filter, fold, drop, Option, Some, None}
+use Rattle.std.specs.Prelude.{ℕ, ◌-◌, ◌&&◌, Bool, false, if◌then◌else◌, List, [], ◌∷◌, ◌++◌, length, map, filter, fold, drop, Option, Some, None}
 use Rattle.std.specs.List.{slice_get}
 use Rattle.std.specs.Ordering.{nat_cmp}
 use Rattle.std.specs.Str.{bytes_eq}
@@ -8,7 +8,8 @@ use Rattle.std.specs.BTreeSet.{insert_key}
 use Rattle.js_base.specs.Subject.{subject_matches}
 use Rattle.js_store_keys.specs.declared.operation.Operation.{Operation}
 use Rattle.js_store_keys.specs.declared.operation.Operation.TheVariants.{Put, Delete, Purge}
-use Rattle.js_store_table.specs.declared.entry.Entry.{Entry}
+use Rattle.js_store_keys.specs.declared.entry.Entry.{Entry}
+use Rattle.js_store_keys.specs.Operation.{is_put}
 
 -- how many of so many kept entries the next one overtakes, where a bucket keeps this history: a purge overtakes all, and any other those
 -- that are too old beside it
@@ -36,12 +37,6 @@ keys_of changes = fold (insert_key (slice_cmp nat_cmp)) [] (map (λ (entry : Ent
 -- the last of some entries
 abbrev pub last_of : List Entry → Option Entry
 last_of entries = slice_get entries (length entries - 1)
-
--- whether an entry gives its key a value
-abbrev pub is_put : Operation → Bool
-is_put Put = true
-is_put Delete = false
-is_put Purge = false
 
 -- an entry, unless it is a deletion
 abbrev pub valued : Option Entry → Option Entry

@@ -8,7 +8,7 @@ use Rattle.std.specs.BTreeSet.{insert_key}
 use Rattle.std.specs.List.{filter_map}
 use Rattle.std.specs.declared.alloc.Global.{Global}
 use Rattle.js_store_keys.specs.declared.key_places.KeyPlaces.{KeyPlaces}
-use Rattle.js_store_table.specs.declared.entry.Entry.{Entry}
+use Rattle.js_store_keys.specs.declared.entry.Entry.{Entry}
 use Rattle.js_store_table.specs.declared.message_entry.Untold.{Untold}
 use Rattle.js_store_table.specs.declared.rows.BucketKeys.{BucketKeys}
 use Rattle.js_store_table.specs.declared.rows.Progress.{Progress}

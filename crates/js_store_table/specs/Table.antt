@@ -4,7 +4,7 @@ use Rattle.js_base.specs.declared.message.Message.{Message}
 use Rattle.js_base.specs.declared.turn.Next.{Next}
 use Rattle.js_base.specs.declared.turn.Next.TheVariants as next
 use Rattle.js_link.specs.LinkView.{LinkView}
-use Rattle.js_store_table.specs.declared.entry.Entry.{Entry}
+use Rattle.js_store_keys.specs.declared.entry.Entry.{Entry}
 use Rattle.js_store_table.specs.declared.rows.BucketKeys.{BucketKeys}
 use Rattle.js_store_table.specs.declared.rows.Progress.{Progress}
 use Rattle.js_store_table.specs.declared.table.Table.{Table}

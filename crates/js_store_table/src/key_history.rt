@@ -1,15 +1,15 @@
-//! The entries that are kept of a key.
+//! The entries that are kept for a key.
 ghost use Rattle.std.specs.Prelude.{◌≡◌, ◌≤◌, ◌∷◌, [], IfOk, OnOk, OnErr, drop, length};
 ghost use Rattle.std.specs.Option.{option_copied};
 ghost use Rattle.js_store_table.specs.History.{overtaken as overtaken_by, last_of, with_entry};
 
-use crate::entry::Entry;
 use js_base::OutOfMemory;
-use js_store_keys::Operation;
+use js_store_keys::{Entry, Operation};
 use std::alloc::Global;
 use std::marker::Model;
 
-/// The entries that are kept of a key, in the order in which they were told. Contracts see their list.
+/// The entries that are kept for a key, in the order in which they were returned. Contracts see
+/// their list.
 #[derive(Debug, Drop)]
 pub(crate) struct KeyHistory {
     entries: Vec<Entry>,
@@ -17,7 +17,7 @@ pub(crate) struct KeyHistory {
 
 impl Model for KeyHistory {
     ghost use Rattle.std.specs.Prelude.{List};
-    ghost use Rattle.js_store_table.specs.declared.entry.Entry.{Entry};
+    ghost use Rattle.js_store_keys.specs.declared.entry.Entry.{Entry};
 
     ghost Value = { List Entry };
 

@@ -3,13 +3,13 @@ ghost use Rattle.std.specs.Prelude.{◌≡◌, None, OnOk, OnErr};
 ghost use Rattle.std.specs.BTreeMap.{get_by_text};
 ghost use Rattle.js_store_table.specs.Rows.{IsSame, Notes};
 
-use crate::entry::Entry;
 use crate::key_history::KeyHistory;
 use js_base::{OutOfMemory, TryClone, both};
+use js_store_keys::Entry;
 use std::alloc::Global;
 use std::collections::BTreeMap;
 
-/// What is kept of each key.
+/// What is kept for each key.
 pub(crate) type KeyRows = BTreeMap<String, KeyHistory>;
 
 // Makes a row for an entry whose key has none.
@@ -29,7 +29,8 @@ fn add_row(
     Ok(())
 }
 
-/// Notes an entry in the row of its key, which keeps as many as this history. After a refusal the rows are what they were.
+/// Adds an entry to the row of its key, which keeps at most `history` entries. If it fails, the
+/// rows are unchanged.
 pub(crate) fn note(
     alloc: Global,
     rows: &mut KeyRows,

@@ -1,19 +1,19 @@
-//! The entry that a message of a bucket's stream tells.
+//! The entry that a message of a bucket's stream reports.
 ghost use Rattle.std.specs.Prelude.{◌≡◌, IfOk, option_map};
 ghost use Rattle.std.specs.Option.{option_copied};
 ghost use Rattle.js_message.specs.Info.{shown};
 ghost use Rattle.js_store_table.specs.Entry.{Tells, entry_with, info_in as info_in_reply, key_in as key_in_subject, told_by};
 
-use crate::entry::Entry;
 use js_base::{Message, OutOfMemory, Subject, Text, TryClone, all_3};
 use js_message::{Info, parse_info};
-use js_store_keys::operation_of;
+use js_store_keys::{Entry, operation_of};
 use std::alloc::Global;
 
-/// Why no entry is told of a message.
+/// Why a message gives no entry.
 #[derive(Clone, Copy, Debug, PartialEq, Eq)]
 pub(crate) enum Untold {
-    /// It is none of the bucket's: its subject does not begin as theirs, or it does not say where it stands in the stream.
+    /// The message is not one of the bucket's: its subject does not begin with the bucket's prefix,
+    /// or it does not say where it stands in the stream.
     NoEntry,
     OutOfMemory,
 }
@@ -64,7 +64,8 @@ fn entry_with(
     })
 }
 
-/// The entry that a message tells, whose subject begins with the prefix of the bucket's keys.
+/// Returns the entry that a message reports. Its subject has to begin with the prefix of the
+/// bucket's keys.
 pub(crate) fn entry_of(
     alloc: Global,
     bucket: &Text,

@@ -1,18 +1,18 @@
-//! The rows of a table, with the bucket that they are of and how far they are.
-ghost use Rattle.std.specs.Prelude.{◌≡◌, ◌==◌, ◌≤◌, ◌++◌, [], IfOk, OnOk, List, length};
+//! The rows of a table, with their bucket and how far they have come.
+ghost use Rattle.std.specs.Prelude.{◌≡◌, ◌==◌, ◌≤◌, ◌<◌, ◌+◌, ◌^◌, ◌++◌, [], IfOk, OnOk, List, length};
 ghost use Rattle.std.specs.Option.{option_copied};
 ghost use Rattle.std.specs.List.{cons_option};
-ghost use Rattle.js_store_table.specs.declared.entry.Entry.{Entry};
+ghost use Rattle.js_store_keys.specs.declared.entry.Entry.{Entry};
 ghost use Rattle.js_store_table.specs.Entry.{Tells, told_by};
-ghost use Rattle.js_store_table.specs.History.{history_of, is_shown as is_shown_key, keys_matching, is_put as is_put_by, valued as valued_entry, value_of};
+ghost use Rattle.js_store_table.specs.History.{history_of, is_shown as is_shown_key, keys_matching, valued as valued_entry, value_of};
+ghost use Rattle.js_store_table.specs.Resume.{resumed as resumed_with};
 ghost use Rattle.js_store_table.specs.Rows.{Follows, IsTable, at_first, keys_in, most, progress_by, shown_by, told_in};
 
-use crate::entry::Entry;
 use crate::key_history::KeyHistory;
 use crate::key_rows::{KeyRows, note};
 use crate::message_entry::{Untold, entry_of};
 use js_base::{Message, OutOfMemory, Text, TryClone, both, subject_matches};
-use js_store_keys::{KeyPlaces, Operation};
+use js_store_keys::{Entry, KeyPlaces, is_put};
 use std::alloc::Global;
 use std::collections::BTreeMap;
 
@@ -27,32 +27,24 @@ pub(crate) struct BucketKeys {
     history: usize,
 }
 
-/// How far a table is.
+/// How far a table has come.
 #[derive(Clone, Copy, Debug)]
 pub(crate) struct Progress {
-    /// The revision of the last entry that was told, 0 where none was.
+    /// The revision of the last entry that was returned, or 0 if there was none.
     revision: u64,
-    /// How many messages were to come after it.
+    /// How many messages were still to come after it.
     pending: u64,
 }
 
-/// The rows of a table: of each key of a bucket the last entries, as many as the bucket keeps. A purge is kept alone.
+/// The rows of a table: the last entries of each key of a bucket, as many as the bucket keeps. Of a
+/// purged key's entries up to the purge, only the purge is kept.
 ///
-/// A key that was deleted has its row still, which tells the revision of its deletion.
+/// A deleted key keeps its row, which has the revision of the deletion.
 #[derive(Debug, Drop)]
 pub struct Rows {
     bucket: BucketKeys,
     rows: KeyRows,
     progress: Progress,
-}
-
-fn is_put(operation: Operation) -> bool
-    ensures { result ≡ is_put_by operation }
-{
-    match operation {
-        Operation::Put => true,
-        Operation::Delete | Operation::Purge => false,
-    }
 }
 
 // An entry, unless it is a deletion.
@@ -92,10 +84,11 @@ fn add_shown(
 }
 
 impl Rows {
-    /// Rows of a bucket, which have no key yet. `pending` is how many messages are to come, as the info of the consumer says that
-    /// the table is to read (`num_pending`): where it is 0, the bucket is empty, and the table is current at once.
+    /// Creates the rows of a bucket, without any key. `pending` is how many messages are still to
+    /// come: `num_pending` in the info of the consumer that the table reads. If it is 0, the bucket
+    /// is empty and the table is current at once.
     ///
-    /// The one refusal is want of memory.
+    /// Fails only with `OutOfMemory`.
     pub fn new(alloc: Global, places: &KeyPlaces, pending: u64) -> Result<Rows, OutOfMemory>
         ensures bucket { IfOk result (λ rows. rows.bucket ≡ keys_in places.now) }
         ensures table { IfOk result (λ rows. IsTable rows.bucket.history rows.rows []) }
@@ -116,7 +109,8 @@ impl Rows {
         })
     }
 
-    /// Notes the entry that a message tells, and hands it out. Where none is told, the table of the changes is what it was.
+    /// Adds the entry that a message reports to the rows, and returns it. If the message gives no
+    /// entry, the table of the changes is unchanged.
     pub(crate) fn apply(&mut self, alloc: Global, message: &Message) -> Result<Entry, Untold>
         ensures bucket { self.new.bucket ≡ self.old.bucket }
         ensures told { Tells (told_by self.old.bucket.name self.old.bucket.prefix message.now) result }
@@ -140,8 +134,8 @@ impl Rows {
         }
     }
 
-    /// The entry that a key has its value by, after the changes that were told: its last one, and none where it has none or that
-    /// is a deletion. It takes no memory.
+    /// Returns the entry that gives a key its value: its last entry, or `None` if it has no entry
+    /// or the last one is a deletion. Allocates nothing.
     pub fn get(&self, key: &str) -> Option<&Entry>
         ensures { (changes : List Entry) → IsTable self.now.bucket.history self.now.rows changes → option_copied result ≡ value_of self.now.bucket.history key.now changes }
     {
@@ -151,10 +145,11 @@ impl Rows {
         }
     }
 
-    /// The entries of a key that are kept, in the order of revisions: after the changes that were told the last ones, as many as
-    /// the bucket keeps, from its last purge on. It takes no memory.
+    /// Returns the kept entries of a key in the order of revisions: the last ones that were
+    /// returned, as many as the bucket keeps, starting at its last purge. Allocates nothing.
     ///
-    /// The last one is the key's newest entry, be it a value or a deletion: its revision is the one that an update names.
+    /// The last one is the key's newest entry, whether a value or a deletion. Pass its revision to
+    /// `update`.
     pub fn history(&self, key: &str) -> &[Entry]
         ensures entries { (changes : List Entry) → IsTable self.now.bucket.history self.now.rows changes → result.now ≡ history_of self.now.bucket.history key.now changes }
         ensures bounded { (changes : List Entry) → IsTable self.now.bucket.history self.now.rows changes → length result.now ≤ most self.now.bucket.history }
@@ -165,8 +160,8 @@ impl Rows {
         }
     }
 
-    /// The keys that have a value and that a filter matches, each once, in byte order. The filter `>` matches each. The one
-    /// refusal is want of memory.
+    /// Returns the keys that have a value and match a filter, each once, in byte order. The filter
+    /// `>` matches every key. Fails only with `OutOfMemory`.
     pub fn keys(&self, alloc: Global, filter: &str) -> Result<Vec<Text>, OutOfMemory>
         ensures { IfOk result (λ keys. (changes : List Entry) → IsTable self.now.bucket.history self.now.rows changes → keys.items ≡ keys_matching self.now.bucket.history filter.now changes) }
     {
@@ -177,15 +172,36 @@ impl Rows {
         Ok(keys)
     }
 
-    /// The revision of the last entry that was told, which is its sequence in the bucket's stream; 0 where none was.
+    /// Returns the revision of the last entry that was returned, which is its sequence in the
+    /// bucket's stream, or 0 if there was none.
     pub fn revision(&self) -> u64
         ensures { result ≡ self.now.progress.revision }
     {
         self.progress.revision
     }
 
-    /// Whether nothing was to come after the last entry, by that message's own count; before the first one, whether the bucket was
-    /// empty when its consumer was made.
+    /// Returns the stream sequence at which a reader has to start that goes on after these rows: the
+    /// one after their revision. Configure its consumer with `DeliverPolicy::ByStartSequence` and
+    /// this sequence, and pass it with the rows to [`Table::resume`](crate::Table::resume).
+    pub fn next_sequence(&self) -> u64
+        ensures { self.now.progress.revision + 1 < 2 ^ 64 → result ≡ self.now.progress.revision + 1 }
+    {
+        self.progress.revision.saturating_add(1)
+    }
+
+    // The same rows, with so much to come.
+    pub(crate) fn resumed(self, pending: u64) -> Rows
+        ensures { result ≡ resumed_with pending self }
+    {
+        let progress = Progress {
+            revision: self.progress.revision,
+            pending,
+        };
+        Rows { progress, ..self }
+    }
+
+    /// Returns whether nothing was to come after the last entry, by that message's own count.
+    /// Before the first entry, returns whether the bucket was empty when its consumer was created.
     pub fn is_current(&self) -> bool
         ensures { result ≡ (self.now.progress.pending == 0) }
     {

@@ -1,33 +1,35 @@
 //! A live table of the keys of a bucket.
 ghost use Rattle.std.specs.Prelude.{◌≡◌, None};
+ghost use Rattle.js_store_table.specs.Resume.{GoesOn, resumed};
 ghost use Rattle.js_store_table.specs.Rows.{Follows};
 ghost use Rattle.js_store_table.specs.Table.{PollsTable, ReadsNext, TellsMessage, WakesAt, progress_after, told_of};
 
-use crate::entry::Entry;
 use crate::message_entry::Untold;
-use crate::ordered_reader::OrderedReader;
 use crate::rows::Rows;
 use crate::table_error::TableError;
 use js_base::{Message, Moment, Next, replace_with};
 use js_link::{InboxId, Link};
+use js_readers::ordered::OrderedReader;
+use js_store_keys::Entry;
 use std::alloc::Global;
 
-/// A live table of the keys of a bucket: it reads the bucket's stream in order, tells each change, and keeps the last entries of
-/// each key.
+/// A live table of the keys of a bucket. It reads the bucket's stream in order, returns each
+/// change, and keeps the last entries of each key.
 ///
-/// One that is let go leaves the inbox of its reader open: `close` closes it.
+/// Call `close` when you are done with a table; dropping it leaves its reader's inbox open.
 #[derive(Drop)]
 #[must_use = "changes come by polls"]
 pub struct Table<R> {
     reader: R,
     rows: Rows,
-    /// A message that was read, and for which there was no memory.
+    /// A message that was read and for which memory ran out.
     unread: Option<Message>,
 }
 
 impl<R: OrderedReader> Table<R> {
-    /// A table of these rows, which this reads. The reader's consumer delivers the last messages of each subject of the bucket, or
-    /// all, from the first sequence on.
+    /// Creates a table of these rows, which `reader` feeds. The reader's consumer has to deliver
+    /// the last messages of each subject of the bucket, or all messages, from the first sequence
+    /// on.
     pub fn new(rows: Rows, reader: R) -> Table<R>
         ensures { result ≡ record { reader = reader; rows = rows; unread = None } }
     {
@@ -38,18 +40,39 @@ impl<R: OrderedReader> Table<R> {
         }
     }
 
-    /// Its rows, which have the changes that were told.
+    /// Creates a table that goes on with the rows of an earlier one ([`into_rows`](Table::into_rows)).
+    /// After any polls, its rows are those of the changes that were returned before, and then of
+    /// those returned since.
+    ///
+    /// The consumer of `reader` has to start at [`next_sequence`](Rows::next_sequence) of the rows:
+    /// if it starts earlier, changes are returned and counted twice, and if it starts later, changes
+    /// are missing. `pending` is how many messages it has to deliver: `num_pending` in its info. If
+    /// it is 0, the table is current at once.
+    pub fn resume(rows: Rows, pending: u64, reader: R) -> Table<R>
+        ensures table { result ≡ record { reader = reader; rows = resumed pending rows; unread = None } }
+        ensures goes_on { GoesOn rows.bucket.history rows.rows result.rows.rows }
+    {
+        Table {
+            reader,
+            rows: rows.resumed(pending),
+            unread: None,
+        }
+    }
+
+    /// Returns the table's rows, which have the changes returned so far.
     pub fn rows(&self) -> &Rows
         ensures { result.now ≡ self.now.rows }
     {
         &self.rows
     }
 
-    /// Tells the next change, or the next error of its reader, whose poll this is (`OrderedReader::read_next`).
+    /// Returns the next change, or the next error of the reader, by one poll of the reader
+    /// (`OrderedReader::read_next`).
     ///
-    /// Each message that the reader hands out is told as one entry, and noted in the rows; one that is none of the bucket's is told
-    /// as `NoEntry`. Where there is no memory for it, `OutOfMemory` comes, the rows are those of the changes told so far, and the
-    /// message is kept: the next poll tells it, and does not look at the link.
+    /// Each message that the reader hands out is returned as one entry and added to the rows. A
+    /// message that is not one of the bucket's is returned as `NoEntry`. If memory runs out for a
+    /// message, `OutOfMemory` is returned, the rows are those of the changes returned so far, and
+    /// the table keeps the message. The next poll returns it without looking at the link.
     pub fn poll_next<L: Link>(
         &mut self,
         alloc: Global,
@@ -114,8 +137,8 @@ impl<R: OrderedReader> Table<R> {
         }
     }
 
-    /// The first moment at which it has something to do by itself: at once where a message is kept for which there was no memory,
-    /// else when its reader has.
+    /// Returns the first moment at which the table has something to do by itself: immediately if it
+    /// keeps a message for which memory ran out, otherwise when its reader has something to do.
     pub fn wakes_at(&self) -> Option<Moment>
         ensures { WakesAt R.wakes self.now.unread self.now.reader result }
     {
@@ -125,14 +148,33 @@ impl<R: OrderedReader> Table<R> {
         }
     }
 
-    /// The inbox that is open for its reader.
+    /// Returns the open inbox of the table's reader, if there is one.
     pub fn inbox(&self) -> Option<InboxId>
         ensures { result ≡ R.opened self.now.reader }
     {
         self.reader.open_inbox()
     }
 
-    /// Lets go of it, and closes the inbox of its reader.
+    /// Closes the table and the inbox of its reader, and returns the rows. Keep them to go on later
+    /// with [`resume`](Table::resume).
+    ///
+    /// A message for which memory ran out is dropped. It is above the rows' revision, so a reader
+    /// that starts at `next_sequence` reads it again.
+    pub fn into_rows<L: Link>(self, link: &mut L) -> Rows
+        ensures rows { result ≡ self.rows }
+        ensures closes { R.closes self.reader (L.view link.old) (L.view link.new) }
+    {
+        let Table {
+            reader,
+            rows,
+            unread,
+        } = self;
+        drop(unread);
+        reader.close_reader(link);
+        rows
+    }
+
+    /// Closes the table and the inbox of its reader.
     pub fn close<L: Link>(self, link: &mut L)
         ensures { R.closes self.reader (L.view link.old) (L.view link.new) }
     {

@@ -1,15 +1,16 @@
-//! What a table tells of in place of a change.
+//! What a table returns instead of a change.
 ghost use Rattle.js_store_table.specs.Table.{table_error_text};
 
 use std::{error, fmt};
 
-/// What a table tells of in place of a change.
+/// What a table returns instead of a change.
 #[derive(Debug, PartialEq, Eq, Drop)]
 pub enum TableError<E> {
-    /// What its reader told of.
+    /// An error of its reader.
     Reader(E),
-    /// A message was read that is no entry of the bucket: its subject does not begin as those of the bucket's keys, or its reply
-    /// subject does not say where it stands in the stream. The message is let go.
+    /// The reader read a message that is not an entry of the bucket: its subject does not begin as
+    /// those of the bucket's keys do, or its reply subject does not say where it stands in the
+    /// stream. The message is dropped.
     NoEntry,
 }
 

@@ -1,24 +1,25 @@
 //! Entries of a bucket.
+use crate::operation::Operation;
 use bytes::Bytes;
 use js_base::{OutOfMemory, Text, TryClone, all_3};
-use js_store_keys::Operation;
 
-/// A change of a key: what one message of the bucket's stream tells.
+/// A change of a key, as one message of the bucket's stream reports it.
 #[derive(Debug, PartialEq, Eq, Drop)]
 pub struct Entry {
     /// The bucket's name.
     pub bucket: Text,
     /// The key.
     pub key: Text,
-    /// Its value, which may be empty, or what came with a deletion.
+    /// Its value, which may be empty, or the payload of a deletion.
     pub value: Bytes,
     /// The message's sequence in the bucket's stream.
     pub revision: u64,
-    /// What it does to the key.
+    /// What the message does to the key.
     pub operation: Operation,
-    /// When the stream stored it, in nanoseconds since 1970.
+    /// When the stream stored the message, in nanoseconds since 1970.
     pub created: i128,
-    /// How many messages the consumer had yet to deliver after this one.
+    /// How many messages the consumer still had to deliver after this one; 0 if the entry was read
+    /// without a consumer.
     pub delta: u64,
 }
 
