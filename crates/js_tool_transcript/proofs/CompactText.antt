@@ -1,31 +1,34 @@
 -- What the compact text of a value is: on one line, UTF-8, and read as the value.
-use Rattle.std.proofs.Common.{◌≡◌, ℕ, zero, suc, ◌^◌, ◌<◌, ◌≤◌, ◌==◌, Bool, true, false, not, ◌&&◌, nat_lt, List, [], ◌∷◌, ◌++◌, decimal, inl, inr, refl, sym, ap, ◌∙◌, arith}
+use Rattle.std.proofs.Common.{◌≡◌, ℕ, zero, suc, ◌^◌, ◌<◌, ◌≤◌, ◌==◌, Bool, true, false, not, ◌&&◌, nat_lt, List, [], ◌∷◌, ◌++◌, decimal, inl, inr, Some, Ok, refl, sym, ap, ◌∙◌, arith}
 use Rattle.std.specs.Prelude.{⊤}
 use Rattle.std.specs.Int.{IsInRange}
 use Rattle.std.specs.Str.{IsUtf8}
 use Rattle.std.specs.Str.Parse.{AllDigits}
 use Rattle.std.proofs.lemmas.Bool.{and_parts, cases_lt, cases_eq}
 use Rattle.std.proofs.lemmas.Fmt.{decimal_is_IsNumeral}
-use Rattle.std.proofs.lemmas.Str.{IsUtf8-append}
+use Rattle.std.proofs.lemmas.Str.{IsUtf8-append, is_utf8-from_IsUtf8}
 use Rattle.std.proofs.lemmas.Str.Parse.{digit_from_value}
 use Rattle.json.specs.Print.{escape_byte, escape, quoted}
 use Rattle.json.specs.Tree.{depth, HasNumbers, ItemsHaveNumbers, MembersHaveNumbers}
 use Rattle.json.proofs.Printed.Decimals.{IsNumber-decimal}
 use Rattle.json.proofs.Printed.Strings.{escape_byte_plain}
-use Rattle.json.proofs.Printed.Utf8.{IsUtf8-are_ascii, IsUtf8-quoted}
+use Rattle.json.proofs.Printed.Utf8.{IsUtf8-are_ascii, IsUtf8-quoted, IsUtf8-boolean}
 use Rattle.serde_json.specs.Data.{Data, null, boolean, unsigned, negative, float, number, string, array, object, Items, no_items, item, Members, no_members, member}
 use Rattle.serde_json.specs.Read.{read, of_json}
-use Rattle.serde_json.specs.Written.{outline, items_outline, members_outline, compact_text, items_text, members_text}
+use Rattle.serde_json.specs.Written.{outline, items_outline, members_outline, compact_text, items_text, members_text, has_float, items_have_float, members_have_float}
 use Rattle.serde_json.proofs.Texts.{print-outline}
+use Rattle.js_json_members.specs.Member.{float_free}
+use Rattle.js_json_members.specs.Value.{value_of}
+use Rattle.js_tool_io.specs.Lines.{lines_of}
 use Rattle.js_tool_transcript.proofs.Printed.{digits_utf8, read_printed}
 
--- ---- values of texts and of whole numbers
+-- ---- values of texts, of whole numbers and of booleans
 
 abbrev mutual
-  -- each text is so, keys too, each number fits 64 bits, and nothing else stands there
+  -- each text is so, keys too, each number fits 64 bits, and no null and no float stands there
   pub IsSimple : (List ℕ → Type 0) → Data → Type 0
   IsSimple Q null = ⊥
-  IsSimple Q (boolean b) = ⊥
+  IsSimple Q (boolean b) = ⊤
   IsSimple Q (number (unsigned n)) = n < 2 ^ 64
   IsSimple Q (number (negative z)) = ⊥
   IsSimple Q (number (float x)) = ⊥
@@ -43,14 +46,14 @@ abbrev mutual
 
 -- what holds of brackets, of quoted texts and of numbers, and of joined texts, holds of the text of such a value
 module _ (P Q : List ℕ → Type 0) (joined : (xs ys : List ℕ) → P xs → P ys → P (xs ++ ys)) (mark : (x : ℕ) → nat_lt x 128 ≡ true → (x == 10) ≡ false → P (x ∷ []))
-    (quotes : (s : List ℕ) → Q s → P (quoted s)) (digits : (n : ℕ) → n < 2 ^ 64 → P (decimal n)) where
+    (quotes : (s : List ℕ) → Q s → P (quoted s)) (digits : (n : ℕ) → n < 2 ^ 64 → P (decimal n)) (truth : (b : Bool) → P (compact_text (boolean b))) where
   member_is : (k text rest : List ℕ) → Q k → P text → P rest → P (quoted k ++ 58 ∷ (text ++ rest))
   member_is k text rest h t r = joined (quoted k) (58 ∷ (text ++ rest)) (quotes k h) (joined (58 ∷ []) (text ++ rest) (mark 58 refl refl) (joined text rest t r))
 
   mutual
     pub text_is : (d : Data) → IsSimple Q d → P (compact_text d)
     text_is null h = absurd h
-    text_is (boolean b) h = absurd h
+    text_is (boolean b) h = truth b
     text_is (number (unsigned n)) h = digits n h
     text_is (number (negative z)) h = absurd h
     text_is (number (float x)) h = absurd h
@@ -77,7 +80,7 @@ one_utf8 x small other = IsUtf8-are_ascii (x ∷ []) (rw small refl)
 
 -- the text is UTF-8 where its texts are
 pub text_utf8 : (d : Data) → IsSimple IsUtf8 d → IsUtf8 (compact_text d)
-text_utf8 d h = text_is IsUtf8 IsUtf8 IsUtf8-append one_utf8 IsUtf8-quoted digits_utf8 d h
+text_utf8 d h = text_is IsUtf8 IsUtf8 IsUtf8-append one_utf8 IsUtf8-quoted digits_utf8 IsUtf8-boolean d h
 
 -- ---- one line
 
@@ -146,9 +149,13 @@ digits_line (c ∷ cs) h =
 number_line : (n : ℕ) → n < 2 ^ 64 → IsOneLine (decimal n)
 number_line n small = digits_line (decimal n) (decimal_is_IsNumeral n small).0.1
 
+truth_line : (b : Bool) → IsOneLine (compact_text (boolean b))
+truth_line true = no_feed_line (compact_text (boolean true)) refl
+truth_line false = no_feed_line (compact_text (boolean false)) refl
+
 -- no line feed stands in the text
 pub text_line : (d : Data) → IsSimple (λ s. ⊤) d → IsOneLine (compact_text d)
-text_line d h = text_is IsOneLine (λ s. ⊤) lines_joined one_byte quoted_line number_line d h
+text_line d h = text_is IsOneLine (λ s. ⊤) lines_joined one_byte quoted_line number_line truth_line d h
 
 mutual
   pub simple_line : (d : Data) → IsSimple IsUtf8 d → IsSimple (λ s. ⊤) d
@@ -169,12 +176,17 @@ mutual
   simple_members no_members h = h
   simple_members (member k d ms) h = (tt, (simple_line d h.1.0, simple_members ms h.1.1))
 
+-- it is the first line of what follows
+pub line_cut : (line rest : List ℕ) → IsOneLine line → lines_of (line ++ 10 ∷ rest) ≡ line ∷ lines_of rest
+line_cut [] rest h = refl
+line_cut (b ∷ line) rest h = rw (h.0, line_cut line rest h.1) refl
+
 -- ---- reading
 
 mutual
   has_numbers : (d : Data) → IsSimple IsUtf8 d → HasNumbers (outline d)
   has_numbers null h = absurd h
-  has_numbers (boolean b) h = absurd h
+  has_numbers (boolean b) h = tt
   has_numbers (number (unsigned n)) h = IsNumber-decimal n h
   has_numbers (number (negative z)) h = absurd h
   has_numbers (number (float x)) h = absurd h
@@ -193,3 +205,36 @@ mutual
 -- the text of such a value is read as what its outline says
 pub text_read : (d : Data) → IsSimple IsUtf8 d → depth (outline d) ≤ 127 → read (compact_text d) ≡ of_json (outline d)
 text_read d simple shallow = ap read (sym (print-outline d)) ∙ read_printed (outline d) (has_numbers d simple) shallow
+
+-- ---- no float
+
+mutual
+  pub simple_float_free : (d : Data) → IsSimple IsUtf8 d → has_float d ≡ false
+  simple_float_free null h = absurd h
+  simple_float_free (boolean b) h = refl
+  simple_float_free (number (unsigned n)) h = refl
+  simple_float_free (number (negative z)) h = absurd h
+  simple_float_free (number (float x)) h = absurd h
+  simple_float_free (string s) h = refl
+  simple_float_free (array ds) h = items_float_free ds h
+  simple_float_free (object ms) h = members_float_free ms h
+
+  items_float_free : (ds : Items) → ItemsAreSimple IsUtf8 ds → items_have_float ds ≡ false
+  items_float_free no_items h = refl
+  items_float_free (item d ds) h = rw (simple_float_free d h.0) (items_float_free ds h.1)
+
+  members_float_free : (ms : Members) → MembersAreSimple IsUtf8 ms → members_have_float ms ≡ false
+  members_float_free no_members h = refl
+  members_float_free (member k d ms) h = rw (simple_float_free d h.1.0) (members_float_free ms h.1.1)
+
+-- ---- a whole value
+
+-- the text of a value is read as what its outline says
+pub value_reads_as : (d said : Data) → IsSimple IsUtf8 d → depth (outline d) ≤ 127 → of_json (outline d) ≡ Some said → has_float said ≡ false → value_of (compact_text d) ≡ Ok said
+unfolding value_of float_free
+value_reads_as d said simple shallow says whole =
+    rw (is_utf8-from_IsUtf8 (compact_text d) (text_utf8 d simple), text_read d simple shallow, says, whole) refl
+
+-- and as the value itself, where its members are in order
+pub value_reads : (d : Data) → IsSimple IsUtf8 d → depth (outline d) ≤ 127 → of_json (outline d) ≡ Some d → value_of (compact_text d) ≡ Ok d
+value_reads d simple shallow same = value_reads_as d d simple shallow same (simple_float_free d simple)

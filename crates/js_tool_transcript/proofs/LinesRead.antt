@@ -1,5 +1,5 @@
 -- What the lines of a transcript are read as, by those that are read first.
-use Rattle.std.proofs.Common.{◌≡◌, ℕ, ◌+◌, List, [], ◌∷◌, ◌++◌, refl, sym, ap, ◌∙◌, append-nil}
+use Rattle.std.proofs.Common.{◌≡◌, ℕ, List, [], ◌∷◌, ◌++◌, refl, sym, ap, ◌∙◌, append-nil}
 use Rattle.std.specs.Prelude.{Result, Ok, Err}
 use Rattle.js_ordered_table.specs.declared.event.Event.{Event}
 use Rattle.js_tool_transcript.specs.declared.transcript.setup.Setup.{Setup}

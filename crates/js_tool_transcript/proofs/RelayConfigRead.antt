@@ -1,19 +1,17 @@
 -- What the configuration and the info of a consumer that reads a mirror are read as.
-use Rattle.std.proofs.Common.{◌≡◌, ℕ, ◌^◌, ◌<◌, ◌≤◌, false, List, [], ◌∷◌, Some, Ok, refl, arith}
+use Rattle.std.proofs.Common.{◌≡◌, ℕ, ◌^◌, ◌<◌, ◌≤◌, List, [], ◌∷◌, Some, Ok, refl, arith}
 use Rattle.std.specs.List.{AllByRecursion}
 use Rattle.std.specs.Str.{IsUtf8}
-use Rattle.std.proofs.lemmas.Str.{is_utf8-from_IsUtf8}
 use Rattle.std.specs.Fmt.{digits}
 use Rattle.json.specs.Tree.{depth, items_depth}
 use Rattle.json.proofs.Printed.Utf8.{IsUtf8-are_ascii}
-use Rattle.serde_json.specs.Data.{Data, unsigned, negative, float, null, boolean, number, string, array, object, Items, no_items, item, Members, no_members, member}
+use Rattle.serde_json.specs.Data.{Data, object, Members}
 use Rattle.serde_json.specs.Read.{of_json, of_items}
-use Rattle.serde_json.specs.Written.{outline, items_outline, compact_text, has_float, items_have_float, members_have_float}
+use Rattle.serde_json.specs.Written.{outline, items_outline}
 use Rattle.serde_json.proofs.Numbers.{number_of-decimal}
 use Rattle.js_json_members.specs.declared.key.Key.{Key}
 use Rattle.js_json_members.specs.declared.key.Key.TheVariants as key
-use Rattle.js_json_members.specs.Member.{text, all_read, float_free}
-use Rattle.js_json_members.specs.Value.{value_of}
+use Rattle.js_json_members.specs.Member.{text, all_read}
 use Rattle.js_json.specs.ConsumerConfig.{config_fields}
 use Rattle.js_json.specs.ConsumerInfo.{info_fields}
 use Rattle.js_json.specs.declared.consumer.config.Config.{Config}
@@ -23,7 +21,7 @@ use Rattle.js_json.proofs.OnLiterals.{infos_on_literals}
 use Rattle.js_json_members.proofs.OnLiterals.{reading_on_literals}
 use Rattle.js_tool_transcript.specs.RelaySetupData.{texts, config_data, info_data}
 use Rattle.js_tool_transcript.specs.RelayConfig.{relay_config, relay_info}
-use Rattle.js_tool_transcript.proofs.CompactText.{IsSimple, ItemsAreSimple, MembersAreSimple, text_utf8, text_read}
+use Rattle.js_tool_transcript.proofs.CompactText.{IsSimple, ItemsAreSimple}
 
 -- ---- lists of texts
 
@@ -43,35 +41,6 @@ texts_flat (s ∷ list) = rw (texts_flat list) refl
 pub texts_simple : (list : List (List ℕ)) → AllByRecursion IsUtf8 list → ItemsAreSimple IsUtf8 (texts list)
 texts_simple [] h = tt
 texts_simple (s ∷ list) h = (h.0, texts_simple list h.1)
-
--- ---- no float
-
-mutual
-  pub simple_float_free : (d : Data) → IsSimple IsUtf8 d → has_float d ≡ false
-  simple_float_free null h = absurd h
-  simple_float_free (boolean b) h = absurd h
-  simple_float_free (number (unsigned n)) h = refl
-  simple_float_free (number (negative z)) h = absurd h
-  simple_float_free (number (float x)) h = absurd h
-  simple_float_free (string s) h = refl
-  simple_float_free (array ds) h = items_float_free ds h
-  simple_float_free (object ms) h = members_float_free ms h
-
-  items_float_free : (ds : Items) → ItemsAreSimple IsUtf8 ds → items_have_float ds ≡ false
-  items_float_free no_items h = refl
-  items_float_free (item d ds) h = rw (simple_float_free d h.0) (items_float_free ds h.1)
-
-  members_float_free : (ms : Members) → MembersAreSimple IsUtf8 ms → members_have_float ms ≡ false
-  members_float_free no_members h = refl
-  members_float_free (member k d ms) h = rw (simple_float_free d h.1.0) (members_float_free ms h.1.1)
-
--- ---- a whole value
-
--- the text of a value is read as the value
-pub value_reads : (d : Data) → IsSimple IsUtf8 d → depth (outline d) ≤ 127 → of_json (outline d) ≡ Some d → value_of (compact_text d) ≡ Ok d
-unfolding value_of float_free
-value_reads d simple shallow same =
-    rw (is_utf8-from_IsUtf8 (compact_text d) (text_utf8 d simple), text_read d simple shallow, same, simple_float_free d simple) refl
 
 -- ---- the configuration
 

@@ -28,8 +28,8 @@ use Rattle.js_tool_transcript.specs.RelaySetupData.{with_filter, with_filters, s
 use Rattle.js_tool_transcript.specs.RelayConfig.{relay_config, relay_info}
 use Rattle.js_tool_transcript.specs.RelayText.{arrival_data}
 use Rattle.js_tool_transcript.specs.RelayTranscript.{relay_setup, IsText}
-use Rattle.js_tool_transcript.proofs.CompactText.{IsSimple}
-use Rattle.js_tool_transcript.proofs.RelayConfigRead.{value_reads, config_outlined, config_reads, config_shallow, config_simple, info_outlined, info_reads}
+use Rattle.js_tool_transcript.proofs.CompactText.{IsSimple, value_reads}
+use Rattle.js_tool_transcript.proofs.RelayConfigRead.{config_outlined, config_reads, config_shallow, config_simple, info_outlined, info_reads}
 
 -- ---- the setup
 

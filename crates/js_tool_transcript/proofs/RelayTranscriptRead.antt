@@ -1,5 +1,5 @@
 -- The bytes of a mirror's transcript are read as that transcript, and replay to the mirror's entries.
-use Rattle.std.proofs.Common.{◌≡◌, ℕ, ◌+◌, ◌^◌, ◌<◌, ◌≤◌, ◌==◌, true, false, List, [], ◌∷◌, ◌++◌, length, map, Option, Some, None, option_map, refl, sym, ap, ◌∙◌, subst, arith, append_assoc}
+use Rattle.std.proofs.Common.{◌≡◌, ℕ, ◌+◌, ◌^◌, ◌<◌, ◌≤◌, ◌==◌, true, false, List, [], ◌∷◌, length, map, Option, Some, None, option_map, refl, sym, ap, ◌∙◌, subst, arith, append_assoc}
 use Rattle.std.specs.Prelude.{Result, Ok, if◌then◌else◌}
 use Rattle.std.specs.List.{AllByRecursion}
 use Rattle.std.specs.Str.{IsUtf8}
@@ -35,14 +35,10 @@ use Rattle.js_tool_transcript.specs.RelaySetupData.{config_data, setup_data}
 use Rattle.js_tool_transcript.specs.RelayText.{arrival_data, arrivals, value_lines, relay_text}
 use Rattle.js_tool_transcript.specs.RelayConfig.{relay_config, relay_info}
 use Rattle.js_tool_transcript.specs.RelayTranscript.{relay_reader, relay_setup, relay_transcript, IsText, AreTexts, ReplaysTo, StaysHonestIn}
-use Rattle.js_tool_transcript.proofs.CompactText.{IsSimple, IsOneLine, text_line, simple_line}
+use Rattle.js_tool_transcript.proofs.CompactText.{IsSimple, text_line, simple_line, line_cut}
 use Rattle.js_tool_transcript.proofs.RelaySetupRead.{setup_reads, arrival_simple, arrival_reads}
 
 -- ---- lines
-
-line_cut : (line rest : List ℕ) → IsOneLine line → lines_of (line ++ 10 ∷ rest) ≡ line ∷ lines_of rest
-line_cut [] rest h = refl
-line_cut (b ∷ line) rest h = rw (h.0, line_cut line rest h.1) refl
 
 lines_are : (ds : List Data) → AllByRecursion (IsSimple IsUtf8) ds → lines_of (value_lines ds) ≡ map compact_text ds
 lines_are [] h = refl

@@ -60,7 +60,7 @@ json_is d is = by_test (has_float d) refl
     by_test true some = tt
     by_test false none = text_utf8 d none is
 
-payload_is : (k : Key) → Gives IsUtf8 (payload k)
+pub payload_is : (k : Key) → Gives IsUtf8 (payload k)
 payload_is k null is = IsUtf8-nil
 payload_is k (boolean b) is = tt
 payload_is k (number n) is = tt
@@ -88,7 +88,7 @@ message_is d is =
 abbrev BringsTexts : EventKind → Type 0
 BringsTexts kind = Brings IsTextMessage kind
 
-only_is : {A : Type 0} (P : A → Type 0) (keys : List Key) (fields : Data → Result A ReadError) (k : Key) → Gives P fields → Gives P (only keys fields k)
+pub only_is : {A : Type 0} (P : A → Type 0) (keys : List Key) (fields : Data → Result A ReadError) (k : Key) → Gives P fields → Gives P (only keys fields k)
 unfolding only
 only_is {A = A} P keys fields k gives d is = by_test (has_only keys d)
   where
@@ -211,7 +211,7 @@ setup_is d is =
 
 -- ---- lines
 
-line_is : {A : Type 0} (P : A → Type 0) (keys : List Key) (fields : Data → Result A ReadError) → Gives P fields → (line : List ℕ) → IfOk (line_as keys fields line) P
+pub line_is : {A : Type 0} (P : A → Type 0) (keys : List Key) (fields : Data → Result A ReadError) → Gives P fields → (line : List ℕ) → IfOk (line_as keys fields line) P
 unfolding line_as value_as
 line_is {A = A} P keys fields gives line = then_is IsTextValue P (value_of line) _ (value_is line) (λ d is. by_test d is (has_only keys d))
   where

@@ -2,6 +2,7 @@ pub mod Members
 pub mod Setup
 pub mod Message
 pub mod Event
+pub mod EventText
 pub mod Compact
 pub mod Transcript
 pub mod Text

@@ -1,4 +1,4 @@
-//! The transcript of a consumer that is sent a mirror's messages.
+//! The transcript of a consumer that receives a mirror's messages.
 
 ghost use Rattle.std.specs.Prelude.{◌≡◌, ◌<◌, ◌^◌, ◌++◌, codes, decimal, IfOk, OnOk, IsTrue};
 ghost use Rattle.json.specs.Print.{quoted};
@@ -12,8 +12,7 @@ ghost use Rattle.js_tool_transcript.specs.RelaySetupData as setups;
 ghost use Rattle.js_tool_transcript.specs.RelayConfigText.{filter_text, filters_text, further_texts};
 ghost use Rattle.js_tool_transcript.specs.RelayTranscript.{AreTexts, ReadsAs, ReplaysTo, StaysHonestIn, relay_transcript};
 
-use crate::text::push_quoted;
-use itoa::Buffer;
+use crate::text::{push_decimal, push_plain, push_quoted};
 use js_base::{Entry, Text};
 use js_log::{Mirror, ack_subject};
 use js_ordered_table::OrderedSetup;
@@ -26,21 +25,6 @@ fn filter_subjects(setup: &OrderedSetup) -> &[Text]
         OrderedSetup::Pull(config) => config.filter_subjects.as_slice(),
         OrderedSetup::Push(config) => config.filter_subjects.as_slice(),
     }
-}
-
-// ---- pieces
-
-fn push_plain(out: &mut Vec<u8>, text: &[u8]) -> Result<(), AllocError>
-    ensures { OnOk result (out.new.items ≡ out.old.items ++ text.now) }
-{
-    out.extend_from_slice(text)
-}
-
-fn push_decimal(out: &mut Vec<u8>, number: u64) -> Result<(), AllocError>
-    ensures { OnOk result (out.new.items ≡ out.old.items ++ decimal number) }
-{
-    let mut buffer = Buffer::new();
-    out.extend_from_slice(buffer.format(number).as_bytes())
 }
 
 // ---- the configuration
@@ -180,17 +164,19 @@ fn push_arrivals(
 
 // ---- the transcript
 
-/// The transcript of an ordered pull consumer with this name, of the stream with this name, that reads a mirror: it starts
-/// where the mirror does, has the filters of a setup, and is sent the mirror's entries in order. Each line is compact JSON
-/// with sorted keys. Both are valid names.
+/// Returns the transcript of an ordered pull consumer called `name`, of a stream called `stream`,
+/// that reads a mirror. The consumer starts where the mirror does, has the filters of `setup`, and
+/// receives the mirror's entries in order. Each line is compact JSON with sorted keys. Both names
+/// have to be valid.
 ///
-/// Where the subjects and payloads are UTF-8, as those that a transcript brings are, the bytes are read as that transcript,
-/// and each replay of them hands out the mirror's entries, in order, without an error item and without a recreation. Where
-/// the mirror is that of a run with the same setup in which a server was honest, the server is honest in that replay too.
+/// If the subjects and payloads are UTF-8, as those that come from a transcript are, the bytes can
+/// be read back as that transcript, and every replay of it hands out the mirror's entries, in
+/// order, without an error item and without a recreation. If the mirror is that of a run with the
+/// same setup and an honest server, the server is honest in that replay too.
 ///
 /// # Errors
 ///
-/// Want of memory.
+/// Fails with `AllocError` if memory runs out.
 pub fn relay_text(
     alloc: Global,
     stream: &str,

@@ -1,4 +1,4 @@
-//! The text of a run: a line for each output, in order, and a last one.
+//! The text of a run: one line for each output, in order, and a last line.
 
 ghost use Rattle.std.specs.Prelude.{◌≡◌, ◌++◌, [], ◌∷◌, codes, length, flat_map, option_map, OnOk, IfOk};
 ghost use Rattle.serde_json.specs.Data.{string};
@@ -6,16 +6,18 @@ ghost use Rattle.js_ordered_table.specs.declared.run.Output.TheVariants as outpu
 ghost use Rattle.js_tool_transcript.specs.Text.{cell_data, start_data, kind_name, field_name, text_or_null, unless_empty, output_text, last_line, line_text, with_detail, refusal_cells as refusal_cells_in, refusal_text};
 
 mod line;
+mod pieces;
 mod quoted;
 
 use bytes::Bytes;
 use js_base::Subject;
 use js_ordered_table::{Field, ItemKind, Output, ReplayError, Start};
 pub use line::{Cell, push_line};
+pub(crate) use pieces::{push_comma, push_decimal, push_plain};
 pub(crate) use quoted::{plain_front, push_quoted};
 use std::alloc::{AllocError, Global};
 
-/// Adds the lines of what the step with a number has put out.
+/// Adds one line for each output of the step with this number.
 pub fn push_outputs(out: &mut Vec<u8>, number: u64, outputs: &[Output]) -> Result<(), AllocError>
     ensures { OnOk result (out.new.items ≡ out.old.items ++ flat_map (output_text number) outputs.now) }
 {
@@ -213,7 +215,7 @@ pub fn push_end(out: &mut Vec<u8>, ended: bool, events: u64) -> Result<(), Alloc
     )
 }
 
-/// The line of a refusal.
+/// Returns the line that reports an error of the replay.
 pub fn refusal_line(alloc: Global, refusal: ReplayError) -> Result<Vec<u8>, AllocError>
     ensures { IfOk result (λ line. line.items ≡ refusal_text refusal) }
 {
@@ -229,7 +231,7 @@ fn push_refusal(out: &mut Vec<u8>, refusal: ReplayError) -> Result<(), AllocErro
     push_refused(out, name, detail)
 }
 
-/// Adds the line of what is refused for a reason with this name.
+/// Adds a line with the cell `refused`, the name of the reason, and the detail if there is one.
 pub fn push_refused<'c>(
     out: &mut Vec<u8>,
     name: &'c [u8],
@@ -257,7 +259,7 @@ fn refusal_cells(refusal: ReplayError) -> (&'static [u8], Option<Cell<'static>>)
     }
 }
 
-/// The name of a setting, as the line of a refusal has it.
+/// Returns the name of a setting as the line of an error writes it.
 pub fn field_text(field: Field) -> &'static [u8]
     ensures { result.now ≡ field_name field }
 {

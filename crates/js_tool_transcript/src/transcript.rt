@@ -8,12 +8,14 @@ ghost use Rattle.js_tool_transcript.specs.declared.transcript.Unread.TheVariants
 
 mod compact;
 mod event;
+mod event_text;
 mod members;
 mod message;
 mod payloads;
 mod setup;
 
 pub use event::{compact_event, event_line, event_of};
+pub use event_text::{is_recordable, push_event};
 use js_base::Items;
 use js_json_members::ReadError;
 use js_ordered_table::Event;
@@ -21,19 +23,19 @@ pub use payloads::Payloads;
 pub use setup::{Setup, setup_line, setup_of};
 use std::alloc::{AllocFailed, Global};
 
-/// A setup, and what happened. No value of it is made: it stands in contracts alone.
+/// A setup and the events after it. Only contracts use this type; no value of it is ever created.
 #[derive(Drop)]
 pub struct Transcript {
     pub setup: Setup,
     pub events: Items<Event>,
 }
 
-/// Why a transcript was not read.
+/// Why a transcript could not be read.
 #[derive(Clone, Copy, Debug, PartialEq, Eq)]
 pub enum Unread {
-    /// There is no memory for what a line says. The line may read all the same.
+    /// Memory ran out for the content of a line. The line may be readable.
     OutOfMemory,
-    /// The first line that does not read, counted from 1.
+    /// The first line that cannot be read, counted from 1.
     BadLine(u64),
 }
 
@@ -45,12 +47,13 @@ impl<T: Drop> From<AllocFailed<T>> for Unread {
     }
 }
 
-/// The setup that the first line of a transcript says.
+/// Reads the setup on the first line of a transcript.
 ///
 /// # Errors
 ///
-/// `BadLine` with 1 where the line is no setup: it is no JSON object of a setup's keys alone, or one of them lacks or has a value that
-/// does not read. `OutOfMemory` may come in its place or in that of the setup.
+/// Fails with `BadLine(1)` if the line is no setup: it is no JSON object, has a key that a setup
+/// does not have, lacks a key, or has a value that cannot be read. Fails with `OutOfMemory` if
+/// memory runs out; this may come instead of `BadLine`.
 pub fn first_line(alloc: Global, line: &[u8]) -> Result<Setup, Unread>
     ensures { GivesLines (λ s. s) result (numbered 1 (setup_in line.now)) }
 {
@@ -61,13 +64,14 @@ pub fn first_line(alloc: Global, line: &[u8]) -> Result<Setup, Unread>
     }
 }
 
-/// The event that a further line says, which has this number, the first line having 1. Its payload is kept in the room that short
-/// payloads share.
+/// Reads the event on a further line. `number` is the line's number; the first line has number 1.
+/// The event's payload is kept in the room that short payloads share.
 ///
 /// # Errors
 ///
-/// `BadLine` with that number where the line is no event: it is no JSON object of an event's keys alone, or a key of it lacks, has a
-/// value that does not read, or says a second thing that happens. `OutOfMemory` may come in its place or in that of the event.
+/// Fails with `BadLine(number)` if the line is no event: it is no JSON object, has a key that an
+/// event does not have, lacks a key, has a value that cannot be read, or names a second thing that
+/// happens. Fails with `OutOfMemory` if memory runs out; this may come instead of `BadLine`.
 pub fn next_line(
     alloc: Global,
     payloads: &mut Payloads,

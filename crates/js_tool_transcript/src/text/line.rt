@@ -1,11 +1,12 @@
 //! Lines of the text: compact JSON arrays.
 
 ghost use Rattle.std.specs.Prelude.{◌≡◌, ◌++◌, map, OnOk};
-ghost use Rattle.serde_json.specs.Written.{compact_text, comma_if};
+ghost use Rattle.serde_json.specs.Written.{compact_text};
 ghost use Rattle.serde_json.specs.View.{items_of};
 ghost use Rattle.serde_json.specs.Data.{array};
 ghost use Rattle.js_tool_transcript.specs.Text.{cell_data, line_text};
 
+use super::pieces::push_comma;
 use super::quoted::push_quoted;
 use itoa::Buffer;
 use std::alloc::AllocError;
@@ -17,7 +18,7 @@ pub enum Cell<'a> {
     Truth(bool),
     Number(u64),
     Integer(i64),
-    /// An integer as a text.
+    /// An integer, written as a text.
     Digits(i128),
     Text(&'a [u8]),
 }
@@ -44,15 +45,6 @@ fn push_array(out: &mut Vec<u8>, cells: &[Cell]) -> Result<(), AllocError>
         later = true;
     }
     out.push(b']')?;
-    Ok(())
-}
-
-fn push_comma(out: &mut Vec<u8>, later: bool) -> Result<(), AllocError>
-    ensures { OnOk result (out.new.items ≡ out.old.items ++ comma_if later) }
-{
-    if later {
-        out.push(b',')?;
-    }
     Ok(())
 }
 

@@ -1,4 +1,4 @@
-//! Texts as JSON writes them, between quotes.
+//! Texts in quotes, as JSON writes them.
 
 ghost use Rattle.std.specs.Prelude.{◌≡◌, ◌<◌, ◌≤◌, ◌++◌, ◌∷◌, [], length, take, drop, OnOk, IsTrue};
 ghost use Rattle.std.specs.Char.{digit_char};
@@ -6,7 +6,7 @@ ghost use Rattle.json.specs.Print.{escape_letter as letter_of, escape_byte, esca
 
 use std::alloc::AllocError;
 
-/// Adds a text between quotes, with the shortest escapes.
+/// Adds a text in quotes, with the shortest escapes.
 pub(crate) fn push_quoted(out: &mut Vec<u8>, text: &[u8]) -> Result<(), AllocError>
     ensures { OnOk result (out.new.items ≡ out.old.items ++ quoted text.now) }
 {
@@ -33,7 +33,7 @@ fn push_text(out: &mut Vec<u8>, text: &[u8]) -> Result<(), AllocError>
     Ok(())
 }
 
-/// How many bytes at the front stand for themselves.
+/// Returns how many bytes at the front need no escape.
 pub(crate) fn plain_front(bytes: &[u8]) -> usize
     ensures within { result ≤ length bytes.now }
     ensures plain { escape bytes.now ≡ take result bytes.now ++ escape (drop result bytes.now) }

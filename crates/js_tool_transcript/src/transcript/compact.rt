@@ -1,4 +1,5 @@
-//! Lines in their shortest form, which most lines of a long transcript are. They are read with no JSON value between.
+//! Lines in their shortest form, as most lines of a long transcript are. They are read without
+//! building a JSON value.
 
 ghost use Rattle.std.specs.Prelude.{◌≡◌, ◌≤◌, ◌<◌, ◌^◌, ◌++◌, ◌∷◌, length, decimal, codes, IfSome};
 ghost use Rattle.json.specs.Print.{escape};
@@ -8,7 +9,7 @@ use crate::text::plain_front;
 use itoa::Buffer;
 use std::str::from_utf8;
 
-/// What a line in its shortest form says.
+/// The content of a line in its shortest form.
 #[derive(Clone, Copy)]
 pub(crate) enum CompactLine<'l> {
     /// `{"at":1}`
@@ -17,7 +18,8 @@ pub(crate) enum CompactLine<'l> {
     Arrival { at: u64, arrival: PlainArrival<'l> },
 }
 
-/// What an arrival says that has these keys in this order, and no escape in its texts.
+/// The content of an arrival that has exactly these keys in this order, and no escapes in its
+/// texts.
 #[derive(Clone, Copy)]
 pub(crate) struct PlainArrival<'l> {
     pub(crate) inbox: u64,
@@ -25,7 +27,8 @@ pub(crate) struct PlainArrival<'l> {
     pub(crate) payload: &'l str,
 }
 
-/// What a line says that is a bare tick, or an arrival with a reply and a payload alone. Its front is read once, and its texts are found to be UTF-8 once.
+/// Reads a line that is a bare tick, or an arrival with only a reply and a payload. Goes over the
+/// line's front once, and checks once that its texts are UTF-8.
 pub(crate) fn compact_line(line: &[u8]) -> Option<CompactLine<'_>>
     ensures { IfSome result (SaysCompact line.now) }
 {

@@ -1,4 +1,4 @@
-//! Each further line of a transcript: a moment, and at most one thing that happens then.
+//! The further lines of a transcript: each has a moment, and at most one thing that happens then.
 
 ghost use Rattle.std.specs.Prelude.{◌≡◌, List, ℕ, Option, Some, None, Ok, IfOk, IfSome};
 ghost use Rattle.serde_json.specs.View.{view};
@@ -128,10 +128,10 @@ fn answer(
 
 /// A kind of change that a text names.
 trait NamedChange {
-    /// What happens by each name.
+    /// The event of each name.
     ghost value_of: { List ℕ → Option EventKind };
 
-    /// What happens by that name, where it is one.
+    /// Returns the event with that name, if there is one.
     fn from_name(name: &str) -> Option<EventKind>
         ensures { result ≡ value_of name.now };
 }
@@ -282,10 +282,11 @@ fn event_fields(alloc: Global, payloads: &mut Payloads, object: &Value) -> Resul
     Ok(Event { at, what })
 }
 
-/// The event that a line in its shortest form says, read with no JSON value between: a bare tick, or an arrival with a reply and a
-/// payload alone. `None` where the line has another form, whatever it says. The payload is kept in the room that short payloads share.
+/// Reads the event on a line in its shortest form, without building a JSON value: a bare tick, or
+/// an arrival with only a reply and a payload. Returns `None` if the line has another form,
+/// whatever it contains. The payload is kept in the room that short payloads share.
 ///
-/// It fails only for want of memory.
+/// Fails only with `OutOfMemory`.
 pub fn compact_event(
     alloc: Global,
     payloads: &mut Payloads,
@@ -333,10 +334,12 @@ fn arrived(
     })
 }
 
-/// The event that the value of a line says. The payload that it may bring is kept in the room that short payloads share.
+/// Reads the event in the value of a line. Its payload, if any, is kept in the room that short
+/// payloads share.
 ///
-/// A value that is no object, or has another key than an event, is `NotJson`; any other error is that of the first member that does not
-/// read, or want of memory.
+/// Fails with `NotJson` if the value is no object or has a key that an event does not have.
+/// Otherwise fails with the error of the first member that cannot be read, or because memory runs
+/// out.
 #[tactic(auto, unfolding(crate::specs::Members::value_as))]
 pub fn event_of(alloc: Global, payloads: &mut Payloads, value: &Value) -> Result<Event, ReadError>
     ensures { Gives result (event_of_in (view value.now)) }
@@ -369,7 +372,7 @@ fn any_line(alloc: Global, payloads: &mut Payloads, line: &[u8]) -> Result<Event
     event
 }
 
-/// The event that a line says. The payload that it may bring is kept in the room that short payloads share.
+/// Reads the event on a line. Its payload, if any, is kept in the room that short payloads share.
 pub fn event_line(alloc: Global, payloads: &mut Payloads, line: &[u8]) -> Result<Event, ReadError>
     ensures { Gives result (line_in line.now) }
 {

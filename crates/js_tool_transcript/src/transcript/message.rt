@@ -141,7 +141,7 @@ fn status_of(status: Option<u16>) -> Option<StatusCode>
     }
 }
 
-/// The message that the members of an object say. Its length is its payload's.
+/// Reads the message from the members of an object. Its length is that of its payload.
 #[tactic(auto, unfolding(crate::specs::Message::message_fields))]
 pub(crate) fn message_fields(
     alloc: Global,

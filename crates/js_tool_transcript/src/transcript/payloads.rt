@@ -5,27 +5,27 @@ ghost use Rattle.std.specs.Prelude.{◌≡◌, [], IfOk, OnOk};
 use bytes::{Bytes, BytesMut};
 use std::alloc::{AllocError, Global};
 
-/// How many bytes short payloads share.
+/// The size of the room that short payloads share, in bytes.
 const ROOM: usize = 65_536;
 
-/// A longer payload takes a block of its own.
+/// The longest payload that shares the room, in bytes. A longer one gets a block of its own.
 const SHORT: usize = 4_096;
 
-/// Room that short payloads share, so that each takes little more than its bytes.
+/// Room that short payloads share, so that each takes little more memory than its bytes.
 #[derive(Drop)]
 pub struct Payloads {
     room: BytesMut,
 }
 
 impl Payloads {
-    /// No room, which takes no memory.
+    /// Creates a value without any room yet. Allocates nothing.
     pub fn new(alloc: Global) -> Payloads {
         Payloads {
             room: BytesMut::new(alloc),
         }
     }
 
-    /// A copy of a payload.
+    /// Returns a copy of a payload.
     pub(crate) fn keep(&mut self, alloc: Global, payload: &[u8]) -> Result<Bytes, AllocError>
         ensures { IfOk result (λ bytes. bytes ≡ payload.now) }
     {

@@ -1,4 +1,5 @@
-//! The first line of a transcript: the settings, the consumer's configuration, and what the server told of it.
+//! The first line of a transcript: the settings, the consumer's configuration, and the server's
+//! info about it.
 
 ghost use Rattle.std.specs.Prelude.{◌≡◌, Option, Some, codes, IfOk, unwrap_or, List, ℕ};
 ghost use Rattle.std.specs.Option.{option_copied};
@@ -19,7 +20,8 @@ use js_ordered_table::{OrderedSetup, Settings};
 use serde_json::Value;
 use std::alloc::Global;
 
-/// Who asks for messages: a pull consumer's client does, a push consumer's server sends them unasked.
+/// Who asks for messages: the client of a pull consumer asks, and the server of a push consumer
+/// sends them unasked.
 #[derive(Clone, Copy)]
 pub(crate) enum Mode {
     Pull,
@@ -47,12 +49,12 @@ impl Member for Mode {
     }
 }
 
-/// What a replay begins with.
+/// What a replay starts from.
 #[derive(Drop)]
 pub struct Setup {
     pub settings: Settings,
     pub setup: OrderedSetup,
-    /// What the server told of the first consumer.
+    /// The server's info about the first consumer.
     pub first: consumer::Info,
     pub start: Moment,
 }
@@ -192,10 +194,11 @@ fn setup_fields(alloc: Global, object: &Value) -> Result<Setup, ReadError>
     setup_with(mode, start, settings, config, first)
 }
 
-/// The setup that the value of a line says.
+/// Reads the setup in the value of a line.
 ///
-/// A value that is no object, or has another key than a setup, is `NotJson`; any other error is that of the first member that does not
-/// read, or want of memory.
+/// Fails with `NotJson` if the value is no object or has a key that a setup does not have.
+/// Otherwise fails with the error of the first member that cannot be read, or because memory runs
+/// out.
 #[tactic(auto, unfolding(crate::specs::Members::value_as))]
 pub fn setup_of(alloc: Global, value: &Value) -> Result<Setup, ReadError>
     ensures { Gives result (setup_of_in (view value.now)) }
@@ -210,7 +213,7 @@ pub fn setup_of(alloc: Global, value: &Value) -> Result<Setup, ReadError>
     }
 }
 
-/// The setup that a line says.
+/// Reads the setup on a line.
 #[tactic(auto, unfolding(crate::specs::Members::line_as))]
 pub fn setup_line(alloc: Global, line: &[u8]) -> Result<Setup, ReadError>
     ensures { Gives result (line_in line.now) }
