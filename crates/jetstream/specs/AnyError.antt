@@ -12,6 +12,7 @@ use Rattle.js_context.specs.PublishError.{publish_text}
 use Rattle.js_json.specs.Conversion.{config_error_text}
 use Rattle.js_json_members.specs.Error as read
 use Rattle.js_link.specs.Texts.{link_text}
+use Rattle.js_link_connection.specs.Errors.{connection_text}
 use Rattle.js_message.specs.StreamMessage as stored
 use Rattle.js_message.specs.Texts.{ack_text, info_text, message_info_text}
 use Rattle.js_ordered_stream.specs.Ordered as ordered
@@ -31,6 +32,7 @@ with_source kind_text error = printed (Some (kind_text (kind_of error))) (source
 abbrev pub any_text : AnyError → Option (List ℕ)
 any_text any.OutOfMemory = Some (codes "out of memory")
 any_text (any.Link error) = Some (link_text error)
+any_text (any.Connection error) = Some (connection_text error)
 any_text (any.CreateStream error) = with_source streams.create_text error
 any_text (any.GetStream error) = with_source streams.get_text error
 any_text (any.Consumer error) = with_source consumers.consumer_text error

@@ -1,4 +1,4 @@
-//! One error for programs that only tell it.
+//! One error type for programs that only report errors.
 ghost use Rattle.std.specs.Prelude.{◌≡◌};
 ghost use Rattle.jetstream.specs.AnyError.{IsOwn, any_text};
 ghost use Rattle.jetstream.specs.declared.any_error.AnyError.TheVariants as any;
@@ -15,6 +15,7 @@ use js_context::{BuildError, PublishError};
 use js_json::consumer::ConfigError;
 use js_json_members::ReadError;
 use js_link::LinkError;
+use js_link_connection::ConnectionError;
 use js_message::{AckError, InfoError, MessageInfoError, StreamMessageError};
 use js_readers::ordered::OrderedError;
 use js_readers::pull::{BatchError, BatchItemError, BatchRequestError, MessagesError, StreamError};
@@ -22,81 +23,83 @@ use js_store::{CreateKeyValueError, KeyValueError, ObjectStoreError, UpdateKeyVa
 use std::alloc::{AllocError, AllocFailed, Global};
 use std::{error, fmt, io};
 
-/// What stopped a program: an error of this client, of its connection, of what the program reads or
-/// writes, or of its own. It prints what that error prints.
+/// What stopped a program: an error of this client, of its connection, of input or output, or of
+/// the program itself. It prints what that error prints.
 #[derive(Debug, Drop)]
 pub enum AnyError {
     /// Memory ran out.
     OutOfMemory,
-    /// A call of the link was refused.
+    /// The link refused a call.
     Link(LinkError),
-    /// A stream was not made.
+    /// A connection did not do all of its work.
+    Connection(ConnectionError),
+    /// Creating a stream failed.
     CreateStream(CreateStreamError),
-    /// A stream was not got.
+    /// Looking up a stream failed.
     GetStream(GetStreamError),
-    /// A consumer was not made or not got.
+    /// Creating or looking up a consumer failed.
     Consumer(ConsumerError),
-    /// A message was not sent or not stored.
+    /// Sending or storing a message failed.
     Publish(PublishError),
-    /// No messages of a consumer were opened.
+    /// Opening a consumer's messages failed.
     Stream(StreamError),
-    /// No batch was asked for.
+    /// Asking for a batch failed.
     Batch(BatchError),
-    /// A pull request was not sent.
+    /// Sending a pull request failed.
     BatchRequest(BatchRequestError),
-    /// A stream of a pull consumer's messages told of something in place of a message.
+    /// A stream of a pull consumer's messages returned an error in place of a message.
     Messages(MessagesError),
-    /// A batch told of something in place of a message.
+    /// A batch returned an error in place of a message.
     BatchItem(BatchItemError),
-    /// The messages of a push consumer told of something in place of a message.
+    /// The messages of a push consumer returned an error in place of a message.
     PushMessages(js_readers::push::MessagesError),
-    /// An ordered consumer told of something in place of a message.
+    /// An ordered consumer returned an error in place of a message.
     Ordered(OrderedError),
-    /// The account was not told.
+    /// Asking about the account failed.
     Account(AccountError),
     /// No stream was found for a subject.
     FindStream(GetStreamByNameError),
-    /// A request has no reply, or a list no next page.
+    /// A request got no reply, or a list no next page.
     Request(RequestError),
-    /// A request that awaits no reply was not sent.
+    /// Sending a request that awaits no reply failed.
     Send(SendError),
-    /// A context was not built.
+    /// Building a context failed.
     Build(BuildError),
-    /// The info of a consumer was not told.
+    /// Asking for the info of a consumer failed.
     ConsumerInfo(ConsumerInfoError),
-    /// A consumer was not made, where none may be there already.
+    /// Creating a consumer that must not exist yet failed.
     CreateConsumerStrict(ConsumerCreateStrictError),
-    /// A consumer was not changed.
+    /// Updating a consumer failed.
     UpdateConsumer(ConsumerUpdateError),
-    /// A configuration is none of a consumer of that kind.
+    /// A configuration does not convert to that kind of consumer.
     ConsumerConfig(ConfigError),
-    /// A bucket of keys was not got or deleted.
+    /// Looking up or deleting a key-value bucket failed.
     KeyValue(KeyValueError),
-    /// A bucket, of keys or of objects, was not made.
+    /// Creating a bucket, of keys or of objects, failed.
     CreateKeyValue(CreateKeyValueError),
-    /// A bucket of keys was not changed.
+    /// Updating a key-value bucket failed.
     UpdateKeyValue(UpdateKeyValueError),
-    /// A bucket of objects was not got or deleted.
+    /// Looking up or deleting an object bucket failed.
     ObjectStore(ObjectStoreError),
-    /// A message was not acknowledged.
+    /// Acknowledging a message failed.
     Ack(AckError),
-    /// A message does not say where it stands in its stream.
+    /// A message does not tell its place in its stream.
     MessageInfo(MessageInfoError),
-    /// A text is no acknowledgement subject.
+    /// A text is not an acknowledgement subject.
     AckSubject(InfoError),
-    /// A message is none that was got from a stream.
+    /// A message cannot be read as one of a stream.
     StreamMessage(StreamMessageError),
-    /// A value does not read, or cannot be written.
+    /// A value could not be read or written.
     Read(ReadError),
-    /// Something was not read or written.
+    /// Input or output failed.
     Io(io::Error),
-    /// An error of the program's own, by its text.
+    /// An error of the program's own, as text.
     Own(Text),
 }
 
 impl AnyError {
-    /// An error of the program's own, which prints this text. If memory runs out it is
-    /// `OutOfMemory`.
+    /// Makes an error of the program's own that prints `text`. If memory runs out, it returns
+    /// `OutOfMemory` instead.
     pub fn own(alloc: Global, text: &str) -> AnyError
         ensures { IsOwn text.now result }
     {
@@ -114,6 +117,7 @@ impl fmt::Display for AnyError {
         match self {
             AnyError::OutOfMemory => write!(f, "out of memory"),
             AnyError::Link(error) => write!(f, "{error}"),
+            AnyError::Connection(error) => write!(f, "{error}"),
             AnyError::CreateStream(error) => write!(f, "{error}"),
             AnyError::GetStream(error) => write!(f, "{error}"),
             AnyError::Consumer(error) => write!(f, "{error}"),

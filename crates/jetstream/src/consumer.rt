@@ -1,4 +1,4 @@
-//! Consumers: what they are configured with, what the server knows of them, and the calls on them.
+//! Consumers: their configurations, what the server knows of them, and the calls on them.
 pub mod pull;
 pub mod push;
 
@@ -15,4 +15,5 @@ pub use js_json::consumer::{
     FromConsumer, Info, IntoConsumerConfig, PriorityGroupState, PriorityPolicy, ReplayPolicy,
     SequenceInfo,
 };
+pub use js_readers::ordered::{Activity, Breach, Health, OrderedReader, Rising, RisingError};
 pub use js_readers::pull::{StreamError, StreamErrorKind};

@@ -1,4 +1,4 @@
-//! A call that is polled in its place, as a reader is.
+//! Polling a call in place, as you poll a reader.
 ghost use Rattle.jetstream.specs.Driver.{Drives, PendsInPlace, SleepsInPlace};
 
 use js_base::{Moment, Next, Turn};
@@ -6,12 +6,12 @@ use js_call::State;
 use js_link::Link;
 use std::alloc::Global;
 
-/// Polls a call in place. It returns `Item` with the call's answer, and empties the place. An empty
-/// place returns `End`, and the link stays as it was.
+/// Polls a call in place. When the call is done, it returns `Item` with the call's answer and
+/// empties the place. If the place is empty, it returns `End` and leaves the link as it was.
 ///
-/// After `Pending` the call waits for the answer to its `request`: polling it before that came, or
-/// before its `wakes_at`, changes nothing. After `OutOfMemory` the call is what [`State::poll`] says:
-/// free memory and poll again.
+/// After `Pending` the call waits for the answer to its `request`: polling it before that has come,
+/// or before its `wakes_at`, changes nothing. After `OutOfMemory` the call is as [`State::poll`]
+/// says: free memory and poll again.
 pub fn drive<S: State, L: Link>(
     call: &mut Option<S>,
     alloc: Global,

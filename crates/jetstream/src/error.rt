@@ -1,2 +1,2 @@
-//! The error of a call: its kind, and what it comes from.
+//! The error of a call: its kind and its source.
 pub use js_base::{ApiError, Error, Source};

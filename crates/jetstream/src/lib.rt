@@ -15,79 +15,97 @@
 //!
 //! # The loop
 //!
+//! The loop of the program `first_publish`, from its file `src/main.rt`:
+//!
 //! ```text
-//! link.set_state(ConnectionState::Connected);                // 0. tell the link that it is connected
-//! let mut call = Some(context.get_stream(alloc, "events")?); // 1. make a call
-//! loop {
-//!     match drive(&mut call, alloc, &mut link, now()) {      // 2. poll it: it sends or looks, and never waits
-//!         Next::Item(answer) => break answer,                //    the answer, or an error with kind and source
-//!         Next::Pending => {}                                //    nothing can be done yet
-//!         Next::OutOfMemory => {}                            //    unchanged: free memory and poll again
-//!         Next::End => break ..                              //    the answer was returned already
+//! for now in 0..3 {
+//!     if let Next::Item(reader) = drive(&mut reader, rt.alloc(), &mut link, now) {
+//!         news = Some(reader?.messages(rt.alloc(), &mut link)?);
 //!     }
-//!     while let Some(item) = link.next_outgoing() { .. }     // 3. write what the link wants sent, in order
-//!     link.deliver(subscription, message)?;                  // 4. hand in what the connection received
+//!     if let Next::Item(published) = queue.poll_next(&rt, rt.alloc(), &mut link, now) {
+//!         println!(rt; "stored as {}", published.outcome?.sequence)?;
+//!     }
+//!     if let Some(news) = &mut news {
+//!         if let Next::Item(message) = news.poll_next(rt.alloc(), &mut link, now) {
+//!             let message = message?;
+//!             println!(rt; "read {:?}", message.message.payload)?;
+//!             message.ack(rt.alloc(), &mut link)?;
+//!         }
+//!     }
+//!     serve(&rt, &mut link)?;
 //! }
 //! ```
 //!
-//! The program `first_publish` of this repository is such a loop, whole.
+//! Each turn polls what the program waits for, at the moment `now`: a call that looks up a consumer,
+//! the queue of messages to publish, and the reader of the consumer. A poll sends, or looks at what
+//! came, and never waits. It returns:
 //!
-//! **Connection.** An [`link::OutboxLink`] starts as not connected. Call [`link::OutboxLink::set_state`]
-//! before you poll a reader and at every change: an ordered push consumer treats a missing
-//! connection as a lost consumer and makes it anew. Call [`link::OutboxLink::set_limits`] with the
-//! longest body that the server's greeting allows, and [`link::OutboxLink::close`] when no
-//! connection will come again.
+//! - `Next::Item(answer)`: the answer of a call, a message, or an error with its kind and source;
+//! - `Next::Pending`: nothing can be done yet;
+//! - `Next::OutOfMemory`: all is unchanged; free memory and poll again;
+//! - `Next::End`: nothing more will come.
+//!
+//! Then the turn exchanges bytes with the server. Here `serve` plays it. With a real connection you
+//! write what [`link::OutboxLink::next_outgoing`] returns, in order, hand what the connection
+//! received to [`link::OutboxLink::deliver`], and wait for more or for the next moment; a
+//! [`connection::Connection`] does both over plain bytes.
+//!
+//! **Connection.** An [`link::OutboxLink`] starts as not connected. Call
+//! [`link::OutboxLink::set_state`] before you poll a reader and at every change: an ordered push
+//! consumer treats a missing connection as a lost consumer and recreates it. Call
+//! [`link::OutboxLink::set_limits`] with the longest body that the server's greeting allows, and
+//! [`link::OutboxLink::close`] when no connection will come again.
 //!
 //! **Order.** Poll, then send all that the link has for you, then wait for the connection or for
 //! the next moment, then deliver what came, and poll again. A poll sees what was delivered before
 //! it.
 //!
-//! **What a poll takes.** A call is polled with the allocator, the link and the moment. `poll`
-//! takes the state and returns it; [`drive`] does that in place. A poll that publishes
+//! **What a poll takes.** You poll a call with the allocator, the link and the moment. `poll` takes
+//! the state and returns it; [`drive`] does that in place. A poll that publishes
 //! ([`publish::Sending`], [`publish::PublishAckFuture`]) also takes the runtime and the context,
 //! whose permits other threads may share. A reader or a list has `poll_next`, which returns a
 //! [`Next`]: a [`consumer::pull::Stream`] and a [`consumer::push::Messages`] return one message or
-//! one error a poll.
+//! one error per poll.
 //!
 //! **When to poll again.** After `Pending` you may sleep until `wakes_at` ([`State::wakes_at`]), or
-//! until the answer to `request` came or its request is gone ([`State::request`]). Polling a waiting
-//! call earlier changes nothing. A call's wait begins when it sends its request, and lasts for the
-//! timeout of the call, of the context or of the link. Readers, lists, a [`PublishQueue`] and a
-//! [`publish::PublishAckFuture`] have `wakes_at` too; for detached acks, [`Context::wakes_at`] says
-//! when to call `reap` at the latest. [`time::earliest`] picks the first of several moments.
-//! [`link::OutboxLink::deliver`] returns the inbox or request that the message belongs to, so a
-//! program with many states polls only the one whose `inbox` or `request` it was.
+//! until the answer to `request` has come or the request is gone ([`State::request`]). Polling a
+//! waiting call earlier changes nothing. A call's wait begins when it sends its request, and lasts
+//! for the timeout of the call, of the context or of the link. Readers, lists, a [`PublishQueue`]
+//! and a [`publish::PublishAckFuture`] have `wakes_at` too; for detached acks,
+//! [`Context::wakes_at`] says when to call `reap` at the latest. [`time::earliest`] picks the first
+//! of several moments. [`link::OutboxLink::deliver`] returns the inbox or request that the message
+//! belongs to, so a program with many states polls only the state with that `inbox` or `request`.
 //!
-//! **Reading a consumer.** `get_consumer_from_stream` looks a consumer up, and
-//! `create_consumer_on_stream` makes one; the configuration's type says which kind. `messages` of
+//! **Reading a consumer.** `get_consumer_from_stream` looks up a consumer, and
+//! `create_consumer_on_stream` creates one; the configuration's type says which kind. `messages` of
 //! the consumer opens its reader: see [`consumer::pull::PullCalls`] for consumers that you ask for
-//! messages, and [`consumer::push::PushCalls`] for those that deliver to a subject. To read a stream
-//! in order, without gaps, use [`consumer::pull::OrderedPullCalls`] or
-//! [`consumer::push::OrderedPushCalls`]; these readers make their consumer anew when it is lost.
+//! messages, and [`consumer::push::PushCalls`] for those that deliver to a subject. To read a
+//! stream in order, without gaps, use [`consumer::pull::OrderedPullCalls`] or
+//! [`consumer::push::OrderedPushCalls`]; these readers recreate their consumer when it is lost.
 //!
 //! **Acknowledging.** `info` of a [`Message`] tells its place in the stream. `ack` says that you
-//! have worked it off; `ack_with` says something else, such as `AckKind::Nak(Some(delay))`. Both
+//! have processed it; `ack_with` says something else, such as `AckKind::Nak(Some(delay))`. Both
 //! send at once: `message.ack(alloc, &mut link)?`. `double_ack` returns a [`message::DoubleAck`],
 //! which waits for the server's confirmation.
 //!
-//! **Names.** If a name or a subject is not valid, the first poll fails with an error of its own
-//! kind and nothing is sent. The link rejects whatever would corrupt the protocol.
+//! **Names.** If a name or a subject is not valid, the first poll fails with an error kind of its
+//! own, and nothing is sent. The link rejects whatever would corrupt the protocol.
 //!
 //! **Letting go.** You may drop any state, except one that holds a permit: poll a
 //! [`publish::PublishAckFuture`] or a [`publish::Confirming`] until it is ready, or call `detach`,
 //! and call `close` on a [`PublishQueue`], which returns its context.
-//! [`link::OutboxLink::forget`] ends a request whose answer nobody awaits. Call `close` when you are
-//! done with a reader: dropping it leaves its inbox open, and the link keeps what the server goes
-//! on to send.
+//! A call, an ack and a queue end their request on the link when its timeout expires; if you drop a
+//! call earlier, [`link::Link::forget`] ends its request. Call `close` when you are done with a
+//! reader: dropping it leaves its inbox open, and the link keeps what the server goes on to send.
 //!
 //! **Publishing.** [`publish::PublishCalls::publish_and_confirm`] publishes one message and waits
 //! for its acknowledgement. A [`PublishQueue`] publishes any number under the context's permits,
-//! retries what could not be sent, and returns one outcome a message. It owns its context; to make
-//! other calls meanwhile, use one half of [`Context::split`]: the halves share the permits.
+//! retries what could not be sent, and returns one outcome per message. It owns its context; to
+//! make other calls meanwhile, use one half of [`Context::split`]: the halves share the permits.
 //!
 //! # Where to look
 //!
-//! | Module | What stands in it |
+//! | Module | Contents |
 //! |---|---|
 //! | [`prelude`] | what most programs name, in one line |
 //! | [`context`] | the context, its builder, requests of your own, lists of streams |
@@ -103,7 +121,7 @@
 //! | [`account`] | what an account may use |
 //! | [`time`] | seconds in nanoseconds, the first of several moments |
 //!
-//! The crate `jetstream_logs` has what is made of a log: projections, mirrors, bookmarks, replay.
+//! For projections, mirrors, bookmarks and replay of a log, see the crate `jetstream_logs`.
 #![tactic(auto)]
 
 pub mod account;

@@ -1,4 +1,4 @@
-//! Connections: the trait `Link`, the end for programs, and two in memory for tests.
+//! Connections: the trait `Link`, the link for programs, and two links in memory for tests.
 ghost use Rattle.std.specs.Prelude.{◌≡◌, IfOk, None};
 ghost use Rattle.jetstream.specs.Link.{received};
 
@@ -11,8 +11,9 @@ pub use js_link::{
 pub use js_link_outbox::{Delivery, OutboxLink, Outgoing};
 use std::alloc::Global;
 
-/// A received message with these bytes, without a reply subject, headers or a status. Its length is
-/// that of subject and payload. Fails with `OutOfMemory`, and with nothing else.
+/// Returns a received message with this subject and payload, without a reply subject, headers or a
+/// status. Its length is that of subject and payload together, in bytes. Fails only with
+/// `OutOfMemory`.
 pub fn received(alloc: Global, subject: &str, payload: &[u8]) -> Result<Message, OutOfMemory>
     ensures { IfOk result (λ message. message ≡ received subject.now payload.now) }
 {

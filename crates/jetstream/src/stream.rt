@@ -1,4 +1,4 @@
-//! Streams: what they are configured with, what the server knows of them, and the calls on them.
+//! Streams: their configurations, what the server knows of them, and the calls on them.
 ghost use Rattle.std.specs.Prelude.{◌≡◌, IfOk};
 ghost use Rattle.jetstream.specs.Stream.{named};
 
@@ -16,8 +16,8 @@ pub use js_json_streams::stream::{
 };
 use std::alloc::Global;
 
-/// A configuration with a name and a subject, and all else as `Config::new` has it. Fails with
-/// `OutOfMemory`, and with nothing else.
+/// Returns a configuration with a name and one subject. All else is as in `Config::new`. Fails only
+/// with `OutOfMemory`.
 pub fn named(alloc: Global, name: &str, subject: &str) -> Result<Config, OutOfMemory>
     ensures { IfOk result (λ config. config ≡ named name.now subject.now) }
 {

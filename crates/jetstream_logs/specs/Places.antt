@@ -1,6 +1,7 @@
 -- Where the keys of a bucket are.
 use Rattle.std.specs.Prelude.{ℕ, ℤ, pos, negsuc, Bool, true, false, Option, Some, None, List}
 use Rattle.js_store.specs.declared.store.Store.{Store}
+use Rattle.js_store_keys.specs.declared.get_request.KeyReads.{KeyReads}
 use Rattle.js_store_keys.specs.declared.key_places.KeyPlaces.{KeyPlaces}
 
 -- how many entries of a key a bucket keeps, by its stream's limit for each subject; 0 stands for 1
@@ -22,3 +23,7 @@ places_in store = record {
   api_prefix = api_prefix_in store.use_jetstream_prefix store.stream.scope.prefix;
   history = history_in store.stream.info.config.max_messages_per_subject;
 }
+
+-- where the server reads the keys of this bucket. For example: under "$JS.API", the stream "KV_cfg", by direct gets if the stream allows them
+abbrev pub reads_in : Store → KeyReads
+reads_in store = record { api_prefix = store.stream.scope.prefix; stream_name = store.stream_name; allow_direct = store.stream.info.config.allow_direct }

@@ -1,10 +1,10 @@
-//! Where the keys of a bucket are, by what a call on buckets returned.
+//! Where the keys of a bucket are, taken from what a call on buckets returned.
 ghost use Rattle.std.specs.Prelude.{◌≡◌, IfOk};
-ghost use Rattle.jetstream_logs.specs.Places.{api_prefix_in, history_in, places_in};
+ghost use Rattle.jetstream_logs.specs.Places.{api_prefix_in, history_in, places_in, reads_in};
 
-use js_base::{OutOfMemory, Text, TryClone, all_4};
+use js_base::{OutOfMemory, Text, TryClone, all_4, both};
 use js_store::Store;
-use js_store_keys::KeyPlaces;
+use js_store_keys::{KeyPlaces, KeyReads};
 
 fn copied(text: &Option<Text>) -> Result<Option<Text>, OutOfMemory>
     ensures { IfOk result (λ copy. copy ≡ text.now) }
@@ -31,8 +31,8 @@ fn history(limit: i64) -> u64
     u64::try_from(limit).unwrap_or(0)
 }
 
-/// Where the keys of a bucket are, as the messages of writes and a table need it. Fails with `OutOfMemory` if memory runs out, and
-/// with nothing else.
+/// Returns where the keys of a bucket are, as a table and the messages of writes need it. Fails
+/// only with `OutOfMemory`.
 pub fn key_places(store: &Store) -> Result<KeyPlaces, OutOfMemory>
     ensures { IfOk result (λ places. places ≡ places_in store.now) }
 {
@@ -48,5 +48,21 @@ pub fn key_places(store: &Store) -> Result<KeyPlaces, OutOfMemory>
         put_prefix,
         api_prefix,
         history: history(store.stream.info.config.max_messages_per_subject),
+    })
+}
+
+/// Returns where the server reads the keys of a bucket, as `get` needs it. Fails only with
+/// `OutOfMemory`.
+pub fn key_reads(store: &Store) -> Result<KeyReads, OutOfMemory>
+    ensures { IfOk result (λ reads. reads ≡ reads_in store.now) }
+{
+    let (api_prefix, stream_name) = both(
+        store.stream.scope.prefix.try_clone(),
+        store.stream_name.try_clone(),
+    )?;
+    Ok(KeyReads {
+        api_prefix,
+        stream_name,
+        allow_direct: store.stream.info.config.allow_direct,
     })
 }

@@ -1,23 +1,25 @@
-//! Event logs over what an ordered consumer hands out: the second crate that a program lists, beside `jetstream`.
+//! Event logs over what an ordered consumer hands out. List this crate in your program beside
+//! `jetstream`.
 //!
-//! | Module | What stands in it |
+//! | Module | What it contains |
 //! |---|---|
 //! | [`replay`] | what an ordered consumer does with a list of events, or with one event after another |
 //! | [`projection`] | a table of the last entry of each subject, as a key-value bucket keeps it |
 //! | [`mirror`] | a local copy of a stream, with its holes, that can be merged and served again |
 //! | [`table`] | a live table of the keys of a bucket, and the messages that write to it |
-//! | [`bookmark`] | sessions of a consumer that stops and starts again, and goes on where it was |
+//! | [`bookmark`] | sessions of a consumer that stops, starts again and goes on from its bookmark |
 //!
 //! # A consumer that stops and starts again
 //!
 //! ```text
-//! let entry = entry_of_message(message)?; // 1. what is kept of a message that an ordered consumer handed out
+//! let entry = entry_of_message(message)?; // 1. what is kept of a message of an ordered consumer
 //! projection.apply(entry)?;               // 2. the table, or `mirror.push(entry)?` the copy
 //! save(projection.last() + 1);            // 3. the bookmark, beside what was made of the messages before it
 //! ```
 //!
-//! At the next start, configure the consumer to begin at the bookmark (`DeliverPolicy::ByStartSequence`):
-//! from the first bookmark to the last message, nothing is missing but what was removed.
+//! At the next start, configure the consumer to begin at the bookmark
+//! (`DeliverPolicy::ByStartSequence`). From the first bookmark to the last message, nothing is
+//! missing except removed messages.
 #![tactic(auto)]
 
 pub mod bookmark;

@@ -1,8 +1,13 @@
-//! A live table of the keys of a bucket: each change that an ordered consumer of the bucket's stream hands out, and the last entries
-//! of each key. [`put`], [`create`], [`update`], [`delete`] and [`purge`] make the message of a write, to be published as any other.
-pub use crate::key_places::key_places;
+//! A live table of the keys of a bucket: each change that an ordered consumer of the bucket's
+//! stream hands out, and the last entries of each key. [`put`], [`create`], [`update`], [`delete`]
+//! and [`purge`] return the message of a write; publish it like any other message. [`get`] returns
+//! the request that reads a key from the server without a table, and [`read_answer`] reads the
+//! answer.
+pub use crate::key_places::{key_places, key_reads};
 pub use js_store_keys::{
-    KeyPlaces, Operation, WriteError, WriteRefusal, create, delete, is_valid_key, operation_of,
-    purge, put, refusal_of, update,
+    GetError, GetRequest, KeyPlaces, KeyReads, Operation, WriteError, WriteRefusal, create, delete,
+    get, is_valid_key, operation_of, purge, put, read_answer, refusal_of, update,
 };
-pub use js_store_table::{Entry, OrderedReader, Rows, Table, TableError};
+pub use js_store_table::{
+    Entry, OrderedReader, Rows, Table, TableError, rows_are_those_of_the_log, worked_logs,
+};

@@ -1,4 +1,4 @@
-//! What each error is among all of them.
+//! How each error becomes an `AnyError`.
 ghost use Rattle.std.specs.Prelude.{◌≡◌};
 ghost use Rattle.jetstream.specs.declared.any_error.AnyError.TheVariants as any;
 
@@ -12,6 +12,7 @@ use js_context::{BuildError, PublishError};
 use js_json::consumer::ConfigError;
 use js_json_members::ReadError;
 use js_link::LinkError;
+use js_link_connection::ConnectionError;
 use js_message::{AckError, InfoError, MessageInfoError, StreamMessageError};
 use js_readers::ordered::OrderedError;
 use js_readers::pull::{BatchError, BatchItemError, BatchRequestError, MessagesError, StreamError};
@@ -23,6 +24,14 @@ impl From<LinkError> for AnyError {
 
     fn from(error: LinkError) -> AnyError {
         AnyError::Link(error)
+    }
+}
+
+impl From<ConnectionError> for AnyError {
+    ghost from_gives = { λ error told. told ≡ any.Connection error };
+
+    fn from(error: ConnectionError) -> AnyError {
+        AnyError::Connection(error)
     }
 }
 

@@ -1,4 +1,4 @@
-//! Pull consumers: their configurations, and what reads their messages.
+//! Pull consumers: their configurations, and the readers of their messages.
 //!
 //! [`PullCalls`] has the readers of a consumer that
 //! [`Context::get_consumer_from_stream`](crate::Context::get_consumer_from_stream) and its like
@@ -14,12 +14,12 @@
 //! **Which reader to poll.** `inbox` of a [`Stream`], a [`Batch`] and an [`Ordered`] is the inbox
 //! that it reads. If [`OutboxLink::deliver`](crate::link::OutboxLink::deliver) returns
 //! [`Delivery::Inbox`](crate::link::Delivery::Inbox) with that number, poll that reader. A batch
-//! that has ended has no inbox. An ordered consumer gets another inbox each time it is made anew,
+//! that has ended has no inbox. An ordered consumer gets another inbox each time it is recreated,
 //! so ask for it after each poll.
 //!
 //! **Closing.** `close` ends a reader and closes its inbox: what lies in it is lost, and requests
-//! that are open at the server run out by themselves. Dropping a reader leaves its inbox open: the
-//! server goes on delivering, and the link keeps what comes. A batch closes its inbox at its end.
+//! that are open at the server expire by themselves. Dropping a reader leaves its inbox open: the
+//! server goes on delivering, and the link keeps what comes. A batch closes its inbox when it ends.
 pub use js_json::pull::{BatchConfig, Config, OrderedConfig};
 pub use js_readers::ordered::pull::Ordered;
 pub use js_readers::ordered::{OrderedError, OrderedErrorKind, OrderedPullCalls};

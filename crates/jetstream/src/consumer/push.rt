@@ -1,4 +1,4 @@
-//! Push consumers: their configurations, and what reads their messages.
+//! Push consumers: their configurations, and the readers of their messages.
 //!
 //! [`PushCalls`] has the reader of a consumer that
 //! [`Context::get_consumer_from_stream`](crate::Context::get_consumer_from_stream) and its like
@@ -6,9 +6,10 @@
 //! [`OrderedPushCalls`] reads a consumer with an [`OrderedConfig`]: the messages of its [`Ordered`]
 //! come in order and without gaps.
 //!
-//! **Deliver subject.** Whoever creates the consumer chooses it. For one that nothing else uses,
-//! take [`fresh_subject`](crate::link::Link::fresh_subject) of the link and write it into the
-//! configuration before you create the consumer, where async-nats has `client.new_inbox()`:
+//! **Deliver subject.** Whoever creates the consumer chooses it. For a subject that nothing else
+//! uses, call [`fresh_subject`](crate::link::Link::fresh_subject) of the link, and write the result
+//! into the configuration before you create the consumer. In async-nats this is
+//! `client.new_inbox()`:
 //!
 //! ```text
 //! let subject = link.fresh_subject(alloc)?;
@@ -22,7 +23,7 @@
 //! **Which reader to poll.** `inbox` of [`Messages`] and of an [`Ordered`] is the inbox that it
 //! reads. If [`OutboxLink::deliver`](crate::link::OutboxLink::deliver) returns
 //! [`Delivery::Inbox`](crate::link::Delivery::Inbox) with that number, poll that reader. An ordered
-//! consumer gets another inbox each time it is made anew, so ask for it after each poll.
+//! consumer gets another inbox each time it is recreated, so ask for it after each poll.
 //!
 //! **Closing.** `close` ends a reader and closes its inbox: what lies in it is lost. Dropping a
 //! reader leaves its inbox open: the server goes on delivering, and the link keeps what comes.

@@ -1,2 +1,2 @@
-//! What a context can do, each as a trait.
+//! What a context can do, one trait for each.
 pub use js_context::{ClientProvider, Publisher, RequestSender, Requester, TimeoutProvider};
