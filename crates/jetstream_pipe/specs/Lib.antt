@@ -1,0 +1,4 @@
+pub mod Failure
+pub mod Lines
+pub mod Outcomes
+pub mod Reading
