@@ -1,0 +1,23 @@
+//! The flight recorder: an ordered consumer over any link, by pull or by push, that writes down
+//! everything that it meets, as events of a transcript that `wilfjodi replay` reads.
+//!
+//! A [`Recorder`] runs on the replay's own driver (`IncrementalReplay`), so what it does is the
+//! replay of what it wrote. It takes one thing at a time from its link, makes the event of it,
+//! gives the event to its [`Recording`], and passes it to the replay. What the replay then puts out
+//! it works off in order: it sends over the link, and hands out messages and errors, one a poll.
+#![tactic(auto)]
+
+mod error;
+mod event_list;
+mod lines;
+mod recorder;
+mod recording;
+mod sends;
+mod taken;
+mod taking;
+mod worked;
+
+pub use event_list::EventList;
+pub use lines::{LineRecording, RecentLines};
+pub use recorder::Recorder;
+pub use recording::{Recording, RecordingFault};
