@@ -1,0 +1,4 @@
+mod Steps
+mod Digits
+mod LinesPassed
+mod Answered

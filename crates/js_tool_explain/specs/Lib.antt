@@ -1,0 +1,9 @@
+pub mod Part
+pub mod Outside
+pub mod Awaited
+pub mod Arrived
+pub mod Rest
+pub mod Outcome
+pub mod Explained
+pub mod Answer
+pub mod Progress

@@ -1,0 +1,20 @@
+//! `explain` reads a transcript, replays it, and writes in plain English what the consumer did and
+//! why: one sentence a line, each with its time.
+//!
+//! [`explain`] takes a source and a sink. Each sentence is a function of one step: the consumer
+//! before the event, the event, what it put out, and the consumer after it. `specs/` has the
+//! sentences: what happened outside the consumer, what became of what it waited for, what arrived,
+//! what it put out, and what it waits for then.
+#![tactic(auto)]
+
+mod answer;
+mod arrived;
+mod awaited;
+mod outcome;
+mod outside;
+mod part;
+mod progress;
+mod rest;
+mod step;
+
+pub use answer::explain;
