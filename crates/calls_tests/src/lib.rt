@@ -15,6 +15,10 @@ mod contexts;
 #[cfg(test)]
 mod errors;
 #[cfg(test)]
+mod health;
+#[cfg(test)]
+mod leaks;
+#[cfg(test)]
 mod lists;
 #[cfg(test)]
 mod publishes;

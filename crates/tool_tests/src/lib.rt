@@ -8,6 +8,8 @@ mod faults;
 #[cfg(test)]
 mod follow;
 #[cfg(test)]
+mod health;
+#[cfg(test)]
 mod lines;
 #[cfg(test)]
 mod mirrors;

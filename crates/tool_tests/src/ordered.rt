@@ -16,7 +16,7 @@ use std::process::Abort;
 const INFO: &str =
     "{\"stream_name\":\"events\",\"name\":\"c1\",\"created\":\"2026-01-01T00:00:00Z\",\"config\":{\"deliver_policy\":\"all\"},\"delivered\":{\"consumer_seq\":0,\"stream_seq\":0},\"ack_floor\":{\"consumer_seq\":0,\"stream_seq\":0},\"num_ack_pending\":0,\"num_redelivered\":0,\"num_waiting\":0,\"num_pending\":0}";
 
-fn info(alloc: Global) -> Result<Info, ReadError> {
+pub(crate) fn info(alloc: Global) -> Result<Info, ReadError> {
     match response_as::<Info>(alloc, INFO.as_bytes())? {
         Response::Ok(info) => Ok(info),
         Response::Err { .. } => Err(ReadError::NotJson),
@@ -45,7 +45,7 @@ fn message(subject: Subject, reply: Subject, payload: Bytes) -> Message {
     }
 }
 
-fn received(alloc: Global, reply: &str) -> Result<Message, OutOfMemory> {
+pub(crate) fn received(alloc: Global, reply: &str) -> Result<Message, OutOfMemory> {
     let subject = Subject::new(alloc, "events.a")?;
     let reply = Subject::new(alloc, reply)?;
     let payload = Bytes::copy_from_slice(alloc, b"a")?;
