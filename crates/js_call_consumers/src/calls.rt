@@ -1,4 +1,4 @@
-//! The calls of a consumer that hand it back beside their answer.
+//! The calls of a consumer that return it together with their answer.
 ghost use Rattle.std.specs.Prelude.{◌≡◌, IfErr, IfOk};
 ghost use Rattle.js_call_consumers.specs.declared.consumer.Consumer.{Consumer};
 ghost use Rattle.js_call_consumers.specs.Refresh.{refresh_request, refreshing};
@@ -13,25 +13,28 @@ use js_base::OutOfMemory;
 use js_call::{Call, RawCall};
 use std::alloc::{AllocFailed, Global};
 
-/// The calls of a consumer that ask the server anew, and keep what it tells.
+/// The calls of a consumer that ask the server again and keep what it reports.
 ///
-/// The state of each has the consumer, and its answer hands it back: with the info that was told at Ok, and at any error as it was. Where
-/// there is no memory for the state itself, the consumer comes back in `AllocFailed`, and nothing was sent.
+/// Each call takes the consumer and returns it with its answer: with the new info on success, and
+/// unchanged on any error. If memory runs out before the call is made, the consumer comes back in
+/// `AllocFailed`, and nothing was sent.
 pub trait ConsumerCalls<T: Drop> {
-    /// The consumer that is asked for.
+    /// The consumer that the call is about.
     ghost known: { Self → Consumer T };
 
-    /// Asks the server what it knows of the consumer. Fails with `AllocFailed`, which has the consumer, if memory runs out; the
-    /// polls return the errors of `get_info`.
+    /// Asks the server what it knows of the consumer. Fails with `AllocFailed`, which holds the
+    /// consumer, if memory runs out. The polls return the errors of `get_info`.
     fn info(self, alloc: Global) -> Result<InfoCall<T>, AllocFailed<Consumer<T>>>
         ensures asks { IfOk result (λ call. call ≡ refreshing (known self)) }
         ensures back { IfErr result (λ refused. refused.value ≡ known self) };
 
-    /// Sets the consumer back, so that it goes on with the message of that sequence of the stream. Where none is named the request says 0,
-    /// which leaves the place to the server.
+    /// Resets the consumer, so that it continues with the message of sequence `seq` of the stream.
+    /// Without `seq`, the request says 0, which leaves the position to the server.
     ///
-    /// Fails with `AllocFailed`, which has the consumer, if memory runs out; other errors come from the polls. A server that knows no
-    /// reset does not answer: `Request` or `TimedOut`. A sequence that the consumer may not go to is `JetStream`, with error code 10204.
+    /// Fails with `AllocFailed`, which holds the consumer, if memory runs out; the polls return all
+    /// other errors. A server without this call does not answer: the error is `Request` or
+    /// `TimedOut`. If the consumer may not go to that sequence, the error is `JetStream` with error
+    /// code 10204.
     fn reset(self, alloc: Global, seq: Option<u64>) -> Result<Reset<T>, AllocFailed<Consumer<T>>>
         ensures asks { IfOk result (λ call. call ≡ resetting seq (known self)) }
         ensures back { IfErr result (λ refused. refused.value ≡ known self) };

@@ -9,7 +9,8 @@ use js_json::consumer::Info;
 use js_json::{pull, push};
 use std::alloc::Global;
 
-/// A consumer of a stream: where its calls go, how it is configured, and what the server told of it last.
+/// A consumer of a stream: where its calls go, its configuration, and what the server last reported
+/// about it.
 #[derive(Debug, PartialEq, Eq, Drop)]
 pub struct Consumer<T> {
     pub scope: ApiScope,
@@ -17,20 +18,20 @@ pub struct Consumer<T> {
     pub info: Info,
 }
 
-/// A consumer that is read by pull requests.
+/// A consumer that you read with pull requests.
 pub type PullConsumer = Consumer<pull::Config>;
 
 /// A consumer that delivers to a subject.
 pub type PushConsumer = Consumer<push::Config>;
 
-/// A consumer that is read in order by pull requests, and made anew where a message is missing.
+/// A consumer that you read in order with pull requests. It is recreated if a message is missing.
 pub type OrderedPullConsumer = Consumer<pull::OrderedConfig>;
 
-/// A consumer that delivers in order to a subject, and is made anew where a message is missing.
+/// A consumer that delivers in order to a subject. It is recreated if a message is missing.
 pub type OrderedPushConsumer = Consumer<push::OrderedConfig>;
 
 impl<T> Consumer<T> {
-    /// A consumer of which that is known.
+    /// Makes a consumer from what is known of it.
     pub fn new(config: T, info: Info, scope: ApiScope) -> Consumer<T>
         ensures { result ≡ record { scope = scope; config = config; info = info } }
     {
@@ -41,18 +42,22 @@ impl<T> Consumer<T> {
         }
     }
 
-    /// What the server told of it last. Takes no memory.
+    /// Returns what the server last reported about the consumer. Takes no memory.
     pub fn cached_info(&self) -> &Info
         ensures { result.now ≡ self.now.info }
     {
         &self.info
     }
 
-    /// Asks the server what it knows of the consumer; what was told last stays as it is. Fails with `OutOfMemory` if memory runs
-    /// out; other errors come from the polls. A consumer that is gone is `NotFound`, or `TimedOut` where no server answers for it
-    /// any more; one whose stream is gone is `StreamNotFound`, and one that is offline `Offline`; their source is the server's
-    /// error. `JetStream` holds another one. `InvalidName` comes where the whole subject is none, `NoResponders` where nobody
-    /// answers, and `Request` where the request has no reply for another reason or its reply does not read.
+    /// Asks the server what it knows of the consumer. The info in `self` stays as it is.
+    ///
+    /// Fails with `OutOfMemory` if memory runs out; the polls return all other errors. `NotFound`
+    /// means that the consumer is gone; if no server answers for it any more, the error is
+    /// `TimedOut`. `StreamNotFound` means that its stream is gone, and `Offline` that the consumer
+    /// is offline. Except for `TimedOut`, the source of these is the server's error. `JetStream`
+    /// holds any other error of the server. `InvalidName` means that the full subject is invalid,
+    /// `NoResponders` that nobody answers, and `Request` that the request got no reply for another
+    /// reason or its reply cannot be read.
     pub fn get_info(&self, alloc: Global) -> Result<GetInfo, OutOfMemory>
         ensures { IfOk result (λ call. call ≡ asking_info self.now.scope self.now.info) }
     {

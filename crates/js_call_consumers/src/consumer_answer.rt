@@ -1,4 +1,4 @@
-//! What the server tells of a consumer, with its configuration as that of one kind.
+//! What the server reports about a consumer, with its configuration read as one kind.
 ghost use Rattle.std.specs.Prelude.{◌≡◌, IfOk, Ok, string_bytes};
 ghost use Rattle.js_json.specs.Conversion.{config_error_text};
 ghost use Rattle.js_call_consumers.specs.ConsumerAnswer.{as_kind, told_fields, converted, UnlessOther};
@@ -11,11 +11,12 @@ use js_json_members::{FromValue, ReadError};
 use serde_json::Value;
 use std::alloc::{AllocError, Global};
 
-/// What the server tells of a consumer, with its configuration as that of one kind, if it is one.
+/// What the server reports about a consumer. Its configuration is read as one kind, if it is of
+/// that kind.
 #[derive(Drop)]
 pub struct ConsumerAnswer<C> {
     pub info: Info,
-    /// The configuration as that of this kind, or why it is none.
+    /// The configuration as this kind, or why it is not of this kind.
     pub config: Result<C, Source>,
 }
 
@@ -81,7 +82,8 @@ fn unless_other<C, K: Drop, I: Drop>(
 }
 
 impl<C: Drop> ConsumerAnswer<C> {
-    /// The consumer; or an error of that kind, where its configuration is not of this kind, with why as its source.
+    /// Returns the consumer. Fails with the error `other` if its configuration is not of this kind;
+    /// the source says why.
     pub(crate) fn into_consumer<K: Drop>(
         self,
         scope: ApiScope,

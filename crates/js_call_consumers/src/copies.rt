@@ -1,4 +1,4 @@
-//! What the server tells of a consumer, twice.
+//! What the server reports about a consumer, twice.
 ghost use Rattle.std.specs.Prelude.{◌≡◌};
 ghost use Rattle.js_call_consumers.specs.Renewal.{copies_fields};
 
@@ -8,7 +8,8 @@ use js_json_members::{FromValue, ReadError};
 use serde_json::Value;
 use std::alloc::Global;
 
-/// What the server tells of a consumer: once for the consumer, and once for the answer. Both are the same.
+/// What the server reports about a consumer: one copy for the consumer, and an equal one for the
+/// answer.
 #[derive(Drop)]
 pub struct InfoCopies {
     pub kept: Info,

@@ -1,4 +1,4 @@
-//! What the calls that make and change consumers answer.
+//! How the calls that create and update consumers read their answers.
 ghost use Rattle.std.specs.Prelude.{◌≡◌};
 ghost use Rattle.js_call_consumers.specs.Create.{create_row, created};
 
@@ -13,7 +13,8 @@ use js_json_members::ReadError;
 use std::alloc::Global;
 use std::marker::PhantomData;
 
-/// The row of the calls that make or change a consumer, one for each type of error kinds.
+/// How the calls that create or update a consumer read their answers. `K` is the type of the error
+/// kinds.
 #[derive(Drop)]
 pub struct CreatingConsumer<C, K> {
     scope: ApiScope,
@@ -21,7 +22,7 @@ pub struct CreatingConsumer<C, K> {
 }
 
 impl<C, K> CreatingConsumer<C, K> {
-    /// The row of a call by that scope.
+    /// Makes this part of a call that uses the scope.
     pub(crate) fn new(scope: ApiScope) -> CreatingConsumer<C, K>
         ensures { result ≡ record { scope = scope; of = record {} } }
     {

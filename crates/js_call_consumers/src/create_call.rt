@@ -1,4 +1,4 @@
-//! The calls that make and change consumers, and their state.
+//! The calls that create and update consumers.
 ghost use Rattle.std.specs.Prelude.{◌≡◌, IfOk};
 ghost use Rattle.js_call.specs.Call.{Polled};
 ghost use Rattle.js_call.specs.Scope.{asking};
@@ -20,23 +20,24 @@ use js_json_members::{ReadError, ToValue};
 use js_link::Link;
 use std::alloc::Global;
 
-/// The state of a call that makes or changes a consumer: its request under way, or why it has none.
+/// A call under way that creates or updates a consumer: its request, or why there is no request.
 #[derive(Drop)]
 #[must_use = "a call is sent by its first poll"]
 pub enum CreateCall<C, K> {
-    /// The configuration has no text. The first poll answers this, and nothing is sent.
+    /// The configuration cannot be written as JSON. The first poll returns this error, and nothing
+    /// is sent.
     Refused(Error<K>),
     /// The request, and what its reply means.
     Asking(Call<CreatingConsumer<C, K>>),
 }
 
-/// The state of `create_consumer_on_stream`.
+/// The `create_consumer_on_stream` call under way.
 pub type CreateConsumerOnStream<C> = CreateCall<C, ConsumerErrorKind>;
 
-/// The state of `create_consumer_strict_on_stream`.
+/// The `create_consumer_strict_on_stream` call under way.
 pub type CreateConsumerStrictOnStream<C> = CreateCall<C, ConsumerCreateStrictErrorKind>;
 
-/// The state of `update_consumer_on_stream`.
+/// The `update_consumer_on_stream` call under way.
 pub type UpdateConsumerOnStream<C> = CreateCall<C, ConsumerUpdateErrorKind>;
 
 impl<C: FromConsumer, K: CreateKind> State for CreateCall<C, K> {
@@ -166,15 +167,19 @@ fn create<C: FromConsumer, K: CreateKind>(
     make_of(alloc, scope, request)
 }
 
-/// Makes a consumer on a stream. Where one of that name is there, the server changes it to that configuration as far as it can be
-/// changed, and else answers an error.
+/// Creates a consumer on a stream. If a consumer of that name exists, the server changes it to this
+/// configuration, or returns an error if it cannot.
 ///
-/// Fails with `OutOfMemory` if memory runs out; other errors come from the polls. A configuration with an instant outside the
-/// years 0 to 9999 (a start by time, a pause) has no text: that is `Request`, whose source names the key, and nothing is sent.
-/// `JetStream` holds the server's error, and `Other` comes where the consumer that was made is of another kind. `TimedOut` comes
-/// where the timeout is due, and `Request` where the request has no reply for another reason or its reply does not read; these
-/// have that error's text as the source. The stream's name and the configuration's stand in the subject of the request as they
-/// are, and the server takes the word between two dots as the name: a consumer that is to be named `x.y` becomes `x`.
+/// Fails with `OutOfMemory` if memory runs out; the polls return all other errors. A configuration
+/// with an instant outside the years 0 to 9999 (a start by time, a pause) cannot be written as
+/// JSON. The error is then `Request`, whose source names the key, and nothing is sent. `JetStream`
+/// holds the server's error. `Other` means that the created consumer is of another kind. `TimedOut`
+/// means that the timeout expired, and `Request` that the request got no reply for another reason
+/// or its reply cannot be read; the source of these is the text of that error.
+///
+/// The request's subject contains the names of the stream and of the configuration unchanged, and
+/// the server takes the word between two dots as the name: a consumer that you name `x.y` becomes
+/// `x`.
 pub fn create_consumer_on_stream<C: FromConsumer>(
     alloc: Global,
     scope: &ApiScope,
@@ -186,11 +191,13 @@ pub fn create_consumer_on_stream<C: FromConsumer>(
     create(alloc, scope, config, stream)
 }
 
-/// Makes a consumer on a stream. One of that name that is there with the same configuration is answered as it is. Servers before
-/// 2.10 know no action, and change the consumer that is there.
+/// Creates a consumer on a stream. If one of that name with the same configuration exists, the call
+/// returns it as it is. Servers before 2.10 ignore the action of the request, and change the
+/// existing consumer.
 ///
-/// Fails with `OutOfMemory` if memory runs out; other errors come from the polls. `AlreadyExists` comes where a consumer of that name
-/// with another configuration is there. The other errors, and the hazards, are those of `create_consumer_on_stream`.
+/// Fails with `OutOfMemory` if memory runs out; the polls return all other errors. `AlreadyExists`
+/// means that a consumer of that name with another configuration exists. The other errors, and the
+/// hazards, are those of `create_consumer_on_stream`.
 pub fn create_consumer_strict_on_stream<C: FromConsumer>(
     alloc: Global,
     scope: &ApiScope,
@@ -202,10 +209,11 @@ pub fn create_consumer_strict_on_stream<C: FromConsumer>(
     create(alloc, scope, config, stream)
 }
 
-/// Changes the consumer of that name that is on the stream.
+/// Updates the consumer of that name on the stream.
 ///
-/// Fails with `OutOfMemory` if memory runs out; other errors come from the polls. `DoesNotExist` comes where the stream has no
-/// consumer of that name. The other errors, and the hazards, are those of `create_consumer_on_stream`.
+/// Fails with `OutOfMemory` if memory runs out; the polls return all other errors. `DoesNotExist`
+/// means that the stream has no consumer of that name. The other errors, and the hazards, are those
+/// of `create_consumer_on_stream`.
 pub fn update_consumer_on_stream<C: FromConsumer>(
     alloc: Global,
     scope: &ApiScope,

@@ -1,4 +1,4 @@
-//! The three calls that make or change a consumer: what each asks for, and what it is refused with.
+//! The three calls that create or update a consumer: what each asks for, and how each fails.
 ghost use Rattle.std.specs.Prelude.{◌≡◌};
 ghost use Rattle.js_call_consumers.specs.CreateKind.{Kinds, consumer_kinds, strict_kinds, update_kinds, consumer_failure};
 
@@ -8,28 +8,28 @@ use js_call::RequestErrorKind;
 use js_codes::{ErrorCode, errors};
 use js_json::consumer::Action;
 
-/// The kinds of errors of a call that makes or changes a consumer, which tell the call.
+/// The error kinds of a call that creates or updates a consumer. The type selects the call.
 pub trait CreateKind: Drop {
     ghost kinds: { Kinds Self };
 
-    /// What the request asks for.
+    /// Returns what the request asks for.
     fn action() -> Action
         ensures { result ≡ kinds.action };
 
-    /// What a request without a reply means.
+    /// Returns the kind for a request without a readable reply.
     fn of_request(kind: RequestErrorKind) -> Self
         ensures { result ≡ kinds.of_request kind };
 
-    /// An error of the API as the error of the call.
+    /// Returns the call's error for an API error.
     fn of_api(error: errors::Error) -> Error<Self>
         ensures { result ≡ kinds.of_api error };
 
-    /// The consumer that was made is of another kind.
+    /// Returns the kind for a created consumer of another kind.
     fn other() -> Self
         ensures { result ≡ kinds.other };
 }
 
-/// What a request without a reply means to the calls on consumers.
+/// Maps the error of a request without a readable reply to the kind that calls on consumers return.
 pub(crate) fn consumer_failure(kind: RequestErrorKind) -> ConsumerErrorKind
     ensures { result ≡ consumer_failure kind }
 {

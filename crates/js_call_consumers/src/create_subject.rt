@@ -1,4 +1,4 @@
-//! The subject on which a consumer is made.
+//! The subject for creating a consumer.
 ghost use Rattle.std.specs.Prelude.{◌≡◌, IfOk, string_bytes, option_copied};
 ghost use Rattle.js_call_consumers.specs.CreateSubject.{create_subject, name_of};
 
@@ -16,7 +16,7 @@ fn name_of(config: &Config) -> Option<&Text>
     }
 }
 
-/// The subject on which a consumer is made.
+/// Returns the subject for creating a consumer.
 pub(crate) fn create_subject(
     alloc: Global,
     stream: &str,

@@ -13,14 +13,14 @@ use js_json_members::ReadError;
 use js_json_streams::DeleteStatus;
 use std::alloc::Global;
 
-/// The row of `delete_consumer_from_stream`.
+/// How `delete_consumer_from_stream` checks its arguments and reads its answer.
 #[derive(Drop)]
 pub struct DeletingConsumer {
     consumer: Text,
     stream: Text,
 }
 
-/// The state of `delete_consumer_from_stream`.
+/// The `delete_consumer_from_stream` call under way.
 pub type DeleteConsumerFromStream = Call<DeletingConsumer>;
 
 impl ApiCall for DeletingConsumer {
@@ -72,13 +72,14 @@ fn deleting_row(
 
 /// Deletes a consumer of a stream.
 ///
-/// Fails with `OutOfMemory` if memory runs out; other errors come from the polls. `InvalidName` comes from the first where the
-/// consumer's name is none that one may have, and `Other` where the stream's is; nothing is sent then. `JetStream` holds the
-/// server's error. `TimedOut` comes where the timeout is due, and `Request` where the request has no reply for another reason or
-/// its reply does not read; these have that error's text as the source.
+/// Fails with `OutOfMemory` if memory runs out; the polls return all other errors. The first poll
+/// fails with `InvalidName` if the consumer's name is invalid, and with `Other` if the stream's
+/// name is; nothing is sent then. `JetStream` holds the server's error. `TimedOut` means that the
+/// timeout expired, and `Request` that the request got no reply for another reason or its reply
+/// cannot be read; the source of these is the text of that error.
 ///
-/// Those that read the consumer are told by the server, or by nobody: an acknowledgement of one of its messages is taken still, and a
-/// pull request meets silence.
+/// Readers of the consumer learn of the deletion from the server or not at all: an acknowledgement
+/// of one of its messages is still accepted, and a pull request gets no answer.
 pub fn delete_consumer_from_stream(
     alloc: Global,
     scope: &ApiScope,

@@ -1,4 +1,4 @@
-//! Why a call on a consumer was refused.
+//! Why a call on a consumer failed.
 ghost use Rattle.std.specs.Prelude.{◌≡◌, Some, option_copied};
 ghost use Rattle.js_call_consumers.specs.Error.{info_text, info_held, consumer_text, consumer_held, strict_text, strict_held, update_text, update_held};
 
@@ -6,10 +6,10 @@ use js_base::Error;
 use js_codes::errors;
 use std::fmt;
 
-/// Why the info of a consumer was not got.
+/// Why a consumer's info could not be fetched.
 #[derive(Debug, PartialEq, Eq, Drop)]
 pub enum ConsumerInfoErrorKind {
-    /// The whole subject is none. Nothing was sent.
+    /// The full subject is invalid. Nothing was sent.
     InvalidName,
     /// The consumer is offline.
     Offline,
@@ -17,22 +17,23 @@ pub enum ConsumerInfoErrorKind {
     NotFound,
     /// The API knows no such stream.
     StreamNotFound,
-    /// The request has no reply for another reason, or its reply does not read.
+    /// The request got no reply for another reason, or its reply cannot be read.
     Request,
-    /// The API answered another error.
+    /// The API returned another error.
     JetStream(errors::Error),
-    /// The timeout is due, and no answer had come.
+    /// The timeout expired before an answer came.
     TimedOut,
     /// Nobody answers.
     NoResponders,
 }
 
-/// Why the info of a consumer was not got, as an error. Its source is the request's or the reply's error as a text, or the server's
-/// error where the kind does not hold it.
+/// The error of a request for a consumer's info. Its source is the text of the request's or the
+/// reply's error, or the server's error if the kind does not hold it.
 pub type ConsumerInfoError = Error<ConsumerInfoErrorKind>;
 
 impl ConsumerInfoErrorKind {
-    /// The server's error, which `JetStream` holds. It stands here and not in the source.
+    /// Returns the server's error if the kind is `JetStream`. The kind holds it; the source does
+    /// not.
     pub fn api_error(&self) -> Option<&errors::Error>
         ensures { option_copied result ≡ info_held self.now }
     {
@@ -61,29 +62,33 @@ impl fmt::Display for ConsumerInfoErrorKind {
     }
 }
 
-/// Why a consumer was not got, made or deleted.
+/// Why a consumer could not be looked up, created or deleted.
 #[derive(Debug, PartialEq, Eq, Drop)]
 pub enum ConsumerErrorKind {
-    /// The name is none that a consumer, or a stream, may have. Nothing was sent.
+    /// The name is not a valid consumer or stream name. Nothing was sent.
     InvalidName,
-    /// The timeout is due, and no answer had come.
+    /// The timeout expired before an answer came.
     TimedOut,
-    /// The request has no reply for another reason, or its reply does not read; or the configuration has no text, and nothing was sent.
+    /// The request got no reply for another reason, or its reply cannot be read. Or the
+    /// configuration cannot be written as JSON, and nothing was sent.
     Request,
-    /// The consumer that was got is of another kind.
+    /// The consumer that was looked up is of another kind.
     InvalidConsumerType,
-    /// The API answered an error.
+    /// The API returned an error.
     JetStream(errors::Error),
-    /// The consumer that was made is of another kind; or, where one is deleted, the name of its stream is none, and nothing was sent.
+    /// The created consumer is of another kind. Or, on deletion, the stream's name is invalid, and
+    /// nothing was sent.
     Other,
 }
 
-/// Why a consumer was not got, made or deleted, as an error. Its source is the request's or the reply's error as a text, or why the
-/// configuration is of another kind or has no text.
+/// The error of looking up, creating or deleting a consumer. Its source is the text of the
+/// request's or the reply's error, or why the configuration is of another kind or cannot be written
+/// as JSON.
 pub type ConsumerError = Error<ConsumerErrorKind>;
 
 impl ConsumerErrorKind {
-    /// The server's error, which `JetStream` holds. It stands here and not in the source.
+    /// Returns the server's error if the kind is `JetStream`. The kind holds it; the source does
+    /// not.
     pub fn api_error(&self) -> Option<&errors::Error>
         ensures { option_copied result ≡ consumer_held self.now }
     {
@@ -110,31 +115,33 @@ impl fmt::Display for ConsumerErrorKind {
     }
 }
 
-/// Why a consumer was not made where none may be there.
+/// Why a strict creation of a consumer failed.
 #[derive(Debug, PartialEq, Eq, Drop)]
 pub enum ConsumerCreateStrictErrorKind {
-    /// Never given.
+    /// Never returned.
     InvalidName,
-    /// The timeout is due, and no answer had come.
+    /// The timeout expired before an answer came.
     TimedOut,
-    /// The request has no reply for another reason, or its reply does not read; or the configuration has no text, and nothing was sent.
+    /// The request got no reply for another reason, or its reply cannot be read. Or the
+    /// configuration cannot be written as JSON, and nothing was sent.
     Request,
-    /// Never given.
+    /// Never returned.
     InvalidConsumerType,
-    /// The API answered another error.
+    /// The API returned another error.
     JetStream(errors::Error),
-    /// The consumer that was made is of another kind.
+    /// The created consumer is of another kind.
     Other,
-    /// A consumer of that name is there.
+    /// A consumer of that name with another configuration exists.
     AlreadyExists,
 }
 
-/// Why a consumer was not made where none may be there, as an error. Its source is that of a `ConsumerError`, or the server's error at
-/// `AlreadyExists`.
+/// The error of a strict creation of a consumer. Its source is that of a `ConsumerError`, or the
+/// server's error for `AlreadyExists`.
 pub type ConsumerCreateStrictError = Error<ConsumerCreateStrictErrorKind>;
 
 impl ConsumerCreateStrictErrorKind {
-    /// The server's error, which `JetStream` holds. It stands here and not in the source.
+    /// Returns the server's error if the kind is `JetStream`. The kind holds it; the source does
+    /// not.
     pub fn api_error(&self) -> Option<&errors::Error>
         ensures { option_copied result ≡ strict_held self.now }
     {
@@ -165,30 +172,33 @@ impl fmt::Display for ConsumerCreateStrictErrorKind {
     }
 }
 
-/// Why a consumer was not changed.
+/// Why a consumer could not be updated.
 #[derive(Debug, PartialEq, Eq, Drop)]
 pub enum ConsumerUpdateErrorKind {
-    /// Never given.
+    /// Never returned.
     InvalidName,
-    /// The timeout is due, and no answer had come.
+    /// The timeout expired before an answer came.
     TimedOut,
-    /// The request has no reply for another reason, or its reply does not read; or the configuration has no text, and nothing was sent.
+    /// The request got no reply for another reason, or its reply cannot be read. Or the
+    /// configuration cannot be written as JSON, and nothing was sent.
     Request,
-    /// Never given.
+    /// Never returned.
     InvalidConsumerType,
-    /// The API answered another error.
+    /// The API returned another error.
     JetStream(errors::Error),
-    /// The consumer that was changed is of another kind.
+    /// The updated consumer is of another kind.
     Other,
-    /// No consumer of that name is there.
+    /// The stream has no consumer of that name.
     DoesNotExist,
 }
 
-/// Why a consumer was not changed, as an error. Its source is that of a `ConsumerError`, or the server's error at `DoesNotExist`.
+/// The error of a consumer update. Its source is that of a `ConsumerError`, or the server's error
+/// for `DoesNotExist`.
 pub type ConsumerUpdateError = Error<ConsumerUpdateErrorKind>;
 
 impl ConsumerUpdateErrorKind {
-    /// The server's error, which `JetStream` holds. It stands here and not in the source.
+    /// Returns the server's error if the kind is `JetStream`. The kind holds it; the source does
+    /// not.
     pub fn api_error(&self) -> Option<&errors::Error>
         ensures { option_copied result ≡ update_held self.now }
     {

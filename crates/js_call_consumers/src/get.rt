@@ -1,4 +1,4 @@
-//! The call that gets a consumer of a stream.
+//! The call that looks up a consumer of a stream.
 ghost use Rattle.std.specs.Prelude.{◌≡◌, IfOk};
 ghost use Rattle.js_call_consumers.specs.Get.{get_row, getting, got};
 
@@ -16,7 +16,7 @@ use js_json_members::ReadError;
 use std::alloc::Global;
 use std::marker::PhantomData;
 
-/// The row of `get_consumer_from_stream`.
+/// How `get_consumer_from_stream` checks its arguments and reads its answer.
 #[derive(Drop)]
 pub struct GettingConsumer<T> {
     scope: ApiScope,
@@ -25,7 +25,7 @@ pub struct GettingConsumer<T> {
     of: PhantomData<T>,
 }
 
-/// The state of `get_consumer_from_stream`.
+/// The `get_consumer_from_stream` call under way.
 pub type GetConsumerFromStream<T> = Call<GettingConsumer<T>>;
 
 impl<T: FromConsumer> ApiCall for GettingConsumer<T> {
@@ -94,13 +94,14 @@ fn getting_row<T>(
     })
 }
 
-/// Gets a consumer of a stream as one of that kind.
+/// Looks up a consumer of a stream, as a consumer of kind `T`.
 ///
-/// Fails with `OutOfMemory` if memory runs out; other errors come from the polls. `InvalidName` comes from the first where one of
-/// the names is none that a consumer, or a stream, may have, and nothing is sent. A consumer of another kind is
-/// `InvalidConsumerType`, whose source says why. `JetStream` holds the server's error. `TimedOut` comes where the timeout is due,
-/// and `Request` where the request has no reply for another reason or its reply does not read; these have that error's text as the
-/// source.
+/// Fails with `OutOfMemory` if memory runs out; the polls return all other errors. The first poll
+/// fails with `InvalidName` if one of the names is not a valid consumer or stream name, and nothing
+/// is sent. `InvalidConsumerType` means that the consumer is of another kind; its source says why.
+/// `JetStream` holds the server's error. `TimedOut` means that the timeout expired, and `Request`
+/// that the request got no reply for another reason or its reply cannot be read; the source of
+/// these is the text of that error.
 pub fn get_consumer_from_stream<T: FromConsumer>(
     alloc: Global,
     scope: &ApiScope,

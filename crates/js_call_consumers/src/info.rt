@@ -12,14 +12,14 @@ use js_json::{Response, response_as};
 use js_json_members::ReadError;
 use std::alloc::Global;
 
-/// The row of `get_info`.
+/// How `get_info` reads its answer.
 #[derive(Drop)]
 pub struct AskingInfo;
 
-/// The state of `get_info`.
+/// The `get_info` call under way.
 pub type GetInfo = Call<AskingInfo>;
 
-/// An error of the API as the error of the call that asks for an info.
+/// Maps an API error to the error of the call that asks for a consumer's info.
 pub(crate) fn info_refusal(error: errors::Error) -> ConsumerInfoError
     ensures { result ≡ info_refusal error }
 {
@@ -35,7 +35,7 @@ pub(crate) fn info_refusal(error: errors::Error) -> ConsumerInfoError
     Error::with_source(kind, error.into_source())
 }
 
-/// What a request without a reply means there.
+/// Maps the error of a request without a readable reply to the kind that `get_info` returns.
 pub(crate) fn info_failure(kind: RequestErrorKind) -> ConsumerInfoErrorKind
     ensures { result ≡ info_failure kind }
 {
@@ -47,7 +47,7 @@ pub(crate) fn info_failure(kind: RequestErrorKind) -> ConsumerInfoErrorKind
     }
 }
 
-/// The request for the info of the consumer that an info is of.
+/// Makes the request for the info of the consumer that `info` belongs to.
 pub(crate) fn info_request(
     alloc: Global,
     scope: &ApiScope,

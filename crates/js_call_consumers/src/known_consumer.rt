@@ -1,4 +1,4 @@
-//! Requests on the consumer that an info is of.
+//! Requests on the consumer that an info belongs to.
 ghost use Rattle.std.specs.Prelude.{◌≡◌, ◌++◌, IfOk, codes, string_bytes};
 ghost use Rattle.std.specs.Fmt.{decimal};
 ghost use Rattle.js_call_consumers.specs.KnownConsumer.{asking_on, reset_body};
@@ -9,7 +9,7 @@ use js_call::{ApiScope, RawCall};
 use js_json::consumer::Info;
 use std::alloc::Global;
 
-/// A request by the words of a call on the consumer that an info is of, with that body.
+/// Makes a request on the words of a call and the consumer that `info` belongs to, with this body.
 pub(crate) fn request_on(
     alloc: Global,
     scope: &ApiScope,
@@ -32,7 +32,7 @@ fn reset_text(alloc: Global, sequence: u64) -> Result<String, OutOfMemory>
     Ok(format!(in alloc; "{{\"seq\":{sequence}}}")?)
 }
 
-/// The body that names the sequence from which a consumer is to go on; 0 where none is named.
+/// Returns the body that names the sequence from which a consumer continues; 0 if `seq` is none.
 pub(crate) fn reset_body(alloc: Global, seq: Option<u64>) -> Result<Bytes, OutOfMemory>
     ensures { IfOk result (λ body. body ≡ reset_body seq) }
 {

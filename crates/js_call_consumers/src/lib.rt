@@ -1,9 +1,11 @@
-//! The calls of the API on consumers, and the [`Consumer`] that they hand out, with the configuration of its kind.
+//! The API calls on consumers, and the [`Consumer`] that they return, with the configuration of its
+//! kind.
 //!
-//! A call is made by a function that takes the scope of its context (the prefix of its subjects and its timeout), and is polled
-//! until it is ready. Its row of js_call's table stands in `specs/`: what its arguments are refused with, and what it answers to a
-//! reply, or where there is none. A consumer has two calls of its own, `info` and `reset` ([`ConsumerCalls`]): it goes into them
-//! and comes back beside the answer, with the newest info.
+//! A function makes each call from the scope of its context (the prefix of its subjects and its
+//! timeout). You poll the call until it is ready. Its contract states which arguments it rejects,
+//! and what it returns for a reply and for a request without one. A consumer has two calls of its
+//! own, `info` and `reset` ([`ConsumerCalls`]). They take the consumer, and return it with the
+//! answer and the newest info.
 #![tactic(auto)]
 
 mod calls;

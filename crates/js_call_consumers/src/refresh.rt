@@ -1,4 +1,4 @@
-//! The call that asks what the server knows of a consumer, and keeps it.
+//! The call that asks what the server knows of a consumer, and keeps the answer.
 ghost use Rattle.std.specs.Prelude.{◌≡◌};
 ghost use Rattle.js_call_consumers.specs.Refresh.{refresh_row, refreshed};
 
@@ -12,13 +12,13 @@ use js_json::{Response, response_as};
 use js_json_members::ReadError;
 use std::alloc::Global;
 
-/// The row of `info`, which keeps the consumer.
+/// How `info` reads its answer. It keeps the consumer.
 #[derive(Drop)]
 pub struct RefreshingConsumer<T> {
     pub(crate) consumer: Consumer<T>,
 }
 
-/// The state of `info`. Its answer is the consumer, and what `get_info` answers.
+/// The `info` call under way. It returns the consumer, and the answer of `get_info`.
 pub type InfoCall<T> = Call<RefreshingConsumer<T>>;
 
 impl<T: Drop> ApiCall for RefreshingConsumer<T> {

@@ -1,11 +1,11 @@
-//! What names are refused with, before anything is sent.
+//! Checks of names, before anything is sent.
 ghost use Rattle.std.specs.Prelude.{◌≡◌};
 ghost use Rattle.js_call_consumers.specs.Refusal.{get_refusal, delete_refusal};
 
 use crate::error::ConsumerErrorKind;
 use js_codes::is_valid_name;
 
-/// What the names are refused with where a consumer is got.
+/// Returns the error for invalid names when a consumer is looked up.
 pub(crate) fn get_refusal(consumer: &str, stream: &str) -> Option<ConsumerErrorKind>
     ensures { result ≡ get_refusal consumer.now stream.now }
 {
@@ -16,7 +16,7 @@ pub(crate) fn get_refusal(consumer: &str, stream: &str) -> Option<ConsumerErrorK
     }
 }
 
-/// What the names are refused with where a consumer is deleted.
+/// Returns the error for invalid names when a consumer is deleted.
 pub(crate) fn delete_refusal(consumer: &str, stream: &str) -> Option<ConsumerErrorKind>
     ensures { result ≡ delete_refusal consumer.now stream.now }
 {

@@ -1,4 +1,4 @@
-//! A consumer beside the answer to a call on it.
+//! A consumer together with the answer to a call on it.
 ghost use Rattle.std.specs.Prelude.{◌≡◌};
 ghost use Rattle.js_call_consumers.specs.Renewal.{renewed};
 
@@ -7,7 +7,8 @@ use crate::copies::InfoCopies;
 use js_base::Error;
 use js_json::consumer::Info;
 
-/// The consumer with the info that was told, and the answer. An error leaves the consumer as it was.
+/// Returns the consumer with the reported info, and the answer. An error leaves the consumer
+/// unchanged.
 pub(crate) fn renewed<T: Drop, K: Drop>(
     consumer: Consumer<T>,
     told: Result<InfoCopies, Error<K>>,

@@ -9,7 +9,8 @@ use js_base::{OutOfMemory, with_word};
 use js_call::{ApiCall, ApiScope, Call, RawCall};
 use std::alloc::Global;
 
-/// A request on a consumer of a stream by the words of a call, as `CONSUMER.INFO`, with an empty object as its body.
+/// Makes a request on the words of a call, for example `CONSUMER.INFO`, and a consumer of a stream.
+/// Its body is an empty object.
 pub(crate) fn consumer_request(
     alloc: Global,
     scope: &ApiScope,
@@ -26,7 +27,8 @@ pub(crate) fn consumer_request(
     asked
 }
 
-/// The call of that row of the table, by such a request. It is generic over the row, so that it does not open it.
+/// Makes a call with the request of `consumer_request`. It is generic over the call's type, so that
+/// it does not open that type.
 pub(crate) fn call_on<M: ApiCall>(
     alloc: Global,
     scope: &ApiScope,

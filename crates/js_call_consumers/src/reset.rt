@@ -12,17 +12,19 @@ use js_json::{Response, response_as};
 use js_json_members::ReadError;
 use std::alloc::Global;
 
-/// Why a consumer was not reset. `JetStream` holds the server's error, `TimedOut` comes where the timeout is due, and `Request` where the
-/// request has no reply for another reason or its reply does not read; the other kinds are never given.
+/// The error of a consumer's reset. `JetStream` holds the server's error. `TimedOut` means that the
+/// timeout expired, and `Request` that the request got no reply for another reason or its reply
+/// cannot be read. The other kinds are never returned.
 pub type ConsumerResetError = ConsumerError;
 
-/// The row of `reset`, which keeps the consumer.
+/// How `reset` reads its answer. It keeps the consumer.
 #[derive(Drop)]
 pub struct ResettingConsumer<T> {
     pub(crate) consumer: Consumer<T>,
 }
 
-/// The state of `reset`. Its answer is the consumer, and what the server knows of it once it is reset.
+/// The `reset` call under way. It returns the consumer, and what the server knows of it after the
+/// reset.
 pub type Reset<T> = Call<ResettingConsumer<T>>;
 
 impl<T: Drop> ApiCall for ResettingConsumer<T> {

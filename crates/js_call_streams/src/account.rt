@@ -1,4 +1,4 @@
-//! The call that asks for an account.
+//! The call that asks for the account's usage and limits.
 ghost use Rattle.std.specs.Prelude.{◌≡◌, IfOk};
 ghost use Rattle.js_call_streams.specs.Account.{account_in, account_row, querying};
 
@@ -11,11 +11,11 @@ use js_json::{Response, response_as};
 use js_json_members::ReadError;
 use std::alloc::Global;
 
-/// The row of `query_account`, which keeps nothing: the call has no arguments.
+/// How `query_account` reads its answer. It keeps nothing, because the call has no arguments.
 #[derive(Drop)]
 pub struct QueryingAccount;
 
-/// The state of `query_account`.
+/// The `query_account` call under way.
 pub type QueryAccount = Call<QueryingAccount>;
 
 // The account, or the API's error.
@@ -52,13 +52,15 @@ impl ApiCall for QueryingAccount {
     }
 }
 
-/// Asks what the account of this connection uses of JetStream, what it may use, and how far its server's API goes (NATS docs,
-/// "JetStream API", `$JS.API.INFO`).
+/// Asks how much of JetStream the account of this connection uses and may use, and which API level
+/// its server has (NATS docs, "JetStream API", `$JS.API.INFO`).
 ///
-/// Fails with `OutOfMemory` if memory runs out; other errors come from the polls. `JetStream` holds the server's error.
-/// `JetStreamUnavailable` comes where nobody answers, `TimedOut` where the timeout is due, and `Other` where the request has no
-/// reply for another reason or its reply does not read; these have that error's text as the source. An account of a server before
-/// 2.7 does not read, since it does not say what is set aside: the source is then `reserved_memory: missing`.
+/// Fails with `OutOfMemory` if memory runs out; the polls return all other errors. `JetStream`
+/// holds the server's error. `JetStreamUnavailable` means that nobody answers, `TimedOut` that the
+/// timeout expired, and `Other` that the request got no reply for another reason or its reply
+/// cannot be read; the source of these is the text of that error. The account of a server before
+/// 2.7 cannot be read, because it does not say what is reserved: the source is then
+/// `reserved_memory: missing`.
 pub fn query_account(alloc: Global, scope: &ApiScope) -> Result<QueryAccount, OutOfMemory>
     ensures { IfOk result (λ call. call ≡ querying scope.now) }
 {

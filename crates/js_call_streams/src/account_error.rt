@@ -1,4 +1,4 @@
-//! Why an account was not told.
+//! Why an account query failed.
 ghost use Rattle.std.specs.Prelude.{◌≡◌, Some, option_copied};
 ghost use Rattle.js_call_streams.specs.AccountError.{account_text, account_held, account_kind};
 
@@ -7,24 +7,27 @@ use js_call::RequestErrorKind;
 use js_codes::errors;
 use std::fmt;
 
-/// Why an account was not told.
+/// Why an account query failed.
 #[derive(Debug, PartialEq, Eq, Drop)]
 pub enum AccountErrorKind {
-    /// The timeout is due, and no answer had come.
+    /// The timeout expired before an answer came.
     TimedOut,
-    /// The API answered this error.
+    /// The API returned this error.
     JetStream(errors::Error),
-    /// The request has no reply for another reason, or its reply does not read: the source tells which.
+    /// The request got no reply for another reason, or its reply cannot be read. The source says
+    /// which.
     Other,
-    /// Nobody answers: JetStream is not there, or not for this account.
+    /// Nobody answers: JetStream is unavailable, or not enabled for this account.
     JetStreamUnavailable,
 }
 
-/// Why an account was not told, as an error. Its source is the text of the request's error, or of the read error of a reply that does not read.
+/// The error of an account query. Its source is the text of the request's error, or of the read
+/// error if the reply cannot be read.
 pub type AccountError = Error<AccountErrorKind>;
 
 impl AccountErrorKind {
-    /// The server's error, which `JetStream` holds. It stands here and not in the source.
+    /// Returns the server's error if the kind is `JetStream`. The kind holds it; the source does
+    /// not.
     pub fn api_error(&self) -> Option<&errors::Error>
         ensures { option_copied result ≡ account_held self.now }
     {
@@ -49,7 +52,7 @@ impl fmt::Display for AccountErrorKind {
     }
 }
 
-/// What a request without a reply that reads means where an account is asked for.
+/// Maps the error of a request without a readable reply to that of an account query.
 pub(crate) fn account_kind(kind: RequestErrorKind) -> AccountErrorKind
     ensures { result ≡ account_kind kind }
 {

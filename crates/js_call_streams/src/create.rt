@@ -1,4 +1,4 @@
-//! The call that makes a stream.
+//! The call that creates a stream.
 ghost use Rattle.std.specs.Prelude.{◌≡◌, IfOk};
 ghost use Rattle.js_call_streams.specs.Create.{create_row, creating_stream, AsksToCreate, AsksWith, Creates, IsTextOf};
 
@@ -15,7 +15,8 @@ use js_json_members::ReadError;
 use js_json_streams::stream::{Config, Info};
 use std::alloc::Global;
 
-/// The row of `create_stream`: what the call keeps of its arguments.
+/// How `create_stream` checks its arguments and reads its answer, with what it keeps of the
+/// arguments.
 #[derive(Drop)]
 pub struct CreatingStream {
     scope: ApiScope,
@@ -24,7 +25,7 @@ pub struct CreatingStream {
     two_places: bool,
 }
 
-/// The state of `create_stream`.
+/// The `create_stream` call under way.
 pub type CreateStream = Call<CreatingStream>;
 
 impl ApiCall for CreatingStream {
@@ -78,7 +79,8 @@ pub(crate) fn config_body(alloc: Global, config: &Config) -> Result<Bytes, OutOf
     body_of(alloc, config)
 }
 
-/// A request on the words of a call and the configuration's name, whose body is the configuration.
+/// Makes a request on the words of a call and the configuration's name, with the configuration as
+/// its body.
 pub(crate) fn config_request(
     alloc: Global,
     scope: &ApiScope,
@@ -91,7 +93,8 @@ pub(crate) fn config_request(
     scope.ask_named(alloc, words, config.name.as_str(), body)
 }
 
-/// A request for a stream that is to be made, in whose configuration domains are externals.
+/// Makes the request that creates a stream. In its configuration, each mirror or source that has
+/// only a domain gets the domain's API as its external.
 pub(crate) fn create_request<C: Placing>(
     alloc: Global,
     scope: &ApiScope,
@@ -116,7 +119,7 @@ fn creating_stream(scope: &ApiScope, config: &Config) -> Result<CreatingStream, 
     })
 }
 
-/// The call that makes a stream of that configuration.
+/// Makes the call that creates a stream with this configuration.
 pub(crate) fn create<C: Placing>(
     alloc: Global,
     scope: &ApiScope,
@@ -129,12 +132,15 @@ pub(crate) fn create<C: Placing>(
     Ok(Call::new(row, asked))
 }
 
-/// Makes a stream, and answers a handle of it. A mirror or source that has a domain alone gets the domain's API as its external.
+/// Creates a stream and returns a handle of it. A mirror or source that has only a domain gets the
+/// domain's API as its external.
 ///
-/// The server answers a stream that has that name and configuration already, and refuses another configuration as `JetStream`.
+/// If a stream with that name and configuration exists, the server returns it. If its configuration
+/// differs, the call fails with `JetStream`.
 ///
-/// Fails with `OutOfMemory` if memory runs out; other errors come from the polls. `EmptyStreamName`, `InvalidStreamName` and
-/// `DomainAndExternalSet` come from the first, and nothing is sent. The other errors are those of `update_stream`.
+/// Fails with `OutOfMemory` if memory runs out; the polls return all other errors. The first poll
+/// fails with `EmptyStreamName`, `InvalidStreamName` or `DomainAndExternalSet` if the arguments are
+/// invalid, and nothing is sent. The other errors are those of `update_stream`.
 pub fn create_stream(
     alloc: Global,
     scope: &ApiScope,

@@ -1,4 +1,4 @@
-//! The calls that change a stream, and make it where it is not there.
+//! The call that updates a stream, and creates it if it does not exist.
 ghost use Rattle.std.specs.Prelude.{◌≡◌, IfOk};
 ghost use Rattle.js_call_streams.specs.Update.{create_info_row, creating_info, CreatesInfo, OrCreates, unless_missing, UpdatesOrCreates};
 
@@ -14,7 +14,7 @@ use js_json_members::ReadError;
 use js_json_streams::stream::{Config, Info};
 use std::alloc::Global;
 
-/// The row of the second call of `create_or_update_stream`.
+/// How the second call of `create_or_update_stream` checks its arguments and reads its answer.
 #[derive(Drop)]
 pub struct CreatingInfo {
     name: Text,
@@ -22,7 +22,7 @@ pub struct CreatingInfo {
     two_places: bool,
 }
 
-/// The state of `create_or_update_stream`.
+/// The `create_or_update_stream` call under way.
 pub type CreateOrUpdateStream = Then<UpdateStream, Call<CreatingInfo>, IfNotFound>;
 
 impl ApiCall for CreatingInfo {
@@ -54,7 +54,7 @@ impl ApiCall for CreatingInfo {
     }
 }
 
-/// The second call follows where the stream is not there.
+/// Runs the second call if the stream does not exist.
 #[derive(Clone, Copy, Drop)]
 pub struct IfNotFound;
 
@@ -129,11 +129,13 @@ fn update_or_create<C: Placing>(
     or_create(alloc, scope, first, config)
 }
 
-/// Changes a stream, and makes it as `create_stream` does where the server answers that it is not there, in the same poll. Where it
-/// is there, what `Config` does not name is reset, as by `update_stream`.
+/// Updates a stream. If the server answers that it does not exist, creates it as `create_stream`
+/// does, in the same poll. If it exists, the update resets what `Config` does not name, as
+/// `update_stream` does.
 ///
-/// Fails with `OutOfMemory` if memory runs out; the errors of the name come from the first poll, and nothing is sent. The other
-/// errors are those of `update_stream` and then of `create_stream`.
+/// Fails with `OutOfMemory` if memory runs out. If the name is invalid, the first poll returns the
+/// error, and nothing is sent. The other errors are those of `update_stream` and then of
+/// `create_stream`.
 pub fn create_or_update_stream(
     alloc: Global,
     scope: &ApiScope,

@@ -12,13 +12,13 @@ use js_json_members::ReadError;
 use js_json_streams::DeleteStatus;
 use std::alloc::Global;
 
-/// The row of `delete_stream`.
+/// How `delete_stream` checks its arguments and reads its answer.
 #[derive(Drop)]
 pub struct DeletingStream {
     name: Text,
 }
 
-/// The state of `delete_stream`.
+/// The `delete_stream` call under way.
 pub type DeleteStream = Call<DeletingStream>;
 
 impl ApiCall for DeletingStream {
@@ -55,7 +55,8 @@ impl ApiCall for DeletingStream {
 
 /// Deletes a stream with all its messages and consumers.
 ///
-/// Fails with `OutOfMemory` if memory runs out; other errors come from the polls, as those of `get_stream`.
+/// Fails with `OutOfMemory` if memory runs out; the polls return all other errors, which are those
+/// of `get_stream`.
 pub fn delete_stream(
     alloc: Global,
     scope: &ApiScope,

@@ -1,4 +1,4 @@
-//! Why a call on a stream was refused.
+//! Why a call on a stream failed.
 ghost use Rattle.std.specs.Prelude.{◌≡◌, Some};
 ghost use Rattle.std.specs.Option.{option_copied};
 ghost use Rattle.js_call_streams.specs.Error.{get_held, create_held, get_text, create_text, create_kind, create_failure, api_error};
@@ -8,32 +8,33 @@ use js_call::{Failure, RequestErrorKind};
 use js_codes::{ErrorCode, errors};
 use std::fmt;
 
-/// Why a stream was not got, or not deleted.
+/// Why a stream could not be looked up or deleted.
 #[derive(Debug, PartialEq, Eq, Drop)]
 pub enum GetStreamErrorKind {
     /// The name is empty. Nothing was sent.
     EmptyName,
-    /// The request has no reply, or its reply does not read: the source tells which.
+    /// The request got no reply, or its reply cannot be read. The source says which.
     Request,
-    /// The name is none that a stream may have. Nothing was sent.
+    /// The name is not a valid stream name. Nothing was sent.
     InvalidStreamName,
-    /// The API answered this error.
+    /// The API returned this error.
     JetStream(errors::Error),
-    /// Memory ran out in a call that answers at once.
+    /// Memory ran out in a function that returns its result at once.
     OutOfMemory,
 }
 
-/// Why a stream was not got, as an error.
+/// The error of a stream lookup.
 pub type GetStreamError = Error<GetStreamErrorKind>;
 
-/// Why a stream was not deleted.
+/// Why a stream could not be deleted.
 pub type DeleteStreamErrorKind = GetStreamErrorKind;
 
-/// Why a stream was not deleted, as an error.
+/// The error of a stream deletion.
 pub type DeleteStreamError = GetStreamError;
 
 impl GetStreamErrorKind {
-    /// The server's error, which `JetStream` holds. It stands here and not in the source.
+    /// Returns the server's error if the kind is `JetStream`. The kind holds it; the source does
+    /// not.
     pub fn api_error(&self) -> Option<&errors::Error>
         ensures { option_copied result ≡ get_held self.now }
     {
@@ -59,40 +60,41 @@ impl fmt::Display for GetStreamErrorKind {
     }
 }
 
-/// Why a stream was not made, or not changed.
+/// Why a stream could not be created or updated.
 #[derive(Debug, PartialEq, Eq, Drop)]
 pub enum CreateStreamErrorKind {
     /// The name is empty. Nothing was sent.
     EmptyStreamName,
-    /// The name is none that a stream may have, and nothing was sent; or the whole subject is none.
+    /// The name is not a valid stream name, and nothing was sent; or the full subject is invalid.
     InvalidStreamName,
     /// A mirror or a source has both a domain and an external. Nothing was sent.
     DomainAndExternalSet,
-    /// The API knows no such stream. The source is its error.
+    /// The API knows no such stream. The source is the API's error.
     NotFound,
-    /// The API answered this error, another than `NotFound`.
+    /// The API returned this error, which is not `NotFound`.
     JetStream(errors::Error),
-    /// The timeout is due, and no answer had come.
+    /// The timeout expired before an answer came.
     TimedOut,
-    /// Nobody answers: JetStream is not there.
+    /// Nobody answers: JetStream is unavailable.
     JetStreamUnavailable,
-    /// Never given.
+    /// Never returned.
     ResponseParse,
-    /// The request has no reply for another reason, or its reply does not read.
+    /// The request got no reply for another reason, or its reply cannot be read.
     Response,
 }
 
-/// Why a stream was not made, as an error.
+/// The error of a stream creation.
 pub type CreateStreamError = Error<CreateStreamErrorKind>;
 
-/// Why a stream was not changed.
+/// Why a stream could not be updated.
 pub type UpdateStreamErrorKind = CreateStreamErrorKind;
 
-/// Why a stream was not changed, as an error.
+/// The error of a stream update.
 pub type UpdateStreamError = CreateStreamError;
 
 impl CreateStreamErrorKind {
-    /// The server's error, which `JetStream` holds. It stands here and not in the source; that of `NotFound` is the source.
+    /// Returns the server's error if the kind is `JetStream`. The kind holds it; the source does
+    /// not. The server's error for `NotFound` is in the source.
     pub fn api_error(&self) -> Option<&errors::Error>
         ensures { option_copied result ≡ create_held self.now }
     {
@@ -134,14 +136,14 @@ fn create_kind(kind: RequestErrorKind) -> CreateStreamErrorKind
     }
 }
 
-/// A failure as the error of a call that makes or changes a stream.
+/// Maps a failure to the error of a call that creates or updates a stream.
 pub(crate) fn create_failure(failure: Failure, source: Source) -> CreateStreamError
     ensures { result ≡ create_failure failure source }
 {
     Error::with_source(create_kind(failure.kind()), source)
 }
 
-/// What an error of the API means where a stream is made or changed.
+/// Maps an API error to the error of a call that creates or updates a stream.
 pub(crate) fn api_error(error: errors::Error) -> CreateStreamError
     ensures { result ≡ api_error error }
 {

@@ -1,4 +1,4 @@
-//! The call that finds the stream which stores a subject.
+//! The call that finds the stream that stores a subject.
 ghost use Rattle.std.specs.Prelude.{◌≡◌, Ok, IfOk};
 ghost use Rattle.js_json_members.specs.Rows.{text_of};
 ghost use Rattle.js_call_streams.specs.Find.{find_row, find_refusal, found, Finds, finding_request};
@@ -14,13 +14,13 @@ use js_json_members::ReadError;
 use js_json_streams::stream::{NamesRequest, Page};
 use std::alloc::Global;
 
-/// The row of `stream_by_subject`.
+/// How `stream_by_subject` checks its arguments and reads its answer.
 #[derive(Drop)]
 pub struct SearchingStream {
     subject: Text,
 }
 
-/// The state of `stream_by_subject`.
+/// The `stream_by_subject` call under way.
 pub type StreamBySubject = Call<SearchingStream>;
 
 // What a subject is refused with.
@@ -88,9 +88,10 @@ fn find_body(alloc: Global, subject: &str) -> Result<Bytes, OutOfMemory>
 
 /// Finds the name of the stream that stores a subject: the first item of the list of such streams.
 ///
-/// Fails with `OutOfMemory` if memory runs out; other errors come from the polls. `InvalidSubject` comes from the first, and
-/// nothing is sent. `NotFound` comes where no stream stores the subject. `Request` has as its source the server's error, or the
-/// text of the request's or the reply's.
+/// Fails with `OutOfMemory` if memory runs out; the polls return all other errors. The first poll
+/// fails with `InvalidSubject` if the subject is invalid, and nothing is sent. `NotFound` means
+/// that no stream stores the subject. The source of `Request` is the server's error, or the text of
+/// the request's or the reply's error.
 pub fn stream_by_subject(
     alloc: Global,
     scope: &ApiScope,

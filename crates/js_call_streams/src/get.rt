@@ -1,4 +1,4 @@
-//! The calls that get a stream.
+//! The calls that look up a stream.
 ghost use Rattle.std.specs.Prelude.{◌≡◌, IfOk};
 ghost use Rattle.js_call_streams.specs.GetAndDelete.{get_row, getting, got, GivesHandle, handle};
 
@@ -14,14 +14,14 @@ use js_json_members::ReadError;
 use js_json_streams::stream::Info;
 use std::alloc::Global;
 
-/// The row of `get_stream`.
+/// How `get_stream` checks its arguments and reads its answer.
 #[derive(Drop)]
 pub struct GettingStream {
     scope: ApiScope,
     name: Text,
 }
 
-/// The state of `get_stream`.
+/// The `get_stream` call under way.
 pub type GetStream = Call<GettingStream>;
 
 impl ApiCall for GettingStream {
@@ -75,11 +75,14 @@ fn getting_row(alloc: Global, scope: &ApiScope, name: &str) -> Result<GettingStr
     Ok(GettingStream { scope, name })
 }
 
-/// Gets a stream with what the server knows of it. The handle keeps the configuration as it was sent, every member of it.
+/// Looks up a stream, with what the server reports about it. The handle keeps the configuration
+/// exactly as the server sent it, with every member.
 ///
-/// Fails with `OutOfMemory` if memory runs out; other errors come from the polls. `EmptyName` and `InvalidStreamName` come from
-/// the first, and nothing is sent. `JetStream` holds the server's error. `Request` comes where the request has no reply or its
-/// reply does not read, and has that error's text as the source: so a timeout and an absent JetStream are told apart.
+/// Fails with `OutOfMemory` if memory runs out; the polls return all other errors. The first poll
+/// fails with `EmptyName` or `InvalidStreamName` if the name is invalid, and nothing is sent.
+/// `JetStream` holds the server's error. `Request` means that the request got no reply or its reply
+/// cannot be read. Its source is the text of that error, which tells a timeout from an absent
+/// JetStream.
 pub fn get_stream(alloc: Global, scope: &ApiScope, name: &str) -> Result<GetStream, OutOfMemory>
     ensures { IfOk result (λ call. call ≡ getting scope.now name.now) }
 {
@@ -99,10 +102,10 @@ fn bare_handle(alloc: Global, scope: &ApiScope, name: &str) -> Result<StreamHand
     })
 }
 
-/// Returns a handle of a stream of that name, without asking the server whether it is there.
+/// Returns a handle of the stream with that name, without asking the server whether it exists.
 ///
-/// Fails with `EmptyName` if the name is empty, with `InvalidStreamName` if it is another that no stream may have, and with
-/// `OutOfMemory` if memory runs out.
+/// Fails with `EmptyName` if the name is empty, with `InvalidStreamName` if it is not a valid
+/// stream name, and with `OutOfMemory` if memory runs out.
 pub fn get_stream_no_info(
     alloc: Global,
     scope: &ApiScope,

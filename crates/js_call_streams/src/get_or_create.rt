@@ -1,4 +1,4 @@
-//! The calls that get a stream, and make it where it is not there.
+//! The call that looks up a stream, and creates it if it does not exist.
 ghost use Rattle.std.specs.Prelude.{◌≡◌, IfOk};
 ghost use Rattle.js_call_streams.specs.Create.{find_row, finding, FindsOrCreates, OrCreates};
 
@@ -15,14 +15,14 @@ use js_json_members::ReadError;
 use js_json_streams::stream::{Config, Info};
 use std::alloc::Global;
 
-/// The row of the first call of `get_or_create_stream`.
+/// How the first call of `get_or_create_stream` checks its arguments and reads its answer.
 #[derive(Drop)]
 pub struct FindingStream {
     scope: ApiScope,
     name: Text,
 }
 
-/// The state of `get_or_create_stream`.
+/// The `get_or_create_stream` call under way.
 pub type GetOrCreateStream = Then<Call<FindingStream>, CreateStream, IfAbsent>;
 
 impl ApiCall for FindingStream {
@@ -123,11 +123,11 @@ fn find_or_create<C: Placing>(
     or_create(alloc, scope, first, config)
 }
 
-/// Gets a stream, and makes it as `create_stream` does where the server answers code 404, in the same poll. A stream that is there is
-/// given as it is, whatever the configuration says.
+/// Looks up a stream. If the server answers with code 404, creates it as `create_stream` does, in
+/// the same poll. An existing stream is returned as it is, whatever the configuration says.
 ///
-/// Fails with `OutOfMemory` if memory runs out; the errors of the name come from the first poll, and nothing is sent. The other
-/// errors are those of `create_stream`.
+/// Fails with `OutOfMemory` if memory runs out. If the name is invalid, the first poll returns the
+/// error, and nothing is sent. The other errors are those of `create_stream`.
 pub fn get_or_create_stream(
     alloc: Global,
     scope: &ApiScope,

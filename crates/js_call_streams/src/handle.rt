@@ -1,17 +1,19 @@
-//! A stream of the server.
+//! A stream on the server.
 use crate::kept::Kept;
 use js_base::Text;
 use js_call::ApiScope;
 
-/// A stream of the server: where its calls go, its name, and what is known of it.
+/// A stream on the server: where its calls go, its name, and what is known of it.
 #[derive(Debug, PartialEq, Eq, Drop)]
 pub struct StreamHandle<T> {
     /// The prefix and the timeout of its calls.
     pub scope: ApiScope,
     /// The stream's name.
     pub name: Text,
-    /// What the server knew of it when the handle was made, or `()` where it was not asked.
+    /// What the server reported about the stream when the handle was made, or `()` if it was not
+    /// asked.
     pub info: T,
-    /// The configuration as `get_stream` read it, which `update_stream_keeping` keeps. Handles of other calls have none.
+    /// The configuration as `get_stream` read it. `update_stream_keeping` uses it. Handles of other
+    /// calls have none.
     pub kept: Option<Kept>,
 }

@@ -15,7 +15,8 @@ use serde_json::Value;
 use std::alloc::Global;
 use std::marker::Model;
 
-/// The configuration of a stream as the server sent it, every member of it: also those that `Config` does not name.
+/// The configuration of a stream exactly as the server sent it, including the members that `Config`
+/// does not name.
 #[derive(Drop)]
 #[derive_where(Debug)]
 pub struct Kept {
@@ -39,7 +40,7 @@ impl Model for Kept {
 }
 
 impl Kept {
-    /// Its compact JSON.
+    /// Returns its compact JSON.
     pub fn as_str(&self) -> &str
         ensures { result.now ≡ self.now }
     {
@@ -93,10 +94,10 @@ impl Eq for Kept {
     ghost laws = { nat_list_eq_equiv };
 }
 
-/// What the server knows of a stream, and its configuration as it was sent.
+/// What the server reports about a stream, and the stream's configuration as it was sent.
 #[derive(Debug, PartialEq, Eq, Drop)]
 pub struct KeptInfo {
-    /// What the server knows of the stream.
+    /// What the server reports about the stream.
     pub info: Info,
     /// The configuration as it was sent.
     pub config: Kept,

@@ -1,9 +1,10 @@
-//! The calls of the API on streams: a stream is created, got, changed or deleted, and two calls first look whether it is there.
-//! Besides them stand the lists that come page by page (of streams' names, and of what the server knows of each stream), the search
-//! for the stream that stores a subject, and what an account uses and may use.
+//! The API calls on streams: they create, look up, update or delete a stream, and two of them first
+//! check whether it exists. The crate also lists the names of streams and what the server reports
+//! about each of them, page by page. It finds the stream that stores a subject, and asks what an
+//! account uses and may use.
 //!
-//! Each call is a row of js_call's table: it sends the requests of its row and nothing else. Where the server's pages are those of
-//! one list, the whole list is handed out.
+//! Each call sends the requests that its contract states and nothing else. If the server's pages
+//! belong to one list, you get the whole list.
 #![tactic(auto)]
 
 mod account;

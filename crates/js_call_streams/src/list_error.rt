@@ -1,4 +1,4 @@
-//! Why a list does not go on, and why no stream was found.
+//! Why a list does not continue, and why no stream was found.
 ghost use Rattle.std.specs.Prelude.{◌≡◌, Some};
 ghost use Rattle.js_call_streams.specs.Find.{find_text};
 
@@ -7,27 +7,28 @@ use js_call::{RequestError, RequestErrorKind};
 use js_codes::errors;
 use std::fmt;
 
-/// Why a page of a list was not got. The kind is always `Other`, and the source is the text of the request's or the reply's error, or
-/// the server's error.
+/// The error of a list page that could not be fetched. The kind is always `Other`. The source is
+/// the text of the request's or the reply's error, or the server's error.
 pub type StreamsError = RequestError;
 
-/// Why a page of a list was not got.
+/// Why a page of a list could not be fetched.
 pub type StreamsErrorKind = RequestErrorKind;
 
-/// Why no stream was found by a subject.
+/// Why no stream was found for a subject.
 #[derive(Debug, PartialEq, Eq, Drop)]
 pub enum GetStreamByNameErrorKind {
-    /// The request has no reply, the API answered an error, or the reply does not read: the source tells which.
+    /// The request got no reply, the API returned an error, or the reply cannot be read. The source
+    /// says which.
     Request,
     /// No stream stores the subject.
     NotFound,
-    /// The subject is none. Nothing was sent.
+    /// The subject is invalid. Nothing was sent.
     InvalidSubject,
-    /// Never given.
+    /// Never returned.
     JetStream(errors::Error),
 }
 
-/// Why no stream was found by a subject, as an error.
+/// The error of a search for a stream by subject.
 pub type GetStreamByNameError = Error<GetStreamByNameErrorKind>;
 
 impl fmt::Display for GetStreamByNameErrorKind {

@@ -1,4 +1,4 @@
-//! What is listed page by page.
+//! The items that the API lists page by page.
 ghost use Rattle.std.specs.Prelude.{◌≡◌, ℕ, string_bytes};
 ghost use Rattle.js_json_members.specs.Member.{GivesAs};
 ghost use Rattle.js_json_members.specs.Rows.{text_of};
@@ -10,16 +10,16 @@ use js_json_members::{Member, ReadError, ToValue};
 use js_json_streams::stream::{Info, ListRequest, NamesRequest};
 use std::alloc::Global;
 
-/// An item of a list of the API.
+/// An item of an API list.
 pub trait ListItem: Member {
     ghost list: { Lists };
 
-    /// The words of the request for a page.
+    /// Returns the words of the request for a page.
     fn words() -> &'static str
         ensures { result.now ≡ list.words };
 
-    /// The body of the request for the page that begins at an offset. Fails with `OutOfMemory` if memory runs out, and with nothing
-    /// else.
+    /// Returns the body of the request for the page that begins at `offset`. Fails only with
+    /// `OutOfMemory`.
     fn request_text(alloc: Global, offset: u64) -> Result<String, ReadError>
         ensures { GivesAs string_bytes result (text_of (list.request offset)) };
 
@@ -48,7 +48,7 @@ impl ListItem for Text {
     }
 }
 
-/// What the server knows of all streams.
+/// What the server reports about all streams.
 impl ListItem for Info {
     ghost list = { infos_list };
 

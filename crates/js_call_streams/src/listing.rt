@@ -1,4 +1,4 @@
-//! A list of the API, item by item.
+//! An API list, item by item.
 ghost use Rattle.std.specs.Prelude.{◌≡◌, ◌<◌, ◌^◌, ℕ, IfOk, OnErr, None};
 ghost use Rattle.js_link.specs.LinkView.{LinkView};
 ghost use Rattle.js_base.specs.Clock.{has_come};
@@ -17,20 +17,20 @@ use js_json_streams::stream::{Info, Page};
 use js_link::{Link, RequestId};
 use std::alloc::Global;
 
-/// A list of the API, which is asked for page by page. Each page is handed out from its end.
+/// An API list, fetched page by page. It returns each page from its end.
 #[derive(Drop)]
 #[must_use = "a list is asked for by its polls"]
 pub struct Listing<T> {
     scope: ApiScope,
     progress: Progress<T>,
-    /// The page that is asked for.
+    /// The request for the current page.
     page: Option<Call<AskingPage<T>>>,
 }
 
 /// The names of all streams.
 pub type StreamNames = Listing<Text>;
 
-/// What the server knows of all streams.
+/// What the server reports about all streams.
 pub type Streams = Listing<Info>;
 
 impl<T: ListItem> Listing<T> {
@@ -105,8 +105,9 @@ impl<T: ListItem> Listing<T> {
         }
     }
 
-    /// The number of the request whose answer it waits for: that of its page. None where it is to be polled at once: an item is left to
-    /// hand out, the last page has come, or its page was not asked for or has come.
+    /// Returns the number of the request for the current page, whose answer the list waits for.
+    /// None if you should poll the list at once: an item is left to return, the last page has come,
+    /// or the page was not requested yet or has come.
     pub fn request(&self) -> Option<RequestId>
         ensures { result ≡ request_of (list_waits_for T.reads self.now) }
     {
@@ -116,7 +117,8 @@ impl<T: ListItem> Listing<T> {
         }
     }
 
-    /// The moment from which on the time of its page's request is over. None where it waits without end, or is to be polled at once.
+    /// Returns the moment at which the timeout of the page's request expires. None if it waits
+    /// without end, or if you should poll the list at once.
     pub fn wakes_at(&self) -> Option<Moment>
         ensures { (now : ℕ) → now < 2 ^ 64 → has_come result now ≡ is_due (list_waits_for T.reads self.now) now }
     {
@@ -126,12 +128,14 @@ impl<T: ListItem> Listing<T> {
         }
     }
 
-    /// Hands out the next item.
+    /// Returns the next item.
     ///
-    /// A page that could not be got is an item with the error `Other`, whose source says why, and the next poll asks for the same page
-    /// again. `Pending` comes only where the page's request waits and is in time: the list may then be left alone until the answer to
-    /// its `request` has come, that request is gone, or its `wakes_at` has come; a poll before that changes nothing. `End` comes where a
-    /// page is empty, after which the next poll asks again, and after the last page for good.
+    /// If a page cannot be fetched, the item is the error `Other`, whose source says why. The next
+    /// poll asks for the same page again. `Pending` comes only while the page's request waits and
+    /// its timeout has not expired. You may then wait until the answer to its `request` has come,
+    /// that request is gone, or the moment `wakes_at` has come; polling earlier changes nothing.
+    /// `End` comes if a page is empty, and the next poll asks again. After the last page, `End` is
+    /// final.
     pub fn poll_next<L: Link>(
         &mut self,
         alloc: Global,
@@ -155,22 +159,23 @@ impl<T: ListItem> Listing<T> {
         self.turn(alloc, turn)
     }
 
-    /// The list of an honest server is handed out whole, each place of it once: a law, which takes no steps.
+    /// States that with an honest server you get the whole list, each place of it once. This is a
+    /// theorem; calling it does nothing.
     pub fn hands_out_whole()
         ensures { HandsOutWhole T.reads T.list }
     {}
 }
 
-/// Lists the names of all streams, page by page: nothing is sent before the first poll. Fails with `OutOfMemory` if memory runs
-/// out, and with nothing else.
+/// Lists the names of all streams, page by page. Nothing is sent before the first poll. Fails only
+/// with `OutOfMemory`.
 pub fn stream_names(alloc: Global, scope: &ApiScope) -> Result<StreamNames, OutOfMemory>
     ensures { IfOk result (λ list. list ≡ fresh scope.now) }
 {
     Listing::new(alloc, scope)
 }
 
-/// Lists what the server knows of all streams, page by page: nothing is sent before the first poll. Fails with `OutOfMemory` if
-/// memory runs out, and with nothing else.
+/// Lists what the server reports about all streams, page by page. Nothing is sent before the first
+/// poll. Fails only with `OutOfMemory`.
 pub fn streams(alloc: Global, scope: &ApiScope) -> Result<Streams, OutOfMemory>
     ensures { IfOk result (λ list. list ≡ fresh scope.now) }
 {

@@ -8,8 +8,8 @@ use js_base::OutOfMemory;
 use js_call::{ApiCall, ApiScope, Call};
 use std::alloc::Global;
 
-/// The call of that row of the table, on the words of a request and a name, with that body. It is generic over the row, so that it does
-/// not open it.
+/// Makes a call on the words of a request and a name, with this body. It is generic over the call's
+/// type, so that it does not open that type.
 pub(crate) fn call_on<M: ApiCall>(
     alloc: Global,
     scope: &ApiScope,

@@ -20,7 +20,7 @@ fn member_or<'a>(value: &'a Value, name: &str, nothing: &'a Value) -> &'a Value
     }
 }
 
-/// Whether two values in which no float stands have one compact text.
+/// Returns whether two values without floats have the same compact text.
 pub(crate) fn is_same(alloc: Global, before: &Value, after: &Value) -> Result<bool, AllocError>
     ensures { IfOk result (λ same. same ≡ is_same (view before.now) (view after.now)) }
 {
@@ -34,8 +34,9 @@ pub(crate) fn is_same(alloc: Global, before: &Value, after: &Value) -> Result<bo
     Ok(same)
 }
 
-/// What is written over a value. Where it is written as before, the value stays as it was kept; else an object's members go over
-/// those that were kept, and another value stands in its place.
+/// Returns `kept` with the changes from `before` to `after` written over it. If `before` and
+/// `after` have the same text, returns `kept` unchanged. Otherwise, writes an object's members over
+/// those of `kept`, and replaces any other value.
 #[cycle(over)]
 pub(crate) fn over(
     alloc: Global,

@@ -15,7 +15,7 @@ use js_json_streams::stream::Page;
 use std::alloc::Global;
 use std::marker::PhantomData;
 
-/// The row of the request for a page.
+/// How the request for a page reads its answer.
 #[derive(Drop)]
 pub struct AskingPage<T> {
     of: PhantomData<T>,
@@ -60,7 +60,7 @@ fn page_body<T: ListItem>(alloc: Global, offset: u64) -> Result<Bytes, OutOfMemo
     Ok(Bytes::from_string(text)?)
 }
 
-/// The request for the page that begins at an offset. Fails with `OutOfMemory` if memory runs out, and with nothing else.
+/// Makes the request for the page that begins at an offset. Fails only with `OutOfMemory`.
 pub(crate) fn page_call<T: ListItem>(
     alloc: Global,
     scope: &ApiScope,

@@ -1,4 +1,4 @@
-//! Where the streams are that a stream copies.
+//! Where the streams are that a stream mirrors or sources.
 ghost use Rattle.std.specs.Prelude.{◌≡◌, IfOk, Some, option_map, map, string_bytes};
 ghost use Rattle.std.specs.List.{list_any};
 ghost use Rattle.js_json_streams.specs.declared.stream.config.Config.{Config};
@@ -38,7 +38,7 @@ fn any_has_two_places(sources: &[Source]) -> bool
     sources.iter().any(|source| has_two_places(source))
 }
 
-/// Whether the mirror or one of the sources has both a domain and an external.
+/// Returns whether the mirror or one of the sources has both a domain and an external.
 pub(crate) fn two_places(config: &Config) -> bool
     ensures { result ≡ two_places_in config.now }
 {
@@ -51,7 +51,7 @@ fn domain_text(alloc: Global, domain: &str) -> Result<String, AllocError>
     format!(in alloc; "$JS.{domain}.API")
 }
 
-/// What the subjects of the API begin with in a domain. Fails with `OutOfMemory` if memory runs out, and with nothing else.
+/// Returns the prefix of the API's subjects in a domain. Fails only with `OutOfMemory`.
 pub fn domain_prefix(alloc: Global, domain: &str) -> Result<Text, OutOfMemory>
     ensures { IfOk result (λ prefix. prefix ≡ domain_prefix_in domain.now) }
 {
@@ -118,15 +118,17 @@ fn place_sources(
     }
 }
 
-/// A configuration that a call owns. The calls that make a stream are generic over it, so that none of them opens it where it is dropped.
+/// A configuration that a call owns. The calls that create a stream are generic over it, so that
+/// none of them opens it where it is dropped.
 pub(crate) trait Placing: Drop {
     ghost config: { Self → Config };
 
-    /// The configuration itself.
+    /// Returns the configuration.
     fn config(&self) -> &Config
         ensures { result.now ≡ config self.now };
 
-    /// Makes an external of each domain of a stream that is copied. After want of memory the configuration is to be given up.
+    /// Gives each mirror or source that has only a domain the domain's API as its external. Do not
+    /// use the configuration after `OutOfMemory`.
     fn place_all(&mut self, alloc: Global) -> Result<(), OutOfMemory>
         ensures { IfOk result (λ _. config self.new ≡ placed_in (config self.old)) };
 }

@@ -8,7 +8,7 @@ use js_base::Next;
 use js_json_streams::stream::Page;
 use std::alloc::Global;
 
-/// What was received and not handed out, and where the next page begins.
+/// The items that were received and not returned yet, and where the next page begins.
 #[derive(Drop)]
 pub struct Progress<T> {
     pub(crate) rest: Rest<T>,
@@ -18,7 +18,7 @@ pub struct Progress<T> {
 }
 
 impl<T> Progress<T> {
-    /// Before the first page.
+    /// The state before the first page.
     pub(crate) fn new(alloc: Global) -> Progress<T>
         ensures { result ≡ fresh_progress }
     {
@@ -31,7 +31,7 @@ impl<T> Progress<T> {
 }
 
 impl<T: Drop> Progress<T> {
-    /// A page has come.
+    /// Takes in a page that has come.
     pub(crate) fn load(&mut self, alloc: Global, page: Page<T>)
         ensures { self.new ≡ loaded page self.old }
     {
@@ -45,7 +45,7 @@ impl<T: Drop> Progress<T> {
         };
     }
 
-    /// Hands out the last item that is left.
+    /// Returns the last item that is left.
     pub(crate) fn hand_out(&mut self) -> Next<Result<T, StreamsError>>
         ensures { HandsOut result self.old self.new }
     {

@@ -1,11 +1,11 @@
-//! What the name of a stream is refused with.
+//! Checks of a stream's name.
 ghost use Rattle.std.specs.Prelude.{◌≡◌};
 ghost use Rattle.js_call_streams.specs.Refusal.{get_refusal, name_refusal, create_refusal};
 
 use crate::error::{CreateStreamErrorKind, GetStreamErrorKind};
 use js_codes::is_valid_name;
 
-/// What a name is refused with where a stream is got or deleted.
+/// Returns the error for an invalid name when a stream is looked up or deleted.
 pub(crate) fn get_refusal(name: &str) -> Option<GetStreamErrorKind>
     ensures { result ≡ get_refusal name.now }
 {
@@ -18,7 +18,7 @@ pub(crate) fn get_refusal(name: &str) -> Option<GetStreamErrorKind>
     }
 }
 
-/// What a name is refused with where a stream is made or changed.
+/// Returns the error for an invalid name when a stream is created or updated.
 pub(crate) fn name_refusal(name: &str) -> Option<CreateStreamErrorKind>
     ensures { result ≡ name_refusal name.now }
 {
@@ -31,7 +31,8 @@ pub(crate) fn name_refusal(name: &str) -> Option<CreateStreamErrorKind>
     }
 }
 
-/// What a stream is refused with before it is made: its name, and then a mirror or source that has both a domain and an external.
+/// Returns the error for invalid arguments when a stream is created: first its name, then a mirror
+/// or source that has both a domain and an external.
 pub(crate) fn create_refusal(name: &str, two_places: bool) -> Option<CreateStreamErrorKind>
     ensures { result ≡ create_refusal (name_refusal name.now) two_places }
 {

@@ -6,7 +6,7 @@ use js_base::Items;
 use std::alloc::Global;
 use std::marker::Model;
 
-/// What is left of a page, which contracts see as a list.
+/// What is left of a page. Contracts see it as a list.
 #[derive(Drop)]
 pub struct Rest<T> {
     items: Vec<T>,
@@ -21,7 +21,7 @@ impl<T> Model for Rest<T> {
 }
 
 impl<T> Rest<T> {
-    /// Nothing, which takes no memory.
+    /// An empty rest. Takes no memory.
     pub(crate) fn new(alloc: Global) -> Rest<T>
         ensures { result ≡ [] }
     {
@@ -30,7 +30,7 @@ impl<T> Rest<T> {
         }
     }
 
-    /// The items of a page, of which a server may leave out all.
+    /// The items of a page. A server may leave out the list.
     pub(crate) fn of_page(alloc: Global, streams: Option<Items<T>>) -> Rest<T>
         ensures { result ≡ items_of streams }
     {
@@ -42,7 +42,7 @@ impl<T> Rest<T> {
         }
     }
 
-    /// How many are left.
+    /// Returns how many items are left.
     pub(crate) fn len(&self) -> u64
         ensures { result ≡ length self.now }
     {
@@ -55,7 +55,7 @@ impl<T> Rest<T> {
         self.items.is_empty()
     }
 
-    /// Takes the last.
+    /// Takes the last item.
     pub(crate) fn pop(&mut self) -> Option<T>
         ensures { MatchOption result ((self.old ≡ []) × (self.new ≡ [])) (λ item. self.old ≡ self.new ++ item ∷ []) }
     {
@@ -63,7 +63,7 @@ impl<T> Rest<T> {
     }
 }
 
-/// The first item that a page hands out, which is its last.
+/// Returns the first item that a page gives, which is its last one.
 #[tactic(auto, using(crate::proofs::FirstItem::first_is_last))]
 pub(crate) fn first_of<T: Drop>(streams: Option<Items<T>>) -> Option<T>
     ensures { result ≡ first_given (items_of streams) }

@@ -1,4 +1,4 @@
-//! The call that changes a stream.
+//! The call that updates a stream.
 ghost use Rattle.std.specs.Prelude.{◌≡◌, IfOk};
 ghost use Rattle.js_call_streams.specs.Update.{updated as updated_in, update_row, Updates};
 
@@ -12,16 +12,16 @@ use js_json_members::ReadError;
 use js_json_streams::stream::{Config, Info};
 use std::alloc::Global;
 
-/// The row of `update_stream`.
+/// How `update_stream` checks its arguments and reads its answer.
 #[derive(Drop)]
 pub struct UpdatingStream {
     name: Text,
 }
 
-/// The state of `update_stream`.
+/// The `update_stream` call under way.
 pub type UpdateStream = Call<UpdatingStream>;
 
-/// What the server knows of the stream, or the API's error.
+/// Returns what the server reports about the stream, or the API's error.
 pub(crate) fn updated(reply: Response<Info>) -> Result<Info, CreateStreamError>
     ensures { result ≡ updated_in reply }
 {
@@ -60,18 +60,21 @@ impl ApiCall for UpdatingStream {
     }
 }
 
-/// Changes a stream to that configuration, and answers what the server then knows of it.
+/// Updates a stream to this configuration, and returns what the server then reports about it.
 ///
-/// The server takes the configuration as a whole. What `Config` does not name is reset to the server's default, also where it was
-/// read from the server before: `max_consumers`, `no_ack`, `duplicate_window`, `discard_new_per_subject`, `first_seq`, `sealed`,
-/// `subject_transform`, `consumer_limits`, `metadata` and whatever newer servers add, and `opt_start_time` and
-/// `subject_transforms` of a mirror or a source. `update_stream_keeping` keeps them. A change that the server does not allow, as of a
-/// mirror that had a start time, is refused by it.
+/// The server takes the configuration as a whole. It resets everything that `Config` does not name
+/// to its default, even if you read it from the server before: `max_consumers`, `no_ack`,
+/// `duplicate_window`, `discard_new_per_subject`, `first_seq`, `sealed`, `subject_transform`,
+/// `consumer_limits`, `metadata` and whatever newer servers add, and `opt_start_time` and
+/// `subject_transforms` of a mirror or a source. Use `update_stream_keeping` to keep them. The
+/// server rejects a change that it does not allow, for example to a mirror that had a start time.
 ///
-/// Fails with `OutOfMemory` if memory runs out; other errors come from the polls. `EmptyStreamName` and `InvalidStreamName` come
-/// from the first, and nothing is sent. `NotFound` comes where the server does not know the stream, and has its error as the
-/// source; another error of the server is `JetStream`. `TimedOut`, `JetStreamUnavailable`, `InvalidStreamName` (the whole subject
-/// is none) and `Response` (the link failed, or the reply does not read) have the request's or the reply's error as the source.
+/// Fails with `OutOfMemory` if memory runs out; the polls return all other errors. The first poll
+/// fails with `EmptyStreamName` or `InvalidStreamName` if the name is invalid, and nothing is sent.
+/// `NotFound` means that the server does not know the stream; its source is the server's error.
+/// `JetStream` holds any other error of the server. `TimedOut`, `JetStreamUnavailable`,
+/// `InvalidStreamName` (the full subject is invalid) and `Response` (the link failed, or the reply
+/// cannot be read) have the request's or the reply's error as the source.
 pub fn update_stream(
     alloc: Global,
     scope: &ApiScope,

@@ -1,4 +1,4 @@
-//! The call that changes a stream, and keeps what its configuration type does not name.
+//! The call that updates a stream and keeps what `Config` does not name.
 ghost use Rattle.std.specs.Prelude.{◌≡◌, false, IfOk};
 ghost use Rattle.serde_json.specs.View.{view};
 ghost use Rattle.serde_json.specs.Written.{has_float, compact_text};
@@ -140,15 +140,17 @@ fn update_call(
     Ok(Call::new(row, asked))
 }
 
-/// Changes a stream to that configuration, and keeps what the server had sent besides to the handle that `get_stream` gave.
+/// Updates a stream to this configuration, and keeps the other members that the server sent to the
+/// handle of `get_stream`.
 ///
-/// Written are the members of `Config` over those that were read, also inside a mirror, an external, a placement and a republish.
-/// A member that is no longer written is taken out, and what `Config` does not name goes back as it came. A list, as
-/// that of the sources, is written as a whole. Where nothing was changed, what was read goes back with each of its members and each of
-/// their values. A handle of another call has kept nothing, and this is then `update_stream`.
+/// The call writes the members of `Config` over those that were read, also inside a mirror, an
+/// external, a placement and a republish. It removes a member that is no longer written, and sends
+/// back unchanged what `Config` does not name. It writes a list, such as the sources, as a whole.
+/// If nothing changed, it sends back what was read, with every member and value. A handle of
+/// another call has kept nothing; this call is then `update_stream`.
 ///
-/// The scope is to be that of the handle: the stream of that name in another one gets what was read here. What was changed
-/// on the server since the handle was made is overwritten.
+/// Use the scope of the handle: in another scope, the stream of that name gets what was read here.
+/// The update overwrites what changed on the server since the handle was made.
 ///
 /// Fails with `OutOfMemory` if memory runs out; the polls return the errors of `update_stream`.
 #[tactic(auto, using(crate::proofs::KeptAsRead::unchanged_call))]

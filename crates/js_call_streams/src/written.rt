@@ -1,4 +1,4 @@
-//! What always has JSON: writing it fails for want of memory alone.
+//! Values that always have JSON: writing them fails only if memory runs out.
 ghost use Rattle.std.specs.Prelude.{◌≡◌, Ok, IfErr, IfOk};
 ghost use Rattle.js_json_members.specs.Rows.{text_of};
 ghost use Rattle.js_json_members.specs.declared.error.ReadError.TheVariants.{OutOfMemory as memory};
@@ -9,7 +9,7 @@ use js_base::OutOfMemory;
 use js_json_members::{ReadError, ToValue};
 use std::alloc::Global;
 
-/// What was written, or want of memory.
+/// Returns what was written. Fails only with `OutOfMemory`.
 pub(crate) fn written<T: Drop>(made: Result<T, ReadError>) -> Result<T, OutOfMemory>
     requires { IfErr made (λ e. e ≡ memory) }
     ensures { IfOk result (λ value. made ≡ Ok value) }
@@ -21,7 +21,7 @@ pub(crate) fn written<T: Drop>(made: Result<T, ReadError>) -> Result<T, OutOfMem
     }
 }
 
-/// The text of what has JSON, as a body.
+/// Returns the JSON text of a value as a body. The value must have JSON.
 pub(crate) fn body_of<T: ToValue>(alloc: Global, value: &T) -> Result<Bytes, OutOfMemory>
     requires { HasJson (T.written value.now) }
     ensures { IfOk result (λ body. text_of (T.written value.now) ≡ Ok body) }

@@ -29,10 +29,10 @@ pub(crate) struct Clock {
     pub(crate) wait: Nanos,
 }
 
-/// The ack of a message that was sent, which is awaited. It bears the message's permit, and belongs to the context that sent the
-/// message: no other can poll or detach it.
+/// The ack of a message that was sent, still awaited. It holds the message's permit and belongs to
+/// the context that sent the message: no other context can poll or detach it.
 ///
-/// It is spent: polled until it is ready, or given to `detach`.
+/// Poll it until it is ready, or call `detach`.
 #[must_use = "it bears a permit: poll it until it is ready, or detach it"]
 pub struct PublishAckFuture {
     pub(crate) request: RequestId,
@@ -41,11 +41,11 @@ pub struct PublishAckFuture {
     pub(crate) window: Snapshot<Window>,
     /// Its clock, from its first poll on.
     pub(crate) clock: Option<Clock>,
-    /// A reply that has come, and found no memory.
+    /// A reply that came while memory had run out.
     pub(crate) reply: Option<Message>,
 }
 
-/// What one poll answers.
+/// What one poll returns.
 type Polled = Turn<PublishAckFuture, Result<PublishAck, PublishError>>;
 
 fn read_ack(alloc: Global, payload: &[u8]) -> Result<Response<PublishAck>, ReadError>
@@ -94,15 +94,20 @@ fn ack_of(alloc: Global, message: &Message) -> Result<Result<PublishAck, Publish
 }
 
 impl PublishAckFuture {
-    /// Looks at the answer, and then at the clock. The clock begins at the first poll and runs for the caller's `timeout` of that
-    /// moment, in nanoseconds; what is set later changes it no more. The caller is the context that sent the message. Each answer
-    /// gives the permit back. After `Pending` it may be left alone while the link waits for the answer to its `request` and its
-    /// `wakes_at` has not come: a poll before that changes nothing.
+    /// Looks for the answer, then at the clock. The caller must pass the context that sent the
+    /// message. Once ready, whether with an ack or an error, the future has given its permit back.
     ///
-    /// `StreamNotFound` comes where the reply has status 503; `WrongLastMessageId` at error code 10070, `WrongLastSequence`
-    /// at 10071 and 10164; `Other` at another error code, or where the reply does not read; `BrokenPipe` where the replier is
-    /// gone; `TimedOut` where no answer had come and the clock is due. The source is the server's error, or why the reply does not
-    /// read. A reply that finds no memory is kept for the next poll.
+    /// The clock begins at the first poll and runs for the context's `timeout` at that moment, in
+    /// nanoseconds. Changing the timeout later does not affect it.
+    ///
+    /// After `Pending` you may wait while the link waits for the answer to `request` and `wakes_at`
+    /// has not come. Polling earlier changes nothing.
+    ///
+    /// Fails with `StreamNotFound` if the reply has status 503, `WrongLastMessageId` on error code
+    /// 10070, `WrongLastSequence` on 10071 and 10164, `Other` on another error code or if the reply
+    /// cannot be read, `BrokenPipe` if the replier is gone, and `TimedOut` if the clock is due
+    /// before an answer came. The source is the server's error, or why the reply cannot be read. If
+    /// memory runs out while reading a reply, the reply is kept for the next poll.
     pub fn poll<R: Wait, L: Link>(
         mut self,
         rt: &R,
@@ -132,8 +137,9 @@ impl PublishAckFuture {
         }
     }
 
-    /// From here on nobody awaits the ack: `reap` looks after it, and its clock begins anew at the first `reap` that looks at it. It
-    /// takes no memory. A reply that was kept is dropped: no second answer comes, so the first `reap` that looks at the ack settles it.
+    /// Stops awaiting the ack and leaves it to [`Context::reap`]. Its clock begins anew at the
+    /// first `reap` that looks at it. Detaching takes no memory. If a reply was kept, it is
+    /// dropped; since no second reply comes, the first `reap` that looks at the ack settles it.
     pub fn detach(self, context: &mut Context)
         requires { IsAwaitedBy self context.old }
         ensures awaited { context.new.awaited + 1 ≡ context.old.awaited }
@@ -162,8 +168,8 @@ impl PublishAckFuture {
         }
     }
 
-    /// The number of the request whose answer it waits for. None where it is to be polled at once: its clock has not begun, or a
-    /// reply was kept.
+    /// Returns the number of the request whose answer it waits for. Returns `None` if you should
+    /// poll at once, because its clock has not begun or it keeps a reply.
     pub fn request(&self) -> Option<RequestId>
         ensures { result ≡ request_of (ack_waits_for self.now) }
     {
@@ -173,8 +179,8 @@ impl PublishAckFuture {
         }
     }
 
-    /// The first moment at which it has something to do by itself: its clock is due. None where it is to be polled at once, or its
-    /// clock would end past `u64::MAX`.
+    /// Returns the moment at which its clock is due. Returns `None` if you should poll at once, or
+    /// if the clock would end past `u64::MAX`.
     pub fn wakes_at(&self) -> Option<Moment>
         ensures { (now : ℕ) → now < 2 ^ 64 → has_come result now ≡ is_due (ack_waits_for self.now) now }
     {

@@ -9,9 +9,9 @@ use std::{error, fmt};
 /// Why a context was not built.
 #[derive(Clone, Copy, Debug, PartialEq, Eq)]
 pub enum BuildError {
-    /// There would be no permit.
+    /// The context would have no permit.
     ZeroCapacity,
-    /// There would be more permits than `u32::MAX`.
+    /// The context would have more than `u32::MAX` permits.
     CapacityTooLarge,
     /// Memory ran out.
     OutOfMemory,

@@ -1,4 +1,4 @@
-//! How a context is built.
+//! Building a context.
 ghost use Rattle.std.specs.Prelude.{◌≡◌, ◌<◌, ◌^◌, IfOk, Some, codes};
 ghost use Rattle.js_call_streams.specs.Places.{domain_prefix as domain_prefix_in};
 ghost use Rattle.js_context.specs.Builder.{Builds, IsBuilder, capacity_of, refusal_of, scope_of, settings_of};
@@ -12,15 +12,17 @@ use js_call_streams::domain_prefix;
 use std::alloc::Global;
 use std::sync::Wait;
 
-/// Whether a builder may still be given its prefix: `Yes` or `No`.
+/// Says whether a builder's prefix can be set: `Yes` or `No`.
 pub trait ToAssign: Drop {}
 
-/// The prefix may be given: `new` answers such a builder, and so do `timeout`, `ack_timeout`, `max_ack_inflight`,
-/// `backpressure_on_inflight` and `concurrency_limit`, also after the prefix was given; a second one takes the place of the first.
+/// The prefix can be set. `new` returns such a builder. So do `timeout`, `ack_timeout`,
+/// `max_ack_inflight`, `backpressure_on_inflight` and `concurrency_limit`, even after the prefix
+/// was set; a second prefix replaces the first.
 #[derive(Clone, Copy, Debug, Default, PartialEq, Eq, Drop)]
 pub struct Yes;
 
-/// The prefix was given just now: `api_prefix` and `domain` answer such a builder, on which neither can be called.
+/// The prefix was just set. `api_prefix` and `domain` return such a builder; you can call neither
+/// on it.
 #[derive(Clone, Copy, Debug, Default, PartialEq, Eq, Drop)]
 pub struct No;
 
@@ -28,7 +30,7 @@ impl ToAssign for Yes {}
 
 impl ToAssign for No {}
 
-/// A context that is not built yet: its prefix, its timeouts, and how it publishes.
+/// Builds a [`Context`]: set its prefix, its timeouts and how it publishes, then call `build`.
 #[derive(Debug, Drop)]
 pub struct ContextBuilder<P> {
     pub(crate) scope: ApiScope,
@@ -38,8 +40,9 @@ pub struct ContextBuilder<P> {
 }
 
 impl ContextBuilder<Yes> {
-    /// The prefix `$JS.API`, no timeout, 5,000 permits, thirty seconds for a detached ack, a publish that waits for its permit, and
-    /// no limit to the acks that a `reap` looks at. The one refusal is want of memory.
+    /// Creates a builder with the defaults: the prefix `$JS.API`, no timeout, 5,000 permits, thirty
+    /// seconds for a detached ack, publishes that wait for a permit, and no limit to the acks that
+    /// a `reap` looks at. Fails only with `OutOfMemory`.
     pub fn new(alloc: Global) -> Result<ContextBuilder<Yes>, OutOfMemory>
         ensures { IfOk result (λ builder. IsBuilder builder (usual_scope (codes "$JS.API")) 5_000 usual_settings) }
     {
@@ -58,7 +61,8 @@ impl ContextBuilder<Yes> {
         })
     }
 
-    /// What the subjects of the API begin with, before a dot. The one refusal, which gives the builder up, is want of memory.
+    /// Sets what the subjects of the API begin with, before a dot. Fails only with `OutOfMemory`;
+    /// the builder is then lost.
     pub fn api_prefix(self, alloc: Global, prefix: &str) -> Result<ContextBuilder<No>, OutOfMemory>
         ensures { IfOk result (λ builder. IsBuilder builder (record (scope_of self) { prefix = prefix.now }) (capacity_of self) (settings_of self)) }
     {
@@ -66,7 +70,7 @@ impl ContextBuilder<Yes> {
         Ok(self.with_prefix(prefix))
     }
 
-    /// The prefix of a domain, `$JS.{domain}.API`. The refusal is that of `api_prefix`.
+    /// Sets the prefix of a domain, `$JS.{domain}.API`. Fails as `api_prefix` does.
     pub fn domain(self, alloc: Global, domain: &str) -> Result<ContextBuilder<No>, OutOfMemory>
         ensures { IfOk result (λ builder. IsBuilder builder (record (scope_of self) { prefix = domain_prefix_in domain.now }) (capacity_of self) (settings_of self)) }
     {
@@ -102,8 +106,8 @@ fn to_build(scope: ApiScope, capacity: u64, settings: Settings) -> ContextBuilde
 }
 
 impl<P: ToAssign> ContextBuilder<P> {
-    /// How long an answer is waited for, in nanoseconds. Where none is set, that is left to the connection, and an ack is awaited
-    /// for five seconds.
+    /// Sets how long to wait for an answer, in nanoseconds. If you set none, the connection
+    /// decides, and an ack is awaited for five seconds.
     pub fn timeout(self, timeout: Nanos) -> ContextBuilder<Yes>
         ensures { IsBuilder result (record (scope_of self) { timeout = Some timeout }) (capacity_of self) (settings_of self) }
     {
@@ -114,7 +118,8 @@ impl<P: ToAssign> ContextBuilder<P> {
         to_build(scope, self.capacity, self.settings)
     }
 
-    /// How long a detached ack keeps its permit without an answer, in nanoseconds, from the first `reap` on that looks at it.
+    /// Sets how long a detached ack keeps its permit without an answer, in nanoseconds, counted
+    /// from the first `reap` that looks at it.
     pub fn ack_timeout(self, timeout: Nanos) -> ContextBuilder<Yes>
         ensures { IsBuilder result (scope_of self) (capacity_of self) (record (settings_of self) { ack_timeout = timeout }) }
     {
@@ -125,14 +130,15 @@ impl<P: ToAssign> ContextBuilder<P> {
         to_build(self.scope, self.capacity, settings)
     }
 
-    /// How many permits there are: messages that were sent and whose acks have not come, 1 to `u32::MAX`.
+    /// Sets the number of permits, 1 to `u32::MAX`: how many messages may be sent without their ack
+    /// having come.
     pub fn max_ack_inflight(self, capacity: u64) -> ContextBuilder<Yes>
         ensures { IsBuilder result (scope_of self) capacity (settings_of self) }
     {
         to_build(self.scope, capacity, self.settings)
     }
 
-    /// Whether a publish waits where no permit is free. Where it does not, it is refused.
+    /// Sets whether a publish waits if no permit is free. If not, it fails with `MaxAckPending`.
     pub fn backpressure_on_inflight(self, enabled: bool) -> ContextBuilder<Yes>
         ensures { IsBuilder result (scope_of self) (capacity_of self) (record (settings_of self) { backpressure = enabled }) }
     {
@@ -143,7 +149,7 @@ impl<P: ToAssign> ContextBuilder<P> {
         to_build(self.scope, self.capacity, settings)
     }
 
-    /// How many detached acks a `reap` looks at. None and 0 set no limit.
+    /// Sets how many detached acks a `reap` looks at. `None` and 0 set no limit.
     pub fn concurrency_limit(self, limit: Option<u64>) -> ContextBuilder<Yes>
         ensures { IsBuilder result (scope_of self) (capacity_of self) (record (settings_of self) { concurrency_limit = limit }) }
     {
@@ -154,8 +160,9 @@ impl<P: ToAssign> ContextBuilder<P> {
         to_build(self.scope, self.capacity, settings)
     }
 
-    /// The context, with a window of its own. `ZeroCapacity` comes where there would be no permit, then `CapacityTooLarge` where there
-    /// would be more than `u32::MAX`, and `OutOfMemory` where memory runs out.
+    /// Builds the context, with a window of its own. Fails with `ZeroCapacity` if it would have no
+    /// permit, with `CapacityTooLarge` if it would have more than `u32::MAX`, and with
+    /// `OutOfMemory` if memory runs out.
     pub fn build<R: Wait>(self, rt: &R, alloc: Global) -> Result<Context, BuildError>
         ensures { Builds (refusal_of (capacity_of self)) result (scope_of self) (capacity_of self) (settings_of self) }
     {
@@ -168,7 +175,7 @@ impl<P: ToAssign> ContextBuilder<P> {
         }
     }
 
-    /// The context of 1 to `u32::MAX` permits. The one refusal is want of memory.
+    /// Builds the context with 1 to `u32::MAX` permits. Fails only with `OutOfMemory`.
     pub(crate) fn open<R: Wait>(self, rt: &R, alloc: Global) -> Result<Context, OutOfMemory>
         requires least { 0 < capacity_of self }
         requires most { capacity_of self < 2 ^ 32 }

@@ -1,7 +1,7 @@
 //! The calls on consumers that a context makes.
 //!
-//! Each hands out a state, and refuses for want of memory alone. What its arguments are refused with comes from the state's first poll,
-//! before anything is sent, and the other errors from later polls.
+//! Each returns a state, and fails itself only with `OutOfMemory`. The state's first poll rejects
+//! invalid arguments before anything is sent; the other errors come from later polls.
 ghost use Rattle.std.specs.Prelude.{◌≡◌, IfOk};
 ghost use Rattle.js_call_consumers.specs.Create.{Makes, request_of};
 ghost use Rattle.js_call_consumers.specs.Delete.{deleting};
@@ -20,12 +20,15 @@ use js_json::consumer::FromConsumer;
 use std::alloc::Global;
 
 impl Context {
-    /// Makes a consumer on a stream. Where one of that name is there, the server changes it to that configuration as far as it can be
-    /// changed, and else answers an error. A configuration with an instant outside the years 0 to 9999 has no text: that is `Request`,
-    /// and nothing is sent.
+    /// Creates a consumer on a stream. If one of this name exists, the server changes it to this
+    /// configuration as far as it can be changed, and otherwise returns an error. A configuration
+    /// with an instant outside the years 0 to 9999 cannot be written: the call fails with
+    /// `Request`, and nothing is sent.
     ///
-    /// `JetStream` holds the server's error, `Other` comes where the consumer that was made is of another kind, `TimedOut` where the timeout is due, and
-    /// `Request` where the request has no reply for another reason or its reply does not read.
+    /// The polls fail with `JetStream` if the server returned an error, which it holds, with
+    /// `Other` if the created consumer is of another kind, with `TimedOut` if the timeout is due,
+    /// and with `Request` if the request has no reply for another reason or its reply cannot be
+    /// read.
     pub fn create_consumer_on_stream<C: FromConsumer>(
         &self,
         alloc: Global,
@@ -37,8 +40,8 @@ impl Context {
         create_consumer_on_stream(alloc, self.scope(), config, stream)
     }
 
-    /// Makes a consumer on a stream, and is refused with `AlreadyExists` where one of that name with another configuration is there.
-    /// The errors are else those of `create_consumer_on_stream`.
+    /// Creates a consumer on a stream. Fails with `AlreadyExists` if one of this name with a
+    /// different configuration exists. The other errors are those of `create_consumer_on_stream`.
     pub fn create_consumer_strict_on_stream<C: FromConsumer>(
         &self,
         alloc: Global,
@@ -50,8 +53,8 @@ impl Context {
         create_consumer_strict_on_stream(alloc, self.scope(), config, stream)
     }
 
-    /// Changes the consumer of that name that is on the stream, and is refused with `DoesNotExist` where none is. The errors are
-    /// else those of `create_consumer_on_stream`.
+    /// Changes the consumer of this name on the stream. Fails with `DoesNotExist` if the stream has
+    /// none. The other errors are those of `create_consumer_on_stream`.
     pub fn update_consumer_on_stream<C: FromConsumer>(
         &self,
         alloc: Global,
@@ -63,9 +66,13 @@ impl Context {
         update_consumer_on_stream(alloc, self.scope(), config, stream)
     }
 
-    /// Gets a consumer of a stream, as the type of its configuration. `InvalidName` comes from the first poll where one of the names is none that a
-    /// consumer, or a stream, may have, and `InvalidConsumerType` where the consumer is of another kind. `JetStream` holds the server's error, `TimedOut` comes where the
-    /// timeout is due, and `Request` where the request has no reply for another reason or its reply does not read.
+    /// Gets a consumer of a stream as the type of its configuration.
+    ///
+    /// The first poll fails with `InvalidName` if the consumer's or the stream's name is invalid.
+    /// Later polls fail with `InvalidConsumerType` if the consumer is of another kind, with
+    /// `JetStream` if the server returned an error, which it holds, with `TimedOut` if the timeout
+    /// is due, and with `Request` if the request has no reply for another reason or its reply
+    /// cannot be read.
     pub fn get_consumer_from_stream<T: FromConsumer>(
         &self,
         alloc: Global,
@@ -77,8 +84,9 @@ impl Context {
         get_consumer_from_stream(alloc, self.scope(), consumer, stream)
     }
 
-    /// Deletes a consumer of a stream. `InvalidName` comes from the first poll where the consumer's name is none that one may have, and `Other` where the
-    /// stream's is. `JetStream`, `TimedOut` and `Request` come as of `get_consumer_from_stream`.
+    /// Deletes a consumer of a stream. The first poll fails with `InvalidName` if the consumer's
+    /// name is invalid, and with `Other` if the stream's is. `JetStream`, `TimedOut` and `Request`
+    /// come as in `get_consumer_from_stream`.
     pub fn delete_consumer_from_stream(
         &self,
         alloc: Global,

@@ -1,4 +1,4 @@
-//! A client's end of JetStream: where its requests go, its pass to the window of its permits, and the acks that nobody awaits.
+//! A context: where its requests go, its share of the permit window, and its detached acks.
 ghost use Rattle.std.specs.Prelude.{◌≡◌, ◌+◌, ◌<◌, ◌≤◌, ◌^◌, ℕ, OnErr, IfOk, List, Some, IsSome, ◌↔◌, codes, length, take, drop, [], ◌∷◌, ◌++◌};
 ghost use Rattle.std.specs.Arc.{arc_value};
 ghost use Rattle.js_window.specs.Caller.{Makes, held};
@@ -27,11 +27,12 @@ use std::thread::yield_now;
 /// How a context publishes.
 #[derive(Clone, Copy, Debug)]
 pub(crate) struct Settings {
-    /// How long a detached ack keeps its permit without an answer, from the first `reap` on that looks at it.
+    /// How long a detached ack keeps its permit without an answer, in nanoseconds, counted from the
+    /// first `reap` that looks at it.
     pub(crate) ack_timeout: Nanos,
-    /// Whether a publish waits where no permit is free. Where it does not, it is refused.
+    /// Whether a publish waits if no permit is free. If not, it fails.
     pub(crate) backpressure: bool,
-    /// How many detached acks a `reap` looks at. None and 0 set no limit.
+    /// How many detached acks a `reap` looks at. `None` and 0 set no limit.
     pub(crate) concurrency_limit: Option<u64>,
 }
 
@@ -46,11 +47,12 @@ pub(crate) struct Detached {
     pub(crate) since: Option<Moment>,
 }
 
-/// A client's end of JetStream: where its requests go, how long they are waited for, and a window of permits, under which it
-/// publishes and which other contexts may share in any thread.
+/// The client side of JetStream: it makes requests, and publishes under a window of permits that
+/// other contexts in any thread may share.
 ///
-/// Each permit that it took is borne by an ack that is awaited, stands in the list of its detached acks, or was given back. Where it
-/// is dropped, the permits of its detached acks are never free again, and the acks that are awaited can't be polled or detached any more.
+/// Each permit that it took is held by an awaited ack, is in the list of its detached acks, or was
+/// given back. If you drop the context, the permits of its detached acks are never free again, and
+/// you can no longer poll or detach its awaited acks.
 #[derive(Drop)]
 pub struct Context {
     scope: ApiScope,
@@ -95,14 +97,16 @@ fn shared_window<R: Wait>(
 }
 
 impl Context {
-    /// A context with the prefix `$JS.API`, and all else as `ContextBuilder::new` says. The one refusal is want of memory.
+    /// Creates a context with the prefix `$JS.API` and the defaults of [`ContextBuilder::new`].
+    /// Fails only with `OutOfMemory`.
     pub fn new<R: Wait>(rt: &R, alloc: Global) -> Result<Context, OutOfMemory>
         ensures { IfOk result (λ context. IsUsual (codes "$JS.API") context) }
     {
         ContextBuilder::new(alloc)?.open(rt, alloc)
     }
 
-    /// A context of a domain: its prefix is `$JS.{domain}.API`, and all else as of `new`. The one refusal is want of memory.
+    /// Creates a context for a domain: its prefix is `$JS.{domain}.API`, all else is as in `new`.
+    /// Fails only with `OutOfMemory`.
     pub fn with_domain<R: Wait>(rt: &R, alloc: Global, domain: &str) -> Result<Context, OutOfMemory>
         ensures { IfOk result (λ context. IsUsual (domain_prefix domain.now) context) }
     {
@@ -111,7 +115,7 @@ impl Context {
             .open(rt, alloc)
     }
 
-    /// A context with that prefix, and all else as of `new`. The one refusal is want of memory.
+    /// Creates a context with this prefix; all else is as in `new`. Fails only with `OutOfMemory`.
     pub fn with_prefix<R: Wait>(rt: &R, alloc: Global, prefix: &str) -> Result<Context, OutOfMemory>
         ensures { IfOk result (λ context. IsUsual prefix.now context) }
     {
@@ -120,7 +124,8 @@ impl Context {
             .open(rt, alloc)
     }
 
-    /// A context with a window of 1 to `u32::MAX` permits, all free. The one refusal is want of memory.
+    /// Creates a context with a window of 1 to `u32::MAX` permits, all free. Fails only with
+    /// `OutOfMemory`.
     pub(crate) fn open<R: Wait>(
         rt: &R,
         alloc: Global,
@@ -148,8 +153,8 @@ impl Context {
         }
     }
 
-    /// Another context with the same scope and settings, over the same permits. It has no ack of its own. The one refusal is want
-    /// of memory.
+    /// Creates another context with the same scope and settings that shares the same permits. It
+    /// starts without acks of its own. Fails only with `OutOfMemory`.
     pub fn split<R: Wait>(&mut self, rt: &R, alloc: Global) -> Result<Context, OutOfMemory>
         ensures same { self.new ≡ self.old }
         ensures other { IfOk result (λ context. SplitsOff self.old context) }
@@ -167,22 +172,24 @@ impl Context {
         })
     }
 
-    /// Where its requests go, and how long they are waited for.
+    /// Returns where its requests go, and how long to wait for their answers.
     pub fn scope(&self) -> &ApiScope
         ensures { result.now ≡ self.now.scope }
     {
         &self.scope
     }
 
-    /// Sets how long an answer is waited for, in nanoseconds: that of a request that is made from here on, and an ack that is first
-    /// polled from here on. An ack that was polled keeps the wait of its first poll.
+    /// Sets how long to wait for an answer, in nanoseconds. It applies to requests made from now
+    /// on, and to acks first polled from now on. An ack that was polled before keeps the wait of
+    /// its first poll.
     pub fn set_timeout(&mut self, timeout: Nanos)
         ensures { self.new ≡ record self.old { scope = record self.old.scope { timeout = Some timeout } } }
     {
         self.scope.timeout = Some(timeout);
     }
 
-    /// How long an ack is awaited from its first poll on, in nanoseconds: the timeout that was set, and else five seconds.
+    /// Returns how long an ack is awaited from its first poll, in nanoseconds: the timeout if one
+    /// was set, otherwise five seconds.
     pub fn timeout(&self) -> Nanos
         ensures { result ≡ timeout_of self.now.scope.timeout }
     {
@@ -198,7 +205,8 @@ impl Context {
         self.settings
     }
 
-    /// How many acks are awaited: the permits that the pass holds, less the detached acks.
+    /// Returns how many acks are awaited: the permits that this context holds, minus its detached
+    /// acks.
     pub fn awaited(&self) -> u64
         ensures awaited { result ≡ self.now.awaited }
         ensures held { result + length self.now.detached ≡ held self.now.pass }
@@ -206,15 +214,16 @@ impl Context {
         self.awaited as u64
     }
 
-    /// How many acks are detached.
+    /// Returns how many acks are detached.
     pub fn detached_len(&self) -> usize
         ensures { result ≡ length self.now.detached }
     {
         self.detached.len()
     }
 
-    /// The first moment at which a `reap` that looks at all detached acks ends one by its clock. None where no clock of one has begun: it
-    /// begins at the first `reap` that looks at the ack.
+    /// Returns the first moment at which a `reap` that looks at all detached acks ends one by its
+    /// clock. Returns `None` if no clock has begun, or if each would end past `u64::MAX`. The clock
+    /// of an ack begins at the first `reap` that looks at it.
     pub fn wakes_at(&self) -> Option<Moment>
         ensures { (now : ℕ) → now < 2 ^ 64 → has_come result now ≡ is_one_due self.now.settings.ack_timeout now self.now.detached }
     {
@@ -225,7 +234,8 @@ impl Context {
         first
     }
 
-    /// Whether no permit of the window is out, those of other callers among them.
+    /// Returns whether all permits of the window are free, including those that other contexts
+    /// took.
     pub fn acks_settled<R: Wait>(&mut self, rt: &R) -> bool
         ensures call { Makes (AllFree result) self.old.pass self.new.pass }
         ensures same { self.new ≡ record self.old { pass = self.new.pass } }
@@ -233,7 +243,8 @@ impl Context {
         self.window.all_free(rt, &mut self.pass)
     }
 
-    /// Waits until no permit of the window is out. This caller has no ack, so that it waits for others alone.
+    /// Blocks until all permits of the window are free. The caller must have no awaited and no
+    /// detached ack, so it waits only for others.
     pub fn wait_for_acks<R: Wait>(&mut self, rt: &R)
         requires awaited { self.old.awaited ≡ 0 }
         requires detached { length self.old.detached ≡ 0 }
@@ -249,7 +260,8 @@ impl Context {
         unreachable!()
     }
 
-    /// Takes a permit for an ack that will be awaited, once there is room to detach it. None where no permit is free.
+    /// Takes a permit for an ack that will be awaited, after making room to detach it. Returns
+    /// `None` if no permit is free.
     pub(crate) fn take<R: Wait>(&mut self, rt: &R) -> Result<Option<Permit>, OutOfMemory>
         ensures err { OnErr result (self.new ≡ self.old) }
         ensures ok { IfOk result (λ taken. Takes taken self.old self.new) }
@@ -283,7 +295,7 @@ impl Context {
         self.awaited -= 1;
     }
 
-    /// From here on nobody awaits that ack.
+    /// Moves an awaited ack to the detached acks.
     pub(crate) fn detach(&mut self, ack: Detached)
         requires window { ack.window.value ≡ self.old.pass.window }
         requires permit { ack.permit ≡ self.old.pass.number }
@@ -295,7 +307,8 @@ impl Context {
         self.detached.push_back_reserved(ack);
     }
 
-    /// The request of the first detached ack, with its clock, which begins now where it has not begun.
+    /// Returns the request of the first detached ack with its clock. The clock begins now if it has
+    /// not begun.
     pub(crate) fn first_detached(&self, now: Moment) -> Option<OpenRequest>
         ensures some { IsSome result ↔ (0 < length self.now.detached) }
         ensures first { (ack : Detached) (after : List Detached) → self.now.detached ≡ ack ∷ after → result ≡ Some (clocked_ack ack now self.now.settings.ack_timeout) }
@@ -330,7 +343,8 @@ impl Context {
         }
     }
 
-    /// What becomes of the first detached ack, whose clock began then: it is settled, or goes behind the others.
+    /// Removes the first detached ack if it is settled, or else moves it behind the others with its
+    /// clock's start.
     pub(crate) fn settle_or_keep<R: Wait>(&mut self, rt: &R, settled: bool, since: Moment)
         requires { 0 < length self.old.detached }
         ensures gives { GivesIf settled self.old.pass self.new.pass }
@@ -343,7 +357,7 @@ impl Context {
         }
     }
 
-    /// So many detached acks go behind the others, in their order.
+    /// Moves this many of the first detached acks behind the others, in their order.
     pub(crate) fn turn_detached(&mut self, count: usize)
         requires { count ≤ length self.old.detached }
         ensures { self.new ≡ record self.old { detached = drop count self.old.detached ++ take count self.old.detached } }

@@ -1,12 +1,15 @@
-//! A client's end of JetStream: where its requests go, how long they are waited for, and all calls that are made by it.
+//! The client side of JetStream: a [`Context`] holds where requests go and how long to wait for
+//! answers, and makes all calls.
 //!
-//! A [`Context`] is made by [`Context::new`], or by a [`ContextBuilder`]. A call of it hands out a state, which is polled with a
-//! link and a moment until it is ready.
+//! Create a context with [`Context::new`] or a [`ContextBuilder`]. Each call returns a state; poll
+//! it with a link and the current moment until it is ready.
 //!
-//! It publishes under a window of permits, which the contexts share that [`Context::split`] gives. A message takes a permit when it
-//! is sent ([`Sending`]), and its ack gives it back. Each permit that a context took is held by a [`PublishAckFuture`], stands in
-//! the list of its detached acks, for which there is always room, or was given back: this is the context's invariant, and each poll
-//! says what it does to the permits.
+//! A context publishes under a window of permits. [`Context::split`] returns another context that
+//! shares the window. A message takes a permit when it is sent ([`Sending`]), and its ack gives the
+//! permit back. Each permit that a context took is held by a [`PublishAckFuture`], is in the list
+//! of its detached acks, or was given back: this is the context's invariant. Detaching an ack needs
+//! no memory, because the list keeps a place for it. The contract of each poll says what the poll
+//! does to the permits.
 #![tactic(auto)]
 
 mod account;

@@ -1,4 +1,4 @@
-//! The lists of streams that a context makes.
+//! The calls of a context that list streams.
 ghost use Rattle.std.specs.Prelude.{◌≡◌, IfOk};
 ghost use Rattle.js_call_streams.specs.Find.{Finds};
 ghost use Rattle.js_call_streams.specs.Listing.{fresh};
@@ -11,9 +11,13 @@ use js_call_streams::{
 use std::alloc::Global;
 
 impl Context {
-    /// Finds the name of the stream that stores a subject: the first item of the list of such streams. The one refusal here is want
-    /// of memory; others come from the polls: `InvalidSubject` from the first, and nothing is sent, `NotFound` where no stream stores the subject, and
-    /// `Request` where the request has no reply, the server answered an error, or the reply does not read.
+    /// Finds the name of the stream that stores a subject: the first in the server's list of such
+    /// streams.
+    ///
+    /// Fails here only with `OutOfMemory`. The first poll fails with `InvalidSubject` if the
+    /// subject is invalid, before anything is sent. Later polls fail with `NotFound` if no stream
+    /// stores the subject, and with `Request` if the request has no reply, the server returned an
+    /// error, or the reply cannot be read.
     pub fn stream_by_subject(
         &self,
         alloc: Global,
@@ -24,14 +28,16 @@ impl Context {
         stream_by_subject(alloc, self.scope(), subject)
     }
 
-    /// Lists the names of all streams. The one refusal here is want of memory; a page that could not be got is an item with the error `Other`.
+    /// Lists the names of all streams. Fails here only with `OutOfMemory`. A page that could not be
+    /// fetched is an item with the error `Other`.
     pub fn stream_names(&self, alloc: Global) -> Result<StreamNames, OutOfMemory>
         ensures { IfOk result (λ list. list ≡ fresh self.now.scope) }
     {
         stream_names(alloc, self.scope())
     }
 
-    /// Lists what the server knows of all streams. The refusals are those of `stream_names`.
+    /// Lists all streams with what the server knows of each. The errors are those of
+    /// `stream_names`.
     pub fn streams(&self, alloc: Global) -> Result<Streams, OutOfMemory>
         ensures { IfOk result (λ list. list ≡ fresh self.now.scope) }
     {

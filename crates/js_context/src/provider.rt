@@ -1,4 +1,4 @@
-//! What a context offers to code that takes any context.
+//! The traits of a context, for code that accepts any context.
 ghost use Rattle.std.specs.Prelude.{◌≡◌, IfOk, Ok, ℕ};
 ghost use Rattle.js_call.specs.Scope.{raw_asking};
 ghost use Rattle.js_call.specs.SendRequest.{SendsRequest};
@@ -14,13 +14,13 @@ use js_link::Link;
 use js_message::OutboundMessage;
 use std::alloc::Global;
 
-/// What makes requests whose answers are messages.
+/// Makes requests whose answers are messages.
 pub trait Requester {
-    /// Where its requests go, and how long they are waited for.
+    /// Where its requests go, and how long to wait for their answers.
     ghost asks_by: { Self → ApiScope };
 
-    /// A request on that subject, which stands for itself, without a prefix. The one refusal here is want of memory; the errors of a request come from
-    /// its polls.
+    /// Makes a request on exactly this subject, without a prefix. Fails here only with
+    /// `OutOfMemory`; the errors of the request come from its polls.
     fn raw_request(
         &self,
         alloc: Global,
@@ -30,14 +30,16 @@ pub trait Requester {
         ensures { IfOk result (λ call. call ≡ raw_asking (asks_by self.now) subject.now request) };
 }
 
-/// What sends requests whose answers it does not wait for.
+/// Sends requests without waiting for their answers.
 pub trait RequestSender {
     /// Where its requests go.
     ghost sends_by: { Self → ApiScope };
 
-    /// Publishes the request under the prefix. Its answer goes to the request's inbox, or else to a fresh subject of the link.
+    /// Publishes the request under the prefix. The answer goes to the request's inbox if it has
+    /// one, otherwise to a fresh subject of the link.
     ///
-    /// `LinkFailed` comes only where the link failed in this call, and `OutOfMemory` where memory ran out; nothing was sent then.
+    /// Fails with `LinkFailed` only if the link failed in this call, and with `OutOfMemory` if
+    /// memory ran out. Nothing was sent then.
     fn send_request<L: Link>(
         &self,
         alloc: Global,
@@ -48,31 +50,32 @@ pub trait RequestSender {
         ensures { SendsRequest result (sends_by self.now) subject.now request (L.view link.old) (L.view link.new) };
 }
 
-/// What publishes messages.
+/// Publishes messages.
 pub trait Publisher {
-    /// A message that is to be sent under a permit, which sends nothing itself. It takes no memory, and its `Result` is that of the
-    /// other calls which publish.
+    /// Returns the message as a [`Sending`], which sends it under a permit when polled. It sends
+    /// nothing itself, takes no memory and never fails; it returns a `Result` only to match the
+    /// other calls that publish.
     fn publish_message(&mut self, message: OutboundMessage) -> Result<Sending, OutOfMemory>
         ensures message { result ≡ Ok (sending message) }
         ensures same { self.new ≡ self.old };
 }
 
-/// What has a scope.
+/// Gives access to its scope.
 pub trait ClientProvider {
-    /// Where its requests go, and how long they are waited for, in contracts.
+    /// Where its requests go, and how long to wait for their answers, in contracts.
     ghost has_scope: { Self → ApiScope };
 
-    /// Where its requests go, and how long they are waited for.
+    /// Where its requests go, and how long to wait for their answers.
     fn client(&self) -> &ApiScope
         ensures { result.now ≡ has_scope self.now };
 }
 
-/// What waits for answers.
+/// Says how long it waits for answers.
 pub trait TimeoutProvider {
     /// How long it waits.
     ghost waits: { Self → ℕ };
 
-    /// How long an answer is waited for, in nanoseconds.
+    /// Returns how long to wait for an answer, in nanoseconds.
     fn timeout(&self) -> Nanos
         ensures { result ≡ waits self.now };
 }

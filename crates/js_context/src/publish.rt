@@ -1,4 +1,4 @@
-//! The calls that publish. Each gives a message that is to be sent, and sends nothing itself.
+//! The calls that publish. Each returns a message to be sent by polls, and sends nothing itself.
 ghost use Rattle.std.specs.Prelude.{◌≡◌, IfOk, None, Some};
 ghost use Rattle.js_message.specs.PublishMessage.{outbound, outgoing};
 ghost use Rattle.js_context.specs.Publish.{sending};
@@ -11,8 +11,8 @@ use js_message::{OutboundMessage, PublishMessage};
 use std::alloc::Global;
 
 impl Context {
-    /// Publishes a payload to a subject. The one refusal here is want of memory; others come from the polls of
-    /// the [`Sending`], and then of its ack.
+    /// Publishes a payload to a subject. Fails here only with `OutOfMemory`; other errors come from
+    /// the polls of the [`Sending`], and then of its ack.
     pub fn publish(
         &mut self,
         alloc: Global,
@@ -25,7 +25,7 @@ impl Context {
         self.publish_all(alloc, subject, payload, None)
     }
 
-    /// Publishes a payload with headers to a subject. The refusals are those of `publish`.
+    /// Publishes a payload with headers to a subject. The errors are those of `publish`.
     pub fn publish_with_headers(
         &mut self,
         alloc: Global,
@@ -60,7 +60,7 @@ impl Context {
         }
     }
 
-    /// Publishes a message to a subject. The refusals are those of `publish`.
+    /// Publishes a message to a subject. The errors are those of `publish`.
     pub fn send_publish(
         &mut self,
         alloc: Global,
@@ -74,7 +74,8 @@ impl Context {
         self.publish_message(message)
     }
 
-    /// Publishes a message that has its subject. It takes no memory, and its `Result` is that of the other calls.
+    /// Publishes a message that already has its subject. It takes no memory and never fails; it
+    /// returns a `Result` only to match the other calls.
     pub fn publish_message(&mut self, message: OutboundMessage) -> Result<Sending, OutOfMemory>
         ensures message { result ≡ Ok (sending message) }
         ensures same { self.new ≡ self.old }

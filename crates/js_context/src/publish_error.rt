@@ -9,18 +9,18 @@ use std::fmt;
 /// Why a message was not sent, or not stored.
 #[derive(Clone, Copy, Debug, PartialEq, Eq)]
 pub enum PublishErrorKind {
-    /// No stream takes messages of the subject.
+    /// No stream stores messages of the subject.
     StreamNotFound,
-    /// The ack's timeout is due, and no answer had come.
+    /// No answer came before the ack's timeout.
     TimedOut,
-    /// The subject is none, or the link failed, and nothing was sent; or the server refused it for another reason, or its answer
-    /// does not read.
+    /// The subject is invalid or the link failed, and nothing was sent. Or the server refused the
+    /// message for another reason, or its answer cannot be read.
     Other,
     /// The server can no longer answer.
     BrokenPipe,
-    /// The stream's last message has another name than was expected.
+    /// The stream's last message has a different id than expected.
     WrongLastMessageId,
-    /// The stream's last message has another sequence than was expected.
+    /// The stream's last message has a different sequence than expected.
     WrongLastSequence,
     /// No permit was free, and backpressure is off. Nothing was sent.
     MaxAckPending,
@@ -28,7 +28,8 @@ pub enum PublishErrorKind {
     MaxPayloadExceeded,
 }
 
-/// Why a message was not sent, or not stored, as an error. Its source is the server's error, where that is the reason.
+/// Why a message was not sent, or not stored, as an error. Its source is the server's error if that
+/// is the reason.
 pub type PublishError = Error<PublishErrorKind>;
 
 impl fmt::Display for PublishErrorKind {
@@ -62,7 +63,7 @@ fn kind_of(code: ErrorCode) -> PublishErrorKind
     }
 }
 
-/// The server's error, as that of a publish.
+/// Returns the server's error as a publish error.
 pub(crate) fn refusal_by(error: errors::Error) -> PublishError
     ensures { result ≡ refusal_by error }
 {

@@ -1,4 +1,4 @@
-//! Looking after the acks that nobody awaits.
+//! Settling detached acks, which nobody awaits.
 ghost use Rattle.std.specs.Prelude.{◌≡◌, ◌<◌, ◌≤◌, length};
 ghost use Rattle.js_link.specs.LinkView.{LinkView};
 ghost use Rattle.js_context.specs.Context.{ContextView};
@@ -23,12 +23,13 @@ fn is_settled(shown: Shown) -> bool
 }
 
 impl Context {
-    /// Looks at the first `concurrency_limit` detached acks, or at all where the limit is none or 0, and answers how many of them
-    /// are no more: those that were answered, whatever the answer, whose replier is gone, or whose ack timeout is due. Their
-    /// permits are given back, and the others stay in their order. An ack's clock begins at the first look.
+    /// Looks at the first `concurrency_limit` detached acks, or at all if the limit is `None` or 0,
+    /// and removes the settled ones: those that were answered, whatever the answer, whose replier
+    /// is gone, or whose ack timeout is due. It gives their permits back and returns how many it
+    /// removed. The others stay in their order. The clock of an ack begins at the first look.
     ///
-    /// With a limit the same first acks are looked at again and again until they are settled. It takes no memory, and a time that
-    /// grows with the list.
+    /// With a limit, it looks at the same first acks again and again until they are settled. It
+    /// takes no memory; its time grows with the length of the list.
     pub fn reap<R: Wait, L: Link>(&mut self, rt: &R, link: &mut L, now: Moment) -> u64
         ensures { Reaps (looked_at self.old.settings.concurrency_limit (length self.old.detached)) now self.old self.new (L.view link.old) (L.view link.new) result }
     {

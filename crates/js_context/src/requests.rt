@@ -1,4 +1,4 @@
-//! Requests that a context makes.
+//! The requests that a context makes.
 ghost use Rattle.std.specs.Prelude.{◌≡◌, IfOk};
 ghost use Rattle.serde_json.specs.View.{view};
 ghost use Rattle.js_call.specs.ApiRequest.{AskingFor};
@@ -13,9 +13,12 @@ use serde_json::Value;
 use std::alloc::Global;
 
 impl Context {
-    /// A request under the prefix with that body, whose answer is a JSON value. The one refusal here is want of memory; others come
-    /// from the polls: `InvalidSubject` where the whole subject is none, and nothing is sent, `NoResponders` where nobody answers, `TimedOut` where the
-    /// timeout is due, and `Other` where the link failed, the body is longer than it sends, or the replier is gone, or the reply does not read.
+    /// Makes a request under the prefix with this body; its answer is a JSON value.
+    ///
+    /// Fails here only with `OutOfMemory`. The polls fail with `InvalidSubject` if the whole
+    /// subject is invalid (nothing is sent then), with `NoResponders` if nobody answers, with
+    /// `TimedOut` if the timeout is due, and with `Other` if the link failed, the body is longer
+    /// than the link sends, the replier is gone, or the reply cannot be read.
     pub fn request(
         &self,
         alloc: Global,
@@ -27,7 +30,8 @@ impl Context {
         self.scope().request(alloc, subject, payload)
     }
 
-    /// A request on that subject, which stands for itself, without the prefix. The refusals are those of `request`, but that its reply is not read.
+    /// Makes a request on exactly this subject, without the prefix. The errors are those of
+    /// `request`, except that the reply is not read.
     pub fn raw_request(
         &self,
         alloc: Global,
@@ -39,9 +43,11 @@ impl Context {
         self.scope().raw_request(alloc, subject, request)
     }
 
-    /// Publishes the request under the prefix. Its answer goes to the request's inbox, or else to a fresh subject of the link.
+    /// Publishes the request under the prefix. The answer goes to the request's inbox if it has
+    /// one, otherwise to a fresh subject of the link.
     ///
-    /// `LinkFailed` comes only where the link failed in this call, and `OutOfMemory` where memory ran out; nothing was sent then.
+    /// Fails with `LinkFailed` only if the link failed in this call, and with `OutOfMemory` if
+    /// memory ran out. Nothing was sent then.
     pub fn send_request<L: Link>(
         &self,
         alloc: Global,

@@ -1,4 +1,4 @@
-//! A message that is to be sent.
+//! A message still to be sent.
 ghost use Rattle.std.specs.Prelude.{◌≡◌, ◌<◌, IsTrue, ◌↔◌, Err};
 ghost use Rattle.js_base.specs.Error.{plain};
 ghost use Rattle.js_base.specs.declared.turn.Turn.TheVariants.{Ready};
@@ -16,24 +16,25 @@ use js_message::OutboundMessage;
 use std::alloc::Global;
 use std::sync::Wait;
 
-/// A message that is to be sent, at a poll that finds a permit free.
+/// A message still to be sent. A poll sends it if a permit is free.
 #[derive(Drop)]
 #[must_use = "a message is sent by a poll"]
 pub struct Sending {
     pub(crate) message: OutboundMessage,
 }
 
-/// What one try to send came to.
+/// The result of one try to send a message.
 pub enum Attempt {
-    /// It may not be sent: `Other` where its subject is none, `MaxPayloadExceeded` where payload and headers are longer than the link sends.
+    /// The message cannot be sent: `Other` if its subject is invalid, `MaxPayloadExceeded` if
+    /// payload and headers are longer than the link sends.
     Barred(PublishErrorKind),
-    /// There was no memory for a place for its ack.
+    /// Memory ran out while making room for the ack.
     NoRoom,
     /// No permit was free.
     Full,
-    /// The link did not send it. Its permit was given back.
+    /// The link did not send the message. Its permit was given back.
     Unsent(LinkError),
-    /// It was sent.
+    /// The message was sent.
     Went(PublishAckFuture),
 }
 
@@ -52,9 +53,11 @@ fn is_longer(message: &OutboundMessage, limit: u64) -> bool
     }
 }
 
-/// Tests the message, takes a permit and sends. The permit of a message that was not sent is given back.
+/// Checks the message, takes a permit and sends the message. If the message is not sent, its permit
+/// is given back.
 ///
-/// It is the one try that a poll of a [`Sending`] makes, for who keeps the message itself.
+/// A poll of a [`Sending`] makes exactly one such try. Call this function if you keep the message
+/// yourself.
 pub fn try_to_send<R: Wait, L: Link>(
     message: &OutboundMessage,
     rt: &R,
@@ -96,22 +99,25 @@ pub fn try_to_send<R: Wait, L: Link>(
 }
 
 impl Sending {
-    /// A message that is to be sent.
+    /// Creates the state that sends this message when polled.
     pub fn new(message: OutboundMessage) -> Sending
         ensures { result ≡ sending message }
     {
         Sending { message }
     }
 
-    /// Tests the subject and then the size, makes room for the ack, takes a permit, and sends one request. A message that is not
-    /// sent holds no permit.
+    /// Checks the subject and then the size, makes room for the ack, takes a permit, and sends one
+    /// request. A message that is not sent holds no permit.
     ///
-    /// It is pending only where no permit was free at this poll and backpressure is on; where it is off, that is
-    /// `MaxAckPending`. `Other` comes where the subject is none, or where the link failed to send; `MaxPayloadExceeded` where
-    /// payload and headers are longer than the link sends. After want of memory the next poll begins anew.
+    /// Returns `Pending` only if no permit was free at this poll and backpressure is on; if it is
+    /// off, the poll fails with `MaxAckPending`. Fails with `Other` if the subject is invalid or
+    /// the link failed to send, and with `MaxPayloadExceeded` if payload and headers are longer
+    /// than the link sends. After `OutOfMemory` the next poll starts over.
     ///
-    /// While the context holds all permits of its window, none can be free: a poll of a message that can be sent then sends nothing, and changes nothing but
-    /// that its pass has asked once more. A permit that another caller holds may be free again at any time, so that only a poll can tell.
+    /// While this context holds all permits of its window, none can be free. A poll of a message
+    /// that could be sent then sends nothing; its only effect is that the context asked for a
+    /// permit once more. A permit that another context holds may become free at any time, and only
+    /// a poll can tell.
     pub fn poll<R: Wait, L: Link>(
         self,
         rt: &R,

@@ -1,7 +1,7 @@
 //! The calls on streams that a context makes.
 //!
-//! Each hands out a state, and refuses for want of memory alone. What its arguments are refused with comes from the state's first poll,
-//! before anything is sent, and the other errors from later polls.
+//! Each returns a state, and fails itself only with `OutOfMemory`. The state's first poll rejects
+//! invalid arguments before anything is sent; the other errors come from later polls.
 ghost use Rattle.std.specs.Prelude.{◌≡◌, IfOk};
 ghost use Rattle.js_call_streams.specs.Create.{Creates, FindsOrCreates};
 ghost use Rattle.js_call_streams.specs.GetAndDelete.{deleting, getting, GivesHandle};
@@ -19,28 +19,34 @@ use js_json_streams::stream::{Config, Info};
 use std::alloc::Global;
 
 impl Context {
-    /// Makes a stream. A mirror or source that has a domain alone gets the domain's API as its external. The server answers a stream
-    /// that has that name and configuration already, and refuses another configuration.
+    /// Creates a stream. A mirror or source that has only a domain gets that domain's API as its
+    /// external. If a stream with this name and configuration exists, the server returns it; it
+    /// refuses a different configuration.
     ///
-    /// `EmptyStreamName`, `InvalidStreamName` and `DomainAndExternalSet` come from the first poll. `JetStream` holds the server's error. `TimedOut` comes
-    /// where the timeout is due, `JetStreamUnavailable` where nobody answers, and `Response` where the request has no reply for another reason or its
-    /// reply does not read.
+    /// The first poll rejects invalid arguments with `EmptyStreamName`, `InvalidStreamName` or
+    /// `DomainAndExternalSet`. Later polls fail with `JetStream` if the server returned an error,
+    /// which it holds, with `TimedOut` if the timeout is due, with `JetStreamUnavailable` if nobody
+    /// answers, and with `Response` if the request has no reply for another reason or its reply
+    /// cannot be read.
     pub fn create_stream(&self, alloc: Global, config: Config) -> Result<CreateStream, OutOfMemory>
         ensures { IfOk result (λ call. Creates self.now.scope config call) }
     {
         create_stream(alloc, self.scope(), config)
     }
 
-    /// Gets a stream with what the server knows of it. `EmptyName` and `InvalidStreamName` come from the first poll. `JetStream` holds the server's error,
-    /// and `Request` comes where the request has no reply or its reply does not read.
+    /// Gets a stream with what the server knows of it. The first poll rejects an invalid name with
+    /// `EmptyName` or `InvalidStreamName`. Later polls fail with `JetStream` if the server returned
+    /// an error, which it holds, and with `Request` if the request has no reply or its reply cannot
+    /// be read.
     pub fn get_stream(&self, alloc: Global, name: &str) -> Result<GetStream, OutOfMemory>
         ensures { IfOk result (λ call. call ≡ getting self.now.scope name.now) }
     {
         get_stream(alloc, self.scope(), name)
     }
 
-    /// A handle of a stream of that name, without asking the server whether it is there. An empty name is `EmptyName`, another
-    /// that no stream may have `InvalidStreamName`, and want of memory `OutOfMemory`.
+    /// Returns a handle of the stream of this name without asking the server whether the stream
+    /// exists. Fails with `EmptyName` if the name is empty, with `InvalidStreamName` if no stream
+    /// may have it, and with `OutOfMemory` if memory runs out.
     pub fn get_stream_no_info(
         &self,
         alloc: Global,
@@ -51,7 +57,8 @@ impl Context {
         get_stream_no_info(alloc, self.scope(), name)
     }
 
-    /// Gets a stream, and makes it as `create_stream` does where the API says 404. The errors are those of `create_stream`.
+    /// Gets a stream, and creates it as `create_stream` does if the server returns 404. The errors
+    /// are those of `create_stream`.
     pub fn get_or_create_stream(
         &self,
         alloc: Global,
@@ -62,18 +69,22 @@ impl Context {
         get_or_create_stream(alloc, self.scope(), config)
     }
 
-    /// Changes a stream to that configuration as a whole: what `Config` does not name is reset to the server's default, also where
-    /// it was read from the server before, as `no_ack` and `duplicate_window`. `js_call_streams::update_stream` lists it, and `update_stream_keeping` keeps it.
-    /// The errors are those of `create_stream` but `DomainAndExternalSet`, and `NotFound` where the server does not know the stream.
+    /// Replaces the whole configuration of a stream. Settings that `Config` does not have, such as
+    /// `no_ack` and `duplicate_window`, are reset to the server's default, even if `config` was
+    /// read from the server before. `js_call_streams::update_stream` lists them, and
+    /// `update_stream_keeping` keeps them. The errors are those of `create_stream` except
+    /// `DomainAndExternalSet`, and `NotFound` if the server does not know the stream.
     pub fn update_stream(&self, alloc: Global, config: &Config) -> Result<UpdateStream, OutOfMemory>
         ensures { IfOk result (λ call. Updates self.now.scope config.now call) }
     {
         update_stream(alloc, self.scope(), config)
     }
 
-    /// Changes a stream to that configuration, and keeps what the server had sent besides to the handle that `get_stream` gave, also inside a
-    /// mirror, an external, a placement and a republish: where nothing was changed, what was read goes back with each of its members.
-    /// `js_call_streams::update_stream_keeping` says what is written. The errors are those of `update_stream`.
+    /// Changes a stream to this configuration and keeps the other settings that the server sent to
+    /// the handle from `get_stream`, also inside a mirror, an external, a placement and a
+    /// republish. If you change nothing, everything that was read is sent back.
+    /// `js_call_streams::update_stream_keeping` says what is written. The errors are those of
+    /// `update_stream`.
     pub fn update_stream_keeping(
         &self,
         alloc: Global,
@@ -87,8 +98,9 @@ impl Context {
         update_stream_keeping(alloc, self.scope(), handle, config)
     }
 
-    /// Changes a stream, and makes it as `create_stream` does where the API answers that it is not there. Where it is there, what
-    /// `Config` does not name is reset, as by `update_stream`. The errors are those of `create_stream`.
+    /// Changes a stream, or creates it as `create_stream` does if the server says that it does not
+    /// exist. If it exists, settings that `Config` does not have are reset, as by `update_stream`.
+    /// The errors are those of `create_stream`.
     pub fn create_or_update_stream(
         &self,
         alloc: Global,

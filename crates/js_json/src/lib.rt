@@ -1,8 +1,9 @@
-//! Bodies of the JetStream API as JSON values: what consumers are configured with and what the server knows of them, pull requests,
-//! accounts, and the answers of the API.
+//! Bodies of the JetStream API as JSON values: consumer configurations and states, pull requests,
+//! accounts, and answers of the API.
 //!
-//! For each type, contracts say what its members read as and what it is written as, as a table of rows. Each kind of consumer goes to the
-//! general configuration and back unchanged. An answer's bytes are its error, or else the whole.
+//! For each type, contracts say how its members are read and how it is written, as a table of rows.
+//! Each kind of consumer configuration converts to the general one and back unchanged. The bytes of
+//! an answer are read as its error if it has one, and otherwise as a whole.
 #![tactic(auto)]
 
 pub mod account;

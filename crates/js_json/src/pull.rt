@@ -1,4 +1,4 @@
-//! Pull consumers: their configurations and their requests.
+//! Pull consumers: configurations and requests.
 
 ghost use Rattle.std.specs.Prelude.{◌≡◌, refl};
 ghost use Rattle.js_json.specs.PullConfig.{new_pull_config, new_ordered_pull_config};
@@ -16,70 +16,77 @@ use jiff::Timestamp;
 use js_base::{Items, Nanos, OutOfMemory, Text, TextMap, TryClone, all_4, all_5};
 use std::alloc::Global;
 
-/// The configuration of a pull consumer: readers ask for messages. It has no deliver subject and what goes with one.
+/// The configuration of a pull consumer, whose readers ask for messages. It has no deliver subject
+/// and none of the fields that go with one.
 #[derive(Debug, PartialEq, Eq, Drop)]
 pub struct Config {
-    /// The name of a consumer that outlives its readers; the older way to give one.
+    /// The name of a durable consumer, which outlives its readers. This is the older way to name a
+    /// consumer.
     pub durable_name: Option<Text>,
-    /// The name of the consumer; none lets the server choose.
+    /// The name of the consumer. `None` lets the server choose.
     pub name: Option<Text>,
-    /// Words for people; the server does nothing with them.
+    /// A description for people. The server does not use it.
     pub description: Option<Text>,
-    /// Where it begins.
+    /// Where in the stream the consumer begins.
     pub deliver_policy: DeliverPolicy,
     /// How messages are acknowledged.
     pub ack_policy: AckPolicy,
-    /// How long the server waits for an acknowledgement, in nanoseconds, before it delivers again; 0 for its 30 seconds.
+    /// How long the server waits for an acknowledgement before it delivers again, in nanoseconds. 0
+    /// means the server's default, 30 seconds.
     pub ack_wait: Nanos,
-    /// How often a message is delivered at most, the first time counted; -1 is no bound, and 0 leaves it to the
-    /// server, which sets none.
+    /// How often the server delivers a message at most, including the first time. -1 means no
+    /// limit. 0 means the server's default, which is no limit.
     pub max_deliver: i64,
-    /// The subjects that are read, which may have wildcards; empty for all of the stream.
+    /// The subjects that the consumer reads, as one subject that may have wildcards. Empty means
+    /// the whole stream.
     pub filter_subject: Text,
-    /// The same, where they are several. A server takes one of the two fields alone.
+    /// The subjects that the consumer reads, if there are several. The server accepts only one of
+    /// `filter_subject` and `filter_subjects`.
     pub filter_subjects: Items<Text>,
-    /// How fast the messages that are there already are sent.
+    /// How fast the server sends messages that are already stored.
     pub replay_policy: ReplayPolicy,
-    /// How fast messages are sent at most, in bits a second; 0 for no bound. It serves push consumers alone.
+    /// How fast the server sends messages at most, in bits per second. 0 means no limit. Only push
+    /// consumers use it.
     pub rate_limit: u64,
-    /// The share of acknowledgements that are sampled, in percent.
+    /// The share of acknowledgements that the server samples, in percent.
     pub sample_frequency: u8,
-    /// How many pull requests may wait at once; 0 leaves it to the server, which takes 512.
+    /// How many pull requests may wait at once. 0 means the server's default, 512.
     pub max_waiting: i64,
-    /// How many messages may wait for their acknowledgement at once; -1 is no bound, and 0 leaves it to the server,
-    /// which takes 1,000.
+    /// How many messages may wait for their acknowledgement at once. -1 means no limit. 0 means the
+    /// server's default, 1,000.
     pub max_ack_pending: i64,
-    /// Whether messages come without their payloads.
+    /// Whether the server sends messages without their payloads.
     pub headers_only: bool,
-    /// How many messages one pull request may ask for; 0 for no bound.
+    /// How many messages one pull request may ask for. 0 means no limit.
     pub max_batch: i64,
-    /// How many bytes one pull request may ask for; 0 for no bound.
+    /// How many bytes one pull request may ask for. 0 means no limit.
     pub max_bytes: i64,
-    /// How long one pull request may wait, in nanoseconds; 0 for no bound.
+    /// How long one pull request may wait, in nanoseconds. 0 means no limit.
     pub max_expires: Nanos,
-    /// How long the consumer outlives its last reader, in nanoseconds; 0 for ever where it is durable, and otherwise
-    /// what the server chooses, 5 seconds.
+    /// How long the consumer outlives its last reader, in nanoseconds. 0 means for ever if the
+    /// consumer is durable; otherwise the server chooses 5 seconds.
     pub inactive_threshold: Nanos,
-    /// How many servers keep its state; 0 for as many as keep the stream.
+    /// How many servers keep the consumer's state. 0 means as many as keep the stream.
     pub num_replicas: u64,
-    /// Whether its state is kept in memory alone.
+    /// Whether the server keeps the consumer's state only in memory.
     pub memory_storage: bool,
     /// Names and values for people and tools.
     pub metadata: TextMap,
-    /// The waits before the further deliveries, in nanoseconds; with any, `ack_wait` is not used.
+    /// How long the server waits before each further delivery, in nanoseconds. If there is any, the
+    /// server does not use `ack_wait`.
     pub backoff: Items<Nanos>,
-    /// Which reader of a priority group is served.
+    /// Which reader of a priority group the server serves.
     pub priority_policy: PriorityPolicy,
-    /// The names of its priority groups; a server takes one at most.
+    /// The names of the consumer's priority groups. The server accepts one at most.
     pub priority_groups: Items<Text>,
-    /// After how long without a request a pinned reader is given up, in nanoseconds.
+    /// How long without a request before the server gives up a pinned reader, in nanoseconds.
     pub priority_timeout: Nanos,
-    /// Until when nothing is delivered; none where it is not paused.
+    /// The time until which the server delivers nothing. `None` if the consumer is not paused.
     pub pause_until: Option<Timestamp>,
 }
 
 impl Config {
-    /// The default, which takes no memory.
+    /// Returns the default configuration. Allocates no memory.
     pub fn new(alloc: Global) -> Config
         ensures { result ≡ new_pull_config }
     {
@@ -245,43 +252,46 @@ impl FromConsumer for Config {
 
 /// The configuration of an ordered pull consumer.
 ///
-/// What is not here is chosen for it: no acknowledgements, each message delivered once, its state in the memory of one
-/// server, and given up 30 seconds after its last reader. It has no durable name and no priorities.
-/// `try_from_consumer_config` passes over what a general configuration says of these.
+/// The other settings are fixed: no acknowledgements, each message delivered once, state in the
+/// memory of one server, and removal 30 seconds after the last reader. It has no durable name and
+/// no priorities. `try_from_consumer_config` ignores what a general configuration says about these.
 #[derive(Debug, PartialEq, Eq, Drop)]
 pub struct OrderedConfig {
-    /// The name of the consumer; none lets the server choose.
+    /// The name of the consumer. `None` lets the server choose.
     pub name: Option<Text>,
-    /// Words for people; the server does nothing with them.
+    /// A description for people. The server does not use it.
     pub description: Option<Text>,
-    /// The subjects that are read, which may have wildcards; empty for all of the stream.
+    /// The subjects that the consumer reads, as one subject that may have wildcards. Empty means
+    /// the whole stream.
     pub filter_subject: Text,
-    /// The same, where they are several. A server takes one of the two fields alone.
+    /// The subjects that the consumer reads, if there are several. The server accepts only one of
+    /// `filter_subject` and `filter_subjects`.
     pub filter_subjects: Items<Text>,
-    /// How fast the messages that are there already are sent.
+    /// How fast the server sends messages that are already stored.
     pub replay_policy: ReplayPolicy,
-    /// How fast messages are sent at most, in bits a second; 0 for no bound. It serves push consumers alone.
+    /// How fast the server sends messages at most, in bits per second. 0 means no limit. Only push
+    /// consumers use it.
     pub rate_limit: u64,
-    /// The share of acknowledgements that are sampled, in percent.
+    /// The share of acknowledgements that the server samples, in percent.
     pub sample_frequency: u8,
-    /// Whether messages come without their payloads.
+    /// Whether the server sends messages without their payloads.
     pub headers_only: bool,
-    /// Where it begins.
+    /// Where in the stream the consumer begins.
     pub deliver_policy: DeliverPolicy,
-    /// How many pull requests may wait at once; 0 leaves it to the server, which takes 512.
+    /// How many pull requests may wait at once. 0 means the server's default, 512.
     pub max_waiting: i64,
     /// Names and values for people and tools.
     pub metadata: TextMap,
-    /// How many messages one pull request may ask for; 0 for no bound.
+    /// How many messages one pull request may ask for. 0 means no limit.
     pub max_batch: i64,
-    /// How many bytes one pull request may ask for; 0 for no bound.
+    /// How many bytes one pull request may ask for. 0 means no limit.
     pub max_bytes: i64,
-    /// How long one pull request may wait, in nanoseconds; 0 for no bound.
+    /// How long one pull request may wait, in nanoseconds. 0 means no limit.
     pub max_expires: Nanos,
 }
 
 impl OrderedConfig {
-    /// The default, which takes no memory.
+    /// Returns the default configuration. Allocates no memory.
     pub fn new(alloc: Global) -> OrderedConfig
         ensures { result ≡ new_ordered_pull_config }
     {

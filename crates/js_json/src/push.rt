@@ -1,4 +1,4 @@
-//! Push consumers: their configurations.
+//! Configurations of push consumers.
 
 ghost use Rattle.std.specs.Prelude.{◌≡◌, refl};
 ghost use Rattle.js_json.specs.PushConfig.{new_push_config, new_ordered_push_config};
@@ -15,69 +15,75 @@ use std::alloc::Global;
 /// The heartbeat of an ordered push consumer: 5 seconds.
 const ORDERED_HEARTBEAT: Nanos = 5_000_000_000;
 
-/// The configuration of a push consumer: the server sends messages to its deliver subject. It has no bounds on pull
-/// requests and no priorities.
+/// The configuration of a push consumer, for which the server sends messages to a deliver subject.
+/// It has no limits on pull requests and no priorities.
 #[derive(Debug, PartialEq, Eq, Drop)]
 pub struct Config {
-    /// The subject that messages are delivered to.
+    /// The subject that the server delivers messages to.
     pub deliver_subject: Text,
-    /// The name of a consumer that outlives its readers; the older way to give one.
+    /// The name of a durable consumer, which outlives its readers. This is the older way to name a
+    /// consumer.
     pub durable_name: Option<Text>,
-    /// The name of the consumer; none lets the server choose.
+    /// The name of the consumer. `None` lets the server choose.
     pub name: Option<Text>,
-    /// Words for people; the server does nothing with them.
+    /// A description for people. The server does not use it.
     pub description: Option<Text>,
-    /// The queue group that messages are delivered to.
+    /// The queue group that the server delivers messages to.
     pub deliver_group: Option<Text>,
-    /// Where it begins.
+    /// Where in the stream the consumer begins.
     pub deliver_policy: DeliverPolicy,
     /// How messages are acknowledged.
     pub ack_policy: AckPolicy,
-    /// How long the server waits for an acknowledgement before it delivers again, in nanoseconds; 0 leaves it to the
-    /// server, which takes 30 seconds.
+    /// How long the server waits for an acknowledgement before it delivers again, in nanoseconds. 0
+    /// means the server's default, 30 seconds.
     pub ack_wait: Nanos,
-    /// How often a message is delivered at most, the first time counted; -1 is no bound, and 0 leaves it to the
-    /// server, which sets none.
+    /// How often the server delivers a message at most, including the first time. -1 means no
+    /// limit. 0 means the server's default, which is no limit.
     pub max_deliver: i64,
-    /// The subjects that are read, which may have wildcards; empty for all of the stream.
+    /// The subjects that the consumer reads, as one subject that may have wildcards. Empty means
+    /// the whole stream.
     pub filter_subject: Text,
-    /// The same, where they are several. A server takes one of the two fields alone.
+    /// The subjects that the consumer reads, if there are several. The server accepts only one of
+    /// `filter_subject` and `filter_subjects`.
     pub filter_subjects: Items<Text>,
-    /// How fast the messages that are there already are sent.
+    /// How fast the server sends messages that are already stored.
     pub replay_policy: ReplayPolicy,
-    /// How fast messages are sent at most, in bits a second; 0 for no bound. It serves push consumers alone.
+    /// How fast the server sends messages at most, in bits per second. 0 means no limit. Only push
+    /// consumers use it.
     pub rate_limit: u64,
-    /// The share of acknowledgements that are sampled, in percent.
+    /// The share of acknowledgements that the server samples, in percent.
     pub sample_frequency: u8,
-    /// How many pull requests may wait at once; 0 leaves it to the server, which takes 512. It serves pull
-    /// consumers alone.
+    /// How many pull requests may wait at once. 0 means the server's default, 512. Only pull
+    /// consumers use it.
     pub max_waiting: i64,
-    /// How many messages may wait for their acknowledgement at once; -1 is no bound, and 0 leaves it to the server,
-    /// which takes 1,000.
+    /// How many messages may wait for their acknowledgement at once. -1 means no limit. 0 means the
+    /// server's default, 1,000.
     pub max_ack_pending: i64,
-    /// Whether messages come without their payloads.
+    /// Whether the server sends messages without their payloads.
     pub headers_only: bool,
     /// Whether the server waits for answers to its flow-control messages.
     pub flow_control: bool,
-    /// After how long without a message the server sends a heartbeat, in nanoseconds; 0 for no heartbeats.
+    /// How long without a message before the server sends a heartbeat, in nanoseconds. 0 means no
+    /// heartbeats.
     pub idle_heartbeat: Nanos,
-    /// How long the consumer outlives its last reader, in nanoseconds; 0 for ever where it is durable, and otherwise
-    /// what the server chooses, 5 seconds.
+    /// How long the consumer outlives its last reader, in nanoseconds. 0 means for ever if the
+    /// consumer is durable; otherwise the server chooses 5 seconds.
     pub inactive_threshold: Nanos,
-    /// How many servers keep its state; 0 for as many as keep the stream.
+    /// How many servers keep the consumer's state. 0 means as many as keep the stream.
     pub num_replicas: u64,
-    /// Whether its state is kept in memory alone.
+    /// Whether the server keeps the consumer's state only in memory.
     pub memory_storage: bool,
     /// Names and values for people and tools.
     pub metadata: TextMap,
-    /// The waits before the further deliveries, in nanoseconds; with any, `ack_wait` is not used.
+    /// How long the server waits before each further delivery, in nanoseconds. If there is any, the
+    /// server does not use `ack_wait`.
     pub backoff: Items<Nanos>,
-    /// Until when nothing is delivered; none where it is not paused.
+    /// The time until which the server delivers nothing. `None` if the consumer is not paused.
     pub pause_until: Option<Timestamp>,
 }
 
 impl Config {
-    /// The default, which takes no memory.
+    /// Returns the default configuration. Allocates no memory.
     pub fn new(alloc: Global) -> Config
         ensures { result ≡ new_push_config }
     {
@@ -238,40 +244,44 @@ impl FromConsumer for Config {
 
 /// The configuration of an ordered push consumer.
 ///
-/// What is not here is chosen for it: no acknowledgements, each message delivered once, flow control, a heartbeat each
-/// 5 seconds, its state in the memory of one server, and given up 30 seconds after its last reader. It has no durable
-/// name and no deliver group. `try_from_consumer_config` passes over what a general configuration says of these.
+/// The other settings are fixed: no acknowledgements, each message delivered once, flow control, a
+/// heartbeat every 5 seconds, state in the memory of one server, and removal 30 seconds after the
+/// last reader. It has no durable name and no deliver group. `try_from_consumer_config` ignores
+/// what a general configuration says about these.
 #[derive(Debug, PartialEq, Eq, Drop)]
 pub struct OrderedConfig {
-    /// The subject that messages are delivered to.
+    /// The subject that the server delivers messages to.
     pub deliver_subject: Text,
-    /// The name of the consumer; none lets the server choose.
+    /// The name of the consumer. `None` lets the server choose.
     pub name: Option<Text>,
-    /// Words for people; the server does nothing with them.
+    /// A description for people. The server does not use it.
     pub description: Option<Text>,
-    /// The subjects that are read, which may have wildcards; empty for all of the stream.
+    /// The subjects that the consumer reads, as one subject that may have wildcards. Empty means
+    /// the whole stream.
     pub filter_subject: Text,
-    /// The same, where they are several. A server takes one of the two fields alone.
+    /// The subjects that the consumer reads, if there are several. The server accepts only one of
+    /// `filter_subject` and `filter_subjects`.
     pub filter_subjects: Items<Text>,
-    /// How fast the messages that are there already are sent.
+    /// How fast the server sends messages that are already stored.
     pub replay_policy: ReplayPolicy,
-    /// How fast messages are sent at most, in bits a second; 0 for no bound. It serves push consumers alone.
+    /// How fast the server sends messages at most, in bits per second. 0 means no limit. Only push
+    /// consumers use it.
     pub rate_limit: u64,
-    /// The share of acknowledgements that are sampled, in percent.
+    /// The share of acknowledgements that the server samples, in percent.
     pub sample_frequency: u8,
-    /// Whether messages come without their payloads.
+    /// Whether the server sends messages without their payloads.
     pub headers_only: bool,
-    /// Where it begins.
+    /// Where in the stream the consumer begins.
     pub deliver_policy: DeliverPolicy,
-    /// How many pull requests may wait at once; 0 leaves it to the server, which takes 512. It serves pull
-    /// consumers alone.
+    /// How many pull requests may wait at once. 0 means the server's default, 512. Only pull
+    /// consumers use it.
     pub max_waiting: i64,
     /// Names and values for people and tools.
     pub metadata: TextMap,
 }
 
 impl OrderedConfig {
-    /// The default, which takes no memory.
+    /// Returns the default configuration. Allocates no memory.
     pub fn new(alloc: Global) -> OrderedConfig
         ensures { result ≡ new_ordered_push_config }
     {

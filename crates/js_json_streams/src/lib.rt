@@ -1,5 +1,5 @@
-//! Bodies of the JetStream API on streams as JSON values: what streams are configured with, what the server knows of them, the answer to a
-//! deletion, and pages of lists. Their form is that of js_json.
+//! Bodies of the JetStream API on streams as JSON values: stream configurations and states, the
+//! answer to a deletion, and pages of lists. Their form is that of js_json.
 #![tactic(auto)]
 
 pub mod stream;

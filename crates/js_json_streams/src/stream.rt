@@ -1,4 +1,4 @@
-//! Streams: how they are configured, what the server knows of them, and how they are listed.
+//! Streams: configuration, what the server reports about them, and lists.
 
 pub(crate) mod config;
 mod delete_status;

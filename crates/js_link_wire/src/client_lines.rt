@@ -1,4 +1,4 @@
-//! The lines of a client, and its blocks of headers.
+//! The lines that a client writes, and its blocks of headers.
 
 ghost use Rattle.std.specs.Prelude.{◌≡◌, ◌++◌, decimal, OnOk, IfOk, codes, string_bytes};
 ghost use Rattle.std.specs.List.{flat_map};

@@ -1,26 +1,26 @@
-//! What is wrong with bytes that no server writes.
+//! Why bytes cannot be what a server writes.
 
-/// Why bytes begin with no frame, whatever follows them.
+/// Why bytes do not begin with a frame, whatever follows them.
 #[derive(Clone, Copy, Debug, PartialEq, Eq)]
 pub enum Damage {
-    /// The first line is longer than [`LONGEST_LINE`](crate::LONGEST_LINE), or than [`LONGEST_INFO`](crate::LONGEST_INFO)
-    /// where it begins as that of INFO does.
+    /// The first line is longer than [`LONGEST_LINE`](crate::LONGEST_LINE), or, if it begins like
+    /// that of INFO, longer than [`LONGEST_INFO`](crate::LONGEST_INFO).
     LineTooLong,
-    /// A line feed ends the line, and no carriage return stands before it.
+    /// A line feed without a carriage return before it ends the line.
     BareLineFeed,
     /// The line is not UTF-8.
     NotText,
-    /// The line begins with a word that no server says.
+    /// The line begins with a word that no server sends.
     UnknownVerb,
-    /// The line of a message has too few words, or too many.
+    /// The line of a message has too few or too many words.
     WrongArguments,
-    /// A number has another byte than a decimal digit, a sign too, or is 2^64 or more.
+    /// A number has a byte that is not a decimal digit (a sign counts too), or is 2^64 or more.
     BadNumber,
     /// The body of a message is longer than the limit.
     BodyTooLong,
     /// The headers are longer than the body that they begin.
     HeadersTooLong,
-    /// Behind the body of a message stands no line end.
+    /// No line end follows the body of a message.
     NoLineEnd,
 }
 
@@ -29,7 +29,7 @@ pub enum Damage {
 pub(crate) enum Unread {
     /// Too few bytes have come.
     More,
-    /// There is none.
+    /// The bytes do not begin with a frame.
     Damaged(Damage),
 }
 

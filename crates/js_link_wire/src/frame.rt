@@ -1,4 +1,4 @@
-//! What a server and a client say.
+//! The frames of a server and of a client.
 
 ghost use Rattle.std.specs.Prelude.{◌≡◌, IfOk};
 ghost use Rattle.std.specs.Option.{option_copied};
@@ -9,43 +9,43 @@ use bytes::Bytes;
 use js_base::{HeaderMap, OutOfMemory, Subject, Text, all_3, all_4};
 use std::alloc::Global;
 
-/// What a server says: a frame of the NATS client protocol (docs.nats.io).
+/// A frame that a server sends, of the NATS client protocol (docs.nats.io).
 #[derive(Debug, Drop)]
 pub enum ServerFrame {
-    /// INFO: what the server says of itself.
+    /// INFO: what the server tells about itself.
     Info {
-        /// A JSON object, as it came: nothing here reads it.
+        /// A JSON object, as it came. This crate does not parse it.
         json: Text,
     },
     /// MSG: a message of a subscription, without headers.
     Message {
-        /// Where it was published to.
+        /// The subject to which it was published.
         subject: Subject,
         /// The number that the client gave to the subscription.
         subscription: u64,
-        /// Where an answer is awaited, if one is.
+        /// The subject to which an answer should go, if one is wanted.
         reply: Option<Subject>,
         /// Its body.
         payload: Bytes,
     },
     /// HMSG: a message of a subscription, with headers.
     HeaderedMessage {
-        /// Where it was published to.
+        /// The subject to which it was published.
         subject: Subject,
         /// The number that the client gave to the subscription.
         subscription: u64,
-        /// Where an answer is awaited, if one is.
+        /// The subject to which an answer should go, if one is wanted.
         reply: Option<Subject>,
-        /// The block of the headers as it came, with its first line and its empty last one.
+        /// The block of headers as it came, with its first line and its empty last one.
         headers: Bytes,
-        /// The body behind the headers.
+        /// The body after the headers.
         payload: Bytes,
     },
     /// PING: the server asks for a PONG.
     Ping,
     /// PONG: the answer to a PING.
     Pong,
-    /// +OK: a verbose server has taken what was said.
+    /// +OK: the server, in verbose mode, has accepted what the client sent.
     Taken,
     /// -ERR: what the server refuses, in its words.
     Refused {
@@ -54,7 +54,7 @@ pub enum ServerFrame {
     },
 }
 
-/// A frame of a server where its bytes lie.
+/// A frame of a server that borrows from the bytes it was read from.
 #[derive(Clone, Copy, Debug)]
 pub(crate) enum View<'a> {
     Info {
@@ -175,46 +175,46 @@ pub(crate) fn frame_of_view(alloc: Global, view: View<'_>) -> Result<ServerFrame
     }
 }
 
-/// What a client says: a frame of the NATS client protocol (docs.nats.io).
+/// A frame that a client sends, of the NATS client protocol (docs.nats.io).
 #[derive(Debug, Drop)]
 pub enum ClientFrame {
-    /// CONNECT: what the client says of itself.
+    /// CONNECT: what the client tells about itself.
     Connect {
-        /// A JSON object in one line, without carriage return and line feed.
+        /// A JSON object on one line, without carriage return and line feed.
         json: Text,
     },
     /// SUB: the client wants what is sent to a subject, alone or as one of a group that shares it.
     Subscribe {
-        /// A subject, in which `*` and `>` stand for tokens.
+        /// A subject, in which `*` and `>` are wildcards for tokens.
         subject: Subject,
-        /// The group that shares what comes, if there is one.
+        /// The group that shares the messages, if there is one.
         queue_group: Option<Text>,
         /// The number that messages of the subscription will have.
         subscription: u64,
     },
-    /// UNSUB: a subscription ends.
+    /// UNSUB: ends a subscription.
     Unsubscribe {
-        /// Its number.
+        /// The number of the subscription.
         subscription: u64,
-        /// After how many messages in all it ends. At once, if none is named.
+        /// The number of messages, in all, after which it ends. It ends at once if this is `None`.
         max: Option<u64>,
     },
     /// PUB: a message without headers.
     Publish {
-        /// Where it goes.
+        /// The subject to publish to.
         subject: Subject,
-        /// Where an answer is awaited, if one is.
+        /// The subject to which an answer should go, if one is wanted.
         reply: Option<Subject>,
         /// Its body.
         payload: Bytes,
     },
     /// HPUB: a message with headers.
     HeaderedPublish {
-        /// Where it goes.
+        /// The subject to publish to.
         subject: Subject,
-        /// Where an answer is awaited, if one is.
+        /// The subject to which an answer should go, if one is wanted.
         reply: Option<Subject>,
-        /// Its headers. They may be none.
+        /// Its headers. They may be empty.
         headers: HeaderMap,
         /// Its body.
         payload: Bytes,

@@ -1,4 +1,4 @@
-//! Frames are read off bytes that come in pieces.
+//! Reads frames from bytes that come in pieces.
 
 ghost use Rattle.std.specs.Prelude.{◌≡◌, ◌++◌, [], OnOk, OnErr};
 ghost use Rattle.js_link_wire.specs.FrameReader.{Reads};
@@ -14,9 +14,10 @@ use std::{error, fmt};
 /// Why no frame was read.
 #[derive(Clone, Copy, Debug, PartialEq, Eq)]
 pub enum FrameError {
-    /// The bytes begin with no frame, whatever follows them. Each further call says the same.
+    /// The bytes do not begin with a frame, whatever follows them. Each further call fails in the
+    /// same way.
     Damaged(Damage),
-    /// Memory ran out. The frame is still there to be read.
+    /// Memory ran out. The frame can still be read.
     OutOfMemory,
 }
 
@@ -31,8 +32,8 @@ impl fmt::Display for FrameError {
 
 impl error::Error for FrameError {}
 
-/// What a server wrote, in pieces as they come, and the frames that are read off it. Contracts see the bytes of which no frame was
-/// read, and how many bytes a body has at most.
+/// Collects what a server wrote, in pieces as they come, and reads frames from it. Contracts see the
+/// bytes that were not read as frames yet, and the greatest length of a body in bytes.
 #[derive(Drop)]
 pub struct FrameReader {
     held: Vec<u8>,
@@ -52,7 +53,8 @@ impl Model for FrameReader {
 }
 
 impl FrameReader {
-    /// No bytes, which takes no memory. A message's body, headers and payload together, has at most `most` bytes.
+    /// Creates a reader without bytes. It allocates nothing. A message's body, which is its headers
+    /// and payload together, has at most `most` bytes.
     pub fn new(alloc: Global, most: u64) -> FrameReader
         ensures left { result.left ≡ [] }
         ensures most { result.most ≡ most }
@@ -64,7 +66,7 @@ impl FrameReader {
         }
     }
 
-    /// Sets how many bytes a body has at most, as an INFO tells it in `max_payload`.
+    /// Sets the greatest length of a body, in bytes, as an INFO tells it in `max_payload`.
     pub fn set_most(&mut self, most: u64)
         ensures left { self.new.left ≡ self.old.left }
         ensures most { self.new.most ≡ most }
@@ -72,7 +74,8 @@ impl FrameReader {
         self.most = most;
     }
 
-    /// Adds what came. After want of memory, the only error, the bytes are what they were.
+    /// Appends bytes that came. Fails only with `OutOfMemory`; the reader's bytes are then
+    /// unchanged.
     pub fn push(&mut self, alloc: Global, bytes: &[u8]) -> Result<(), OutOfMemory>
         ensures ok { OnOk result (self.new.left ≡ self.old.left ++ bytes.now) }
         ensures err { OnErr result (self.new.left ≡ self.old.left) }
@@ -101,11 +104,12 @@ impl FrameReader {
         &self.held[self.next..]
     }
 
-    /// Reads the next frame off the bytes, or none if less than a whole frame is left.
+    /// Reads the next frame, or returns `None` if less than a whole frame is left.
     ///
     /// # Errors
     ///
-    /// [`FrameError::Damaged`] if the bytes begin with no frame, and want of memory. The bytes are then what they were.
+    /// [`FrameError::Damaged`] if the bytes do not begin with a frame, and
+    /// [`FrameError::OutOfMemory`] if memory runs out. The bytes are then unchanged.
     #[tactic(auto, unfolding(crate::specs::FrameReader::next_frame))]
     pub fn next(&mut self, alloc: Global) -> Result<Option<ServerFrame>, FrameError>
         ensures reads { Reads self.old self.new result }

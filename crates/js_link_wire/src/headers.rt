@@ -1,8 +1,8 @@
-//! What a block of headers says.
+//! Reads a block of headers.
 //!
-//! The block is that of the NATS decision record ADR-4, "NATS Message Headers": a first line with the version `NATS/1.0`, and
-//! in it a status with its description where the server speaks for itself; then a line for each header, its name, a colon and
-//! its value; then an empty line.
+//! The block is that of the NATS decision record ADR-4, "NATS Message Headers". Its first line has
+//! the version `NATS/1.0` and, if the server itself is the sender, a status with its description. A
+//! line for each header follows, with its name, a colon and its value, and then an empty line.
 
 ghost use Rattle.std.specs.Prelude.{◌≡◌, ◌<◌, ◌≤◌, length, option_map, IfOk, IfSome, MatchResult, Ok};
 ghost use Rattle.std.specs.Option.{option_copied};
@@ -14,31 +14,32 @@ use memchr::memchr;
 use std::alloc::Global;
 use std::{error, fmt, str};
 
-/// Why a block of headers does not read.
+/// Why a block of headers cannot be read.
 #[derive(Clone, Copy, Debug, PartialEq, Eq)]
 pub enum HeadersDamage {
     /// The first line does not begin with `NATS/1.0`.
     NoVersion,
-    /// Behind the version stands something else than a status of three digits, behind which the line ends or a blank stands.
+    /// After the version comes something other than a status of three digits that the line end or a
+    /// blank follows.
     BadStatus,
-    /// A line feed ends a line, and no carriage return stands before it.
+    /// A line feed without a carriage return before it ends a line.
     BareLineFeed,
-    /// No colon stands in the line of a header.
+    /// The line of a header has no colon.
     NoColon,
     /// A name, a value or a description is not UTF-8.
     NotText,
     /// The bytes end before the empty line.
     CutShort,
-    /// Bytes stand behind the empty line.
+    /// Bytes follow the empty line.
     Trailing,
 }
 
 /// Why headers were not read.
 #[derive(Clone, Copy, Debug, PartialEq, Eq)]
 pub enum HeadersError {
-    /// The block is damaged: it will not read.
+    /// The block is damaged. Reading it again fails in the same way.
     Damaged(HeadersDamage),
-    /// Memory ran out. The same block can be read again.
+    /// Memory ran out. You can read the same block again.
     OutOfMemory,
 }
 
@@ -75,18 +76,18 @@ impl From<OutOfMemory> for HeadersError {
     }
 }
 
-/// What a block of headers says.
+/// The contents of a block of headers.
 #[derive(Debug, Drop)]
 pub struct HeaderBlock {
-    /// There only where the server speaks for itself, as 503 where nobody answers.
+    /// The status. Only messages from the server itself have one, for example 503 if nobody answers.
     pub status: Option<StatusCode>,
-    /// What the server says of the status, if it says anything.
+    /// The server's description of the status, if it gives one.
     pub description: Option<Text>,
-    /// The headers in the order of their lines. They may be none.
+    /// The headers in the order of their lines. They may be empty.
     pub headers: HeaderMap,
 }
 
-/// A header where its bytes lie, and what follows its line.
+/// A header that borrows from the bytes it was read from, and what follows its line.
 #[derive(Clone, Copy)]
 pub(crate) struct Found<'a> {
     pub name: &'a str,
@@ -270,12 +271,14 @@ fn some_text(alloc: Global, text: Option<&str>) -> Result<Option<Text>, OutOfMem
     }
 }
 
-/// Reads a block of headers, as [`ServerFrame::HeaderedMessage`](crate::ServerFrame::HeaderedMessage) has one. A value is what
-/// stands behind the colon and the ASCII white space that follows it.
+/// Reads a block of headers, such as that of
+/// [`ServerFrame::HeaderedMessage`](crate::ServerFrame::HeaderedMessage). A value is what follows
+/// the colon and the ASCII white space after it.
 ///
 /// # Errors
 ///
-/// [`HeadersError::Damaged`] if the block does not read, and else want of memory.
+/// [`HeadersError::Damaged`] if the block cannot be read, and [`HeadersError::OutOfMemory`] if
+/// memory runs out.
 #[tactic(auto, unfolding(crate::specs::Headers::read_block))]
 pub fn read_headers(alloc: Global, bytes: &[u8]) -> Result<HeaderBlock, HeadersError>
     ensures { MatchResult result (λ block. read_block bytes.now ≡ Ok block) (IsCauseOf (read_block bytes.now)) }

@@ -1,4 +1,4 @@
-//! The message of a server's frame.
+//! Makes a message of a server's frame.
 
 ghost use Rattle.std.specs.Prelude.{◌≡◌, MatchResult, Ok};
 ghost use Rattle.js_link_wire.specs.Headers.{IsCauseOf};
@@ -15,8 +15,9 @@ use std::alloc::Global;
 pub struct Incoming {
     /// The number that the client gave to the subscription.
     pub subscription: u64,
-    /// The message. It has headers if it came with a block of them, even if that has none. Its length is that of its subject,
-    /// its reply subject, its block of headers and its payload together, up to `u64::MAX`.
+    /// The message. It has headers if it came with a block of them, even an empty one. Its length is
+    /// that of its subject, its reply subject, its block of headers and its payload together, in
+    /// bytes, up to `u64::MAX`.
     pub message: Message,
 }
 
@@ -88,11 +89,12 @@ fn headered(
     }
 }
 
-/// The message of a frame, with its headers read. None of a frame that is no message.
+/// Returns the message of a frame, with its headers read, or `None` if the frame is not a message.
 ///
 /// # Errors
 ///
-/// [`HeadersError::Damaged`] if its block of headers does not read, and else want of memory.
+/// [`HeadersError::Damaged`] if its block of headers cannot be read, and
+/// [`HeadersError::OutOfMemory`] if memory runs out.
 pub fn message_of_frame(alloc: Global, frame: ServerFrame) -> Result<Option<Incoming>, HeadersError>
     ensures { MatchResult result (λ message. incoming frame ≡ Ok message) (IsCauseOf (incoming frame)) }
 {

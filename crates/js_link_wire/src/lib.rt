@@ -1,13 +1,16 @@
-//! The NATS client protocol as values: what a server writes is read as frames, and what a client says is written as bytes.
+//! The NATS client protocol as values: it reads what a server writes as frames, and writes the
+//! frames of a client as bytes.
 //!
-//! [`read_frame`] reads the first frame of some bytes, or says that more are wanted or what is damaged, and a [`FrameReader`]
-//! keeps the bytes that come until their frames are read. [`write_frame`] appends a frame of a client to some bytes.
-//! [`read_headers`] reads the headers of a message, and [`message_of_frame`] makes the message of a frame. Nothing here reads
-//! or writes a connection.
+//! [`read_frame`] reads the first frame of some bytes, or says that it needs more bytes or what is
+//! damaged. A [`FrameReader`] keeps the bytes that come until their frames are read. [`write_frame`]
+//! appends a client's frame to some bytes. [`read_headers`] reads the headers of a message, and
+//! [`message_of_frame`] makes the message of a frame. Nothing in this crate reads or writes a
+//! connection.
 //!
 //! The frames are those of the page "NATS client protocol" of docs.nats.io
-//! (<https://docs.nats.io/reference/reference-protocols/nats-protocol>): a line that ends with a carriage return and a line
-//! feed, and behind the line of a message its body with such an end.
+//! (<https://docs.nats.io/reference/reference-protocols/nats-protocol>): a line that ends with a
+//! carriage return and a line feed, and after the line of a message its body, which ends in the same
+//! way.
 #![tactic(auto)]
 
 mod client_lines;

@@ -7,9 +7,11 @@ use crate::damage::{Damage, Unread};
 use memchr::memchr;
 use std::str;
 
-/// How long a line is at most, with its line end, in bytes: 4 KiB, as much as a nats-server takes for a line of a client.
+/// The greatest length of a line with its line end, in bytes: 4 KiB, as much as a nats-server
+/// accepts for a client's line.
 pub const LONGEST_LINE: usize = 4_096;
-/// How long a line that begins with `INFO` and a blank is at most, with its line end, in bytes: 1 MiB.
+/// The greatest length of a line that begins with `INFO` and a blank, with its line end, in bytes: 1
+/// MiB.
 pub const LONGEST_INFO: usize = 1_048_576;
 
 fn line_limit(bytes: &[u8]) -> usize

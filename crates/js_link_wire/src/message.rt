@@ -18,11 +18,11 @@ pub(crate) struct Head<'a> {
     pub subject: &'a str,
     pub subscription: u64,
     pub reply: Option<&'a str>,
-    /// How many bytes the body has.
+    /// The length of the body, in bytes.
     pub length: u64,
 }
 
-/// The line of a message with headers: how many bytes they have, and the line without that.
+/// The line of a message with headers: the length of the headers in bytes, and the rest of the line.
 #[derive(Clone, Copy)]
 pub(crate) struct Headered<'a> {
     pub head: Head<'a>,

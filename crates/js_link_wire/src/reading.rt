@@ -1,4 +1,4 @@
-//! The first frame of some bytes.
+//! Reads the first frame of some bytes.
 
 ghost use Rattle.std.specs.Prelude.{◌≡◌, ◌≤◌, ◌<◌, IfOk, length};
 ghost use Rattle.js_link_wire.specs.Lines.{Gives};
@@ -12,19 +12,19 @@ use crate::message::{headered_message_of, message_of};
 use js_base::OutOfMemory;
 use std::alloc::Global;
 
-/// What bytes begin with.
+/// What some bytes begin with.
 #[derive(Debug, Drop)]
 pub enum Reading {
-    /// With less than a whole frame: read again when more bytes have come.
+    /// Less than a whole frame. Read again when more bytes have come.
     More,
-    /// With a frame.
+    /// A frame.
     Whole {
-        /// What the server says.
+        /// The frame that the server sent.
         frame: ServerFrame,
-        /// How many bytes of the front it has. At least one.
+        /// The number of bytes of the frame, at the front of the bytes. At least one.
         length: usize,
     },
-    /// With no frame, whatever follows.
+    /// Not a frame, whatever follows.
     Damaged(Damage),
 }
 
@@ -85,9 +85,9 @@ fn first_frame(bytes: &[u8], most: u64) -> Result<(View<'_>, usize), Unread>
     Ok((frame, line.len() + 1 + more))
 }
 
-/// Reads the first frame of some bytes. A message's body, headers and payload together, has at most `most` bytes: the
-/// `max_payload` that the server told in its INFO. What follows the frame does not matter. The only error is
-/// [`OutOfMemory`]; the same bytes can then be read again.
+/// Reads the first frame of some bytes. A message's body, which is its headers and payload together,
+/// has at most `most` bytes: the `max_payload` that the server told in its INFO. What follows the
+/// frame does not matter. Fails only with [`OutOfMemory`]; you can then read the same bytes again.
 #[tactic(auto, unfolding(crate::specs::Reading::read))]
 pub fn read_frame(alloc: Global, bytes: &[u8], most: u64) -> Result<Reading, OutOfMemory>
     ensures value { IfOk result (λ reading. reading ≡ read most bytes.now) }

@@ -10,10 +10,10 @@ use crate::frame::ClientFrame;
 use js_base::{HeaderMap, Subject, Text, is_valid_subject};
 use std::{error, fmt};
 
-/// Why a frame was not written. Nothing is appended then.
+/// Why a frame was not written. Nothing was appended then.
 #[derive(Clone, Copy, Debug, PartialEq, Eq)]
 pub enum WriteError {
-    /// A carriage return or a line feed stands in what the client says of itself.
+    /// The JSON object of CONNECT contains a carriage return or a line feed.
     BadConnect,
     /// The subject is empty, has ASCII white space, or begins or ends with a dot.
     BadSubject,
@@ -21,7 +21,8 @@ pub enum WriteError {
     BadQueueGroup,
     /// The reply subject is empty, has ASCII white space, or begins or ends with a dot.
     BadReply,
-    /// The headers are not sendable: [`HeaderMap::is_sendable`](js_base::HeaderMap::is_sendable) says which are.
+    /// The headers are not sendable, as [`HeaderMap::is_sendable`](js_base::HeaderMap::is_sendable)
+    /// defines it.
     BadHeaders,
     /// Memory ran out.
     OutOfMemory,

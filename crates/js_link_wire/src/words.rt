@@ -1,4 +1,4 @@
-//! The words of a line, which stand between its blanks.
+//! The words of a line, which blanks separate.
 
 ghost use Rattle.std.specs.Prelude.{◌≡◌, ◌<◌, ◌∷◌, length, [], MatchOption};
 ghost use Rattle.std.specs.Option.{option_copied};
@@ -6,8 +6,8 @@ ghost use Rattle.js_link_wire.specs.Words.{words, words_left, parts, parts_left}
 
 use std::marker::Model;
 
-/// The words of a text one by one. Blanks before, between and behind them do not count. Contracts see the list of those
-/// that are left.
+/// The words of a text, one by one. Blanks before, between and after them do not count. Contracts
+/// see the list of the words that are left.
 #[derive(Drop)]
 pub(crate) struct Words<'a> {
     rest: Option<&'a str>,
@@ -24,14 +24,14 @@ impl<'a> Model for Words<'a> {
 }
 
 impl<'a> Words<'a> {
-    /// The words of a text.
+    /// Returns the words of a text.
     pub fn new(text: &'a str) -> Words<'a>
         ensures { result ≡ words text.now }
     {
         Words { rest: Some(text) }
     }
 
-    /// The next word, which is then gone, or none where none is left.
+    /// Removes and returns the next word, or returns `None` if no word is left.
     pub fn next(&mut self) -> Option<&'a str>
         ensures { MatchOption result (self.old ≡ []) (λ word. self.old ≡ word.now ∷ self.new) }
     {

@@ -1,4 +1,4 @@
-//! Frames of a client are appended to bytes: whole, or not at all.
+//! Appends frames of a client to bytes: whole, or not at all.
 
 ghost use Rattle.std.specs.Prelude.{◌≡◌, ◌++◌, OnOk, OnErr, IfErr, None};
 ghost use Rattle.js_link_wire.specs.declared.frame.ClientFrame.TheVariants.{Connect, Subscribe, Unsubscribe, Publish, HeaderedPublish};
@@ -155,12 +155,14 @@ fn put(alloc: Global, out: &mut Vec<u8>, frame: &ClientFrame) -> Result<(), Allo
     }
 }
 
-/// Appends a frame's text to some bytes, or leaves them as they were. No text of the frame can end its line or bring another
-/// one: what could is refused. The lengths in the line of a message are those of its headers and its payload.
+/// Appends a frame's text to some bytes. If it fails, the bytes are unchanged. It refuses any text
+/// of the frame that could end its line or add another one. It computes the lengths in the line of a
+/// message from its headers and its payload.
 ///
 /// # Errors
 ///
-/// The first thing in the frame that is refused, as each [`WriteError`] says, and else want of memory.
+/// The [`WriteError`] of the first part of the frame that is refused, and
+/// [`WriteError::OutOfMemory`] if memory runs out.
 pub fn write_frame(alloc: Global, out: &mut Vec<u8>, frame: &ClientFrame) -> Result<(), WriteError>
     ensures ok { OnOk result (out.new.items ≡ out.old.items ++ written frame.now) }
     ensures allowed { OnOk result (refusal frame.now ≡ None) }

@@ -1,4 +1,4 @@
-//! The events of a consumer that reads a mirror as if it were the stream: the arrivals of its entries.
+//! Turns the entries of a mirror into the events that a consumer of the stream would receive.
 
 ghost use Rattle.std.specs.Prelude.{◌≡◌, ◌<◌, ◌^◌, IfOk, OnOk, IsTrue, string_bytes};
 ghost use Rattle.js_codes.specs.Name.{is_name};
@@ -12,13 +12,14 @@ use js_base::{Boxed, Entry, Message, OutOfMemory, Subject, TryClone};
 use js_ordered_table::{Event, EventKind};
 use std::alloc::{AllocError, Global};
 
-/// The acknowledgement subject, in the short form, of a stream's message with this sequence that a consumer is sent as its
-/// message with this number: sent once, stored at the moment 0, with none behind it. The names are taken as they are: where
-/// one has a dot, the subject says something else.
+/// Returns the acknowledgement subject, in the short form, of a message: `sequence` is its sequence
+/// in the stream, `number` its sequence at the consumer. The subject says that the message was
+/// delivered once and stored at time 0, with none pending after it. The names are copied unchecked:
+/// if one contains a dot, the subject means something else.
 ///
 /// # Errors
 ///
-/// Want of memory.
+/// Fails with `AllocError` if memory runs out.
 pub fn ack_subject(
     alloc: Global,
     stream: &str,
@@ -93,19 +94,21 @@ fn arrivals(
 }
 
 impl Mirror {
-    /// What a consumer with this name is told of a stream with this name that has the mirror's entries: the kth event, from 1,
-    /// is an arrival at the moment k on inbox 0 that brings the kth entry, with the entry's sequence and the number k in its
-    /// reply. Both are valid names.
+    /// Returns the events that a consumer called `name` receives from a stream called `stream` that
+    /// holds the mirror's entries. The kth event (from 1) is an arrival at moment k on inbox 0. It
+    /// brings the kth entry, with the entry's sequence and the number k in its reply. Both names
+    /// have to be valid.
     ///
-    /// Each ordered pull consumer with good settings that replays the events from the start 0 hands out the mirror's entries,
-    /// in order, without an error item and without a recreation; or memory runs out. Where the mirror is that of a run in which
-    /// a server was honest, the events are honest for the same log and the same removed messages, to a consumer that has the
-    /// same filters and is configured to start where the mirror does. So whoever reads a mirror has of the first log what a
-    /// reader of the stream has: no gap but where a message was removed.
+    /// If an ordered pull consumer with good settings replays the events from start 0, it hands out
+    /// the mirror's entries, in order, without an error item and without a recreation, unless
+    /// memory runs out. If the mirror is that of a run with an honest server, the events are honest
+    /// for the same log and the same removed messages, for a consumer that has the same filters and
+    /// is configured to start where the mirror does. So reading a mirror shows as much of the
+    /// original log as reading the stream: the only gaps are removed messages.
     ///
     /// # Errors
     ///
-    /// Want of memory.
+    /// Fails only with `OutOfMemory`.
     pub fn relay(&self, alloc: Global, stream: &str, name: &str) -> Result<Vec<Event>, OutOfMemory>
         requires stream { IsTrue (is_name stream.now) }
         requires name { IsTrue (is_name name.now) }

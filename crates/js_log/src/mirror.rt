@@ -1,4 +1,5 @@
-//! A local copy of a stream from a start on: each sequence up to the last entry is that of an entry, or a hole.
+//! A local copy of a stream from a start on: each sequence up to the last entry has an entry or is
+//! a hole.
 
 ghost use Rattle.std.specs.Prelude.{◌≡◌, ◌<◌, ◌++◌, [], ◌∷◌, take, IfOk, OnOk, OnErr};
 ghost use Rattle.js_log.specs.Mirror.{IsMirror, last_sequence, at_or_past, slot as standing_at};
@@ -19,8 +20,8 @@ pub use slot::Slot;
 use std::alloc::Global;
 use std::marker::Model;
 
-/// A local copy of a stream from a start on. Each sequence from the start up to the last entry is that of an entry, or a
-/// hole. Contracts see the start and the list of the entries.
+/// A local copy of a stream from a start on. Each sequence from the start up to the last entry has
+/// an entry or is a hole. Contracts see the start and the list of the entries.
 #[derive(Debug, Drop)]
 pub struct Mirror {
     start: u64,
@@ -39,7 +40,8 @@ impl Model for Mirror {
 }
 
 impl Mirror {
-    /// No entries, which takes no memory. The start, the least sequence that an entry may have, is above 0.
+    /// Creates a mirror without entries. `start` is the least sequence that an entry may have and
+    /// has to be above 0. Allocates nothing.
     pub fn new(alloc: Global, start: u64) -> Mirror
         requires { 0 < start }
         ensures { result ≡ record { start = start; entries = [] } }
@@ -50,7 +52,7 @@ impl Mirror {
         }
     }
 
-    /// The least sequence that an entry may have. It takes no memory.
+    /// Returns the least sequence that an entry may have. Allocates nothing.
     pub fn start(&self) -> u64
         ensures start { result ≡ self.now.start }
         ensures mirror { IsMirror self.now }
@@ -58,7 +60,8 @@ impl Mirror {
         self.start
     }
 
-    /// The sequence of the last entry, and the start less one where there is none. It takes no memory.
+    /// Returns the sequence of the last entry, or the start minus one if the mirror is empty.
+    /// Allocates nothing.
     pub fn last(&self) -> u64
         ensures { result ≡ last_sequence self.now }
     {
@@ -68,7 +71,7 @@ impl Mirror {
         }
     }
 
-    /// The entries, in the order of their sequences. It takes no memory.
+    /// Returns the entries, in the order of their sequences. Allocates nothing.
     pub fn entries(&self) -> &[Entry]
         ensures entries { result.now ≡ self.now.entries }
         ensures mirror { IsMirror self.now }
@@ -76,10 +79,11 @@ impl Mirror {
         &self.entries
     }
 
-    /// Adds an entry behind all others.
+    /// Adds an entry after all others.
     ///
-    /// `NotRising`, which carries the last sequence, comes exactly where the entry's sequence is at or below that one, as
-    /// `last` tells it. The other refusal is want of memory. After a refusal, which drops the entry, nothing has changed.
+    /// Fails with `NotRising`, which carries the last sequence (see `last`), exactly if the entry's
+    /// sequence is not above it. Otherwise fails only with `OutOfMemory`. If it fails, the entry is
+    /// dropped and nothing changes.
     pub fn push(&mut self, entry: Entry) -> Result<(), MirrorError>
         ensures pushed { OnOk result (self.new ≡ record self.old { entries = self.old.entries ++ entry ∷ [] }) }
         ensures refused { OnErr result (self.new ≡ self.old) }
@@ -94,7 +98,8 @@ impl Mirror {
         Ok(())
     }
 
-    /// What stands at a sequence. It takes no memory, and a time that grows with the logarithm of the number of entries.
+    /// Returns what stands at a sequence. Allocates nothing. The time grows with the logarithm of
+    /// the number of entries.
     #[tactic(auto, using(std::proofs::lemmas::Grind::common_steps, crate::proofs::MirrorStandings::is_before, crate::proofs::MirrorStandings::is_beyond, crate::proofs::MirrorStandings::is_held))]
     pub fn get(&self, sequence: u64) -> Slot<'_>
         ensures { shown result ≡ standing_at self.now sequence }
@@ -111,8 +116,8 @@ impl Mirror {
         }
     }
 
-    /// The longest ranges of holes, by the first and the last sequence of each, in order. It goes once over the entries,
-    /// however many holes there are. The one refusal is want of memory.
+    /// Returns the longest ranges of holes, each as its first and last sequence, in order. Goes
+    /// over the entries once, however many holes there are. Fails only with `OutOfMemory`.
     pub fn holes(&self) -> Result<Vec<(u64, u64)>, OutOfMemory>
         ensures { IfOk result (λ ranges. AreHoles self.now ranges.items) }
     {
@@ -127,12 +132,13 @@ impl Mirror {
         Ok(ranges)
     }
 
-    /// Joins another mirror of the same stream, which stays as it is. It goes once over the entries of both, and copies
-    /// those that it lacks.
+    /// Merges another mirror of the same stream into this one. The other one stays unchanged. Goes
+    /// over the entries of both once and copies those that this one lacks.
     ///
-    /// `StartDiffers`, which carries both starts, comes exactly where the starts differ. Otherwise `Conflict`, which carries
-    /// the least sequence at which both have an entry and not the same, comes exactly where there is one. The other refusal
-    /// is want of memory, which stands for neither. After a refusal nothing has changed.
+    /// Fails with `StartDiffers`, which carries both starts, exactly if the starts differ.
+    /// Otherwise fails with `Conflict` exactly if both have different entries at one sequence; it
+    /// carries the least such sequence. `OutOfMemory` says nothing about either. If it fails,
+    /// nothing changes.
     pub fn merge(&mut self, other: &Mirror) -> Result<(), MirrorError>
         ensures merged { OnOk result (IsMerged self.old other.now self.new) }
         ensures refused { OnErr result (self.new ≡ self.old) }
@@ -150,7 +156,8 @@ impl Mirror {
         check(self.start, &self.entries, other.start, &other.entries)
     }
 
-    /// Copies of the first entries at or past a sequence, at most so many. The one refusal is want of memory.
+    /// Returns copies of the first entries at or after the sequence `from`, at most `count`. Fails
+    /// only with `OutOfMemory`.
     pub fn serve(&self, from: u64, count: u64) -> Result<Vec<Entry>, OutOfMemory>
         ensures { IfOk result (λ entries. entries.items ≡ take count (at_or_past from self.now.entries)) }
     {

@@ -19,9 +19,9 @@ use std::alloc::Global;
 use std::collections::BTreeMap;
 use std::marker::Model;
 
-/// The last entry of each subject, as users of a key-value stream keep it: an entry whose payload is empty deletes its
-/// subject. All applied entries are kept, so that the table can be asked as it was at each earlier sequence. Contracts see
-/// the list of the applied entries.
+/// A table of the last entry of each subject, as a key-value bucket keeps it. An entry with an
+/// empty payload deletes its subject. All applied entries are kept, so you can read the table as it
+/// was at any earlier sequence. Contracts see the list of the applied entries.
 #[derive(Debug, Drop)]
 pub struct Projection {
     entries: Vec<Entry>,
@@ -42,7 +42,7 @@ impl Model for Projection {
 }
 
 impl Projection {
-    /// No entries, which takes no memory.
+    /// Creates a projection without entries. Allocates nothing.
     pub fn new(alloc: Global) -> Projection
         ensures { result ≡ [] }
     {
@@ -52,11 +52,12 @@ impl Projection {
         }
     }
 
-    /// Adds an entry after all others. It becomes its subject's value, or deletes its subject where its payload is empty.
+    /// Adds an entry after all others. It becomes its subject's value, or deletes its subject if
+    /// its payload is empty.
     ///
-    /// `NotRising`, which carries the sequence applied last, comes exactly where the entry's sequence is at or below that
-    /// one, which is 0 at the start. The other refusal is want of memory. After a refusal, which drops the entry, nothing
-    /// has changed.
+    /// Fails with `NotRising`, which carries the sequence applied last (0 at the start), exactly if
+    /// the entry's sequence is not above it. Otherwise fails only with `OutOfMemory`. If it fails,
+    /// the entry is dropped and nothing changes.
     pub fn apply(&mut self, entry: Entry) -> Result<(), ApplyError>
         ensures applied { OnOk result (self.new ≡ self.old ++ entry ∷ []) }
         ensures refused { OnErr result (self.new ≡ self.old) }
@@ -73,7 +74,7 @@ impl Projection {
         Ok(())
     }
 
-    /// The sequence applied last, 0 where nothing was applied. It takes no memory.
+    /// Returns the sequence applied last, or 0 if nothing was applied. Allocates nothing.
     pub fn last(&self) -> u64
         ensures sequence { result ≡ last_sequence self.now }
         ensures rising { RisesAbove 0 self.now }
@@ -81,8 +82,9 @@ impl Projection {
         last_sequence(&self.entries)
     }
 
-    /// The last entry of a subject, and none where there is none or where its payload is empty. It takes no memory, and a
-    /// time that grows with the logarithm of the number of subjects.
+    /// Returns the last entry of a subject, or `None` if the subject has no entry or the last one
+    /// has an empty payload. Allocates nothing. The time grows with the logarithm of the number of
+    /// subjects.
     pub fn get(&self, subject: &str) -> Option<&Entry>
         ensures { option_copied result ≡ value_of subject.now self.now }
     {
@@ -90,8 +92,8 @@ impl Projection {
         present_at(&self.entries, *place)
     }
 
-    /// Copies of the table's entries whose subject a filter matches, in the byte order of subjects. The filter `>` matches
-    /// each. The one refusal is want of memory.
+    /// Returns copies of the table's entries whose subject matches a filter, in the byte order of
+    /// subjects. The filter `>` matches every subject. Fails only with `OutOfMemory`.
     pub fn matching(&self, filter: &str) -> Result<Vec<Entry>, OutOfMemory>
         ensures { IfOk result (λ rows. rows.items ≡ matched filter.now (table self.now)) }
     {
@@ -103,8 +105,8 @@ impl Projection {
         )
     }
 
-    /// What `matching` gave, or would have given, when every entry up to a sequence was applied and none above it. It goes
-    /// once over those entries. The one refusal is want of memory.
+    /// Returns what `matching` would return if exactly the entries up to a sequence had been
+    /// applied. Reads those entries once. Fails only with `OutOfMemory`.
     pub fn at(&self, sequence: u64, filter: &str) -> Result<Vec<Entry>, OutOfMemory>
         ensures { IfOk result (λ rows. rows.items ≡ matched filter.now (table (up_to sequence self.now))) }
     {
@@ -115,7 +117,8 @@ impl Projection {
         rows(alloc, past, &places, filter)
     }
 
-    /// The applied entries above a sequence, in the order of their sequences. It takes no memory.
+    /// Returns the applied entries above a sequence, in the order of their sequences. Allocates
+    /// nothing.
     pub fn changes_after(&self, sequence: u64) -> &[Entry]
         ensures { result.now ≡ after sequence self.now }
     {

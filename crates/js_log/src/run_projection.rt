@@ -17,8 +17,9 @@ use js_ordered_table::{Output, Run};
 use std::alloc::Global;
 use std::marker::Model;
 
-/// The projection of a run whose outputs come one after another. It keeps what was yielded, and nothing else of them.
-/// Contracts see the applied entries, or the refusal of the first yield that does not rise.
+/// The projection of a run whose outputs are passed one after another. It keeps the yielded entries
+/// and nothing else. Contracts see the applied entries, or the error of the first yield that does
+/// not rise.
 #[derive(Drop)]
 pub struct RunProjection {
     so_far: Result<Projection, ApplyError>,
@@ -35,7 +36,7 @@ impl Model for RunProjection {
 }
 
 impl RunProjection {
-    /// Of no outputs, which takes no memory.
+    /// Creates the projection of a run without outputs. Allocates nothing.
     pub fn new(alloc: Global) -> RunProjection
         ensures { result ≡ projected [] }
     {
@@ -68,9 +69,9 @@ impl RunProjection {
 
     /// Applies the yields among the next outputs.
     ///
-    /// Once a yield has not risen above the one before it, no more is applied, and all further outputs are passed over: what
-    /// [`end`](RunProjection::end) answers is settled. The one refusal is want of memory, before which a front of the outputs
-    /// may have been applied.
+    /// After a yield that is not above the one before it, all further outputs are ignored, and
+    /// [`end`](RunProjection::end) returns `NotRising`. Fails only with `OutOfMemory`. Some outputs
+    /// from the front may then have been applied.
     pub fn advance(&mut self, outputs: &[Output]) -> Result<(), OutOfMemory>
         ensures advanced { (before : List declared.Output) → self.old ≡ projected (yielded before)
             → OnOk result (self.new ≡ projected (yielded (before ++ outputs.now))) }
@@ -83,8 +84,8 @@ impl RunProjection {
         Ok(())
     }
 
-    /// The projection of all outputs, or `NotRising`, which comes exactly where a yield's sequence is not above that of the
-    /// one before it and carries the latter. It takes no memory.
+    /// Returns the projection of all outputs. Fails with `NotRising` exactly if a yield's sequence
+    /// is not above the one before it; the error carries that earlier sequence. Allocates nothing.
     pub fn end(self) -> Result<Projection, ApplyError>
         ensures { result ≡ self }
     {
@@ -92,14 +93,16 @@ impl RunProjection {
     }
 }
 
-/// The projection of a run: its yields, applied in order.
+/// Projects a run: applies its yields in order.
 ///
-/// Of an honest server's run it has the table of the server's log: `get` and `matching` answer what they would answer if all
-/// entries had been applied that the filters match, from the configured start up to the last yield, provided that of each
-/// removed one a later entry of its subject up to there was left.
+/// With an honest server, the projection has the table of the server's log: `get` and `matching`
+/// return what they would if all entries that the filters match had been applied, from the
+/// configured start up to the last yield. This holds provided that for each removed entry a later
+/// entry of its subject, up to there, remained.
 ///
-/// `NotRising` comes exactly where the yields do not rise, and carries the sequence before the first that does not. An honest
-/// server's run never meets it. The other refusal is want of memory.
+/// Fails with `NotRising`, which carries the sequence before the first that does not rise, exactly
+/// if the yields do not rise. With an honest server this never happens. Otherwise fails only with
+/// `OutOfMemory`.
 pub fn project(alloc: Global, run: &Run) -> Result<Projection, ApplyError>
     ensures applied { IsProjected (yielded (all_outputs run.now)) result }
     ensures log { (g : ReplayInput) → (start : ℕ) → (es : List events.Event) → run.now ≡ fold g start es

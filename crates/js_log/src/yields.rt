@@ -6,8 +6,8 @@ ghost use Rattle.js_log.specs.RunProjection.{yielded};
 use js_base::{Entry, OutOfMemory, TryClone};
 use js_ordered_table::Output;
 
-/// The entry that an output yields, with copies of its subject and payload, and none where it is no yield. The one refusal
-/// is want of memory.
+/// Returns the entry that an output yields, with copies of its subject and payload, or `None` if
+/// the output is no yield. Fails only with `OutOfMemory`.
 pub fn entry_of(output: &Output) -> Result<Option<Entry>, OutOfMemory>
     ensures { IfOk result (λ entry. option_to_list entry ≡ yielded (output.now ∷ [])) }
 {

@@ -1,4 +1,4 @@
-//! Why sessions are refused.
+//! Why sessions fail.
 
 ghost use Rattle.std.specs.Prelude.{◌≡◌, Some};
 ghost use Rattle.js_log_sessions.specs.Error.{error_text, field_text};
@@ -8,26 +8,28 @@ use js_ordered::{Field, ReplayError};
 use std::alloc::AllocError;
 use std::{error, fmt};
 
-/// Why sessions are refused. Sessions are counted from 1 and looked at in their order, each by these tests in this order; want of memory may come
-/// before or after any of them.
+/// Why sessions fail. Sessions are counted from 1 and checked in order, each by these tests in this
+/// order. `OutOfMemory` may come before or after any of them.
 #[derive(Clone, Copy, Debug, PartialEq, Eq)]
 pub enum SessionsError {
-    /// The session's configured start is none, or not the bookmark.
+    /// The session has no configured start, or one that is not the bookmark.
     WrongStart {
         session: u64,
-        /// The bookmark at which it has to start.
+        /// The bookmark at which the session has to start.
         next: u64,
     },
-    /// The session filters by other subjects than the first one, or its first info names another stream.
+    /// The session filters by other subjects than the first one, or its first info names another
+    /// stream.
     WrongFilter {
         session: u64,
     },
-    /// The session's replay is refused, for want of memory excepted.
+    /// The session's replay failed for a reason other than memory.
     Replay {
         session: u64,
         error: ReplayError,
     },
-    /// The session has committed a yield of the last of all sequences, after which there is no bookmark.
+    /// The session has committed a yield with the highest possible sequence, after which there is
+    /// no bookmark.
     BookmarkEnd {
         session: u64,
     },

@@ -1,11 +1,13 @@
-//! Sessions of an ordered consumer, of which each starts at the bookmark that the one before it has saved: a program that stops and
-//! starts again, and goes on where it was.
+//! Sessions of an ordered consumer: a program stops, starts again and goes on from the bookmark
+//! that it saved.
 //!
-//! [`Sessions`] and [`SessionReplay`] are told line by line and keep none of the lines. A session takes the sessions before it into
-//! itself and gives them back at its end, so that none begins before the one before it has ended, and a refusal leaves nothing.
-//! [`run_sessions`] runs a whole list. Over one log with honest servers, where what is removed stays removed, the sequences of the
-//! committed messages rise from session to session, and between the first bookmark and the last of these messages nothing is
-//! missing but what was removed.
+//! You pass the lines to [`Sessions`] and [`SessionReplay`] one after another; they keep none of
+//! them. A session takes ownership of the sessions before it and gives them back when it ends, so
+//! no session begins before the previous one has ended. If a session fails, the sessions are
+//! dropped. [`run_sessions`] runs a whole list. Over one log with honest servers, if removed
+//! messages stay removed, the sequences of the committed messages rise from session to session, and
+//! nothing is missing between the first bookmark and the last of these messages except removed
+//! messages.
 #![tactic(auto)]
 
 mod error;

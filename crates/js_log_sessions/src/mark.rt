@@ -8,11 +8,11 @@ use js_base::OutOfMemory;
 use js_ordered::Output;
 use js_ordered_table::next_number;
 
-/// How many yields there were, and the bookmark after them.
+/// The number of yields so far, and the bookmark after them.
 #[derive(Clone, Copy)]
 pub(crate) struct Mark {
     pub(crate) count: u64,
-    /// None once the last of all sequences was yielded.
+    /// `None` once the highest possible sequence was yielded.
     pub(crate) next: Option<u64>,
 }
 
@@ -32,7 +32,7 @@ fn after_yield(before: Option<u64>, sequence: u64) -> Option<u64>
 }
 
 impl Mark {
-    /// Nothing was yielded yet.
+    /// Returns the mark before any yield.
     pub(crate) fn at(next: u64) -> Mark
         ensures { result ≡ mark_of next [] }
     {
@@ -64,7 +64,7 @@ impl Mark {
         }
     }
 
-    /// After these outputs too.
+    /// Returns the mark after these outputs too.
     pub(crate) fn after(self, outputs: &[Output]) -> Result<Mark, OutOfMemory>
         ensures { (next : ℕ) → (entries : List Entry) → self ≡ mark_of next entries
             → IfOk result (λ mark. mark ≡ mark_of next (entries ++ yields outputs.now)) }

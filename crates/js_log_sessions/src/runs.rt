@@ -1,4 +1,4 @@
-//! Sessions that are run one after another, each from the bookmark of the one before it.
+//! Runs sessions one after another, each from the bookmark of the one before it.
 
 ghost use Rattle.std.specs.Prelude.{◌≡◌, ℕ, List, [], ◌∷◌, ◌++◌, IfOk, OnOk};
 ghost use Rattle.js_ordered_table.specs.Gapless.{Logged, Server};
@@ -200,27 +200,35 @@ fn run_session(
 
 // ---- all sessions
 
-/// What sessions of one ordered consumer come to, one after the other. A session may stop anywhere; the next one starts at the last saved bookmark.
+/// Runs the sessions of one ordered consumer, one after another. A session may stop anywhere; the
+/// next one starts at the last saved bookmark.
 ///
-/// The first session starts at the bookmark `next`, which is above 0 where a session can start at it. What a session yields before its last save is
-/// committed; the bookmark after it is the last committed sequence plus one, or the one before it where nothing is committed. What is yielded after
-/// the last save is not committed, and the next session may yield it again.
+/// The first session starts at the bookmark `next`. No session can start at bookmark 0. Everything
+/// that a session yields before its last save is committed. The bookmark after the session is the
+/// last committed sequence plus one, or the previous bookmark if nothing is committed. What is
+/// yielded after the last save is not committed, and the next session may yield it again.
 ///
-/// Where one log and an honest server for each session are given, and what was removed stays removed, the committed yields of all sessions leave no
-/// gap: in order they rise strictly, each has the subject and the payload of the log's entry, and every entry that the filters select from the first
-/// bookmark to the last committed yield, and that is not committed, was removed. It is not said that an uncommitted yield comes again.
+/// If every session is served from one log by an honest server, and removed messages stay removed,
+/// the committed yields of all sessions leave no gap: their sequences rise strictly, each has the
+/// subject and the payload of the log's entry, and every entry that the filters select from the
+/// first bookmark to the last committed yield is either committed or was removed. Nothing
+/// guarantees that an uncommitted yield comes again.
 ///
 /// # Errors
 ///
-/// The first of these that applies, where sessions are counted from 1 and each is looked at, in this order, before the next one:
+/// Fails with the first of these that applies. Sessions are counted from 1, and each is checked in
+/// this order before the next one:
 ///
-/// - `WrongStart`: its configured start is none, or not the bookmark, which the error carries.
-/// - `WrongFilter`: it filters by another list of subjects than session 1, or its first info names another stream. A filter subject that is not
-///   empty stands before the filter subjects.
-/// - `Replay`: its replay is refused. The places of events count no saves.
-/// - `BookmarkEnd`: it has committed a yield with the last of all sequences.
+/// - `WrongStart`: its configured start is missing or is not the bookmark. The error carries the
+///   bookmark.
+/// - `WrongFilter`: its list of filter subjects differs from that of session 1, or its first info
+///   names another stream. A non-empty filter subject counts as standing before the filter
+///   subjects.
+/// - `Replay`: its replay fails. The error's event positions do not count saves.
+/// - `BookmarkEnd`: it has committed a yield with the highest possible sequence.
 ///
-/// `OutOfMemory` may come in place of the runs or of any of them. After a refusal no run is handed out.
+/// `OutOfMemory` may come instead of the runs or of any of these errors. If it fails, no run is
+/// returned.
 pub fn run_sessions(
     alloc: Global,
     next: u64,

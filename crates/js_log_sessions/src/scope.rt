@@ -1,4 +1,4 @@
-//! What a session reads: a stream, and the subjects that it filters by. All sessions read the same.
+//! The stream that a session reads and the subjects that it filters by. All sessions read the same.
 
 ghost use Rattle.std.specs.Prelude.{◌≡◌, IfOk};
 ghost use Rattle.js_ordered_table.specs.Texts.{config_of, filters};
@@ -74,8 +74,8 @@ impl Scope {
         }
     }
 
-    /// What the first session reads, where one with this setup, to which the server has told this first, reads the same. None where it reads
-    /// something else.
+    /// Returns what the first session reads if a session with this setup, whose first consumer info
+    /// is `first`, reads the same. Returns `None` if it reads something else.
     pub(crate) fn after(
         alloc: Global,
         before: Option<Scope>,

@@ -1,4 +1,4 @@
-//! Sessions that are replayed line by line, and of which no line is kept.
+//! Sessions that are replayed line by line, without keeping any line.
 
 ghost use Rattle.std.specs.Prelude.{◌≡◌, ℕ, ◌+◌, List, [], IfOk, OnOk, OnErr, IsErr, true};
 ghost use Rattle.js_log_sessions.specs.SessionReplay.{Begins, Ends, HasComeTo, HaveEnded, with_line};
@@ -15,10 +15,11 @@ use js_ordered::{Event, IncrementalReplay, OrderedSetup, Output, ReplayError, Se
 use js_ordered_table::next_number;
 use std::alloc::Global;
 
-/// The sessions that have ended so far, none of which was refused.
+/// The sessions that have ended so far, none of which failed.
 ///
-/// It goes as [`run_sessions`](crate::run_sessions) does, but is told one line after another and keeps none of them: a session begins, is told its
-/// events and saves, and ends. A session that is refused takes the sessions with it.
+/// Works as [`run_sessions`](crate::run_sessions) does, but you pass one line after another and it
+/// keeps none of them: begin a session, pass its events and saves, and end it. A session that fails
+/// drops the sessions with it.
 #[derive(Drop)]
 pub struct Sessions {
     count: u64,
@@ -27,7 +28,7 @@ pub struct Sessions {
     scope: Option<Scope>,
 }
 
-/// A session that has begun, after those that have ended.
+/// A session that has begun and not ended. It owns the sessions before it.
 #[derive(Drop)]
 pub struct SessionReplay<'a> {
     number: u64,
@@ -39,14 +40,14 @@ pub struct SessionReplay<'a> {
     has_failed: bool,
 }
 
-/// What a session has come to at its end.
+/// The result of a session that has ended.
 #[derive(Drop)]
 pub struct SessionEnd {
-    /// The sessions with this one, which tell the bookmark after it.
+    /// All sessions up to this one, with the bookmark after it.
     pub sessions: Sessions,
-    /// The session's consumer has ended.
+    /// Whether the session's consumer has ended.
     pub ended: bool,
-    /// How many of its yields are committed.
+    /// The number of committed yields of this session.
     pub committed: u64,
 }
 
@@ -76,7 +77,7 @@ fn sum_of(before: u64, more: u64) -> Result<u64, OutOfMemory>
 }
 
 impl Sessions {
-    /// No sessions yet. The first one has to start at the bookmark `next`.
+    /// Returns a value with no sessions yet. The first one has to start at the bookmark `next`.
     pub fn new(next: u64) -> Sessions
         ensures { HaveEnded next [] result }
     {
@@ -88,33 +89,33 @@ impl Sessions {
         }
     }
 
-    /// How many sessions have ended.
+    /// Returns how many sessions have ended.
     pub fn count(&self) -> u64
         ensures { result ≡ self.now.count }
     {
         self.count
     }
 
-    /// The bookmark: the sequence at which the next session has to start.
+    /// Returns the bookmark: the sequence at which the next session has to start.
     pub fn next(&self) -> u64
         ensures { result ≡ self.now.next }
     {
         self.next
     }
 
-    /// How many yields of all sessions are committed.
+    /// Returns how many yields of all sessions are committed.
     pub fn committed(&self) -> u64
         ensures { result ≡ self.now.committed }
     {
         self.committed
     }
 
-    /// The next session begins, with its opening. The arguments are those of its replay.
+    /// Begins the next session with its opening. The arguments are those of its replay.
     ///
     /// # Errors
     ///
-    /// `WrongStart`, then `WrongFilter`, as `run_sessions` answers them; or want of memory, also where the number of the session would go
-    /// past a `u64`.
+    /// Fails with `WrongStart`, then `WrongFilter`, as `run_sessions` does. Fails with
+    /// `OutOfMemory` if memory runs out or the session's number would exceed a `u64`.
     pub fn begin<'a>(
         self,
         alloc: Global,
@@ -170,8 +171,9 @@ impl<'a> SessionReplay<'a> {
     ///
     /// # Errors
     ///
-    /// Want of memory, also where the number of the session's events or yields would go past a `u64`. Once an event was refused, so is
-    /// each later one, and so is the [`end`](SessionReplay::end).
+    /// Fails with `OutOfMemory` if memory runs out or the number of the session's events or yields
+    /// would exceed a `u64`. After that, every later event fails too, and so does
+    /// [`end`](SessionReplay::end).
     pub fn advance(&mut self, alloc: Global, event: &Event) -> Result<(), OutOfMemory>
         ensures passed { (next : ℕ) → (done : List Session) → (s : Session) → HasComeTo next done s self.old
             → OnOk result (HasComeTo next done (with_line s (line.Event event.now)) self.new) }
@@ -188,7 +190,7 @@ impl<'a> SessionReplay<'a> {
         Ok(())
     }
 
-    /// Commits what was yielded so far. It takes no memory.
+    /// Commits everything yielded so far. Allocates nothing.
     pub fn save(&mut self)
         ensures { (next : ℕ) → (done : List Session) → (s : Session) → HasComeTo next done s self.old
             → HasComeTo next done (with_line s line.Save) self.new }
@@ -196,26 +198,28 @@ impl<'a> SessionReplay<'a> {
         self.saved = self.yielded;
     }
 
-    /// What the last event has put out, or the opening before the first. A save puts out nothing and leaves it.
+    /// Returns the outputs of the last event, or of the opening before the first event. A save does
+    /// not change them.
     pub fn outputs(&self) -> &[Output]
         ensures { result.now ≡ self.now.replay.outputs }
     {
         self.replay.outputs()
     }
 
-    /// The number of events so far, without the saves.
+    /// Returns the number of events so far, without the saves.
     pub fn count(&self) -> u64
         ensures { result ≡ self.now.replay.count }
     {
         self.replay.count()
     }
 
-    /// The session ends: what it has come to, and all sessions with it.
+    /// Ends the session and returns its result, together with all sessions.
     ///
     /// # Errors
     ///
-    /// `Replay`, then `BookmarkEnd`, as `run_sessions` answers them; or want of memory, as after an event that was refused, and where the number
-    /// of all committed yields would go past a `u64`.
+    /// Fails with `Replay`, then `BookmarkEnd`, as `run_sessions` does. Fails with `OutOfMemory` if
+    /// memory runs out, if an earlier event failed, or if the number of all committed yields would
+    /// exceed a `u64`.
     pub fn end(self) -> Result<SessionEnd, SessionsError>
         ensures ended { (next : ℕ) → (done : List Session) → (s : Session) → HasComeTo next done s self.entry → Ends next done s result }
         ensures failed { self.entry.has_failed ≡ true → result ≡ Err SessionsError.OutOfMemory }

@@ -1,4 +1,4 @@
-//! What a consumer says of a message, and the bodies that say so.
+//! The kinds of acknowledgement, and the bodies that a consumer sends for them.
 ghost use Rattle.std.specs.Prelude.{◌≡◌, ◌++◌, codes, IfOk, string_bytes};
 ghost use Rattle.std.specs.Fmt.{decimal};
 ghost use Rattle.js_message.specs.Acknowledgement.{ack_body, delay_body};
@@ -7,23 +7,23 @@ use bytes::Bytes;
 use js_base::{Nanos, OutOfMemory};
 use std::alloc::Global;
 
-/// What a consumer says of a message (ADR-15).
+/// An acknowledgement kind: what a consumer tells the server about a message (ADR-15).
 #[derive(Clone, Copy, Debug, PartialEq, Eq)]
 pub enum AckKind {
     /// The message was handled.
     Ack,
-    /// It was not, and is to come again: at once, or after this many nanoseconds.
+    /// The message was not handled. Deliver it again: at once, or after this many nanoseconds.
     Nak(Option<Nanos>),
-    /// It is still being handled: its acknowledgement wait begins anew.
+    /// The message is still being handled. Its acknowledgement wait starts again.
     Progress,
-    /// It was handled, and the next one may come.
+    /// The message was handled, and the next one may come.
     Next,
-    /// It was not handled, and is not to come again.
+    /// The message was not handled. Do not deliver it again.
     Term,
 }
 
 impl AckKind {
-    /// The body that says so.
+    /// Returns the body of this acknowledgement. Fails with `OutOfMemory` if memory runs out.
     pub fn to_bytes(self, alloc: Global) -> Result<Bytes, OutOfMemory>
         ensures { IfOk result (λ body. body ≡ ack_body self) }
     {

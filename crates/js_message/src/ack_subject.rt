@@ -118,13 +118,17 @@ fn read_tokens(text: &str) -> Result<Info<'_>, InfoError>
     }
 }
 
-/// What a text says as the acknowledgement subject of a message (ADR-15).
+/// Parses the acknowledgement subject of a message (ADR-15). It allocates nothing.
 ///
-/// The text begins with `$JS.ACK.`, else `Prefix`; the rest is cut at every dot. Seven tokens are the stream, the
-/// consumer, how often the message was delivered, its stream sequence, its consumer number, the nanoseconds since 1970
-/// at which it was stored, and what is pending. Nine and more are the domain (`_` is none), the account's hash and those
-/// seven; a tenth is kept, and later ones are passed over. Another number of tokens is `TokenCount`. The tokens are read from
-/// left to right, and the first bad one decides: `Number` with its place, or `Instant`. It takes no memory.
+/// The text begins with `$JS.ACK.`, and the rest is cut at every dot. Seven tokens are the stream,
+/// the consumer, how often the message was delivered, its stream sequence, its consumer sequence,
+/// when it was stored in nanoseconds since 1970, and how many messages are pending. Nine or more
+/// tokens are the domain (`_` for none), the account's hash and those seven; a tenth is kept, and
+/// later ones are ignored.
+///
+/// Fails with `Prefix` if the text does not begin with `$JS.ACK.`, and with `TokenCount` for any
+/// other number of tokens. The tokens are read from left to right, and the first bad one decides:
+/// `Number` with its place, or `Instant`.
 pub fn parse_info(reply: &str) -> Result<Info<'_>, InfoError>
     ensures { shown_result result ≡ ack reply.now }
 {

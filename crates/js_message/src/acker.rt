@@ -1,4 +1,4 @@
-//! Acknowledgements: one message to the reply subject of what was received.
+//! Acknowledgements: one message to the reply subject of a received message.
 ghost use Rattle.std.specs.Prelude.{◌≡◌, [], IfOk};
 ghost use Rattle.std.specs.Option.{option_copied};
 ghost use Rattle.js_message.specs.Acknowledgement.{Acks, ack_body, unsent};
@@ -13,11 +13,12 @@ use std::{error, fmt};
 /// Why a message was not acknowledged.
 #[derive(Clone, Copy, Debug, PartialEq, Eq)]
 pub enum AckError {
-    /// The message has no reply subject: it came from no consumer that wants acknowledgements.
+    /// The message has no reply subject: it did not come from a consumer that wants
+    /// acknowledgements.
     NoReply,
     /// The link could not open the inbox or send.
     LinkFailed,
-    /// No answer to a double ack came in time.
+    /// No answer to a double ack came before its timeout.
     TimedOut,
     /// The inbox for the answer to a double ack was closed.
     SubscriptionDropped,
@@ -81,7 +82,7 @@ pub(crate) fn acknowledge_with<L: Link>(
     }
 }
 
-/// What is needed to acknowledge a message, without the message. `Message::split` gives one.
+/// Acknowledges a message without holding it. `Message::split` returns one.
 #[derive(Debug, PartialEq, Eq, Drop)]
 pub struct Acker {
     timeout: Nanos,
@@ -91,25 +92,26 @@ pub struct Acker {
 impl Acker {
     ghost use Rattle.js_message.specs.Acker.{acker, timeout_of, reply_of};
 
-    /// What acknowledges to a reply subject. A double ack waits `timeout` nanoseconds for its answer, from its first poll on.
+    /// Creates an acker for a reply subject. A double ack waits `timeout` nanoseconds for its
+    /// answer, counted from its first poll.
     pub fn new(timeout: Nanos, reply: Option<Subject>) -> Acker
         ensures { result ≡ acker timeout reply }
     {
         Acker { timeout, reply }
     }
 
-    /// Says that the message was handled, by an empty body to its reply subject (ADR-15). Nothing tells whether the server
-    /// took it in: `double_ack` waits for that.
+    /// Tells the server that the message was handled, by an empty body to its reply subject
+    /// (ADR-15). You do not learn whether the server received it; use `double_ack` to wait for that.
     ///
-    /// `NoReply` comes where there is no reply subject, `LinkFailed` where the link could not send, and `OutOfMemory` where
-    /// memory ran out. Nothing was sent then.
+    /// Fails with `NoReply` if there is no reply subject, with `LinkFailed` if the link could not
+    /// send, and with `OutOfMemory` if memory runs out. Nothing was sent then.
     pub fn ack<L: Link>(&self, alloc: Global, link: &mut L) -> Result<(), AckError>
         ensures { Acks (reply_of self.now) [] result (L.view link.old) (L.view link.new) }
     {
         acknowledge(alloc, link, self.reply.as_ref(), &[])
     }
 
-    /// Says what became of the message, by the body of the kind. The errors are those of `ack`.
+    /// Tells the server what became of the message, by the body of `kind`. Fails as `ack` does.
     pub fn ack_with<L: Link>(
         &self,
         alloc: Global,
@@ -121,20 +123,23 @@ impl Acker {
         acknowledge_with(alloc, link, self.reply.as_ref(), kind)
     }
 
-    /// Says that the message was handled, and waits for the server's answer: a state to be polled, which has sent nothing yet.
+    /// Creates a call that tells the server that the message was handled, and waits for its answer.
+    /// Poll it: nothing has been sent yet. Fails with `OutOfMemory` if memory runs out.
     ///
-    /// Whatever comes on its inbox counts as the answer, so it may be Ok where the server has not taken the ack in: a link
-    /// whose server tells that nobody listens, as after the consumer was deleted, answers by a message of status 503.
+    /// Any message on its inbox counts as the answer, so it may return `Ok` although the server did
+    /// not accept the ack: if nobody listens, for example after the consumer was deleted, a link
+    /// whose server reports this answers with a message of status 503.
     pub fn double_ack(&self, alloc: Global) -> Result<DoubleAck, OutOfMemory>
         ensures { IfOk result (λ call. call ≡ unsent (timeout_of self.now) (reply_of self.now) (ack_body AckKind.Ack)) }
     {
         self.double_ack_with(alloc, AckKind::Ack)
     }
 
-    /// Says what became of the message, and waits for the server's answer, as `double_ack` does.
+    /// Creates a call that tells the server what became of the message, and waits for its answer, as
+    /// `double_ack` does.
     ///
-    /// With `AckKind::Next` the answer that counts is the next message of the consumer, which comes on the inbox of the double
-    /// ack: it is taken as the answer and given up, so use `ack_with` for that kind.
+    /// Do not use it with `AckKind::Next`: the consumer's next message arrives on the inbox of the
+    /// double ack, is taken as the answer and is lost. Use `ack_with` for that kind.
     pub fn double_ack_with(&self, alloc: Global, kind: AckKind) -> Result<DoubleAck, OutOfMemory>
         ensures { IfOk result (λ call. call ≡ unsent (timeout_of self.now) (reply_of self.now) (ack_body kind)) }
     {

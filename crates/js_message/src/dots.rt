@@ -1,11 +1,12 @@
-//! One pass over the bytes of a text: where its dots stand, and the tokens between them.
+//! One pass over the bytes of a text: the places of its dots, and the tokens between them.
 ghost use Rattle.std.specs.Prelude.{◌≡◌, ℕ, ◌+◌, ◌-◌, ◌<◌, ◌≤◌, ◌^◌, ◌++◌, ◌∷◌, [], List, length, slice_get, slice_index};
 ghost use Rattle.std.specs.Option.{option_copied};
 ghost use Rattle.js_base.specs.Subject.{tokens};
 ghost use Rattle.js_message.specs.AckSubject.{token_at};
 ghost use Rattle.js_message.specs.Dots.{IsScanned, Keeps, dots_of, token_end, token_start};
 
-/// The dots of a text: the places of the first ten, which cut all tokens that are read, and how many there are.
+/// The dots of a text: the places of the first ten, which are enough to cut all tokens that are
+/// read, and how many dots the text has.
 #[derive(Clone, Copy)]
 pub(crate) struct Dots {
     places: [usize; 10],

@@ -1,4 +1,4 @@
-//! Acknowledgements whose answer is waited for, as a state with a poll.
+//! Acknowledgements that wait for the server's answer, as a state that you poll.
 ghost use Rattle.std.specs.Prelude.{◌≡◌, ◌<◌, ◌^◌, ℕ, IfOk};
 ghost use Rattle.std.specs.Option.{option_copied};
 ghost use Rattle.js_message.specs.Acknowledgement.{ack_body, unsent, opened, waiting, PollsOf, OpensAndSends, FailsToOpen, SendsAck, FindsNone, Looks};
@@ -12,7 +12,7 @@ use js_base::{Moment, Nanos, OutOfMemory, Subject, TryClone, Turn, both, due, en
 use js_link::{InboxId, Link, LinkError, Taken};
 use std::alloc::Global;
 
-/// A body that goes to a reply subject, and how long its answer is waited for.
+/// A body to send to a reply subject, and how long to wait for its answer.
 #[derive(Debug, PartialEq, Eq, Drop)]
 pub(crate) struct Outgoing {
     to: Subject,
@@ -32,8 +32,9 @@ pub(crate) enum Stage {
 
 /// An acknowledgement that waits for the server's answer to it.
 ///
-/// One that is dropped before its end leaves its inbox open. Whatever comes on that inbox is the answer: the next message of
-/// the consumer after `AckKind::Next`, which is given up, and a message of status 503 where the consumer was deleted.
+/// Poll it to its end: dropping it earlier leaves its inbox open. Any message on that inbox is the
+/// answer: after `AckKind::Next` that is the consumer's next message, which is lost, and if the
+/// consumer was deleted, a message of status 503.
 #[derive(Debug, PartialEq, Eq, Drop)]
 #[must_use = "its answer comes by polls"]
 pub struct DoubleAck {
@@ -41,7 +42,7 @@ pub struct DoubleAck {
     stage: Stage,
 }
 
-/// What one poll answers.
+/// What one poll returns.
 type Polled = Turn<DoubleAck, Result<(), AckError>>;
 
 // A double ack that has not begun.
@@ -65,14 +66,17 @@ pub(crate) fn double_acknowledge(
 }
 
 impl DoubleAck {
-    /// Goes on with it. The first poll opens an inbox, sends the body with that inbox's subject as its reply, and starts the
-    /// clock; each looks for the answer, and then at the clock. Whatever arrives is the answer. At its end the inbox
-    /// is closed.
+    /// Takes the next step. The first poll opens an inbox, sends the body with that inbox's subject
+    /// as its reply, and starts the clock. Each poll looks for the answer, and then at the clock.
+    /// Any message that arrives is the answer. At its end it closes the inbox.
     ///
-    /// `NoReply` comes where the message has no reply subject, `LinkFailed` where the link could not open the inbox or send,
-    /// `TimedOut` where no answer had come and the timeout is over, and `SubscriptionDropped` where the inbox was closed.
-    /// After `OutOfMemory` an inbox that was opened stays open, and the next poll begins with the send. After `Pending` it may be left
-    /// alone until something lies in its inbox, the inbox is closed, or its `wakes_at` has come: a poll before that changes nothing.
+    /// Fails with `NoReply` if the message has no reply subject, with `LinkFailed` if the link could
+    /// not open the inbox or send, with `TimedOut` if the timeout is over and no answer has come,
+    /// and with `SubscriptionDropped` if the inbox was closed. After `OutOfMemory` an inbox that was
+    /// opened stays open, and the next poll begins with the send.
+    ///
+    /// After `Pending` you may sleep until its inbox has a message, the inbox is closed, or
+    /// `wakes_at` has come. Polling earlier changes nothing.
     pub fn poll<L: Link>(
         self,
         alloc: Global,
@@ -94,8 +98,8 @@ impl DoubleAck {
         }
     }
 
-    /// The moment from which on its timeout is over. None where it is to be polled at once, since it was not sent or has no reply subject,
-    /// or where its timeout would end past `u64::MAX`.
+    /// Returns the moment at which its timeout is over. Returns `None` if you should poll at once,
+    /// because it was not sent or has no reply subject, or if its timeout would end past `u64::MAX`.
     pub fn wakes_at(&self) -> Option<Moment>
         ensures { (now : ℕ) → now < 2 ^ 64 → has_come result now ≡ times_out self.now now }
     {

@@ -1,12 +1,12 @@
-//! What an acknowledgement subject says.
+//! The contents of an acknowledgement subject.
 use jiff::Timestamp;
 
-/// What an acknowledgement subject says. Its texts lie in the subject.
+/// The contents of an acknowledgement subject. Its texts borrow from the subject.
 #[derive(Clone, Debug, Drop)]
 pub struct Info<'a> {
-    /// The domain of the stream, where it has one.
+    /// The domain of the stream, if it has one.
     pub domain: Option<&'a str>,
-    /// The hash of the account, which the long form alone has.
+    /// The hash of the account. Only the long form has it.
     pub acc_hash: Option<&'a str>,
     /// The name of the stream.
     pub stream: &'a str,
@@ -14,7 +14,7 @@ pub struct Info<'a> {
     pub consumer: &'a str,
     /// The message's sequence in its stream.
     pub stream_sequence: u64,
-    /// The number of this delivery by its consumer, from 1 on.
+    /// The number of this delivery by its consumer, counted from 1.
     pub consumer_sequence: u64,
     /// How often the message was delivered.
     pub delivered: i64,
@@ -22,6 +22,6 @@ pub struct Info<'a> {
     pub pending: u64,
     /// When the stream stored the message.
     pub published: Timestamp,
-    /// The tenth token, where there is one.
+    /// The tenth token, if there is one.
     pub token: Option<&'a str>,
 }

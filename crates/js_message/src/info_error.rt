@@ -1,19 +1,19 @@
-//! Why a text is no acknowledgement subject.
+//! Why a text is not an acknowledgement subject.
 ghost use Rattle.std.specs.Prelude.{Some};
 ghost use Rattle.js_message.specs.Texts.{info_text};
 
 use std::{error, fmt};
 
-/// Why a text is no acknowledgement subject.
+/// Why a text is not an acknowledgement subject.
 #[derive(Clone, Copy, Debug, PartialEq, Eq)]
 pub enum InfoError {
     /// It does not begin with `$JS.ACK.`.
     Prefix,
-    /// It has this number of tokens after the prefix: not seven, and fewer than nine.
+    /// It has this number of tokens after the prefix: fewer than nine, and not seven.
     TokenCount { n: u64 },
-    /// The token at this place, counted from 0 after the prefix, is no number of its type.
+    /// The token at this place, counted from 0 after the prefix, is not a number of its type.
     Number { place: u64 },
-    /// The time is outside what an instant holds.
+    /// The time is outside the range of a timestamp.
     Instant,
 }
 

@@ -1,4 +1,5 @@
-//! Messages of a stream: their acknowledgement subjects and their acknowledgement, and messages to be published.
+//! Messages of a stream: their acknowledgement subjects, their acknowledgement, and messages to
+//! publish.
 #![tactic(auto)]
 
 mod ack_kind;

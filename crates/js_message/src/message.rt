@@ -1,4 +1,4 @@
-//! Messages as a consumer delivers them: where they stand in their stream, and their acknowledgement.
+//! Messages as a consumer delivers them: their place in the stream, and their acknowledgement.
 ghost use Rattle.std.specs.Prelude.{◌≡◌, [], IfOk};
 ghost use Rattle.js_message.specs.Acknowledgement.{Acks, ack_body, unsent};
 
@@ -13,12 +13,12 @@ use js_link::Link;
 use std::alloc::Global;
 use std::{error, fmt};
 
-/// Why a message does not tell where it stands in its stream.
+/// Why a message does not tell its place in the stream.
 #[derive(Clone, Copy, Debug, PartialEq, Eq)]
 pub enum MessageInfoError {
     /// It has no reply subject.
     NoReply,
-    /// Its reply subject is no acknowledgement subject, for this reason.
+    /// Its reply subject is not an acknowledgement subject, for this reason.
     Unreadable(InfoError),
 }
 
@@ -52,10 +52,11 @@ pub struct Message {
 impl Message {
     ghost use Rattle.js_message.specs.Message.{info_of, shown_info, without_reply, acker_of};
 
-    /// Where the message stands in its stream, which its reply subject says (`parse_info`). It takes no memory.
+    /// Returns the message's place in its stream, read from its reply subject by `parse_info`. It
+    /// allocates nothing.
     ///
-    /// `NoReply` comes where there is no reply subject, and `Unreadable` with the refusal of `parse_info` where it is no
-    /// acknowledgement subject.
+    /// Fails with `NoReply` if there is no reply subject, and with `Unreadable` and the error of
+    /// `parse_info` if it is not an acknowledgement subject.
     pub fn info(&self) -> Result<Info<'_>, MessageInfoError>
         ensures { shown_info result ≡ info_of self.now.message.reply }
     {
@@ -68,7 +69,7 @@ impl Message {
         }
     }
 
-    /// The message without its reply subject, and what acknowledges it.
+    /// Splits it into the message without its reply subject, and an `Acker` that acknowledges it.
     pub fn split(self) -> (js_base::Message, Acker)
         ensures message { result.0 ≡ without_reply self.message }
         ensures acker { result.1 ≡ acker_of self }
@@ -81,18 +82,18 @@ impl Message {
         (message, Acker::new(timeout, reply))
     }
 
-    /// Says that the message was handled, by an empty body to its reply subject (ADR-15). Nothing tells whether the server
-    /// took it in: `double_ack` waits for that.
+    /// Tells the server that the message was handled, by an empty body to its reply subject
+    /// (ADR-15). You do not learn whether the server received it; use `double_ack` to wait for that.
     ///
-    /// `NoReply` comes where there is no reply subject, `LinkFailed` where the link could not send, and `OutOfMemory` where
-    /// memory ran out. Nothing was sent then.
+    /// Fails with `NoReply` if there is no reply subject, with `LinkFailed` if the link could not
+    /// send, and with `OutOfMemory` if memory runs out. Nothing was sent then.
     pub fn ack<L: Link>(&self, alloc: Global, link: &mut L) -> Result<(), AckError>
         ensures { Acks self.now.message.reply [] result (L.view link.old) (L.view link.new) }
     {
         acknowledge(alloc, link, self.message.reply.as_ref(), &[])
     }
 
-    /// Says what became of the message, by the body of the kind. The errors are those of `ack`.
+    /// Tells the server what became of the message, by the body of `kind`. Fails as `ack` does.
     pub fn ack_with<L: Link>(
         &self,
         alloc: Global,
@@ -104,20 +105,23 @@ impl Message {
         acknowledge_with(alloc, link, self.message.reply.as_ref(), kind)
     }
 
-    /// Says that the message was handled, and waits for the server's answer: a state to be polled, which has sent nothing yet.
+    /// Creates a call that tells the server that the message was handled, and waits for its answer.
+    /// Poll it: nothing has been sent yet. Fails with `OutOfMemory` if memory runs out.
     ///
-    /// Whatever comes on its inbox counts as the answer, so it may be Ok where the server has not taken the ack in: a link
-    /// whose server tells that nobody listens, as after the consumer was deleted, answers by a message of status 503.
+    /// Any message on its inbox counts as the answer, so it may return `Ok` although the server did
+    /// not accept the ack: if nobody listens, for example after the consumer was deleted, a link
+    /// whose server reports this answers with a message of status 503.
     pub fn double_ack(&self, alloc: Global) -> Result<DoubleAck, OutOfMemory>
         ensures { IfOk result (λ call. call ≡ unsent self.now.timeout self.now.message.reply (ack_body AckKind.Ack)) }
     {
         self.double_ack_with(alloc, AckKind::Ack)
     }
 
-    /// Says what became of the message, and waits for the server's answer, as `double_ack` does.
+    /// Creates a call that tells the server what became of the message, and waits for its answer, as
+    /// `double_ack` does.
     ///
-    /// With `AckKind::Next` the answer that counts is the next message of the consumer, which comes on the inbox of the double
-    /// ack: it is taken as the answer and given up, so use `ack_with` for that kind.
+    /// Do not use it with `AckKind::Next`: the consumer's next message arrives on the inbox of the
+    /// double ack, is taken as the answer and is lost. Use `ack_with` for that kind.
     pub fn double_ack_with(&self, alloc: Global, kind: AckKind) -> Result<DoubleAck, OutOfMemory>
         ensures { IfOk result (λ call. call ≡ unsent self.now.timeout self.now.message.reply (ack_body kind)) }
     {

@@ -22,7 +22,8 @@ fn read_digits(text: &str) -> Option<u64>
     Some(number)
 }
 
-/// The text as a `u64`: digits, of which there is one at least, after a plus sign or none.
+/// Returns the text as a `u64`: at least one digit, after an optional plus sign. Returns `None` for
+/// any other text and for a number above `u64::MAX`.
 pub fn read_u64(text: &str) -> Option<u64>
     ensures { result ≡ u64_of text.now }
 {

@@ -1,4 +1,4 @@
-//! Messages that are to be published, and the headers that ask the server for more than storing them.
+//! Messages to publish, and the headers that ask the server for more than storing them.
 ghost use Rattle.std.specs.Prelude.{◌≡◌, ◌/◌, codes, IfOk, string_bytes};
 ghost use Rattle.std.specs.Fmt.{decimal};
 
@@ -6,22 +6,22 @@ use bytes::Bytes;
 use js_base::{HeaderMap, Nanos, OutOfMemory, Subject};
 use std::alloc::{AllocError, Global};
 
-/// A message that is to be published to a subject.
+/// A message to publish to a subject.
 #[derive(Debug, PartialEq, Eq, Drop)]
 pub struct OutboundMessage {
-    /// Where it goes.
+    /// The subject to publish to.
     pub subject: Subject,
     /// Its body.
     pub payload: Bytes,
-    /// Its headers, where it has any.
+    /// Its headers, if it has any.
     pub headers: Option<HeaderMap>,
 }
 
 impl OutboundMessage {
     ghost use Rattle.js_message.specs.PublishMessage.{outbound};
 
-    /// A message with this body and these headers to a subject. Nothing is tested here: the publishing call tests the subject and
-    /// the length.
+    /// Creates a message to a subject with this body and these headers. It tests nothing: the
+    /// publishing call tests the subject and the length.
     pub fn new(subject: Subject, payload: Bytes, headers: Option<HeaderMap>) -> OutboundMessage
         ensures { result ≡ outbound subject payload headers }
     {
@@ -33,10 +33,11 @@ impl OutboundMessage {
     }
 }
 
-/// A message that is to be published, with what the server is asked to do with it.
+/// A message to publish, with what you ask the server to do with it.
 ///
-/// Each setter sets one header, whose earlier value goes; one that finds no memory gives the message up. The server refuses
-/// a message whose expectation is not met, with an API error, and stores nothing.
+/// Each setter sets one header and replaces its earlier value. If a setter fails with `OutOfMemory`,
+/// the message is lost. If an expectation is not met, the server refuses the message with an API
+/// error and stores nothing.
 #[derive(Debug, PartialEq, Eq, Drop)]
 pub struct PublishMessage {
     payload: Bytes,
@@ -52,7 +53,7 @@ fn number_text(alloc: Global, number: u64) -> Result<String, AllocError>
 impl PublishMessage {
     ghost use Rattle.js_message.specs.PublishMessage.{empty, with_payload, with_headers, with_header, outgoing};
 
-    /// An empty message with no headers, which takes no memory.
+    /// Creates an empty message without headers. It allocates nothing.
     pub fn build() -> PublishMessage
         ensures { result ≡ empty }
     {
@@ -72,7 +73,7 @@ impl PublishMessage {
         }
     }
 
-    /// Sets all headers: those that were set before go, by whichever setter.
+    /// Sets all headers. It replaces all that were set before, by any setter.
     pub fn headers(self, headers: HeaderMap) -> PublishMessage
         ensures { result ≡ with_headers headers self }
     {
@@ -82,7 +83,8 @@ impl PublishMessage {
         }
     }
 
-    /// Sets the one value of a header: other values of that name go. Names are told apart by case.
+    /// Sets the one value of a header, and removes other values of that name. Names are
+    /// case-sensitive.
     pub fn header(
         self,
         alloc: Global,
@@ -110,15 +112,16 @@ impl PublishMessage {
         self.header(alloc, name, text.as_str())
     }
 
-    /// Sets `Nats-Msg-Id`, the message's name: the server stores one message of a name within the stream's duplicate window, and
-    /// acknowledges the others as duplicates.
+    /// Sets `Nats-Msg-Id`, the message's name. Within the stream's duplicate window the server
+    /// stores one message of a name, and acknowledges the others as duplicates.
     pub fn message_id(self, alloc: Global, id: &str) -> Result<PublishMessage, OutOfMemory>
         ensures { IfOk result (λ message. message ≡ with_header (codes "Nats-Msg-Id") id.now self) }
     {
         self.header(alloc, "Nats-Msg-Id", id)
     }
 
-    /// Sets `Nats-Expected-Last-Msg-Id`: the message is stored only if the stream's last one has this name.
+    /// Sets `Nats-Expected-Last-Msg-Id`: the server stores the message only if the stream's last one
+    /// has this name.
     pub fn expected_last_message_id(
         self,
         alloc: Global,
@@ -129,7 +132,8 @@ impl PublishMessage {
         self.header(alloc, "Nats-Expected-Last-Msg-Id", id)
     }
 
-    /// Sets `Nats-Expected-Last-Sequence`: the message is stored only if the stream's last one has this sequence.
+    /// Sets `Nats-Expected-Last-Sequence`: the server stores the message only if the stream's last
+    /// one has this sequence.
     pub fn expected_last_sequence(
         self,
         alloc: Global,
@@ -140,8 +144,8 @@ impl PublishMessage {
         self.number(alloc, "Nats-Expected-Last-Sequence", sequence)
     }
 
-    /// Sets `Nats-Expected-Last-Subject-Sequence`: the message is stored only if the last one of its subject has this sequence in
-    /// the stream, which is 0 where the subject has none.
+    /// Sets `Nats-Expected-Last-Subject-Sequence`: the server stores the message only if the last
+    /// one of its subject has this sequence in the stream. Use 0 if the subject has none.
     pub fn expected_last_subject_sequence(
         self,
         alloc: Global,
@@ -152,22 +156,24 @@ impl PublishMessage {
         self.number(alloc, "Nats-Expected-Last-Subject-Sequence", sequence)
     }
 
-    /// Sets `Nats-Expected-Stream`: the message is stored only if the stream that takes it has this name.
+    /// Sets `Nats-Expected-Stream`: the server stores the message only if the stream that takes it
+    /// has this name.
     pub fn expected_stream(self, alloc: Global, name: &str) -> Result<PublishMessage, OutOfMemory>
         ensures { IfOk result (λ message. message ≡ with_header (codes "Nats-Expected-Stream") name.now self) }
     {
         self.header(alloc, "Nats-Expected-Stream", name)
     }
 
-    /// Sets `Nats-TTL`, for how many nanoseconds the message is kept (ADR-43). The header has whole seconds, rounded down, so
-    /// less than a second becomes 0. The stream has to allow it.
+    /// Sets `Nats-TTL`: the server keeps the message for this many nanoseconds (ADR-43). The header
+    /// has whole seconds, rounded down, so less than a second becomes 0. The stream has to allow it.
     pub fn ttl(self, alloc: Global, ttl: Nanos) -> Result<PublishMessage, OutOfMemory>
         ensures { IfOk result (λ message. message ≡ with_header (codes "Nats-TTL") (decimal (ttl / 1_000_000_000)) self) }
     {
         self.number(alloc, "Nats-TTL", ttl / 1_000_000_000)
     }
 
-    /// The message, to be published to a subject. `OutOfMemory` comes where memory ran out, and gives the message up.
+    /// Returns the message, to be published to a subject. Fails with `OutOfMemory` if memory runs
+    /// out; the message is then lost.
     pub fn outbound_message(
         self,
         alloc: Global,

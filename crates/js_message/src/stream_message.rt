@@ -1,4 +1,4 @@
-//! Messages as they lie in their stream: what their headers say of that.
+//! Messages as they are stored in a stream, read from their headers.
 ghost use Rattle.std.specs.Prelude.{◌≡◌, MatchResult, Ok};
 ghost use Rattle.std.specs.Option.{option_map};
 ghost use Rattle.js_message.specs.StreamMessage.{IsRefusal, RefusesAs, is_missing, is_unreadable, time_of, plain_fields, fields_in};
@@ -10,26 +10,26 @@ use js_base::{Error, HeaderMap, Message, Source, Subject, Text};
 use std::alloc::Global;
 use std::fmt;
 
-/// A message as it lies in its stream.
+/// A message as it is stored in its stream.
 #[derive(Debug, PartialEq, Eq, Drop)]
 pub struct StreamMessage {
     /// The subject to which it was published, from the header `Nats-Subject`.
     pub subject: Subject,
     /// Its sequence in the stream, from the header `Nats-Sequence`.
     pub sequence: u64,
-    /// All headers that came with it, the three that are read among them.
+    /// All headers that came with it, including the three that are read.
     pub headers: HeaderMap,
     pub payload: Bytes,
     /// When the stream stored it, from the header `Nats-Time-Stamp`.
     pub time: Timestamp,
 }
 
-/// Why a message does not tell how it lies in its stream.
+/// Why a message could not be read as one of a stream.
 #[derive(Clone, Copy, Debug, PartialEq, Eq)]
 pub enum StreamMessageErrorKind {
-    /// It has not that header, or no headers at all.
+    /// It lacks a header, or has no headers at all.
     MissingHeader,
-    /// Its sequence is no `u64`, or its time no instant.
+    /// Its sequence is not a `u64`, or its time is not a timestamp.
     ParseError,
     OutOfMemory,
 }
@@ -49,11 +49,11 @@ impl fmt::Display for StreamMessageErrorKind {
     }
 }
 
-/// Why a message does not tell how it lies in its stream, as an error. Its source is the name of the header that is missing
-/// or does not parse; `OutOfMemory` has no source.
+/// The error of reading a message as one of a stream. Its source is the name of the header that is
+/// missing or does not parse. `OutOfMemory` has no source.
 pub type StreamMessageError = Error<StreamMessageErrorKind>;
 
-/// A header that says how a message lies in its stream.
+/// A header that tells how a message is stored in its stream.
 #[derive(Clone, Copy)]
 enum StreamHeader {
     Sequence,
@@ -75,14 +75,14 @@ impl StreamHeader {
     }
 }
 
-/// A header that tells nothing, and why.
+/// A header that is missing or does not parse.
 #[derive(Clone, Copy)]
 struct HeaderFault {
     kind: StreamMessageErrorKind,
     header: StreamHeader,
 }
 
-/// What the headers say of a message of a stream.
+/// What the headers of a message of a stream say.
 #[derive(Clone, Copy)]
 struct MessageFields<'a> {
     subject: &'a str,
@@ -165,12 +165,14 @@ fn read_copied(
 impl StreamMessage {
     ghost use Rattle.js_message.specs.StreamMessage.{ReadsMessage};
 
-    /// Reads a message that the server sent from a stream, as by a direct get (ADR-31).
+    /// Reads a message that the server sent from a stream, for example for a direct get (ADR-31).
     ///
-    /// The last values of `Nats-Sequence`, `Nats-Time-Stamp` and `Nats-Subject` are read, in this order, and the first that
-    /// is missing or unreadable decides: `MissingHeader` where there is none (for a message with no headers that is
-    /// `Nats-Sequence`), `ParseError` where the sequence is no `u64` or the time no instant. The error's source is the name of
-    /// that header. `OutOfMemory` comes where memory ran out. On any refusal the message is given up.
+    /// It reads the last values of `Nats-Sequence`, `Nats-Time-Stamp` and `Nats-Subject`, in this
+    /// order, and stops at the first that is missing or unreadable. Fails with `MissingHeader` if it
+    /// is missing (`Nats-Sequence` for a message without headers), and with `ParseError` if the
+    /// sequence is not a `u64` or the time is not a timestamp. The error's source is the name of
+    /// that header. Fails with `OutOfMemory` if memory runs out. After any error the message is
+    /// lost.
     pub fn try_from_message(
         alloc: Global,
         message: Message,

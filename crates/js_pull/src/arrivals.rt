@@ -1,4 +1,5 @@
-//! What a row of a stream meets at its link. A message that was taken is held while there is no memory for its pin, and counts as unread.
+//! What a row of a stream meets at its link. If memory runs out for the pin of a message that was
+//! taken, the stream holds the message, and it counts as unread.
 ghost use Rattle.std.specs.Prelude.{◌≡◌, IfOk, None, OnErr, Option, Some};
 ghost use Rattle.js_base.specs.declared.message.Message.{Message as SpecMessage};
 ghost use Rattle.js_link.specs.Wish.{message_of};
@@ -12,7 +13,7 @@ use js_base::{Message, OutOfMemory, replace_with};
 use js_link::{InboxId, Link, Met, Taken, ask, take};
 use std::alloc::Global;
 
-/// What a row met, and what took memory for it.
+/// What a row met, and what was allocated for it.
 #[derive(Drop)]
 pub(crate) struct Meeting {
     pub met: Met,
@@ -130,7 +131,8 @@ fn ask_for<L: Link>(
     })
 }
 
-/// What a row meets. After want of memory the link is what it was, with a message that is held.
+/// Returns what a row meets. Fails with `OutOfMemory` if memory runs out: the link, with the held
+/// message counted as unread, is then unchanged.
 pub(crate) fn meet<L: Link>(
     reader: &Reader,
     held: &mut Option<Message>,

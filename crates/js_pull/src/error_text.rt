@@ -1,4 +1,4 @@
-//! What a reader's errors print.
+//! The texts of a reader's errors.
 ghost use Rattle.std.specs.Prelude.{Some};
 ghost use Rattle.js_pull.specs.Texts.{messages_text};
 

@@ -1,4 +1,4 @@
-//! What an arrival is to a pull reader.
+//! What an arrival means to a pull reader.
 ghost use Rattle.std.specs.Prelude.{◌≡◌, [], codes, unwrap_or, option_map};
 ghost use Rattle.std.specs.Option.{option_copied};
 ghost use Rattle.js_base.specs.Headers.{all_headers, first_value};
@@ -7,41 +7,42 @@ ghost use Rattle.js_pull.specs.Kind as kinds;
 use js_base::{HeaderMap, Message, StatusCode};
 use js_message::read_u64;
 
-/// What an arrival is, by its status, its description and its headers.
+/// What an arrival is, judged by its status, description and headers.
 #[derive(Clone, Copy)]
 pub enum Kind {
     /// One of the stream's messages.
     Delivered,
     /// A heartbeat.
     IdleHeartbeat,
-    /// The consumer is deleted.
+    /// The consumer was deleted.
     Deleted,
     /// The consumer is a push consumer.
     PushBased,
     /// The request was larger than the consumer allows.
     Limit,
-    /// Nobody listens to requests.
+    /// Nobody listens to the subject of the request (status 503).
     Gone,
-    /// A request has ended, with so many messages and bytes that will not come, as far as the server says so.
+    /// A request has ended. `messages` and `bytes` are the amounts that will not come, if the
+    /// server states them.
     Ledger {
         messages: Option<u64>,
         bytes: Option<u64>,
     },
-    /// Any other status, or a number that can't be read.
+    /// Any other status, or a header number that can't be read.
     Bad,
 }
 
-/// The number that a header holds.
+/// The number in a header.
 #[derive(Clone, Copy)]
 pub enum HeaderNumber {
-    /// There is no such header.
+    /// The header is absent.
     Absent,
-    /// Its value is no `u64`.
+    /// The value of the header is not a `u64`.
     Unreadable,
     Number(u64),
 }
 
-/// What the value of a header says as a number.
+/// Reads the value of a header as a number.
 pub fn header_number(value: Option<&str>) -> HeaderNumber
     ensures { result ≡ kinds.number_told (option_copied value.entry) }
 {
@@ -135,7 +136,7 @@ fn description_text(message: &Message) -> &str
     }
 }
 
-/// The kind of an arrival.
+/// Returns the kind of an arrival.
 pub fn pull_kind(message: &Message) -> Kind
     ensures { result ≡ kinds.pull_kind message.now }
 {

@@ -1,15 +1,16 @@
-//! The pull reader, which reads a consumer by asking for messages: a value that is told what happened, and the [`Stream`], which
-//! runs it over any link.
+//! The pull reader, which reads a consumer by sending pull requests: the [`Reader`], a value that
+//! is told what happened, and the [`Stream`], which runs it over any link.
 //!
-//! A [`Reader`] knows what was asked for and counts what has come: messages that are still wanted, bytes, heartbeats that are
-//! missing. It works in small steps, the rows of a table in `specs/`, and none of them knows a link: a row says what it wishes of a
-//! link, the link is asked, and the row is passed with what it met there. What a row met is lent to it, so that nothing is copied,
-//! and a step that finds no memory leaves the reader as it was. An ordered consumer (js_ordered_table) and its replay use the same
+//! A [`Reader`] records what it asked for and counts what has come: messages still wanted, bytes,
+//! missing heartbeats. It works in small steps, the rows of a table in `specs/`. No row knows a
+//! link: a row says what it wishes of a link, the link is asked, and the row is passed with what it
+//! met there. A row borrows what it met, so nothing is copied. A step that runs out of memory
+//! leaves the reader unchanged. An ordered consumer (js_ordered_table) and its replay use the same
 //! rows.
 //!
-//! A [`Stream`] passes rows until one has something to tell. It may stop between any two of them and goes on there at the next
-//! poll, and it is pending only after a turn in which nothing came. `wakes_at` tells when it has something to do although nothing
-//! came.
+//! A [`Stream`] passes rows until one has something to report. It may stop between any two rows and
+//! continues there at the next poll. It returns `Pending` only after an event in which nothing
+//! came. `wakes_at` returns when it has something to do even if nothing comes.
 #![tactic(auto)]
 
 mod arrivals;

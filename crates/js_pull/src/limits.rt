@@ -1,4 +1,4 @@
-//! What a pull request asks for, as the consumer's info caps it.
+//! What a pull request asks for, within the limits that the consumer's info sets.
 ghost use Rattle.std.specs.Prelude.{◌≡◌};
 ghost use Rattle.js_pull.specs.Limits as limits;
 
@@ -8,7 +8,7 @@ use js_json::pull::BatchConfig;
 
 const SECOND: Nanos = 1_000_000_000;
 
-/// A batch as `max_batch` caps it. A cap of 0 or below is none.
+/// Returns `batch`, limited to `max_batch`. A `max_batch` of 0 or below sets no limit.
 pub fn clamp_batch(batch: u64, max_batch: i64) -> u64
     ensures { result ≡ limits.clamp_batch batch max_batch }
 {
@@ -19,7 +19,8 @@ pub fn clamp_batch(batch: u64, max_batch: i64) -> u64
     }
 }
 
-/// An expiry in nanoseconds as `max_expires` caps it. A cap of 0 is none.
+/// Returns `expires`, limited to `max_expires`, both in nanoseconds. A `max_expires` of 0 sets no
+/// limit.
 pub fn clamp_expires(expires: Nanos, max_expires: Nanos) -> Nanos
     ensures { result ≡ limits.clamp_expires expires max_expires }
 {
@@ -30,15 +31,16 @@ pub fn clamp_expires(expires: Nanos, max_expires: Nanos) -> Nanos
     }
 }
 
-/// A heartbeat in nanoseconds, which is at most half of the expiry.
+/// Returns `heartbeat`, limited to half of `expires`, both in nanoseconds.
 pub fn clamp_heartbeat(heartbeat: Nanos, expires: Nanos) -> Nanos
     ensures { result ≡ limits.clamp_heartbeat heartbeat expires }
 {
     heartbeat.min(expires / 2)
 }
 
-/// What an ordered consumer with this info asks for: 500 messages within 30 seconds, with a heartbeat of 15, each as the
-/// info caps it. No bytes are asked for.
+/// Returns what an ordered consumer with this info asks for: 500 messages, an expiry of 30 seconds
+/// and a heartbeat of 15 seconds, each within the limits of the info. It asks for no number of
+/// bytes.
 pub fn ordered_batch_config(info: &Info) -> BatchConfig
     ensures { result ≡ limits.ordered_batch_config info.now }
 {

@@ -1,4 +1,5 @@
-//! What a row needs before it is passed: the texts of what it wishes, what its reply tells, and the pin that an arrival brings.
+//! What a row needs before it is passed: the texts of what it wishes, what its reply says, and the
+//! pin that an arrival brings.
 ghost use Rattle.std.specs.Prelude.{◌≡◌, IfOk, Option};
 ghost use Rattle.std.specs.Option.{option_copied};
 ghost use Rattle.js_base.specs.declared.message.Message.{Message as SpecMessage};
@@ -16,7 +17,9 @@ use js_base::{Message, OutOfMemory, Text, TryClone};
 use js_link::{Met, Wish};
 use std::alloc::Global;
 
-/// What a reply tells to the row that reads it: why messages are asked for, where it is a good answer.
+/// Returns what a row learns from the reply that it reads: the reason to ask for messages, if the
+/// reply is a good answer to an info request. Other rows learn nothing. Fails with `OutOfMemory` if
+/// memory runs out.
 pub fn informed_of(
     alloc: Global,
     due: Due,
@@ -38,7 +41,9 @@ pub fn informed_of(
     }
 }
 
-/// Why messages are asked for after this answer, where it is a good one: with a reset where no request waits at the server.
+/// Returns the reason to ask for messages after this answer to an info request, or `None` if the
+/// answer holds no info. It is a reset if no request waits at the server. Fails with `OutOfMemory`
+/// if memory runs out.
 pub fn reason_of(alloc: Global, reply: Option<&Message>) -> Result<Option<Reason>, OutOfMemory>
     ensures { IfOk result (λ reason. reason ≡ informed_by (rows.info_of_reply (option_copied reply.entry))) }
 {
@@ -54,11 +59,11 @@ pub fn reason_of(alloc: Global, reply: Option<&Message>) -> Result<Option<Reason
 }
 
 impl Reader {
-    /// What a row wishes, with its texts.
+    /// Returns what a row wishes of the link, with its texts.
     ///
     /// # Errors
     ///
-    /// Want of memory, after which nothing has changed.
+    /// Fails with `OutOfMemory` if memory runs out. Nothing has changed then.
     pub fn wish(&self, alloc: Global, due: Due) -> Result<Wish, OutOfMemory>
         ensures { IfOk result (λ wish. (reply : Option SpecMessage) → wish ≡ rows.wish (row_of reply due) self.now) }
     {
@@ -99,11 +104,11 @@ impl Reader {
         })
     }
 
-    /// The pin that an arrival brings, where clients are pinned.
+    /// Returns the pin that an arrival brings, if clients are pinned.
     ///
     /// # Errors
     ///
-    /// Want of memory. The message is still there.
+    /// Fails with `OutOfMemory` if memory runs out. The message is still there then.
     pub fn pin_of(&self, alloc: Global, met: &Met) -> Result<Option<Text>, OutOfMemory>
         ensures { IfOk result (λ pin. pin ≡ pin_brought self.now.source.pinned (message_of met.now)) }
     {

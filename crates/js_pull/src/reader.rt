@@ -1,4 +1,4 @@
-//! A pull reader: whom it asks, what is pending, and when it asks again.
+//! A pull reader: which consumer it asks, what is pending, and when it asks again.
 ghost use Rattle.std.specs.Prelude.{◌≡◌};
 ghost use Rattle.js_base.specs.Clock as clock;
 ghost use Rattle.js_pull.specs.Passes.{asks_if};
@@ -8,16 +8,16 @@ ghost use Rattle.js_pull.specs.Reader as rows;
 use js_base::{Message, Moment, Nanos, State, Subject, Text, Timer};
 use js_json::pull::BatchConfig;
 
-/// What a pull reader tells of in place of a message.
+/// The kind of an error that a pull reader reports in place of a message.
 #[derive(Clone, Copy, Debug, PartialEq, Eq)]
 pub enum MessagesErrorKind {
-    /// Nothing was heard of the server for two heartbeats.
+    /// Nothing came from the server for two heartbeats.
     MissingHeartbeat,
     /// The server has deleted the consumer. The reader has ended.
     ConsumerDeleted,
-    /// A pull request was not sent, or the consumer's info was asked for six times in vain.
+    /// A pull request was not sent, or six requests for the consumer's info failed.
     Pull,
-    /// An arrival that can't be read.
+    /// An arrival can't be read.
     Other,
     /// Nobody listens to the subject of a pull request.
     NoResponders,
@@ -27,80 +27,82 @@ pub enum MessagesErrorKind {
     PushBasedConsumer,
 }
 
-/// Whom a reader asks, for what, and where it is answered.
+/// Which consumer a reader asks, for what, and on which inbox the answers come.
 #[derive(Drop)]
 pub struct PullSource {
-    /// What the subjects of its requests begin with.
+    /// The prefix of the subjects of its requests.
     pub api: Text,
     pub stream: Text,
     /// The consumer's name.
     pub name: Text,
-    /// The number of its inbox,
+    /// The number of its inbox.
     pub inbox: u64,
-    /// and the subject of that.
+    /// The subject of its inbox.
     pub subject: Subject,
-    /// How long the answer to an info request is waited for, where there is a bound. In nanoseconds.
+    /// How long an info request waits for its answer, in nanoseconds. `None` sets no bound.
     pub info_timeout: Option<Nanos>,
     /// What each pull request asks for.
     pub config: BatchConfig,
-    /// One of several clients is pinned.
+    /// Whether one of several clients is pinned.
     pub pinned: bool,
 }
 
-/// The info that is asked for after a reconnection.
+/// The request for the consumer's info that follows a reconnection.
 #[derive(Clone, Copy)]
 pub enum InfoRequest {
     NoInfoRequest,
-    /// The answer is waited for.
+    /// Waits for the answer.
     Asked {
         request: u64,
         timeout: Option<Timer>,
         failures: u64,
     },
-    /// The next try waits.
+    /// Waits before the next try.
     Resting {
         wait: Timer,
         failures: u64,
     },
 }
 
-/// Why a pull request is made.
+/// Why a reader sends a pull request.
 #[derive(Clone, Copy)]
 pub enum Reason {
-    /// Little is pending.
+    /// At most half of the messages or bytes that a request asks for are pending.
     Low,
-    /// The last one has expired.
+    /// The last pull request has expired.
     Expired,
-    /// An info has come, or has failed for good. With a reset, the server has no request any more.
+    /// The consumer's info has come, or the tries for it have failed. With `reset`, no request is
+    /// left at the server.
     Informed { reset: bool },
 }
 
-/// A row of the table, which definitions alone use: one thing that a reader does. It asks the link for one thing at most. `Due` is its form in code.
+/// A row of the table: one thing that a reader does. It asks the link for at most one thing. Only
+/// definitions use this type; code uses `Due`.
 #[derive(Drop)]
 pub enum Row {
-    /// What an event does first, with the connection's change.
+    /// Begins an event, with the connection's change.
     Begin {
         change: Option<State>,
     },
-    /// A pull request.
+    /// Sends a pull request.
     Ask {
         reason: Reason,
     },
-    /// Where little is pending a request follows.
+    /// Lets a pull request follow if little is pending.
     Threshold,
-    /// The heartbeat.
+    /// Arms the heartbeat timer.
     Arm,
-    /// An info request, after so many that failed.
+    /// Requests the consumer's info, after this many failures.
     Inquire {
         failures: u64,
     },
-    /// It has failed once more.
+    /// Handles an info request that has failed once more.
     FailInfoRequest {
         failures: u64,
     },
-    /// The answer that an open info waits for.
+    /// Checks whether an open info request has its answer, or has come to its time.
     CheckInfoRequest,
-    /// An info request was answered: the reply is read. It is none where the replier is gone.
+    /// Reads the reply to an info request. The reply is `None` if the replier is gone.
     Answered {
         reply: Option<Message>,
         failures: u64,
@@ -110,7 +112,8 @@ pub enum Row {
     CheckSilence,
 }
 
-/// What a row of the table tells the reader's user, which definitions alone use. `Notice` is its form in code.
+/// What a row of the table reports to the reader's user. Only definitions use this type; code uses
+/// `Notice`.
 #[derive(Drop)]
 pub enum ReaderOutput {
     Nothing,
@@ -118,17 +121,17 @@ pub enum ReaderOutput {
     Tells(MessagesErrorKind),
 }
 
-/// A pull reader: it keeps messages coming, and says what arrivals are.
+/// A pull reader. It keeps messages coming, and says what each arrival is.
 #[derive(Drop)]
 pub struct Reader {
     pub source: PullSource,
-    /// The messages that are still asked for,
+    /// The number of messages that were asked for and have not come.
     pub pending: u64,
-    /// and the bytes.
+    /// The number of bytes that were asked for and have not come.
     pub pending_bytes: u64,
-    /// Little was pending, and no request has gone out since.
+    /// Whether little was pending, and no request has gone out since.
     pub waiting: bool,
-    /// The requests that ended an info without a reset, since the last reset.
+    /// The number of pull requests of reason `Informed { reset: false }` since the last reset.
     pub unreset_requests: u64,
     /// The name of the pinned client.
     pub pin: Option<Text>,
@@ -138,7 +141,7 @@ pub struct Reader {
     pub ended: bool,
 }
 
-/// Whether an info is open: its answer is waited for, or its next try.
+/// Returns whether an info request is open: it waits for its answer or for its next try.
 pub fn is_asking(inquiry: &InfoRequest) -> bool
     ensures { result ≡ rows.is_asking inquiry.now }
 {
@@ -161,7 +164,7 @@ fn armed_expiry(now: Moment, expires: Option<Nanos>) -> Option<Timer>
     }
 }
 
-/// Twice the heartbeat, where that is above 0.
+/// Returns a timer of twice `heartbeat` (in nanoseconds), or `None` if that is 0 or exceeds a `u64`.
 pub fn armed_silence(now: Moment, heartbeat: Nanos) -> Option<Timer>
     ensures { result ≡ rows.armed_silence now heartbeat }
 {
@@ -174,7 +177,7 @@ pub fn armed_silence(now: Moment, heartbeat: Nanos) -> Option<Timer>
     }
 }
 
-/// A wait that begins now, where there is one.
+/// Returns a timer of `wait` nanoseconds that begins now, if a wait is given.
 pub fn timeout_from(now: Moment, wait: Option<Nanos>) -> Option<Timer>
     ensures { result ≡ rows.timeout_from now wait }
 {
@@ -184,7 +187,7 @@ pub fn timeout_from(now: Moment, wait: Option<Nanos>) -> Option<Timer>
     }
 }
 
-/// Whether there is a wait that is over.
+/// Returns whether a timer is set and is due.
 pub fn is_any_due(timer: &Option<Timer>, now: Moment) -> bool
     ensures { result ≡ clock.is_any_due timer.now now }
 {
@@ -194,7 +197,8 @@ pub fn is_any_due(timer: &Option<Timer>, now: Moment) -> bool
     }
 }
 
-/// The wait after so many failures, in nanoseconds.
+/// Returns the wait after this many failures, in nanoseconds: half a second for each failure, and
+/// ten seconds from the fifth on.
 pub fn retry_wait(failures: u64) -> Nanos
     ensures { result ≡ rows.retry_wait failures }
 {
@@ -237,7 +241,7 @@ fn extra_after(reason: Reason, unreset_requests: u64) -> u64
 }
 
 impl Reader {
-    /// A reader that has asked for nothing yet.
+    /// Creates a reader that has asked for nothing yet.
     pub fn new(source: PullSource) -> Reader
         ensures { result ≡ new_reader source }
     {
@@ -264,7 +268,8 @@ impl Reader {
             || (config.max_bytes > 0 && self.pending_bytes <= config.max_bytes / 2)
     }
 
-    /// Where little is pending the mark is set. Whether a request follows, which an open info prevents.
+    /// Returns whether a pull request follows: little is pending, `waiting` was not set, and no
+    /// info request is open. Sets `waiting` if little is pending.
     pub fn threshold(&mut self) -> bool
         ensures reader { self.new ≡ (rows.threshold self.old).reader }
         ensures next { asks_if result ≡ (rows.threshold self.old).next }
@@ -276,21 +281,21 @@ impl Reader {
         !is_asking(&self.inquiry)
     }
 
-    /// Arms the expiry: five seconds after that of a pull request.
+    /// Arms the expiry timer: five seconds after the expiry of a pull request.
     pub fn arm_expiry(&mut self, now: Moment)
         ensures { self.new ≡ rows.with_expiry now self.old }
     {
         self.expiry = armed_expiry(now, self.source.config.expires);
     }
 
-    /// Arms the heartbeat: twice that of a pull request.
+    /// Arms the heartbeat timer: twice the heartbeat of a pull request.
     pub fn arm_silence(&mut self, now: Moment)
         ensures { self.new ≡ rows.with_silence now self.old }
     {
         self.heartbeat_timer = armed_silence(now, self.source.config.idle_heartbeat);
     }
 
-    /// So many messages and bytes are no longer to come.
+    /// Lowers what is pending by this many messages and bytes, but not below 0.
     pub fn lower(&mut self, messages: u64, bytes: u64)
         ensures { self.new ≡ rows.lowered messages bytes self.old }
     {
@@ -298,7 +303,7 @@ impl Reader {
         self.pending_bytes = self.pending_bytes.saturating_sub(bytes);
     }
 
-    /// A pull request for this reason has gone out.
+    /// Counts a pull request that has gone out for this reason.
     pub fn count_request(&mut self, reason: Reason)
         ensures { self.new ≡ rows.asked reason self.old }
     {

@@ -1,4 +1,4 @@
-//! The rows that are left of an event.
+//! The rows of an event that are still to be passed.
 ghost use Rattle.std.specs.Prelude.{◌≡◌, ◌++◌, None, Some};
 ghost use Rattle.js_pull.specs.Rows.{row_list, rows_of};
 ghost use Rattle.js_pull.specs.Poll.{later_rows};
@@ -7,7 +7,7 @@ ghost use Rattle.js_pull.specs.Stream.{FirstOf, left_rows, rows_empty};
 use crate::{Due, DueRows};
 use js_base::{Message, replace_with};
 
-/// The rows that are left of an event, with the reply that the first of them reads.
+/// The rows of an event that are still to be passed, with the reply that the first of them reads.
 #[derive(Drop)]
 pub(crate) struct RemainingRows {
     pub todo: DueRows,
@@ -15,14 +15,14 @@ pub(crate) struct RemainingRows {
 }
 
 impl RemainingRows {
-    /// Rows of which none reads a reply.
+    /// Returns rows of which none reads a reply.
     pub fn of(todo: DueRows) -> RemainingRows
         ensures { left_rows result ≡ rows_of None todo }
     {
         RemainingRows { todo, reply: None }
     }
 
-    /// The next row.
+    /// Returns the next row.
     pub fn first(&self) -> Option<Due>
         ensures { FirstOf result self.now }
     {
@@ -33,7 +33,7 @@ impl RemainingRows {
         }
     }
 
-    /// Whether no row is left.
+    /// Returns whether no row is left.
     pub fn is_empty(&self) -> bool
         ensures { result ≡ rows_empty (left_rows self.now) }
     {
@@ -55,14 +55,15 @@ impl RemainingRows {
         }
     }
 
-    /// Puts other rows in the place of all, of which none reads a reply.
+    /// Replaces all rows by others, none of which reads a reply.
     pub fn renew(&mut self, todo: DueRows)
         ensures { left_rows self.new ≡ rows_of None todo }
     {
         replace_with(self, RemainingRows::of(todo));
     }
 
-    /// The next row was passed: what follows it at once, and the reply that this reads, take its place.
+    /// Replaces the next row, which was passed, by the row that follows it at once and the reply
+    /// that this reads.
     pub fn follow(&mut self, next: Option<Due>, reply: Option<Message>)
         ensures { left_rows self.new ≡ row_list reply next ++ later_rows (left_rows self.old) }
     {

@@ -1,4 +1,4 @@
-//! What a reader makes of the messages that it is sent.
+//! What a reader learns from the messages that it is sent.
 ghost use Rattle.std.specs.Prelude.{◌≡◌, true, Some, IfOk, OnErr, OnOk, option_map};
 ghost use Rattle.std.specs.Option.{option_copied};
 ghost use Rattle.js_base.specs.Headers.{all_headers, last_value};
@@ -42,7 +42,9 @@ fn response_info(alloc: Global, payload: &[u8]) -> Result<Option<Info>, OutOfMem
     }
 }
 
-/// The info that an answer holds. A status of 503 holds none, nor does a replier that is gone.
+/// Returns the info that an answer holds. Returns `None` if the replier is gone, if the status is
+/// 503, or if the payload is an error or does not read as an info. Fails with `OutOfMemory` if
+/// memory runs out.
 pub fn info_of_reply(alloc: Global, reply: Option<&Message>) -> Result<Option<Info>, OutOfMemory>
     ensures { IfOk result (λ info. info ≡ rows.info_of_reply (option_copied reply.entry)) }
 {
@@ -80,7 +82,7 @@ fn keep_newer(pin: &mut Option<Text>, named: Option<Text>)
     }
 }
 
-/// The pin that an arrival brings, where clients are pinned.
+/// Returns the pin that an arrival brings, if clients are pinned.
 pub(crate) fn brought_pin(
     alloc: Global,
     pinned: bool,
@@ -115,7 +117,8 @@ fn keep_brought(pin: &mut Option<Text>, message: &Message, brought: Option<Text>
 }
 
 impl Reader {
-    /// Keeps the pin that an arrival brings, if clients are pinned at all; status 423 lets it go. It takes no memory.
+    /// Keeps the pin that an arrival brings, if clients are pinned. Status 423 clears the pin.
+    /// Takes no memory.
     pub(crate) fn keep_pin(&mut self, message: &Message, brought: Option<Text>)
         requires { brought ≡ pin_brought self.old.source.pinned (Some message.now) }
         ensures { self.new ≡ rows.with_pin message.now self.old }
@@ -128,11 +131,12 @@ impl Reader {
         }
     }
 
-    /// Keeps the pin that an arrival names in its header `Nats-Pin-Id`, if clients are pinned at all; status 423 lets it go.
+    /// Keeps the pin that an arrival names in its header `Nats-Pin-Id`, if clients are pinned.
+    /// Status 423 clears the pin.
     ///
     /// # Errors
     ///
-    /// Want of memory, which leaves the reader as it was.
+    /// Fails with `OutOfMemory` if memory runs out. The reader is unchanged then.
     pub fn note_pin(&mut self, alloc: Global, message: &Message) -> Result<(), OutOfMemory>
         ensures noted { OnOk result (self.new ≡ rows.with_pin message.now self.old) }
         ensures kept { OnErr result (self.new ≡ self.old) }

@@ -1,4 +1,4 @@
-//! What a pull reader sends.
+//! The subjects and bodies of a pull reader's requests.
 ghost use Rattle.std.specs.Prelude.{◌≡◌, IfOk};
 ghost use Rattle.js_pull.specs.Reader as rows;
 ghost use Rattle.js_pull.specs.Limits.{pull_body};
@@ -18,14 +18,15 @@ impl PullSource {
         Ok(Subject::from(with_word(alloc, self.api.as_str(), subject.as_str())?))
     }
 
-    /// The subject of a pull request.
+    /// Returns the subject of a pull request. Fails with `OutOfMemory` if memory runs out.
     pub fn pull_subject(&self, alloc: Global) -> Result<Subject, OutOfMemory>
         ensures { IfOk result (λ subject. subject ≡ rows.pull_subject self.now) }
     {
         self.api_subject(alloc, "CONSUMER.MSG.NEXT")
     }
 
-    /// The subject of a request for the consumer's info.
+    /// Returns the subject of a request for the consumer's info. Fails with `OutOfMemory` if memory
+    /// runs out.
     pub fn info_subject(&self, alloc: Global) -> Result<Subject, OutOfMemory>
         ensures { IfOk result (λ subject. subject ≡ rows.info_subject self.now) }
     {
@@ -34,7 +35,7 @@ impl PullSource {
 }
 
 impl Reader {
-    /// The body of a pull request.
+    /// Returns the body of a pull request. Fails with `OutOfMemory` if memory runs out.
     #[tactic(auto, using(crate::proofs::RequestBodies::lacks_memory))]
     pub fn pull_body(&self, alloc: Global) -> Result<Bytes, OutOfMemory>
         ensures { IfOk result (λ body. body ≡ pull_body self.now.pin self.now.source.config) }

@@ -1,8 +1,11 @@
-//! The rows of a pull reader. None of them knows a link: what a row wishes is asked by whoever passes it, and what it met is handed in.
+//! The rows of a pull reader. No row knows a link: the caller asks the link for what a row wishes,
+//! and hands in what the row met.
 //!
-//! A row is passed in three steps. What it needs is made ready: the texts of what it wishes (`Reader::wish`) and what its reply tells
-//! (`informed_of`). What it wishes is met, at a link (`ask`) or in an event of a replay; of an arrival its pin is taken then
-//! (`Reader::pin_of`). `Reader::pass` passes it. Only the last step changes the reader; it takes no memory, and always succeeds.
+//! A row is passed in three steps. First, prepare what it needs: the texts of what it wishes
+//! (`Reader::wish`) and what its reply says (`informed_of`). Second, meet what it wishes, at a link
+//! (`ask`) or in an event of a replay; then take the pin of an arrival (`Reader::pin_of`). Third,
+//! pass it (`Reader::pass`). Only the third step changes the reader; it takes no memory and always
+//! succeeds.
 ghost use Rattle.std.specs.Prelude.{◌≡◌, [], false, true, None, Some, Option, if◌then◌else◌};
 ghost use Rattle.js_base.specs.declared.message.Message.{Message as SpecMessage};
 ghost use Rattle.js_link.specs.Wish.{message_of};
@@ -21,32 +24,33 @@ use crate::reader::{
 use js_base::{Message, Moment, State, Text, Timer};
 use js_link::Met;
 
-/// A row that is due: one thing that a reader does, after its event has begun. The reply that `Answered` reads lies beside it.
+/// A row that is due: one thing that a reader does after its event has begun. The reply that
+/// `Answered` reads is kept beside it.
 #[derive(Clone, Copy)]
 pub enum Due {
-    /// A pull request.
+    /// Sends a pull request.
     Ask { reason: Reason },
-    /// Where little is pending a request follows.
+    /// Lets a pull request follow if little is pending.
     Threshold,
-    /// The heartbeat.
+    /// Arms the heartbeat timer.
     Arm,
-    /// An info request, after so many that failed.
+    /// Requests the consumer's info, after this many failures.
     Inquire { failures: u64 },
-    /// It has failed once more.
+    /// Handles an info request that has failed once more.
     FailInfoRequest { failures: u64 },
-    /// The answer that an open info waits for.
+    /// Checks whether an open info request has its answer, or has come to its time.
     CheckInfoRequest,
-    /// An info request was answered: the reply is read.
+    /// Reads the reply to an info request.
     Answered { failures: u64 },
-    /// Whether the last pull request has expired.
+    /// Checks whether the last pull request has expired.
     CheckExpiry,
-    /// The first message of the inbox, if there is one.
+    /// Takes the first message of the inbox, if it holds one.
     CheckArrival,
-    /// Whether the heartbeat is missing.
+    /// Checks whether the heartbeat is missing.
     CheckSilence,
 }
 
-/// The rows that are left of an event. There are never more than two.
+/// The rows of an event that are still to be passed, at most two.
 #[derive(Clone, Copy)]
 pub enum DueRows {
     Nothing,
@@ -54,28 +58,30 @@ pub enum DueRows {
     Two(Due, Due),
 }
 
-/// What a row tells the reader's user.
+/// What a row reports to the reader's user.
 #[derive(Clone, Copy)]
 pub enum Notice {
     Nothing,
-    /// The message that was taken is handed out.
+    /// Hands out the message that was taken.
     Hands,
-    /// An error. `RequestLimitExceeded` is told with the description of the message that was taken.
+    /// Reports an error. `RequestLimitExceeded` comes with the description of the message that was
+    /// taken.
     Tells(MessagesErrorKind),
 }
 
-/// What a row does that was passed.
+/// What a passed row reports, and the row that follows it.
 #[derive(Clone, Copy)]
 pub struct PassedRow {
     pub told: Notice,
-    /// The row that follows at once. `Answered` reads the reply that was met, which is none where the replier is gone.
+    /// The row that follows at once. `Answered` reads the reply that was met, which is `None` if
+    /// the replier is gone.
     pub next: Option<Due>,
 }
 
-/// What a row needs that takes memory, beside the texts of what it wishes.
+/// What a row needs that takes memory, apart from the texts of what it wishes.
 #[derive(Drop)]
 pub struct Spare {
-    /// What a reply tells to the row that reads it.
+    /// What the row learns from the reply that it reads.
     pub informed: Option<Reason>,
     /// The pin that an arrival brings.
     pub pin: Option<Text>,
@@ -104,7 +110,7 @@ fn tells(kind: MessagesErrorKind, next: Option<Due>) -> PassedRow
 // ---- rows
 
 impl Reader {
-    /// What an event does first, with the connection's change.
+    /// Begins an event, with the connection's change, and returns the rows that follow.
     pub fn begin(&mut self, now: Moment, change: Option<State>) -> DueRows
         ensures reader { self.new ≡ (rows.begin_row (publishing now false) change self.old).reader }
         ensures next { (reply : Option SpecMessage) → (other : Option SpecMessage) → rows_with reply other result ≡ (rows.begin_row (publishing now false) change self.old).next }
@@ -129,7 +135,8 @@ impl Reader {
         }
     }
 
-    /// A pull request has gone out, or was refused, of which the user is told. The expiry is armed in both cases.
+    /// Counts a pull request that has gone out, or reports the error if it was refused. Arms the
+    /// expiry timer in both cases.
     pub fn pass_ask(&mut self, now: Moment, reason: Reason, goes_out: bool) -> PassedRow
         ensures { (met : LinkMet) → StepsTo (rows.ask (publishing now goes_out) reason self.old) met result self.new }
     {
@@ -142,7 +149,7 @@ impl Reader {
         }
     }
 
-    /// Where little is pending a request follows.
+    /// Lets a pull request follow if little is pending.
     pub fn pass_threshold(&mut self) -> PassedRow
         ensures { (met : LinkMet) → StepsTo (rows.threshold self.old) met result self.new }
     {
@@ -155,7 +162,7 @@ impl Reader {
         }
     }
 
-    /// The heartbeat is armed.
+    /// Arms the heartbeat timer.
     pub fn pass_arm(&mut self, now: Moment) -> PassedRow
         ensures { (met : LinkMet) → StepsTo (rows.silent_row (rows.with_silence now self.old) []) met result self.new }
     {
@@ -165,7 +172,7 @@ impl Reader {
 
     // ---- the consumer's info, after a reconnection
 
-    /// The info was asked for, under this number, or the request was refused.
+    /// Records the number of the info request. If it was refused, the try has failed.
     pub fn pass_inquire(&mut self, now: Moment, failures: u64, request: Option<u64>) -> PassedRow
         ensures { (met : LinkMet) → StepsTo (rows.inquire (requesting now request) failures self.old) met result self.new }
     {
@@ -182,7 +189,8 @@ impl Reader {
         }
     }
 
-    /// A try failed: the next one waits, and after the sixth the user is told.
+    /// Handles a failed info request: the next try waits. After the sixth failure it reports the
+    /// error `Pull`, and a pull request follows.
     pub fn pass_fail_inquiry(&mut self, now: Moment, failures: u64) -> PassedRow
         ensures { (met : LinkMet) → StepsTo (rows.fail_inquiry (publishing now false) failures self.old) met result self.new }
     {
@@ -205,7 +213,8 @@ impl Reader {
         silent_row(None)
     }
 
-    /// The answer was read.
+    /// Handles an answer to an info request that was read: a pull request follows, or, without a
+    /// reason, the try has failed.
     pub fn pass_answered(&mut self, failures: u64, informed: Option<Reason>) -> PassedRow
         ensures { (reply : Option SpecMessage) → (met : LinkMet) → informed ≡ informed_by (rows.info_of_reply reply)
             → StepsTo (rows.answered failures (rows.info_of_reply reply) self.old) met result self.new }
@@ -221,7 +230,7 @@ impl Reader {
 
     // ---- timers
 
-    /// After a request has expired another one follows.
+    /// Lets a pull request follow if the last one has expired.
     pub fn pass_check_expiry(&mut self, now: Moment) -> PassedRow
         ensures { (met : LinkMet) → StepsTo (rows.row (publishing now false) None None read.CheckExpiry self.old) met result self.new }
     {
@@ -234,7 +243,7 @@ impl Reader {
         }
     }
 
-    /// A missing heartbeat is told, and armed anew.
+    /// Reports a missing heartbeat, and arms its timer again.
     pub fn pass_check_silence(&mut self, now: Moment) -> PassedRow
         ensures { (met : LinkMet) → StepsTo (rows.check_silence (publishing now false) self.old) met result self.new }
     {
@@ -248,7 +257,7 @@ impl Reader {
 
     // ---- arrivals
 
-    /// What an arrival does, once its pin is kept and the heartbeat is armed.
+    /// Handles an arrival. Keep its pin and arm the heartbeat timer before.
     pub fn hear(&mut self, message: &Message) -> PassedRow
         ensures { (reply : Option SpecMessage) → ReadsTo reply (Some message.now) (rows.hear message.now (kind_of message.now) self.old) self.new result }
     {
@@ -281,7 +290,8 @@ impl Reader {
         tells(kind, None)
     }
 
-    /// A message that was taken is heard: it arms the heartbeat, and may bring a pin.
+    /// Handles a message that was taken: arms the heartbeat timer, keeps the pin that the message
+    /// may bring, and does what the message says.
     pub fn hear_arrival(&mut self, now: Moment, message: &Message, pin: Option<Text>) -> PassedRow
         requires { pin ≡ pin_brought self.old.source.pinned (Some message.now) }
         ensures { StepsTo (rows.check_arrival (publishing now false) (Some message.now) self.old) (Took message.now) result self.new }
@@ -291,7 +301,7 @@ impl Reader {
         self.hear(message)
     }
 
-    /// The message that was taken is heard. Without one the heartbeat is looked at.
+    /// Handles the message that was taken. If none was taken, the check of the heartbeat follows.
     pub fn pass_check_arrival(&mut self, now: Moment, met: &Met, pin: Option<Text>) -> PassedRow
         requires { pin ≡ pin_brought self.old.source.pinned (message_of met.now) }
         ensures { StepsTo (rows.check_arrival (passing_at now met.now) (message_of met.now) self.old) met.now result self.new }
@@ -319,7 +329,7 @@ impl Reader {
 
     // ---- each row
 
-    /// Passes a row of an event that has begun, with what it met. It takes no memory.
+    /// Passes a row of an event that has begun, with what it met. Takes no memory.
     pub fn pass(&mut self, now: Moment, due: Due, spare: Spare, met: &Met) -> PassedRow
         requires pin { due ≡ Due.CheckArrival → spare.pin ≡ pin_brought self.old.source.pinned (message_of met.now) }
         ensures { (reply : Option SpecMessage) → IsInformed (row_of reply due) spare.informed → Steps now (row_of reply due) met.now result self.old self.new }
@@ -369,7 +379,8 @@ fn tried_if(is_due: bool, failures: u64) -> Option<Due>
     }
 }
 
-/// What follows from an open info, where this is whether its answer is there: the answer goes before the clock.
+/// Returns what follows from an open info request. If its answer has come (`is_answered`), the
+/// answer counts even if the time is up.
 pub fn check_inquiry(inquiry: InfoRequest, now: Moment, is_answered: bool) -> PassedRow
     ensures { result ≡ inquiry_step now is_answered inquiry }
 {

@@ -1,4 +1,4 @@
-//! A pull stream over its link: it passes row after row, and may stop between any two.
+//! A pull stream over its link. It passes row after row, and may stop between any two.
 ghost use Rattle.std.specs.Prelude.{◌≡◌, ◌<◌, ◌^◌, ℕ, IfOk, None, Some, false, true};
 ghost use Rattle.js_link.specs.Calls.{Closes};
 ghost use Rattle.js_link.specs.LinkView.{LinkView};
@@ -21,30 +21,30 @@ use js_json::pull::BatchConfig;
 use js_link::{InboxId, Link, LinkError, Watch};
 use std::alloc::Global;
 
-/// What a stream tells of in place of a message. The source of one of kind `RequestLimitExceeded` is the server's description, where it
-/// sent one. No other error has a source.
+/// An error that a stream reports in place of a message. The source of an error of kind
+/// `RequestLimitExceeded` is the server's description, if it sent one. No other error has a source.
 pub type MessagesError = Error<MessagesErrorKind>;
 
-/// What a part of an event comes to.
+/// What [`Stream::advance`] returns after it has passed a part of an event.
 #[derive(Drop)]
 #[must_use = "what a turn hands out is handed out once"]
 pub enum Advance {
     Item(MessagesError),
     Message(Message),
-    /// The inbox is closed: the stream has ended.
+    /// The inbox is closed, and the stream has ended.
     Closed,
     /// The event is over.
     Done,
-    /// The stream is what it was before the refused row.
+    /// Memory ran out. The stream is as it was before the row that failed.
     OutOfMemory,
 }
 
-/// What a row comes to.
+/// The outcome of a row.
 #[derive(Drop)]
 pub(crate) enum RowOutcome {
-    /// Nothing is told, and no message was taken.
+    /// The row reports nothing and took no message.
     Silent,
-    /// Nothing is told of a message that was taken.
+    /// The row took a message and reports nothing.
     Took,
     Hands(Message),
     Tells {
@@ -55,24 +55,24 @@ pub(crate) enum RowOutcome {
     OutOfMemory,
 }
 
-/// Whom a stream asks.
+/// The consumer that a stream asks.
 #[derive(Clone, Copy)]
 pub struct Consumer<'a> {
-    /// What the subjects of requests begin with.
+    /// The prefix of the subjects of requests.
     pub api: &'a str,
     pub stream: &'a str,
     pub name: &'a str,
-    /// How long the answer to an info request is waited for, where there is a bound. In nanoseconds.
+    /// How long an info request waits for its answer, in nanoseconds. `None` sets no bound.
     pub info_timeout: Option<Nanos>,
 }
 
-/// A pull stream. One that is let go leaves its inbox open: `close` lets go of it and closes its inbox.
+/// A pull stream. Call `close` when you are done with it; dropping it leaves its inbox open.
 #[derive(Drop)]
 #[must_use = "messages come by polls"]
 pub struct Stream {
     reader: Reader,
     left: RemainingRows,
-    /// A message that was taken, for whose pin there was no memory.
+    /// A message that was taken, if memory ran out for its pin.
     held: Option<Message>,
     connection: State,
 }
@@ -118,7 +118,7 @@ fn text_of(kind: MessagesErrorKind, message: Option<Message>) -> Option<Text>
     }
 }
 
-/// The server's description in a message, where there is one. The message is let go.
+/// Returns the server's description in a message, if it has one. Drops the message.
 pub fn description_of(message: Option<Message>) -> Option<Text>
     ensures { result ≡ description_of message }
 {
@@ -141,7 +141,7 @@ fn error_of(kind: MessagesErrorKind, text: Option<Text>) -> MessagesError
     }
 }
 
-/// Whether two states of a connection are the same.
+/// Returns whether two connection states are the same.
 pub fn same_state(last: State, state: State) -> bool
     ensures { result ≡ same_state last state }
 {
@@ -170,7 +170,7 @@ fn change_of(watch: Watch, last: State) -> Option<State>
 }
 
 impl Stream {
-    /// A stream before its opening, which is passed by its first call.
+    /// Creates a stream whose first call passes its opening.
     pub fn new(reader: Reader, connection: State) -> Stream
         ensures place { position_of result ≡ record { reader = reader; todo = opening; connection = connection } }
         ensures held { result.held ≡ None }
@@ -183,8 +183,14 @@ impl Stream {
         }
     }
 
-    /// Opens an inbox, and a stream that reads it. It asks for nothing before its first call. One that asks for no number of bytes
-    /// keeps the bound on what is pending from here on, however it is polled.
+    /// Opens an inbox, and a stream that reads it. The stream sends no request before its first
+    /// call. If `config.max_bytes` is 0, the bound on what is pending holds from here on, however
+    /// you poll the stream.
+    ///
+    /// # Errors
+    ///
+    /// Fails with `LinkError::Failed` if the link could not open an inbox, and with
+    /// `LinkError::OutOfMemory` if memory runs out.
     pub fn open<L: Link>(
         alloc: Global,
         link: &mut L,
@@ -214,15 +220,15 @@ impl Stream {
         Ok(opened)
     }
 
-    /// The inbox that it reads.
+    /// Returns the inbox that the stream reads.
     pub fn inbox(&self) -> InboxId
         ensures { result.0 ≡ (position_of self.now).reader.source.inbox }
     {
         InboxId(self.reader.source.inbox)
     }
 
-    /// Lets go of it, and closes its inbox: what lies in it is lost, and so is a message that was taken and is held. The requests
-    /// that are open at the server run out by themselves.
+    /// Drops the stream and closes its inbox. Messages in the inbox are lost, and so is a message
+    /// that was taken and is held. Requests that are open at the server expire by themselves.
     pub fn close<L: Link>(self, link: &mut L)
         ensures { Closes (position_of self).reader.source.inbox (L.view link.old) (L.view link.new) }
     {
@@ -231,7 +237,7 @@ impl Stream {
         link.unsubscribe(inbox);
     }
 
-    /// Whether its last event is over.
+    /// Returns whether the last event is over.
     pub fn rests(&self) -> bool
         ensures { result ≡ rows_empty (position_of self.now).todo }
     {
@@ -307,7 +313,8 @@ impl Stream {
         }
     }
 
-    /// Goes on with an event, and begins one where the last is over: the next item or message of the event, or `Done` at its end.
+    /// Continues an event, or begins one with `change` if the last is over. Returns the next error or
+    /// message of the event, or `Done` at its end.
     pub fn advance<L: Link>(
         &mut self,
         alloc: Global,
@@ -333,9 +340,12 @@ impl Stream {
         }
     }
 
-    /// Reads the next message or error. It waits after an event in which nothing came.
+    /// Reads the next message or error. Returns `Pending` after an event in which nothing came, and
+    /// `End` once the stream has ended. Returns `OutOfMemory` if memory runs out; the next poll
+    /// continues there.
     ///
-    /// After `Pending` it may be left alone until something comes for it or `wakes_at` has come: a poll before that does nothing.
+    /// After `Pending`, you need not poll until something comes for the stream or `wakes_at` has
+    /// come: an earlier poll does nothing.
     pub fn poll_next<L: Link>(
         &mut self,
         alloc: Global,
@@ -348,8 +358,9 @@ impl Stream {
         self.poll(alloc, link, now)
     }
 
-    /// The first moment at which one of its timers is due, where one is set: that of the info that it asks for after a reconnection,
-    /// else that of its pull requests, and that of the heartbeat. A stream that has ended has none.
+    /// Returns the first moment at which one of its timers is due, if one is set. The timers are
+    /// that of the heartbeat, and that of the info request after a reconnection or, without one,
+    /// that of the pull requests. A stream that has ended has none.
     pub fn wakes_at(&self) -> Option<Moment>
         ensures { (now : ℕ) → now < 2 ^ 64 → has_come result now ≡ timer_due now (position_of self.now).reader }
     {

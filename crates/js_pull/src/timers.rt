@@ -1,4 +1,4 @@
-//! When a stream has something to do by itself.
+//! When a stream has something to do even if nothing comes.
 ghost use Rattle.std.specs.Prelude.{◌≡◌, ◌||◌, ◌<◌, ◌^◌, ℕ};
 ghost use Rattle.js_base.specs.Clock.{has_come};
 ghost use Rattle.js_pull.specs.Timers.{inquiry_due, timer_due};
@@ -17,7 +17,8 @@ fn inquiry_end(inquiry: &InfoRequest, expiry: &Option<Timer>) -> Option<Moment>
     }
 }
 
-/// The first moment at which a timer of a reader is due. One that has ended has none.
+/// Returns the first moment at which a timer of the reader is due, or `None` if no timer will be. A
+/// reader that has ended has no timer.
 pub fn wakes_at(reader: &Reader) -> Option<Moment>
     ensures { (now : ℕ) → now < 2 ^ 64 → has_come result now ≡ timer_due now reader.now }
 {

@@ -1,4 +1,4 @@
-//! The calls on buckets that a context makes.
+//! The bucket calls of a context.
 ghost use Rattle.std.specs.Prelude.{◌≡◌, IfOk};
 ghost use Rattle.js_call.specs.declared.scope.ApiScope.{ApiScope};
 ghost use Rattle.js_context.specs.Context.{scope_in};
@@ -22,23 +22,26 @@ use js_base::OutOfMemory;
 use js_context::Context;
 use std::alloc::Global;
 
-/// What makes calls on buckets.
+/// Makes the calls on buckets.
 ///
-/// Each returns a state, or fails with `OutOfMemory`. What else it refuses comes from the state's first poll, before anything is sent.
-/// The functions of the same names say which errors come and when.
+/// Each call returns a state, or fails with `OutOfMemory`. The state's first poll rejects invalid
+/// arguments before anything is sent. The functions of the same names say which errors come and
+/// when.
 pub trait StoreCalls {
-    /// Where its requests go, and how long they are waited for.
+    /// Where its requests go, and how long to wait for their answers.
     ghost stores_by: { Self → ApiScope };
 
-    /// Gets a bucket of keys, and where its values are.
+    /// Gets a bucket of keys, and finds where its values are.
     ///
-    /// Fails with `OutOfMemory` if memory runs out; the state's polls return the errors of the function `get_key_value`.
+    /// Fails with `OutOfMemory` if memory runs out; the state's polls return the errors of the
+    /// function `get_key_value`.
     fn get_key_value(&self, alloc: Global, bucket: &str) -> Result<GetKeyValue, OutOfMemory>
         ensures { IfOk result (λ call. call ≡ getting_bucket (stores_by self.now) bucket.now) };
 
-    /// Makes a bucket of keys: asks how far the server's API goes, and then for the bucket's stream.
+    /// Creates a bucket of keys: asks for the server's API level, then creates the bucket's stream.
     ///
-    /// Fails with `OutOfMemory` if memory runs out; the state's polls return the errors of the function `create_key_value`.
+    /// Fails with `OutOfMemory` if memory runs out; the state's polls return the errors of the
+    /// function `create_key_value`.
     fn create_key_value(
         &self,
         alloc: Global,
@@ -46,9 +49,10 @@ pub trait StoreCalls {
     ) -> Result<CreateKeyValue, OutOfMemory>
         ensures { IfOk result (λ calls. CreatesBucket (stores_by self.now) config calls) };
 
-    /// Changes a bucket of keys: asks how far the server's API goes, and then for the change of the bucket's stream.
+    /// Changes a bucket of keys: asks for the server's API level, then changes the bucket's stream.
     ///
-    /// Fails with `OutOfMemory` if memory runs out; the state's polls return the errors of the function `update_key_value`.
+    /// Fails with `OutOfMemory` if memory runs out; the state's polls return the errors of the
+    /// function `update_key_value`.
     fn update_key_value(
         &self,
         alloc: Global,
@@ -56,9 +60,10 @@ pub trait StoreCalls {
     ) -> Result<UpdateKeyValue, OutOfMemory>
         ensures { IfOk result (λ calls. UpdatesBucket (stores_by self.now) config calls) };
 
-    /// Changes a bucket of keys, and makes it where it is not there.
+    /// Changes a bucket of keys, or creates it if it does not exist.
     ///
-    /// Fails with `OutOfMemory` if memory runs out; the state's polls return the errors of the function `create_or_update_key_value`.
+    /// Fails with `OutOfMemory` if memory runs out; the state's polls return the errors of the
+    /// function `create_or_update_key_value`.
     fn create_or_update_key_value(
         &self,
         alloc: Global,
@@ -68,13 +73,15 @@ pub trait StoreCalls {
 
     /// Deletes a bucket of keys with all its values.
     ///
-    /// Fails with `OutOfMemory` if memory runs out; the state's polls return the errors of the function `delete_key_value`.
+    /// Fails with `OutOfMemory` if memory runs out; the state's polls return the errors of the
+    /// function `delete_key_value`.
     fn delete_key_value(&self, alloc: Global, bucket: &str) -> Result<DeleteKeyValue, OutOfMemory>
         ensures { IfOk result (λ call. call ≡ deleting_bucket (stores_by self.now) bucket.now) };
 
-    /// Makes a bucket of objects.
+    /// Creates a bucket of objects.
     ///
-    /// Fails with `OutOfMemory` if memory runs out; the state's polls return the errors of the function `create_object_store`.
+    /// Fails with `OutOfMemory` if memory runs out; the state's polls return the errors of the
+    /// function `create_object_store`.
     fn create_object_store(
         &self,
         alloc: Global,
@@ -84,13 +91,15 @@ pub trait StoreCalls {
 
     /// Gets a bucket of objects.
     ///
-    /// Fails with `OutOfMemory` if memory runs out; the state's polls return the errors of the function `get_object_store`.
+    /// Fails with `OutOfMemory` if memory runs out; the state's polls return the errors of the
+    /// function `get_object_store`.
     fn get_object_store(&self, alloc: Global, bucket: &str) -> Result<GetObjectStore, OutOfMemory>
         ensures { IfOk result (λ call. call ≡ getting_objects (stores_by self.now) bucket.now) };
 
     /// Deletes a bucket of objects with all its objects.
     ///
-    /// Fails with `OutOfMemory` if memory runs out; the state's polls return the errors of the function `delete_object_store`.
+    /// Fails with `OutOfMemory` if memory runs out; the state's polls return the errors of the
+    /// function `delete_object_store`.
     fn delete_object_store(&self, alloc: Global, bucket: &str) -> Result<DeleteObjects, OutOfMemory>
         ensures { IfOk result (λ call. call ≡ deleting_objects (stores_by self.now) bucket.now) };
 }

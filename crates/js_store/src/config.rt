@@ -1,4 +1,4 @@
-//! The configurations of buckets, of which calls are made, and the streams that they are.
+//! The configurations of buckets, and the configurations of the streams that follow from them.
 ghost use Rattle.std.specs.Prelude.{◌≡◌, IfOk, List, ℕ};
 ghost use Rattle.js_call_streams.specs.Create.{Creates};
 ghost use Rattle.js_json_streams.specs.declared.stream.config.Config.{Config};
@@ -9,34 +9,37 @@ use js_call_streams::{CreateStream, create_stream};
 use js_json_streams::stream;
 use std::alloc::Global;
 
-/// The configuration of a bucket. Its stream's is made of what takes memory, and then of all else.
+/// The configuration of a bucket. The configuration of its stream is built in two steps: first the
+/// parts that take memory, then all else.
 pub(crate) trait BucketConfig: Drop {
-    /// What takes memory.
+    /// The parts that take memory.
     type Names: Drop;
 
     /// The bucket's name.
     ghost bucket: { Self → List ℕ };
 
-    /// The stream that it is.
+    /// The configuration of the bucket's stream.
     ghost stream: { Self → Config };
 
-    /// The stream of what is left of it, with what took memory.
+    /// The configuration of the bucket's stream, built from the rest of this configuration and the
+    /// parts that took memory.
     ghost with: { Self → Self.Names → Config };
 
     fn bucket(&self) -> &Text
         ensures { result.now ≡ bucket self.now };
 
-    /// What takes memory, for which the streams that it copies are moved out of it. Fails with `OutOfMemory` if memory runs out,
-    /// and with nothing else.
+    /// Builds the parts that take memory. It moves the streams that the bucket copies out of the
+    /// configuration. Fails only with `OutOfMemory`.
     fn take_names(&mut self, alloc: Global) -> Result<Self::Names, OutOfMemory>
         ensures { IfOk result (λ names. with self.new names ≡ stream self.old) };
 
-    /// Its stream, by what took memory.
+    /// Returns the configuration of the bucket's stream, built from the parts that took memory and
+    /// all else.
     fn with(self, names: Self::Names) -> stream::Config
         ensures { result ≡ with self names };
 }
 
-/// The configuration of the stream that a bucket is. Fails with `OutOfMemory` if memory runs out, and with nothing else.
+/// Returns the configuration of a bucket's stream. Fails only with `OutOfMemory`.
 pub(crate) fn stream_of<C: BucketConfig>(
     alloc: Global,
     mut config: C,
@@ -58,8 +61,7 @@ fn create_stream_of<C: BucketConfig>(
     create_stream(alloc, scope, stream_of(alloc, config)?)
 }
 
-/// The bucket's name, and the call that makes the stream which it is. Fails with `OutOfMemory` if memory runs out, and with
-/// nothing else.
+/// Returns the bucket's name, and the call that creates its stream. Fails only with `OutOfMemory`.
 pub(crate) fn create_its_stream<C: BucketConfig>(
     alloc: Global,
     scope: &ApiScope,

@@ -1,4 +1,4 @@
-//! The call that makes a bucket of keys.
+//! The call that creates a bucket of keys.
 ghost use Rattle.std.specs.Prelude.{◌≡◌, IfOk};
 ghost use Rattle.js_store.specs.Create.{create_row, creates_kind, CreatesBucket, CreatesStream};
 
@@ -14,13 +14,13 @@ use js_call_streams::{CreateStream, CreateStreamError, CreateStreamErrorKind, St
 use js_json_streams::stream::Info;
 use std::alloc::Global;
 
-/// The row of the second call of `create_key_value`.
+/// How the second call of `create_key_value` reads its answer.
 #[derive(Drop)]
 pub struct CreatingBucket {
     bucket: Text,
 }
 
-/// The second call of `create_key_value`.
+/// The second call of `create_key_value`: it creates the bucket's stream.
 pub type CreateBucket = BucketCall<
     CreateStream,
     StreamHandle<Info>,
@@ -92,15 +92,18 @@ impl AfterLevel for CreatingBucket {
     }
 }
 
-/// Makes a bucket of keys: it asks how far the server's API goes, and then, in the same poll, for the bucket's stream as `create_stream`
-/// does. A server has a bucket of that name and configuration already answers it, and refuses another configuration.
+/// Creates a bucket of keys. It asks for the server's API level, then, in the same poll, creates
+/// the bucket's stream as `create_stream` does. If a bucket with this name and configuration
+/// exists, the server returns it; it refuses a different configuration.
 ///
-/// Fails with `OutOfMemory` if memory runs out; other errors come from the polls. `InvalidStoreName` and then `TooLongHistory`
-/// come from the first, and nothing is sent. `JetStream` comes where the account was not told, and `LimitMarkersNotSupported`
-/// where markers are asked for and its level is below 1; the stream is not asked for then. `TimedOut` comes where the timeout of
-/// the stream's request is due, and `BucketCreate` where the stream was not made for another reason. These but
-/// `LimitMarkersNotSupported` have the server's error as their source, or the text of the error of `query_account` or
-/// `create_stream`.
+/// Fails here only with `OutOfMemory`; other errors come from the polls. Before anything is sent,
+/// the first poll fails with `InvalidStoreName` if the bucket's name is invalid, and then with
+/// `TooLongHistory` if the history is longer than 64 values. The call fails with `JetStream` if the
+/// account query fails, and with `LimitMarkersNotSupported` if the configuration has markers and
+/// the account's API level is below 1; it does not ask for the stream then. It fails with
+/// `TimedOut` if the timeout of the stream's request is due, and with `BucketCreate` if the stream
+/// was not created for another reason. `JetStream`, `TimedOut` and `BucketCreate` have the server's
+/// error as their source, or the text of the error of `query_account` or `create_stream`.
 pub fn create_key_value(
     alloc: Global,
     scope: &ApiScope,

@@ -13,7 +13,7 @@ use js_call_streams::{DeleteStream, DeleteStreamError, delete_stream};
 use js_json_streams::DeleteStatus;
 use std::alloc::Global;
 
-/// The row of `delete_key_value`.
+/// How `delete_key_value` checks its argument and reads its answer.
 #[derive(Drop)]
 pub struct DeletingBucket {
     bucket: Text,
@@ -55,7 +55,7 @@ impl Outcome<DeleteStatus, DeleteStreamError> for DeletingBucket {
     }
 }
 
-/// The call that deletes the stream of that name.
+/// Returns the call that deletes the stream of this name.
 pub(crate) fn delete_named(
     alloc: Global,
     scope: &ApiScope,
@@ -68,8 +68,9 @@ pub(crate) fn delete_named(
 
 /// Deletes a bucket of keys with all its values.
 ///
-/// Fails with `OutOfMemory` if memory runs out; other errors come from the polls. `InvalidStoreName` comes from the first, and
-/// nothing is sent. `JetStream` has the server's error as its source, or the text of the error of `delete_stream`.
+/// Fails here only with `OutOfMemory`; other errors come from the polls. The first poll fails with
+/// `InvalidStoreName` if the bucket's name is invalid, before anything is sent. `JetStream` has the
+/// server's error as its source, or the text of the error of `delete_stream`.
 pub fn delete_key_value(
     alloc: Global,
     scope: &ApiScope,

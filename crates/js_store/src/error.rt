@@ -1,23 +1,24 @@
-//! Why a call on a bucket was refused.
+//! Why a call on a bucket failed.
 ghost use Rattle.std.specs.Prelude.{Some};
 ghost use Rattle.js_store.specs.Error.{key_value_text, create_text, update_text, objects_text};
 
 use js_base::Error;
 use std::fmt;
 
-/// Why a bucket of keys was not got, or not deleted.
+/// Why getting or deleting a bucket of keys failed.
 #[derive(Clone, Copy, Debug, PartialEq, Eq)]
 pub enum KeyValueErrorKind {
-    /// The name is none that a bucket may have, and nothing was sent; or the stream that was got keeps no value of a key, and is no bucket.
+    /// The bucket's name is invalid, and nothing was sent. Or the stream of that name keeps no
+    /// value of a key, so it is no bucket.
     InvalidStoreName,
-    /// The bucket's stream was not got: the source tells why.
+    /// Getting the bucket's stream failed. The source tells why.
     GetBucket,
-    /// The bucket's stream was not deleted: the source tells why.
+    /// Deleting the bucket's stream failed. The source tells why.
     JetStream,
 }
 
-/// Why a bucket of keys was not got, or not deleted, as an error. Its source is the server's error, or the text of the error of the
-/// stream's call.
+/// Why getting or deleting a bucket of keys failed, as an error. Its source is the server's error,
+/// or the text of the error of the stream's call.
 pub type KeyValueError = Error<KeyValueErrorKind>;
 
 impl fmt::Display for KeyValueErrorKind {
@@ -32,30 +33,33 @@ impl fmt::Display for KeyValueErrorKind {
     }
 }
 
-/// Why a bucket was not made.
+/// Why creating a bucket failed.
 #[derive(Clone, Copy, Debug, PartialEq, Eq)]
 pub enum CreateKeyValueErrorKind {
-    /// The name is none that a bucket may have. Nothing was sent.
+    /// The bucket's name is invalid. Nothing was sent.
     InvalidStoreName,
-    /// More than 64 values of a key would be kept. Nothing was sent.
+    /// The history is longer than 64 values of a key. Nothing was sent.
     TooLongHistory,
-    /// The account was not told; or, where a bucket is made or changed, its stream was neither: the source tells why.
+    /// The account query failed. Or, in `create_or_update_key_value`, the bucket's stream was
+    /// neither changed nor created. The source tells why.
     JetStream,
-    /// The bucket's stream was not made: the source tells why.
+    /// Creating the bucket's stream failed. The source tells why.
     BucketCreate,
-    /// The bucket's stream was asked for, the timeout is due, and no answer had come.
+    /// No answer to the request for the bucket's stream came before the timeout.
     TimedOut,
-    /// Markers are asked for, and the server's API is below level 1. The stream was not asked for.
+    /// The configuration has markers, and the server's API level is below 1. The stream was not
+    /// asked for.
     LimitMarkersNotSupported,
 }
 
-/// Why a bucket was not made, as an error. Its source is the server's error, or the text of the error of the call that it stands on.
+/// Why creating a bucket failed, as an error. Its source is the server's error, or the text of the
+/// error of the call that the bucket's call made.
 pub type CreateKeyValueError = Error<CreateKeyValueErrorKind>;
 
-/// Why a bucket of objects was not made: `InvalidStoreName` or `BucketCreate`.
+/// Why creating a bucket of objects failed: `InvalidStoreName` or `BucketCreate`.
 pub type CreateObjectStoreErrorKind = CreateKeyValueErrorKind;
 
-/// Why a bucket of objects was not made, as an error.
+/// Why creating a bucket of objects failed, as an error.
 pub type CreateObjectStoreError = CreateKeyValueError;
 
 impl fmt::Display for CreateKeyValueErrorKind {
@@ -73,27 +77,28 @@ impl fmt::Display for CreateKeyValueErrorKind {
     }
 }
 
-/// Why a bucket of keys was not changed.
+/// Why changing a bucket of keys failed.
 #[derive(Clone, Copy, Debug, PartialEq, Eq)]
 pub enum UpdateKeyValueErrorKind {
-    /// The name is none that a bucket may have. Nothing was sent.
+    /// The bucket's name is invalid. Nothing was sent.
     InvalidStoreName,
-    /// More than 64 values of a key would be kept. Nothing was sent.
+    /// The history is longer than 64 values of a key. Nothing was sent.
     TooLongHistory,
-    /// The account was not told, or the bucket's stream was not changed: the source tells why.
+    /// The account query failed, or changing the bucket's stream did. The source tells why.
     JetStream,
-    /// Never given.
+    /// Never returned.
     BucketUpdate,
-    /// Never given.
+    /// Never returned.
     TimedOut,
-    /// Markers are asked for, and the server's API is below level 1. The change was not asked for.
+    /// The configuration has markers, and the server's API level is below 1. The change was not
+    /// asked for.
     LimitMarkersNotSupported,
     /// The server knows no stream of that bucket. The source is its error.
     NotFound,
 }
 
-/// Why a bucket of keys was not changed, as an error. Its source is the server's error, or the text of the error of the call that it
-/// stands on.
+/// Why changing a bucket of keys failed, as an error. Its source is the server's error, or the text
+/// of the error of the call that the bucket's call made.
 pub type UpdateKeyValueError = Error<UpdateKeyValueErrorKind>;
 
 impl fmt::Display for UpdateKeyValueErrorKind {
@@ -112,22 +117,23 @@ impl fmt::Display for UpdateKeyValueErrorKind {
     }
 }
 
-/// Why a bucket of objects was not got, or not deleted.
+/// Why getting or deleting a bucket of objects failed.
 #[derive(Clone, Copy, Debug, PartialEq, Eq)]
 pub enum ObjectStoreErrorKind {
-    /// The name is none that a bucket may have. Nothing was sent.
+    /// The bucket's name is invalid. Nothing was sent.
     InvalidBucketName,
-    /// The bucket's stream was not got, or not deleted: the source tells why.
+    /// Getting or deleting the bucket's stream failed. The source tells why.
     GetStore,
 }
 
-/// Why a bucket of objects was not got, as an error. Its source is the server's error, or the text of the error of the stream's call.
+/// Why getting a bucket of objects failed, as an error. Its source is the server's error, or the
+/// text of the error of the stream's call.
 pub type ObjectStoreError = Error<ObjectStoreErrorKind>;
 
-/// Why a bucket of objects was not deleted: `GetStore`.
+/// Why deleting a bucket of objects failed: `GetStore`.
 pub type DeleteObjectStoreKind = ObjectStoreErrorKind;
 
-/// Why a bucket of objects was not deleted, as an error.
+/// Why deleting a bucket of objects failed, as an error.
 pub type DeleteObjectStore = ObjectStoreError;
 
 impl fmt::Display for ObjectStoreErrorKind {

@@ -16,7 +16,7 @@ use js_call_streams::{GetStream, GetStreamError, StreamHandle, get_stream};
 use js_json_streams::stream::Info;
 use std::alloc::Global;
 
-/// The row of `get_key_value`.
+/// How `get_key_value` checks its argument and reads its answer.
 #[derive(Drop)]
 pub struct GettingBucket {
     bucket: Text,
@@ -25,7 +25,7 @@ pub struct GettingBucket {
 /// The state of `get_key_value`.
 pub type GetKeyValue = BucketCall<GetStream, StreamHandle<Info>, GetStreamError, GettingBucket>;
 
-/// What the name of a bucket of keys is refused with.
+/// Returns the error for an invalid bucket name, or `None` if the name is valid.
 pub(crate) fn name_refusal(bucket: &str) -> Option<KeyValueErrorKind>
     ensures { result ≡ name_refusal bucket.now }
 {
@@ -86,7 +86,7 @@ impl Outcome<StreamHandle<Info>, GetStreamError> for GettingBucket {
     }
 }
 
-/// The call that gets the stream of that name.
+/// Returns the call that gets the stream of this name.
 pub(crate) fn get_named(
     alloc: Global,
     scope: &ApiScope,
@@ -97,11 +97,12 @@ pub(crate) fn get_named(
     get_stream(alloc, scope, name.as_str())
 }
 
-/// Gets a bucket of keys, and where its values are.
+/// Gets a bucket of keys, and finds where its values are.
 ///
-/// Fails with `OutOfMemory` if memory runs out; other errors come from the polls. `InvalidStoreName` comes from the first where
-/// the name is none, and nothing is sent; later it tells that the stream of that name keeps no value of a key, and is no bucket.
-/// `GetBucket` has the server's error as its source, or the text of the error of `get_stream`.
+/// Fails here only with `OutOfMemory`; other errors come from the polls. The first poll fails with
+/// `InvalidStoreName` if the name is invalid, before anything is sent. A later `InvalidStoreName`
+/// means that the stream of that name keeps no value of a key, so it is no bucket. `GetBucket` has
+/// the server's error as its source, or the text of the error of `get_stream`.
 pub fn get_key_value(
     alloc: Global,
     scope: &ApiScope,

@@ -1,4 +1,4 @@
-//! Buckets of keys and their values: how they are configured, and which stream one is (NATS ADR-8).
+//! Buckets of keys and their values: how to configure them, and which stream one is (NATS ADR-8).
 ghost use Rattle.std.specs.Prelude.{◌≡◌, IfOk, Some, None, [], true, map, string_bytes};
 ghost use Rattle.js_store.specs.Origins.{mirrored, of_bucket as of_bucket_in};
 ghost use Rattle.js_store.specs.Kv.{all_keys as all_keys_in, history_of as history_in, replicas_of as replicas_in, compression_of as compression_in, subjects_of as subjects_in, origins_of as origins_in, stream_config};
@@ -13,7 +13,7 @@ use js_json_streams::stream::{
 };
 use std::alloc::{AllocError, Global};
 
-/// How many values of a key a bucket may keep.
+/// The most values of a key that a bucket may keep.
 pub const MAX_HISTORY: i64 = 64;
 
 /// The configuration of a bucket of keys.
@@ -21,42 +21,45 @@ pub const MAX_HISTORY: i64 = 64;
 pub struct Config {
     /// The bucket's name: ASCII letters, digits, `_` and `-`.
     pub bucket: Text,
-    /// Words for people; the server does nothing with them.
+    /// A description for people; the server does not use it.
     pub description: Text,
-    /// How many bytes a value may have, with the headers of its message; -1 is no bound, and 0 leaves it to the server,
-    /// which sets none but that of its connections.
+    /// The largest value in bytes, including the headers of its message. -1 sets no limit. 0 leaves
+    /// it to the server, which sets none except that of its connections.
     pub max_value_size: i64,
-    /// How many values of each key are kept, at most 64; 0 and below stand for 1.
+    /// How many values of each key the bucket keeps, at most 64. 0 and below stand for 1.
     pub history: i64,
-    /// How long a value is kept, in nanoseconds; 0 for no bound.
+    /// How long the bucket keeps a value, in nanoseconds; 0 sets no limit.
     pub max_age: Nanos,
-    /// How many bytes the bucket may have; -1 is no bound, and 0 leaves it to the server, which sets none.
+    /// The largest size of the bucket in bytes. -1 sets no limit. 0 leaves it to the server, which
+    /// sets none.
     pub max_bytes: i64,
-    /// Where values are kept.
+    /// Where the server keeps the values.
     pub storage: StorageType,
-    /// How many servers keep it; 0 stands for 1.
+    /// How many servers keep the bucket; 0 stands for 1.
     pub num_replicas: u64,
-    /// Where values that are put are sent on to.
+    /// Where the server republishes values that are put.
     pub republish: Option<Republish>,
-    /// The bucket that it copies whole, by its name or by that of its stream.
+    /// The bucket that this one copies whole, by its name or by the name of its stream.
     pub mirror: Option<Source>,
-    /// The buckets that it gathers, by their names or by those of their streams. With a mirror they go to the server as they are.
+    /// The buckets whose values this one gathers, by their names or by the names of their streams.
+    /// With a mirror set, they go to the server unchanged.
     pub sources: Option<Items<Source>>,
-    /// Whether it answers gets for the bucket that it copies. One with a mirror always does.
+    /// Whether this bucket answers gets for the bucket that it copies. A bucket with a mirror
+    /// always does.
     pub mirror_direct: bool,
-    /// Whether values are compressed where they are kept, by S2.
+    /// Whether the server compresses stored values, with S2.
     pub compression: bool,
-    /// Which servers may keep it.
+    /// Which servers may keep the bucket.
     pub placement: Option<Placement>,
-    /// How long a marker stands for the values of a key that were too old, in nanoseconds; none for no marker. It wants a server
-    /// whose API is of level 1 or above.
+    /// How long a marker stands for the values of a key that expired, in nanoseconds; `None` for no
+    /// marker. Markers need a server with API level 1 or above.
     pub limit_markers: Option<Nanos>,
 }
 
 impl Config {
     ghost use Rattle.js_store.specs.Kv.{new_config};
 
-    /// The default, which takes no memory: without a name, kept in files, and without bounds.
+    /// Returns the default configuration: no name, file storage, no limits. It takes no memory.
     pub fn new(alloc: Global) -> Config
         ensures { result ≡ new_config }
     {
@@ -106,7 +109,7 @@ impl TryClone for Config {
     }
 }
 
-/// What a bucket copies, and what it takes in by itself.
+/// What a bucket copies, and the subjects that it stores itself.
 #[derive(Drop)]
 pub(crate) struct Origins {
     pub(crate) subjects: Items<Text>,
@@ -207,7 +210,7 @@ fn replicas_of(replicas: u64) -> u64
     if replicas == 0 { 1 } else { replicas }
 }
 
-/// How a bucket's messages are compressed.
+/// Returns how a bucket's messages are compressed.
 pub(crate) fn compression_of(is_compressed: bool) -> Option<Compression>
     ensures { result ≡ compression_in is_compressed }
 {
@@ -276,8 +279,9 @@ impl BucketConfig for Config {
 }
 
 impl Config {
-    /// The configuration of the stream that the bucket is, `KV_{bucket}`, whatever the bucket's name and history. It takes in all
-    /// keys, `$KV.{bucket}.>`, unless it copies other buckets. Fails with `OutOfMemory` if memory runs out, and with nothing else.
+    /// Returns the configuration of the bucket's stream, `KV_{bucket}`. It does not check the
+    /// bucket's name and history. The stream stores all keys, `$KV.{bucket}.>`, unless the bucket
+    /// copies others. Fails only with `OutOfMemory`.
     pub fn into_stream_config(self, alloc: Global) -> Result<stream::Config, OutOfMemory>
         ensures { IfOk result (λ stream. stream ≡ stream_config self) }
     {

@@ -1,4 +1,4 @@
-//! How far the server's API goes, which is asked before the stream of a bucket is made or changed.
+//! The server's API level, which is asked for before the stream of a bucket is created or changed.
 ghost use Rattle.std.specs.Prelude.{◌≡◌, IfOk};
 ghost use Rattle.js_call.specs.declared.scope.ApiScope.{ApiScope};
 ghost use Rattle.js_store.specs.Level.{asking_level, level_row, refused_with, unless_allowed, LevelFirst};
@@ -14,14 +14,15 @@ use js_call_streams::{AccountError, QueryAccount, query_account};
 use js_json::account::Account;
 use std::alloc::Global;
 
-/// The row of the call that asks how far the server's API goes.
+/// How the call that asks for the server's API level checks its arguments and reads its answer.
 #[derive(Drop)]
 pub struct AskingLevel {
     // What the bucket is refused with before anything is sent.
     refusal: Option<Refusal>,
 }
 
-/// The first call of those that make or change a bucket of keys.
+/// The first call of those that create or change a bucket of keys: it asks for the server's API
+/// level.
 pub type AskLevel = BucketCall<QueryAccount, Account, AccountError, AskingLevel>;
 
 impl Outcome<Account, AccountError> for AskingLevel {
@@ -72,13 +73,13 @@ fn level_call(
     Ok(BucketCall::new(AskingLevel { refusal }, asked))
 }
 
-/// The second call follows where the account was told, and its level allows the markers that are asked for.
+/// Makes the second call if the account query succeeded and its level allows the requested markers.
 #[derive(Clone, Copy, Drop)]
 pub struct IfAllowed {
     pub(crate) limit_markers: bool,
 }
 
-/// The row of the second call of those that make or change a bucket of keys, which asks for its stream.
+/// How the second call of those that create or change a bucket of keys asks for its stream.
 pub(crate) trait AfterLevel: Drop {
     /// The call.
     type Call: Drop;
@@ -86,13 +87,13 @@ pub(crate) trait AfterLevel: Drop {
     /// What the call is, by the scope and the configuration.
     ghost asks: { ApiScope → Config → Self.Call → Type 0 };
 
-    /// The call, which is not sent. Fails with `OutOfMemory` if memory runs out, and with nothing else.
+    /// Returns the call without sending it. Fails only with `OutOfMemory`.
     fn ask(alloc: Global, scope: &ApiScope, config: kv::Config) -> Result<Self::Call, OutOfMemory>
         ensures { IfOk result (λ call. asks scope.now config call) };
 }
 
-/// The calls that ask how far the server's API goes, and then for the bucket's stream where the level allows the markers that are
-/// asked for. Neither is sent here. Fails with `OutOfMemory` if memory runs out, and with nothing else.
+/// Returns the calls that ask for the server's API level, and then for the bucket's stream if the
+/// level allows the requested markers. It sends neither. Fails only with `OutOfMemory`.
 pub(crate) fn after_level<M: AfterLevel>(
     alloc: Global,
     scope: &ApiScope,

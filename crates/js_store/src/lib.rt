@@ -1,10 +1,12 @@
-//! Buckets of keys and of objects: how they are configured, which stream each of them is, and the calls by which a context gets,
-//! makes, changes and deletes them.
+//! Buckets of keys and of objects: how to configure them, which stream each of them is, and the
+//! calls with which a context gets, creates, changes and deletes them.
 //!
-//! A bucket is a stream whose name, subjects and limits follow from the bucket's configuration (NATS ADR-8 for keys, ADR-20 for
-//! objects). A call on a bucket stands on a call on that stream, and its state is polled as those of a context. Before a bucket of
-//! keys is made or changed, the account is asked how far the server's API goes. Where the server answered with an error, the error
-//! of the call has that one as its source. What is done with the values of a bucket is not here: a [`Store`] says where they are.
+//! A bucket is a stream whose name, subjects and limits follow from the bucket's configuration
+//! (NATS ADR-8 for keys, ADR-20 for objects). A call on a bucket makes a call on that stream; poll
+//! its state like that of any other call of a context. Creating or changing a bucket of keys first
+//! asks for the server's API level. If the server returned an error, that error is the source of
+//! the call's error. This crate does not read or write the values of a bucket: a [`Store`] says
+//! where they are.
 #![tactic(auto)]
 
 mod calls;

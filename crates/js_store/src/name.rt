@@ -15,7 +15,8 @@ fn has_only_bucket_bytes(bytes: &[u8]) -> bool
     bytes.iter().all(|byte| is_bucket_byte(*byte))
 }
 
-/// Whether a bucket may have that name: it is not empty, and has ASCII letters, digits, `_` and `-` alone.
+/// Returns whether a bucket may have this name: it is not empty and has only ASCII letters, digits,
+/// `_` and `-`.
 pub fn is_valid_bucket_name(name: &str) -> bool
     ensures { result ≡ is_bucket_name name.now }
 {

@@ -1,4 +1,4 @@
-//! Buckets of objects: how they are configured, and which stream one is (NATS ADR-20).
+//! Buckets of objects: how to configure them, and which stream one is (NATS ADR-20).
 ghost use Rattle.std.specs.Prelude.{◌≡◌, IfOk, string_bytes};
 ghost use Rattle.js_store.specs.ObjectStore.{stream_name as stream_name_in, chunks, metadata, subjects_of as subjects_in, stream_config};
 
@@ -14,26 +14,27 @@ use std::alloc::{AllocError, Global};
 pub struct Config {
     /// The bucket's name: ASCII letters, digits, `_` and `-`.
     pub bucket: Text,
-    /// Words for people; the server does nothing with them.
+    /// A description for people; the server does not use it.
     pub description: Option<Text>,
-    /// How long an object is kept, in nanoseconds; 0 for no bound.
+    /// How long the bucket keeps an object, in nanoseconds; 0 sets no limit.
     pub max_age: Nanos,
-    /// How many bytes the bucket may have; -1 is no bound, and 0 leaves it to the server, which sets none.
+    /// The largest size of the bucket in bytes. -1 sets no limit. 0 leaves it to the server, which
+    /// sets none.
     pub max_bytes: i64,
-    /// Where objects are kept.
+    /// Where the server keeps the objects.
     pub storage: StorageType,
-    /// How many servers keep it; 0 leaves it to the server.
+    /// How many servers keep the bucket; 0 leaves it to the server.
     pub num_replicas: u64,
-    /// Whether objects are compressed where they are kept, by S2.
+    /// Whether the server compresses stored objects, with S2.
     pub compression: bool,
-    /// Which servers may keep it.
+    /// Which servers may keep the bucket.
     pub placement: Option<Placement>,
 }
 
 impl Config {
     ghost use Rattle.js_store.specs.ObjectStore.{new_config};
 
-    /// The default, which takes no memory: without a name, kept in files, and without bounds.
+    /// Returns the default configuration: no name, file storage, no limits. It takes no memory.
     pub fn new(alloc: Global) -> Config
         ensures { result ≡ new_config }
     {
@@ -76,7 +77,8 @@ fn stream_text(alloc: Global, bucket: &str) -> Result<String, AllocError>
     format!(in alloc; "OBJ_{bucket}")
 }
 
-/// The name of the stream that a bucket of objects is. Fails with `OutOfMemory` if memory runs out, and with nothing else.
+/// Returns the name of the stream of a bucket of objects, `OBJ_{bucket}`. Fails only with
+/// `OutOfMemory`.
 pub fn stream_name(alloc: Global, bucket: &str) -> Result<Text, OutOfMemory>
     ensures { IfOk result (λ name. name ≡ stream_name_in bucket.now) }
 {
@@ -156,9 +158,9 @@ impl BucketConfig for Config {
 }
 
 impl Config {
-    /// The configuration of the stream that the bucket is, `OBJ_{bucket}`, whatever the bucket's name. It takes in the chunks of
-    /// objects, `$O.{bucket}.C.>`, and what is known of them, `$O.{bucket}.M.>`. Fails with `OutOfMemory` if memory runs out, and
-    /// with nothing else.
+    /// Returns the configuration of the bucket's stream, `OBJ_{bucket}`. It does not check the
+    /// bucket's name. The stream stores the chunks of objects, `$O.{bucket}.C.>`, and their
+    /// metadata, `$O.{bucket}.M.>`. Fails only with `OutOfMemory`.
     pub fn into_stream_config(self, alloc: Global) -> Result<stream::Config, OutOfMemory>
         ensures { IfOk result (λ stream. stream ≡ stream_config self) }
     {

@@ -22,7 +22,7 @@ use js_json_streams::DeleteStatus;
 use js_json_streams::stream::Info;
 use std::alloc::Global;
 
-/// The row of `get_object_store`.
+/// How `get_object_store` checks its argument and reads its answer.
 #[derive(Drop)]
 pub struct GettingObjects {
     bucket: Text,
@@ -84,8 +84,9 @@ impl Outcome<StreamHandle<Info>, GetStreamError> for GettingObjects {
 
 /// Gets a bucket of objects.
 ///
-/// Fails with `OutOfMemory` if memory runs out; other errors come from the polls. `InvalidBucketName` comes from the first, and
-/// nothing is sent. `GetStore` has the server's error as its source, or the text of the error of `get_stream`.
+/// Fails here only with `OutOfMemory`; other errors come from the polls. The first poll fails with
+/// `InvalidBucketName` if the bucket's name is invalid, before anything is sent. `GetStore` has the
+/// server's error as its source, or the text of the error of `get_stream`.
 pub fn get_object_store(
     alloc: Global,
     scope: &ApiScope,
@@ -101,7 +102,7 @@ pub fn get_object_store(
     Ok(BucketCall::new(GettingObjects { bucket }, asked))
 }
 
-/// The row of `create_object_store`.
+/// How `create_object_store` checks its argument and reads its answer.
 #[derive(Drop)]
 pub struct CreatingObjects {
     bucket: Text,
@@ -166,12 +167,13 @@ impl Outcome<StreamHandle<Info>, CreateStreamError> for CreatingObjects {
     }
 }
 
-/// Makes a bucket of objects. A server that has a bucket of that name and configuration already answers it, and refuses another
-/// configuration.
+/// Creates a bucket of objects. If a bucket with this name and configuration exists, the server
+/// returns it; it refuses a different configuration.
 ///
-/// Fails with `OutOfMemory` if memory runs out; other errors come from the polls. `InvalidStoreName` comes from the first, and
-/// nothing is sent. `BucketCreate` has the server's error as its source, or the text of the error of `create_stream`, also where
-/// that is a timeout.
+/// Fails here only with `OutOfMemory`; other errors come from the polls. The first poll fails with
+/// `InvalidStoreName` if the bucket's name is invalid, before anything is sent. `BucketCreate` has
+/// the server's error as its source, or the text of the error of `create_stream`, also if that is a
+/// timeout.
 pub fn create_object_store(
     alloc: Global,
     scope: &ApiScope,
@@ -183,7 +185,7 @@ pub fn create_object_store(
     Ok(BucketCall::new(CreatingObjects { bucket }, asked))
 }
 
-/// The row of `delete_object_store`, which keeps nothing of its arguments.
+/// How `delete_object_store` reads its answer. It keeps nothing of its arguments.
 #[derive(Drop)]
 pub struct DeletingObjects;
 
@@ -215,11 +217,11 @@ impl Outcome<DeleteStatus, DeleteStreamError> for DeletingObjects {
     }
 }
 
-/// Deletes a bucket of objects with all its objects. It tests no name of a bucket: one that no stream may have is refused as
-/// `delete_stream` refuses it, before anything is sent.
+/// Deletes a bucket of objects with all its objects. It does not check the bucket's name;
+/// `delete_stream` rejects a name that no stream may have, before anything is sent.
 ///
-/// Fails with `OutOfMemory` if memory runs out; other errors come from the polls. `GetStore` has the server's error as its source,
-/// or the text of the error of `delete_stream`.
+/// Fails here only with `OutOfMemory`; other errors come from the polls. `GetStore` has the
+/// server's error as its source, or the text of the error of `delete_stream`.
 pub fn delete_object_store(
     alloc: Global,
     scope: &ApiScope,

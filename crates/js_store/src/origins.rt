@@ -12,7 +12,8 @@ fn stream_text(alloc: Global, bucket: &str) -> Result<String, AllocError>
     format!(in alloc; "KV_{bucket}")
 }
 
-/// The name of the stream that a bucket of keys is. Fails with `OutOfMemory` if memory runs out, and with nothing else.
+/// Returns the name of the stream of a bucket of keys, `KV_{bucket}`. Fails only with
+/// `OutOfMemory`.
 pub fn stream_name(alloc: Global, bucket: &str) -> Result<Text, OutOfMemory>
     ensures { IfOk result (λ name. name ≡ stream_name_in bucket.now) }
 {
@@ -36,7 +37,7 @@ fn name_as_stream(alloc: Global, name: &mut Text) -> Result<(), OutOfMemory>
     Ok(())
 }
 
-/// The stream that a bucket copies.
+/// Returns the stream that a bucket copies.
 pub(crate) fn of_bucket(alloc: Global, mut source: Source) -> Result<Source, OutOfMemory>
     ensures { IfOk result (λ there. there ≡ of_bucket_in source) }
 {
@@ -67,7 +68,7 @@ fn each_of_bucket(alloc: Global, sources: Vec<Source>) -> Result<Vec<Source>, Ou
     Ok(there)
 }
 
-/// The streams that a bucket gathers, where it copies none whole.
+/// Returns the streams that a bucket gathers if it copies none whole.
 pub(crate) fn gathered(alloc: Global, sources: Items<Source>) -> Result<Items<Source>, OutOfMemory>
     ensures { IfOk result (λ there. there ≡ map of_bucket_in sources) }
 {

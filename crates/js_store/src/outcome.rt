@@ -1,4 +1,4 @@
-//! Calls on a bucket, each of which stands on another call.
+//! Calls on a bucket, each of which makes a call on its stream or on the account.
 ghost use Rattle.std.specs.Prelude.{◌≡◌, IfOk, Result};
 ghost use Rattle.js_base.specs.declared.turn.Turn.{Turn};
 ghost use Rattle.js_store.specs.Outcome.{Row, answered, asking, bucket_waits_for, stage_waits_for, AnswersOf, Polled, TurnsTo};
@@ -9,50 +9,53 @@ use js_call::{OpenRequest, State};
 use js_link::Link;
 use std::alloc::Global;
 
-/// What a call on a bucket makes of the answer of the call that it stands on: of what that gives, and of its error.
+/// How a call on a bucket turns the result or the error of the call that it makes into its own
+/// answer.
 ///
-/// The type holds what the call keeps of its arguments. Its `BucketCall` is the state that is polled.
+/// The implementing type holds what the call keeps of its arguments. A `BucketCall` of it is the
+/// state to poll.
 pub trait Outcome<X, E>: Drop {
-    /// What has to be made of what is given, before the call can answer.
+    /// What must be built from the inner call's result before the call can return its answer.
     type Needs: Drop;
 
-    /// What the call answers.
+    /// The call's answer.
     type Answer: Drop;
 
-    /// The call's row of the table of calls on buckets.
+    /// What the call does with its arguments and with the inner call's answer, for contracts.
     ghost table: { Row Self X E Self.Needs Self.Answer };
 
-    /// What its arguments are refused with, before anything is sent.
+    /// Returns the error for invalid arguments, before anything is sent.
     fn refusal(&self) -> Option<Self::Answer>
         ensures { result ≡ table.refused self.now };
 
-    /// What has to be made of what is given. Fails with `OutOfMemory` if memory runs out, and with nothing else.
+    /// Builds what the answer needs from the inner call's result. Fails only with `OutOfMemory`.
     fn needs(&self, alloc: Global, given: &X) -> Result<Self::Needs, OutOfMemory>
         ensures { IfOk result (λ needs. needs ≡ table.needs self.now given.now) };
 
-    /// What the call answers to what is given.
+    /// Returns the call's answer for the inner call's result.
     fn accept(self, given: X, needs: Self::Needs) -> Self::Answer
         ensures { result ≡ table.accepts self given needs };
 
-    /// What it answers to an error. The source is what the error tells.
+    /// Returns the call's answer for the inner call's error. `source` is that error as a source.
     fn refuse(self, error: E, source: Source) -> Self::Answer
         ensures { result ≡ table.refuses self error source };
 }
 
-/// A call on a bucket under way: the call that it stands on is polled until that answers.
+/// A call on a bucket in progress. It polls the call that it makes until that one has its answer.
 ///
-/// Refused arguments are answered before anything is sent. An answer for which no memory is left is kept, and told at the next poll.
+/// Invalid arguments fail before anything is sent. If memory runs out while reading an answer, the
+/// answer is kept for the next poll.
 #[derive(Drop)]
 pub struct BucketCall<S, X, E, M> {
     row: M,
     stage: Stage<S, X, E>,
 }
 
-/// How far a call is.
+/// How far the call has come.
 #[derive(Drop)]
 pub(crate) enum Stage<S, X, E> {
     Asking(S),
-    /// The call that it stands on has answered, and that is not told yet.
+    /// The inner call has its answer, which is not returned yet.
     Answered(Result<X, E>),
 }
 
@@ -69,7 +72,7 @@ impl<S: State, X, E> Stage<S, X, E> {
 }
 
 impl<S, X, E, M> BucketCall<S, X, E, M> {
-    /// A call that stands on this one.
+    /// Creates a call that makes this one.
     pub(crate) fn new(row: M, asked: S) -> BucketCall<S, X, E, M>
         ensures { result ≡ asking row asked }
     {

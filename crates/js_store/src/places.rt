@@ -104,8 +104,8 @@ fn mirrored(alloc: Global, api: &str, bucket: &str, mirror: &Source) -> Result<P
     }
 }
 
-/// Where the values of a bucket are, by the prefix of the API and the mirror that its stream is. Fails with `OutOfMemory` if
-/// memory runs out, and with nothing else.
+/// Returns where the values of a bucket are, from the API's prefix and the mirror of its stream.
+/// Fails only with `OutOfMemory`.
 pub(crate) fn places_of(
     alloc: Global,
     api: &str,

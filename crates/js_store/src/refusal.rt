@@ -1,4 +1,4 @@
-//! What a bucket of keys that is made or changed is refused with, before its stream is asked for.
+//! Why creating or changing a bucket of keys fails before its stream is asked for.
 ghost use Rattle.std.specs.Prelude.{◌≡◌};
 ghost use Rattle.js_store.specs.declared.refusal.Refusal.{Refusal};
 ghost use Rattle.js_store.specs.Refusal.{config_refusal as refusal_in, create_refusal, error_of, error_with, update_refusal};
@@ -10,29 +10,29 @@ use js_base::{Error, Source};
 /// Why the stream of a bucket is not asked for.
 #[derive(Clone, Copy)]
 pub enum Refusal {
-    /// The bucket's name is none.
+    /// The bucket's name is invalid.
     InvalidStoreName,
-    /// More than 64 values of a key would be kept.
+    /// The history is longer than 64 values of a key.
     TooLongHistory,
-    /// The account was not told.
+    /// The account query failed.
     JetStream,
-    /// Markers are asked for, and the server's API is below level 1.
+    /// The configuration has markers, and the server's API level is below 1.
     LimitMarkersNotSupported,
 }
 
-/// Why the stream of a bucket is not asked for, and where that comes from.
+/// Why the stream of a bucket is not asked for, and the source of that error.
 #[derive(Drop)]
 pub struct Refused {
     pub refusal: Refusal,
     pub source: Option<Source>,
 }
 
-/// A kind of error that such a refusal may be.
+/// An error kind that has a kind for each [`Refusal`].
 pub trait OfRefusal: Drop {
     /// The kind of each refusal.
     ghost of_refusal: { Refusal → Self };
 
-    /// The kind of a refusal.
+    /// Returns the kind for a refusal.
     fn of_refusal(refusal: Refusal) -> Self
         ensures { result ≡ of_refusal refusal };
 }
@@ -73,7 +73,7 @@ fn error_with<K>(kind: K, source: Option<Source>) -> Error<K>
 }
 
 impl Refused {
-    /// The refusal as an error of that kind.
+    /// Returns the refusal as an error of this kind.
     pub(crate) fn into_error<K: OfRefusal>(self) -> Error<K>
         ensures { result ≡ error_of K.of_refusal self }
     {
@@ -82,7 +82,8 @@ impl Refused {
     }
 }
 
-/// What a configuration is refused with before anything is sent: its name, and then its history.
+/// Returns the error for an invalid configuration, before anything is sent. It checks the name,
+/// then the history.
 pub(crate) fn config_refusal(config: &kv::Config) -> Option<Refusal>
     ensures { result ≡ refusal_in config.now }
 {

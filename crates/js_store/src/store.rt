@@ -1,4 +1,4 @@
-//! What is known of a bucket.
+//! What a call returns of a bucket.
 ghost use Rattle.std.specs.Prelude.{◌≡◌, IfOk};
 ghost use Rattle.js_store.specs.Store.{answered_names as answered_in, store_of};
 
@@ -8,23 +8,26 @@ use js_call_streams::StreamHandle;
 use js_json_streams::stream::{Config, Info};
 use std::alloc::Global;
 
-/// A bucket of keys and their values: the stream that it is, and where its values are.
+/// A bucket of keys and their values: its stream, and where its values are.
 ///
-/// The value of a key stands under `prefix` and the key, and is put under `put_prefix` and the key where there is one, and else under
-/// `prefix`. Where `use_jetstream_prefix` is set, the prefix of the API and a dot stand before the subject that is put to.
+/// Read the value of a key under `prefix` and the key. Put it under `put_prefix` and the key if
+/// there is a `put_prefix`, otherwise under `prefix`. If `use_jetstream_prefix` is set, put the
+/// API's prefix and a dot before the subject that you put to.
 #[derive(Debug, PartialEq, Eq, Drop)]
 pub struct Store {
     /// The bucket's name.
     pub name: Text,
-    /// The name of its stream, `KV_{bucket}`.
+    /// The name of the bucket's stream, `KV_{bucket}`.
     pub stream_name: Text,
-    /// What the subjects of its values begin with.
+    /// What the subjects of the bucket's values begin with.
     pub prefix: Text,
-    /// What the subjects begin with that values are put to, where that is another prefix: the bucket is a mirror of one elsewhere.
+    /// What the subjects for puts begin with, if that is another prefix because the bucket mirrors
+    /// one elsewhere.
     pub put_prefix: Option<Text>,
-    /// Whether the API's prefix stands before subjects that are put to: it is not `$JS.API`, and no other API is named.
+    /// Whether the API's prefix stands before the subjects for puts: it is not `$JS.API`, and no
+    /// other API is named.
     pub use_jetstream_prefix: bool,
-    /// Its stream.
+    /// The bucket's stream.
     pub stream: StreamHandle<Info>,
 }
 
@@ -33,7 +36,7 @@ pub struct Store {
 pub struct ObjectStore {
     /// The bucket's name.
     pub name: Text,
-    /// Its stream.
+    /// The bucket's stream.
     pub stream: StreamHandle<Info>,
 }
 
@@ -44,8 +47,8 @@ pub struct StoreNames {
     pub(crate) places: Places,
 }
 
-/// Those of a bucket by the configuration of its stream that was answered. Fails with `OutOfMemory` if memory runs out, and with
-/// nothing else.
+/// Returns the name of a bucket's stream and where its values are, from the stream's configuration
+/// as the server returned it. Fails only with `OutOfMemory`.
 pub(crate) fn answered_names(
     alloc: Global,
     api: &str,
@@ -64,7 +67,7 @@ pub(crate) fn answered_names(
     })
 }
 
-/// A bucket of keys of that name.
+/// Returns a bucket of keys with this name.
 pub(crate) fn store_of(name: Text, names: StoreNames, stream: StreamHandle<Info>) -> Store
     ensures { result ≡ store_of name names stream }
 {

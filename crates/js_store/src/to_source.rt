@@ -1,4 +1,4 @@
-//! Where a refusal on a bucket comes from: the error of the call that it stands on.
+//! The source of a bucket call's error: the error of the call that it makes.
 ghost use Rattle.std.specs.Prelude.{◌≡◌, IfOk, option_copied};
 ghost use Rattle.js_base.specs.Error.{kind_of, source_of, printed};
 ghost use Rattle.js_base.specs.declared.error.Source.{Source};
@@ -10,13 +10,13 @@ use js_codes::errors;
 use std::alloc::Global;
 use std::fmt;
 
-/// An error of a call, as the source of the error of one that stands on it.
+/// An error of a call that can be the source of another call's error.
 pub trait ToSource: Drop {
-    /// The server's error where one was sent, and else the error's text.
+    /// The server's error if it sent one, otherwise the error's text.
     ghost told: { Self → Source };
 
-    /// The server's error where one was sent, and else the error's text. Fails with `OutOfMemory` if memory runs out, and with
-    /// nothing else.
+    /// Returns the server's error if it sent one, otherwise the error's text. Fails only with
+    /// `OutOfMemory`.
     fn to_source(&self, alloc: Global) -> Result<Source, OutOfMemory>
         ensures { IfOk result (λ source. source ≡ told self.now) };
 }

@@ -23,7 +23,8 @@ use js_json_streams::stream;
 use js_json_streams::stream::Info;
 use std::alloc::Global;
 
-/// The bucket of keys that is changed: its name, and what is known of its stream before it answers.
+/// A bucket of keys that is being changed: its name, and what is known of its stream before the
+/// server answers.
 #[derive(Drop)]
 pub struct ChangedBucket {
     bucket: Text,
@@ -85,11 +86,11 @@ fn changed<C: BucketConfig>(
     both(changed, stream_of(alloc, config))
 }
 
-/// What a stream is changed to.
+/// The configuration to change a stream to.
 trait Change: Drop {
     ghost change: { Self → Config };
 
-    /// The call that asks for it. Fails with `OutOfMemory` if memory runs out, and with nothing else.
+    /// Returns the call that asks for the change. Fails only with `OutOfMemory`.
     fn call(&self, alloc: Global, scope: &ApiScope) -> Result<UpdateStream, OutOfMemory>
         ensures { IfOk result (λ update. Updates scope.now (change self.now) update) };
 }
@@ -113,13 +114,13 @@ fn update_to<C: Change>(
     change.call(alloc, scope)
 }
 
-/// The row of the second call of `update_key_value`.
+/// How the second call of `update_key_value` reads its answer.
 #[derive(Drop)]
 pub struct UpdatingBucket {
     changed: ChangedBucket,
 }
 
-/// The second call of `update_key_value`.
+/// The second call of `update_key_value`: it changes the bucket's stream.
 pub type UpdateBucket = BucketCall<UpdateStream, Info, UpdateStreamError, UpdatingBucket>;
 
 /// The state of `update_key_value`.
@@ -166,13 +167,13 @@ impl Outcome<Info, UpdateStreamError> for UpdatingBucket {
     }
 }
 
-/// The row of the second call of `create_or_update_key_value`.
+/// How the second call of `create_or_update_key_value` reads its answer.
 #[derive(Drop)]
 pub struct CreatingOrUpdatingBucket {
     changed: ChangedBucket,
 }
 
-/// The second call of `create_or_update_key_value`.
+/// The second call of `create_or_update_key_value`: it changes or creates the bucket's stream.
 pub type CreateOrUpdateBucket = BucketCall<
     CreateOrUpdateStream,
     Info,
@@ -229,14 +230,18 @@ impl AfterLevel for UpdatingBucket {
     }
 }
 
-/// Changes a bucket of keys: it asks how far the server's API goes, and then, in the same poll, for the change of the bucket's stream as
-/// `update_stream` does. What a stream's configuration does not name is reset by it.
+/// Changes a bucket of keys. It asks for the server's API level, then, in the same poll, changes
+/// the bucket's stream as `update_stream` does. This resets all settings that a stream's `Config`
+/// does not have.
 ///
-/// Fails with `OutOfMemory` if memory runs out; other errors come from the polls. `InvalidStoreName` and then `TooLongHistory`
-/// come from the first, and nothing is sent. `JetStream` comes where the account was not told, and `LimitMarkersNotSupported`
-/// where markers are asked for and its level is below 1; the change is not asked for then. `NotFound` comes where the server knows
-/// no stream of that bucket, and `JetStream` where it was not changed for another reason. These but `LimitMarkersNotSupported`
-/// have the server's error as their source, or the text of the error of `query_account` or `update_stream`.
+/// Fails here only with `OutOfMemory`; other errors come from the polls. Before anything is sent,
+/// the first poll fails with `InvalidStoreName` if the bucket's name is invalid, and then with
+/// `TooLongHistory` if the history is longer than 64 values. The call fails with `JetStream` if the
+/// account query fails, and with `LimitMarkersNotSupported` if the configuration has markers and
+/// the account's API level is below 1; it does not ask for the change then. It fails with
+/// `NotFound` if the server knows no stream of that bucket, and with `JetStream` if the stream was
+/// not changed for another reason. `JetStream` and `NotFound` have the server's error as their
+/// source, or the text of the error of `query_account` or `update_stream`.
 pub fn update_key_value(
     alloc: Global,
     scope: &ApiScope,
@@ -263,14 +268,17 @@ impl AfterLevel for CreatingOrUpdatingBucket {
     }
 }
 
-/// Changes a bucket of keys, and makes it where it is not there: it asks how far the server's API goes, and then, in the same poll, for the
-/// bucket's stream as `create_or_update_stream` does.
+/// Changes a bucket of keys, or creates it if it does not exist. It asks for the server's API
+/// level, then, in the same poll, changes or creates the bucket's stream as
+/// `create_or_update_stream` does.
 ///
-/// Fails with `OutOfMemory` if memory runs out; other errors come from the polls. `InvalidStoreName` and then `TooLongHistory`
-/// come from the first, and nothing is sent. `JetStream` comes where the account was not told, or where the stream was neither
-/// changed nor made; and `LimitMarkersNotSupported` where markers are asked for and the account's level is below 1, so that the
-/// stream is not asked for. `JetStream` has the server's error as its source, or the text of the error of `query_account` or
-/// `create_or_update_stream`.
+/// Fails here only with `OutOfMemory`; other errors come from the polls. Before anything is sent,
+/// the first poll fails with `InvalidStoreName` if the bucket's name is invalid, and then with
+/// `TooLongHistory` if the history is longer than 64 values. The call fails with `JetStream` if the
+/// account query fails, or if the stream was neither changed nor created. It fails with
+/// `LimitMarkersNotSupported` if the configuration has markers and the account's API level is below
+/// 1; it does not ask for the stream then. `JetStream` has the server's error as its source, or the
+/// text of the error of `query_account` or `create_or_update_stream`.
 pub fn create_or_update_key_value(
     alloc: Global,
     scope: &ApiScope,

@@ -47,23 +47,26 @@ abbrev pub asked_of_tool : Command → Option Asked
 asked_of_tool command.Help = None
 asked_of_tool command.Version = None
 asked_of_tool command.Follow = None
+asked_of_tool command.Explain = None
 asked_of_tool (command.Tool one) = asked one
 asked_of_tool (command.Log one) = None
 asked_of_tool (command.Sessions next) = None
 
 -- ---- the program's own words
 
--- the page of all words, the version, or a conversation
+-- the page of all words, the version, a conversation, or an explanation
 pub data Own : Type 0 where
   Help : Own
   Version : Own
   Follow : Own
+  Explain : Own
 
 -- what a command asks for of these
 abbrev pub own : Command → Option Own
 own command.Help = Some Help
 own command.Version = Some Version
 own command.Follow = Some Follow
+own command.Explain = Some Explain
 own (command.Tool one) = None
 own (command.Log one) = None
 own (command.Sessions next) = None
@@ -73,7 +76,8 @@ abbrev pub own_of : List (List ℕ) → Option Own
 own_of (name ∷ []) =
     if bytes_eq name (codes "--help") then Some Help
     else if bytes_eq name (codes "--version") then Some Version
-    else if bytes_eq name (codes "follow") then Some Follow else None
+    else if bytes_eq name (codes "follow") then Some Follow
+    else if bytes_eq name (codes "explain") then Some Explain else None
 own_of words = None
 
 -- ---- number words

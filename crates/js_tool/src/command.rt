@@ -1,4 +1,4 @@
-//! The words of a command line, and the command that they name. Nothing else reads them.
+//! The words of a command line, and the command that they name. Only this module reads them.
 
 ghost use Rattle.std.specs.Prelude.{◌≡◌, ◌∷◌, [], map, option_and_then, option_map, string_bytes, None};
 ghost use Rattle.js_tool.specs.Command.{asked, asked_of_tool, command_of as command_in, generate_of as generate_in, number_of, own, own_of, window_of as window_in};
@@ -8,39 +8,44 @@ use js_base::is_valid_subject;
 use js_codes::is_valid_name;
 use js_message::read_u64;
 
-/// What the words of a command line ask the program for. It is borrowed from the words.
+/// The command that a command line asks for. It borrows from the words.
 #[derive(Clone, Copy)]
 pub enum Command<'a> {
-    /// `--help`: to write the page of all words.
+    /// `--help`: writes the page of all words.
     Help,
-    /// `--version`: to write the version.
+    /// `--version`: writes the version.
     Version,
-    /// `follow`: to answer a transcript as its lines come.
+    /// `follow`: answers a transcript as its lines arrive.
     Follow,
-    /// What [`run`](crate::run) does.
+    /// `explain`: says in plain English what a transcript's replay does and why.
+    Explain,
+    /// A command of this crate, which [`run`](crate::run) executes.
     Tool(ToolCommand<'a>),
-    /// What is made of all that a transcript's replay yields.
+    /// A command over everything that a transcript's replay yields.
     Log(LogCommand<'a>),
-    /// `sessions`: to write what sessions come to, the first of which starts at this bookmark. It is above 0.
+    /// `sessions`: writes the results of sessions. The first one starts at the bookmark `next`,
+    /// which is above 0.
     Sessions { next: u64 },
 }
 
-/// What is asked of this crate. A number may be out of its limits; then it asks for nothing, and [`run`](crate::run) returns `Usage`.
+/// A command of this crate. If a number is out of its limits, the command does nothing and
+/// [`run`](crate::run) returns `Usage`.
 #[derive(Clone, Copy)]
 pub enum ToolCommand<'a> {
-    /// To read a transcript, and to write the text of its run.
+    /// Reads a transcript and writes the text of its run.
     Replay,
-    /// To replay the first so many events of the transcript that a seed gives, at most 200,000, and to write their counts.
+    /// Replays the first `events` events of the transcript that a seed gives, at most 200,000, and
+    /// writes their counts.
     Generate {
         seed: u64,
         events: u64,
     },
-    /// To write what this acknowledgement subject says.
+    /// Writes what this acknowledgement subject says.
     Info {
         subject: &'a str,
     },
-    /// To let so many threads, 1 to 8, take a permit so many times, at most 100,000, of one window with so many permits, 1 to
-    /// 4,294,967,295, and to write their counts.
+    /// Runs threads that take permits of one window, and writes their counts. Limits: 1 to
+    /// 4,294,967,295 permits, 1 to 8 threads, and at most 100,000 takes by each thread.
     Window {
         capacity: u64,
         threads: u64,
@@ -48,24 +53,26 @@ pub enum ToolCommand<'a> {
     },
 }
 
-/// What is asked for of the yields of a transcript's replay.
+/// A command over the yields of a transcript's replay.
 #[derive(Clone, Copy)]
 pub enum LogCommand<'a> {
-    /// To write the last entry of each subject that a filter matches: of all yields, or of those up to a sequence.
+    /// Writes the last entry of each subject that a filter matches, of all yields or of those up to
+    /// a sequence.
     Project {
         filter: &'a str,
         sequence: Option<u64>,
     },
-    /// To write all yields, and the holes between them.
+    /// Writes all yields, and the holes between them.
     Mirror,
-    /// To write the transcript of a consumer that is sent all yields. Both are valid names.
+    /// Writes the transcript of a consumer that receives all yields. Both names are valid.
     Relay {
         stream: &'a str,
         name: &'a str,
     },
 }
 
-/// The command that the words name: `None` where they are in none of the forms. Numbers of [`ToolCommand`] may be out of their limits.
+/// Returns the command that the words name, or `None` if they have none of the forms. The numbers
+/// of a [`ToolCommand`] may be out of their limits.
 pub fn command_of(words: &[String]) -> Option<Command<'_>>
     // What is asked for is said kind by kind; words of one kind ask for nothing of another.
     ensures own { option_and_then own result ≡ own_of (map string_bytes words.now) }
@@ -98,6 +105,7 @@ fn one_word<'a>(name: &str) -> Option<Command<'a>>
         "--help" => Some(Command::Help),
         "--version" => Some(Command::Version),
         "follow" => Some(Command::Follow),
+        "explain" => Some(Command::Explain),
         "replay" => Some(Command::Tool(ToolCommand::Replay)),
         "mirror" => Some(Command::Log(LogCommand::Mirror)),
         _ => None,

@@ -18,7 +18,8 @@ use js_tool_io::{Sink, write_all};
 use js_tool_transcript::{Cell, push_line};
 use std::alloc::{AllocError, Global};
 
-/// Replays the first so many events that a seed gives, and writes the line of how much their run puts out.
+/// Replays the first `events` events that a seed gives, and writes the line with the counts of the
+/// run's outputs.
 pub(crate) fn answer_generate<K: Sink>(
     alloc: Global,
     seed: u64,
@@ -96,7 +97,7 @@ fn generated_counts(alloc: Global, seed: u64, events: u64) -> Result<Summary, Ou
     summary
 }
 
-/// The line of how much the replay of a generated transcript puts out.
+/// Returns the line with the counts of a generated transcript's replay.
 pub(crate) fn summary_line(alloc: Global, summary: Summary) -> Result<Vec<u8>, AllocError>
     ensures { IfOk result (λ line. line.items ≡ summary_text summary) }
 {

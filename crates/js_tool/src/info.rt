@@ -15,7 +15,8 @@ use js_tool_io::{Sink, write_all};
 use js_tool_transcript::{Cell, push_line, push_refused};
 use std::alloc::{AllocError, Global};
 
-/// Reads an acknowledgement subject, and writes the line of what it says, or of why it is none.
+/// Reads an acknowledgement subject, and writes the line with what it says, or with the reason why
+/// it is none.
 pub(crate) fn answer_info<K: Sink>(alloc: Global, subject: &str, output: &mut K) -> Status
     ensures answers { AnswersInfo subject.now (K.taken output.old) (K.taken output.new) (K.faults output.old) (K.faults output.new) result }
     ensures write_fault { result ≡ Status.WriteFault → Rose (K.faults output.old) (K.faults output.new) }
@@ -39,7 +40,7 @@ pub(crate) fn answer_info<K: Sink>(alloc: Global, subject: &str, output: &mut K)
     }
 }
 
-/// The line of what a subject says.
+/// Returns the line with what a subject says.
 pub(crate) fn info_line(alloc: Global, info: &Info) -> Result<Vec<u8>, AllocError>
     ensures { IfOk result (λ line. line.items ≡ info_text (shown info.now)) }
 {
@@ -72,7 +73,7 @@ fn text_or_none(text: Option<&str>) -> Cell<'_>
     }
 }
 
-/// The line of a subject that is no acknowledgement subject.
+/// Returns the line for a subject that is no acknowledgement subject.
 pub(crate) fn error_line(alloc: Global, error: InfoError) -> Result<Vec<u8>, AllocError>
     ensures { IfOk result (λ line. line.items ≡ error_text error) }
 {

@@ -1,11 +1,13 @@
-//! The words of a command line, and what some of them ask for: a transcript is read, replayed, and the text of its run written; a
-//! generated transcript is replayed and counted; what an ack subject says is written; threads share a publish window, and their
-//! counts are written.
+//! Reads the words of a command line and executes some of the commands: `replay` reads a
+//! transcript, replays it and writes the text of its run; `generate` replays a generated transcript
+//! and counts its outputs; `info` writes what an ack subject says; `window` lets threads share a
+//! publish window and writes their counts.
 //!
-//! [`command_of`] reads the words of all commands, those of js_tool_logs and of the program among them, once and alone. [`run`]
-//! takes a command of this crate, a source and a sink, and answers a status with its cause. Each line is replayed as it is read,
-//! and the text of its step is made at once, so that only the input that is left and the text so far are held. [`run_plain`] is
-//! the same for all commands that need no threads.
+//! Only [`command_of`] reads the words, for all commands, including those of js_tool_logs and of
+//! the program. [`run`] takes a command of this crate, a source and a sink, and returns a status
+//! with its cause. Each line is replayed as it is read, and the text of its step is built at once,
+//! so that memory holds only the rest of the input and the text so far. [`run_plain`] is the same
+//! for all commands that need no threads.
 #![tactic(auto)]
 
 mod command;

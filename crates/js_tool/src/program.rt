@@ -1,4 +1,4 @@
-//! What the program does with a command of this crate, its source and its sink.
+//! Executes a command of this crate with a source and a sink.
 
 ghost use Rattle.std.specs.Prelude.{◌≡◌, ◌≤◌, ◌<◌, ◌↔◌, ℕ, List, length, Some, None, IfSome};
 ghost use Rattle.std.specs.Io.KnownBytes.{Keeps};
@@ -26,13 +26,13 @@ pub(crate) enum ReplayOutcome {
     BadLine(u64),
 }
 
-/// Does what a command asks for, with a source and a sink. Where a number is out of its limits, it does nothing and returns `Usage`.
-/// What it promises of commands other than `Window` is what [`run_plain`] promises.
+/// Executes a command with a source and a sink. If a number is out of its limits, does nothing and
+/// returns `Usage`. For commands other than `Window` it promises what [`run_plain`] promises.
 ///
-/// `Replay` reads a transcript to its end and writes the text of its run. `Generate` replays a transcript that a number
-/// gives, and writes how much its run puts out. `Info` writes what a subject says. `Window`
-/// lets threads take permits of one window and writes their counts; where no thread can be made, the work is done on
-/// the caller's. It may wait in `Window` alone.
+/// `Replay` reads a transcript to its end and writes the text of its run. `Generate` replays the
+/// transcript that a number gives, and writes the counts of its run's outputs. `Info` writes what a
+/// subject says. `Window` lets threads take permits of one window and writes their counts; if no
+/// thread can be created, the caller's thread does the work. Only `Window` may block.
 pub fn run<R: Threads + Wait + Sync, S: Source, K: Sink>(
     rt: &R,
     alloc: Global,
@@ -79,7 +79,7 @@ pub fn run<R: Threads + Wait + Sync, S: Source, K: Sink>(
     run_plain(alloc, command, input, output)
 }
 
-/// Does what a command asks for without threads, and always returns. To `Window` it returns `Usage`.
+/// Executes a command without threads, and always returns. Returns `Usage` for `Window`.
 pub fn run_plain<S: Source, K: Sink>(
     alloc: Global,
     command: ToolCommand<'_>,

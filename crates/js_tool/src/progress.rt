@@ -1,4 +1,5 @@
-//! A replay that goes on as its lines are read. Their text is made at once, so that neither events nor steps are kept.
+//! A replay that runs while its lines are read. The text is built at once, so that neither events
+//! nor steps are kept.
 
 ghost use Rattle.std.specs.Prelude.{◌≡◌, ◌≤◌, ◌+◌, ◌++◌, ◌∷◌, [], ℕ, List, length, IfOk, OnOk};
 ghost use Rattle.js_ordered_table.specs.declared.consumer.ReplayInput.{ReplayInput};
@@ -19,7 +20,7 @@ use js_tool_transcript::{
 };
 use std::alloc::{AllocError, Global};
 
-/// How far a replay has come, and the text of what it has put out.
+/// How far a replay has come, and the text of its outputs.
 #[derive(Drop)]
 pub(crate) struct Progress<'s> {
     // On the heap, so that it is moved with little.
@@ -205,7 +206,7 @@ fn replay_rest(
     }
 }
 
-/// What the bytes call for, which are given up as they are read.
+/// Returns the outcome of replaying the bytes, which are freed as they are read.
 #[tactic(auto, unfolding(js_tool_transcript::specs::Transcript::transcript))]
 pub(crate) fn replay(alloc: Global, mut bytes: Pieces) -> Result<ReplayOutcome, AllocError>
     requires { length bytes ≤ 67_108_864 }

@@ -5,28 +5,28 @@ ghost use Rattle.js_tool.specs.Status.{exit_code as code_of, status_text};
 
 use std::fmt;
 
-/// How a call ended. It prints as its name, and as its line's number after that.
+/// How a call ended. Prints as its name, followed by the line's number if it has one.
 #[derive(Clone, Copy, Debug, PartialEq, Eq)]
 pub enum Status {
-    /// All was read and written.
+    /// Everything was read and written.
     Done,
     /// The source failed.
     ReadFault,
-    /// The words are no command.
+    /// The words name no command.
     Usage,
-    /// This line, counted from 1, is the first that does not read.
+    /// This line, counted from 1, is the first that cannot be read.
     BadLine { line: u64 },
     /// The sink failed.
     WriteFault,
     OutOfMemory,
-    /// The replay is refused, and a line that says why was written.
+    /// The command refused its input. It writes a line that says why, as far as the sink takes it.
     Refused,
     /// The input is longer than `MOST_BYTES`.
     TooLong,
 }
 
 impl Status {
-    /// The exit status of the program.
+    /// Returns the exit status of the program.
     pub fn exit_code(self) -> u8
         ensures { result ≡ code_of self }
     {

@@ -23,8 +23,8 @@ fn is_between(low: u64, high: u64, number: u64) -> bool
     low <= number && number <= high
 }
 
-/// These are numbers that a window and its workers can have: 1 to 4,294,967,295 permits, 1 to 8 threads, and at most 100,000 calls of
-/// each.
+/// Returns whether a window and its workers can have these numbers: 1 to 4,294,967,295 permits, 1
+/// to 8 threads, and at most 100,000 calls of each thread.
 pub(crate) fn is_window(capacity: u64, threads: u64, calls: u64) -> bool
     ensures test { result ≡ is_window_in capacity threads calls }
     ensures limits { IsTrue result → (0 < capacity) × (capacity < 2 ^ 32) × (0 < threads) × (threads ≤ 8) × (calls ≤ 100000) }
@@ -32,7 +32,8 @@ pub(crate) fn is_window(capacity: u64, threads: u64, calls: u64) -> bool
     is_between(1, 4_294_967_295, capacity) && is_between(1, 8, threads) && calls <= 100_000
 }
 
-/// Runs so many threads on a window with so many permits, each for so many takes, and writes the line of their counts.
+/// Runs `threads` threads on a window with `capacity` permits, each for `calls` takes, and writes
+/// the line of their counts.
 pub(crate) fn answer_window<R: Threads + Wait + Sync, K: Sink>(
     rt: &R,
     alloc: Global,
@@ -61,7 +62,7 @@ pub(crate) fn answer_window<R: Threads + Wait + Sync, K: Sink>(
     }
 }
 
-/// The line of the counts of threads on a window.
+/// Returns the line with the counts of threads on a window.
 pub(crate) fn window_line(
     alloc: Global,
     capacity: u64,

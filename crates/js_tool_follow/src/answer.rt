@@ -1,4 +1,4 @@
-//! What is answered to a line.
+//! The answer to a line.
 
 ghost use Rattle.std.specs.Prelude.{◌≡◌, ◌++◌, ◌∷◌, [], ℕ, List, IfOk, IsSome, None};
 ghost use Rattle.js_ordered.specs.IncrementalReplay.{HasCome};
@@ -17,7 +17,7 @@ use js_tool_transcript::{
 };
 use std::alloc::{AllocError, Global};
 
-/// The text that is answered, and the status where the replay is over with it.
+/// The text of an answer, and the status if the replay ends with it.
 #[derive(Drop)]
 pub(crate) struct Answer {
     pub(crate) text: Vec<u8>,
@@ -56,7 +56,7 @@ fn last_line(alloc: Global, ended: bool, events: u64) -> Result<Answer, AllocErr
     })
 }
 
-/// A replay that is told the lines behind a setup.
+/// A replay that receives the lines after a setup.
 #[derive(Drop)]
 pub(crate) struct Listener<'s> {
     // On the heap, so that it is moved with little.
@@ -65,7 +65,7 @@ pub(crate) struct Listener<'s> {
 }
 
 impl<'s> Listener<'s> {
-    /// None is told yet.
+    /// Opens the replay, before any line.
     pub(crate) fn open(alloc: Global, setup: &'s Setup) -> Result<Listener<'s>, AllocError>
         ensures { IfOk result (λ listener. HasCome (replay_input setup.now) setup.now.start [] listener.replay.value) }
     {
@@ -105,7 +105,8 @@ impl<'s> Listener<'s> {
         })
     }
 
-    /// The answer to the last event, or to the opening before the first: what it has put out, or its refusal.
+    /// Returns the answer to the last event, or to the opening before the first one: its outputs or
+    /// its error.
     pub(crate) fn answer(&self, alloc: Global) -> Result<Answer, AllocError>
         ensures { (setup : setups.Setup) → (es : List events.Event) → HasCome (replay_input setup) setup.start es self.now.replay.value
             → IfOk result (λ answer. AnswersEvents setup es answer.text.items answer.ending) }
@@ -116,7 +117,7 @@ impl<'s> Listener<'s> {
         }
     }
 
-    /// Passes the event of the next line, and answers it.
+    /// Passes the event of the next line and returns the answer to it.
     pub(crate) fn hear(&mut self, alloc: Global, line: &[u8]) -> Result<Answer, AllocError>
         ensures told { (lines : List (List ℕ)) → IsTold lines self.old
             → IfOk result (λ answer. AnswersLine (answered lines) (lines ++ line.now ∷ []) answer.text.items answer.ending self.new) }
@@ -138,7 +139,7 @@ impl<'s> Listener<'s> {
         }
     }
 
-    /// The last line, where no more come. With it the conversation is over.
+    /// Returns the last line, when no more lines come. It ends the conversation.
     pub(crate) fn end(&self, alloc: Global) -> Result<Answer, AllocError>
         ensures told { (lines : List (List ℕ)) → IsTold lines self.now → IfOk result (λ answer. AnswersEnd lines answer.text.items answer.ending) }
         ensures over { IfOk result (λ answer. IsSome answer.ending) }

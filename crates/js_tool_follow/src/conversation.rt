@@ -1,4 +1,4 @@
-//! A transcript is replayed in conversation with a peer.
+//! The replay of a transcript in conversation with a peer.
 
 ghost use Rattle.std.specs.Prelude.{◌≡◌, ◌++◌, ◌∷◌, [], ℕ, List, Option, Some, None, IfSome, Ok, IfOk, IfErr, IsErrOf, true};
 ghost use Rattle.js_tool_io.specs.Causes.{Rose};
@@ -251,13 +251,15 @@ fn hear_all<P: Peer>(alloc: Global, lines: &mut IncomingLines, peer: &mut P) -> 
     }
 }
 
-/// Replays a transcript of any length in conversation with a peer: whenever more is read, all whole lines before were answered, and the
-/// answers passed on. It holds one line, what was read behind it, and neither events nor texts of those before.
+/// Replays a transcript of any length in conversation with a peer. Before it reads more, it answers
+/// all whole lines and flushes the answers. It holds one line, the bytes read after it, and neither
+/// earlier events nor earlier texts.
 ///
-/// The answer to a line is what `replay` writes of its step, and at the end of the lines comes the last line of `replay`. It is over at the
-/// first line that does not read, and at the first event of which the replay is refused, whose answer is the refusal's line. Behind
-/// want of memory or a fault of the peer exactly the answers to the lines before were written. A line whose number would go past a `u64`
-/// is refused as want of memory is.
+/// The answer to a line is what `replay` writes for its step. When the lines end, the last line of
+/// `replay` follows. The conversation ends at the first line that cannot be read, and at the first
+/// event at which the replay fails; that answer is the line of the error. If memory runs out or the
+/// peer fails, exactly the answers to the earlier lines were written. A line whose number would
+/// exceed a `u64` counts as running out of memory.
 pub fn converse<P: Peer>(alloc: Global, peer: &mut P) -> Status
     // What the lines call for is answered, with all its text, unless memory ran out or a count of faults rose; then the text is that
     // of some first lines.

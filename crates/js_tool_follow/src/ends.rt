@@ -1,4 +1,5 @@
-//! A source and a sink as a peer, and `follow`: a transcript is replayed from the one into the other, as its lines come.
+//! A source and a sink as a peer, and `follow`: replays a transcript from one to the other as its
+//! lines arrive.
 
 ghost use Rattle.std.specs.Prelude.{◌≡◌, IfSome};
 ghost use Rattle.js_tool_io.specs.Causes.{Rose};
@@ -12,8 +13,9 @@ use js_tool::Status;
 use js_tool_io::{Failed, Sink, Source};
 use std::alloc::Global;
 
-/// A source and a sink as one peer. The sink has to pass on what it takes at once, as a `WriteSink` over standard output does, since a
-/// [`Sink`] has no flush; a writer that keeps bytes back would let the other side wait.
+/// A source and a sink as one peer. A [`Sink`] has no flush, so the sink has to pass on what it
+/// takes at once, as a `WriteSink` over standard output does. A writer that buffers bytes would
+/// keep the other side waiting.
 #[derive(Drop)]
 pub struct Ends<'a, S, K> {
     input: &'a mut S,
@@ -21,7 +23,7 @@ pub struct Ends<'a, S, K> {
 }
 
 impl<'a, S: Source, K: Sink> Ends<'a, S, K> {
-    /// The two ends. Neither is read or written.
+    /// Combines the two ends. Reads and writes nothing.
     pub fn new(input: &'a mut S, output: &'a mut K) -> Ends<'a, S, K>
         ensures input { result.input.ghost_name ≡ input.entry.ghost_name }
         ensures output { result.output.ghost_name ≡ output.entry.ghost_name }
@@ -57,8 +59,9 @@ impl<S: Source, K: Sink> Peer for Ends<'_, S, K> {
     }
 }
 
-/// Replays a transcript of any length from a source as its lines come, and writes the text of each step into a sink before more is read,
-/// as [`converse`] does with a peer, so that whoever writes the lines may wait for their text. The sink has to pass on what it takes.
+/// Replays a transcript of any length from a source as its lines arrive. Writes the text of each
+/// step into a sink before reading more, as [`converse`] does with a peer, so whoever writes the
+/// lines may wait for their text. The sink has to pass on what it takes at once.
 pub fn follow<S: Source, K: Sink>(alloc: Global, input: &mut S, output: &mut K) -> Status
     // What the lines call for is answered, with all its text, unless memory ran out or a count of faults rose; then the text is that
     // of some first lines.

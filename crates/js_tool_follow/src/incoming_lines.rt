@@ -1,4 +1,4 @@
-//! The lines of a peer, each as soon as it is there.
+//! The lines of a peer, each as soon as it arrives.
 
 ghost use Rattle.std.specs.Prelude.{◌≡◌, ◌<◌, ◌≤◌, ◌+◌, ◌++◌, [], ℕ, List, length, take, drop, nat_lt, if◌then◌else◌, MatchOption, IfOk, IsErrOf};
 ghost use Rattle.std.specs.Io.KnownBytes.{Consumes, IsAtEnd};
@@ -19,7 +19,7 @@ const BUFFER: usize = 65_536;
 /// What was read next.
 #[derive(Clone, Copy)]
 pub(crate) enum Incoming {
-    /// A line, behind which more may come.
+    /// A line, after which more may come.
     Line,
     /// The last line, which has no line feed.
     Last,
@@ -27,8 +27,8 @@ pub(crate) enum Incoming {
     End,
 }
 
-/// The lines of a peer. What was read behind the last line is held, and nothing of the lines before it. Contracts see the line that was
-/// read last, and the bytes behind it.
+/// The lines of a peer. It holds the bytes read after the last line, and nothing of earlier lines.
+/// Contracts see the line that was read last, and the bytes after it.
 #[derive(Drop)]
 pub(crate) struct IncomingLines {
     buffer: Vec<u8>,
@@ -50,7 +50,7 @@ impl Model for IncomingLines {
 }
 
 impl IncomingLines {
-    /// None is read yet.
+    /// Creates a reader that has read no line yet.
     pub(crate) fn new(alloc: Global) -> Result<IncomingLines, AllocError>
         ensures { IfOk result (λ lines. lines.left ≡ []) }
     {
@@ -140,7 +140,8 @@ impl IncomingLines {
     ///
     /// # Errors
     ///
-    /// `Fault` where the peer failed, and want of memory, of which the longest line takes as much as it is long.
+    /// Fails with `Fault` if the peer fails, and with `OutOfMemory` if memory runs out. The longest
+    /// line takes as much memory as it is long.
     pub(crate) fn read<P: Peer>(&mut self, alloc: Global, peer: &mut P) -> Result<Incoming, Stop>
         ensures line { IfOk result (λ next. IsNext next (lines_left self.old.left (P.view peer.old).left) self.new.line (lines_left self.new.left (P.view peer.new).left)) }
         ensures heard { (lines : List (List ℕ)) → Holds (P.view peer.old).turns (TurnsSoFar lines self.old.left (answered lines) (answered lines))
@@ -168,7 +169,7 @@ impl IncomingLines {
         &self.held[self.next..]
     }
 
-    /// The line that was read last, without its line feed.
+    /// Returns the line that was read last, without its line feed.
     pub(crate) fn line(&self) -> &[u8]
         ensures { result.now ≡ self.now.line }
     {

@@ -1,9 +1,10 @@
-//! `follow`: a transcript is replayed as its lines come, and the text of each step is written and flushed before more is read. So
-//! any program can run it beside itself as its ordered consumer.
+//! `follow` replays a transcript as its lines arrive. It writes and flushes the text of each step
+//! before it reads more, so any program can run it beside itself as its ordered consumer.
 //!
-//! [`converse`] holds this conversation with a [`Peer`], whoever writes the lines and reads the answers; [`follow`] is it over a
-//! source and a sink. All whole lines are answered before each read. It holds the last line, what was read behind it, and the
-//! replay: neither events nor texts.
+//! [`converse`] holds this conversation with a [`Peer`], which writes the lines and reads the
+//! answers. [`follow`] does the same with a source and a sink. It answers all whole lines before
+//! each read. It holds the last line, the bytes read after it, and the replay, but neither events
+//! nor texts.
 #![tactic(auto)]
 
 mod answer;

@@ -1,4 +1,4 @@
-//! What is written to a peer, and passed on at once.
+//! Writing to a peer, with a flush.
 
 ghost use Rattle.std.specs.Prelude.{◌≡◌, ◌++◌, ℕ, List, OnOk, OnErr};
 ghost use Rattle.std.specs.Io.KnownBytes.{Appends};
@@ -30,7 +30,7 @@ fn write_all<P: Peer>(peer: &mut P, text: &[u8]) -> Result<(), Failed>
     Ok(())
 }
 
-/// Writes all of the text and passes it on. Where that fails, a front of it was written.
+/// Writes all of the text and flushes it. If it fails, only the beginning of the text was written.
 pub(crate) fn write_flushed<P: Peer>(peer: &mut P, text: &[u8]) -> Result<(), Failed>
     ensures ok { OnOk result (Appends (P.view peer.old).taken (P.view peer.new).taken text.now) }
     ensures err { OnErr result (AppendsPrefix (P.view peer.old).taken (P.view peer.new).taken text.now) }

@@ -1,4 +1,4 @@
-//! Whoever sends lines and waits for their text.
+//! The other side of a conversation: it sends lines and waits for their text.
 
 ghost use Rattle.std.specs.Prelude.{◌≡◌};
 ghost use Rattle.js_tool_follow.specs.Peer.{Dialogue, Reads, Writes, Flushes};
@@ -13,24 +13,29 @@ pub enum Turn {
     Read(Items<u8>),
     /// These bytes were taken.
     Wrote(Items<u8>),
-    /// All that was taken before was passed on.
+    /// Everything taken before was flushed.
     Flushed,
 }
 
-/// Whoever sends lines and waits for their text: where bytes come from and go to, by turns.
+/// The other side of a conversation: it sends lines and waits for their text. You read from it and
+/// write to it in turns.
 pub trait Peer {
-    /// What is left to be read, what was taken, and the calls, as far as the peer tells them; and how often it has failed.
+    /// What is left to be read, what was taken, and the calls, as far as the peer tells them; and
+    /// how often it has failed.
     ghost view: { Self → Dialogue };
 
-    /// Reads some bytes into the front of the buffer, and answers how many. 0 for a buffer that is not empty is the end.
+    /// Reads some bytes into the front of the buffer and returns how many. 0 for a non-empty buffer
+    /// means the end. Fails with `Failed` if the peer fails.
     fn read(&mut self, buf: &mut [u8]) -> Result<usize, Failed>
         ensures { Reads (view self.old) (view self.new) result buf.new };
 
-    /// Takes some bytes off the front of the piece, and answers how many. 0 of a piece that is not empty is a fault.
+    /// Takes some bytes off the front of the piece and returns how many. 0 for a non-empty piece is
+    /// a fault. Fails with `Failed` if the peer fails.
     fn write(&mut self, piece: &[u8]) -> Result<usize, Failed>
         ensures { Writes (view self.old) (view self.new) result piece.now };
 
-    /// Passes on all that was taken, so that whoever waits for it has it.
+    /// Passes on everything that was taken, so that whoever waits for it receives it. Fails with
+    /// `Failed` if the peer fails.
     fn flush(&mut self) -> Result<(), Failed>
         ensures { Flushes (view self.old) (view self.new) result };
 }

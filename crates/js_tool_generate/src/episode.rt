@@ -9,21 +9,21 @@ use js_base::{Boxed, Message, OutOfMemory, Subject, all_3, both};
 use js_ordered_table::{Event, EventKind};
 use std::alloc::Global;
 
-/// Some messages in order, a gap, and the recreation that it brings.
+/// Some messages in order, then a gap and the recreation that it causes.
 #[derive(Clone, Copy)]
 pub(crate) struct Episode {
-    /// How many came before it. It is also the number of the inbox that it is heard on.
+    /// How many episodes came before it. This is also the number of the inbox that it uses.
     pub(crate) number: u64,
-    /// How many messages those delivered in order.
+    /// How many messages the earlier episodes delivered in order.
     pub(crate) before: u64,
-    /// The random number that says how many it delivers.
+    /// The random number that decides how many messages it delivers.
     pub(crate) draw: u64,
 }
 
-/// What a random number is multiplied by.
+/// The multiplier of the random numbers.
 const MULTIPLIER: u64 = 48_271;
 
-/// The random numbers are below this.
+/// The modulus of the random numbers: all are below it.
 const MODULUS: u64 = 2_147_483_647;
 
 // The next random number.
@@ -35,7 +35,7 @@ fn next_draw(draw: u64) -> u64
 }
 
 impl Episode {
-    /// The first one of a seed.
+    /// Returns the first episode of a seed.
     pub(crate) fn first(seed: u64) -> Episode
         ensures { result ≡ record { number = 0; before = 0; draw = episodes.draw seed 1 } }
     {
@@ -53,7 +53,7 @@ impl Episode {
         1 + self.draw % 8
     }
 
-    /// The one after it.
+    /// Returns the next episode.
     pub(crate) fn next(&self) -> Episode
         requires number { self.now.number < 1_000_000 }
         requires before { self.now.before < 10_000_000 }
@@ -71,7 +71,7 @@ impl Episode {
         }
     }
 
-    /// Adds its events.
+    /// Adds the events of this episode.
     #[tactic(auto, using(std::proofs::lemmas::Grind::common_steps, crate::proofs::AddedEvents::pushed, crate::proofs::AddedEvents::next_delivery))]
     pub(crate) fn push_events(
         &self,

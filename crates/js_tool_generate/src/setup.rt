@@ -1,4 +1,4 @@
-//! What the consumer of a generated transcript is made with.
+//! The settings and the configuration of the consumer of a generated transcript.
 ghost use Rattle.std.specs.Prelude.{◌≡◌, IfOk};
 ghost use Rattle.js_tool_generate.specs.Transcript as transcript;
 
@@ -49,12 +49,12 @@ fn first_info(alloc: Global) -> Result<Info, OutOfMemory>
     }
 }
 
-/// The settings, the setup and the first consumer of every generated transcript: an ordered pull consumer of all messages,
-/// with the name `gen`.
+/// Returns the settings, the setup and the first consumer of every generated transcript: an ordered
+/// pull consumer of all messages, called `gen`.
 ///
 /// # Errors
 ///
-/// Want of memory.
+/// Fails only with `OutOfMemory`.
 pub fn replay_input(alloc: Global) -> Result<ReplayInput, OutOfMemory>
     ensures { IfOk result (λ input. input ≡ transcript.replay_input) }
 {

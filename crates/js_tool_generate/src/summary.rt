@@ -1,4 +1,4 @@
-//! How much the replay of a generated transcript puts out.
+//! The counts of outputs in the replay of a generated transcript.
 ghost use Rattle.std.specs.Prelude.{◌≡◌, ◌+◌, ◌++◌, ◌∷◌, [], ℕ, List, IfOk, OnOk};
 ghost use Rattle.js_ordered_table.specs.declared.run.Output as outputs;
 ghost use Rattle.js_tool_generate.specs.Summary as counts;
@@ -6,7 +6,7 @@ ghost use Rattle.js_tool_generate.specs.Summary as counts;
 use js_base::OutOfMemory;
 use js_ordered_table::{Output, Run, next_number};
 
-/// How much a run puts out, over its opening and all of its steps.
+/// The counts of a run's outputs, over its opening and all of its steps.
 #[derive(Clone, Copy)]
 pub struct Summary {
     pub events: u64,
@@ -15,10 +15,10 @@ pub struct Summary {
     pub recreations: u64,
     /// API requests.
     pub requests: u64,
-    /// Pull requests, and answers to flow control.
+    /// Pull requests, and replies to flow control.
     pub publishes: u64,
     pub subscribes: u64,
-    /// The stream sequence that was yielded last; 0 where nothing was.
+    /// The stream sequence that was yielded last, or 0 if nothing was yielded.
     pub last: u64,
 }
 
@@ -79,11 +79,12 @@ impl Summary {
     }
 }
 
-/// The counts of a run. It takes no memory.
+/// Returns the counts of a run. Allocates nothing.
 ///
 /// # Errors
 ///
-/// Want of memory, where a count would go past a `u64`: the outputs that are counted are held in memory.
+/// Fails with `OutOfMemory` if a count would exceed a `u64`. The counted outputs are held in
+/// memory.
 pub fn summary_of(run: &Run) -> Result<Summary, OutOfMemory>
     ensures { IfOk result (λ summary. summary ≡ counts.summary run.now) }
 {

@@ -4,28 +4,28 @@ ghost use Rattle.js_tool_generate.specs.Episode as episodes;
 
 use std::alloc::{AllocError, Global};
 
-/// The acknowledgement subject of the message with this sequence and number.
+/// Returns the acknowledgement subject of the message with this sequence and number.
 pub(crate) fn reply(alloc: Global, sequence: u64, number: u64) -> Result<String, AllocError>
     ensures { IfOk result (λ text. string_bytes text ≡ episodes.reply sequence number) }
 {
     format!(in alloc; "$JS.ACK.events.gen.1.{sequence}.{number}.0.0")
 }
 
-/// A number in decimal.
+/// Returns a number in decimal.
 pub(crate) fn decimal(alloc: Global, number: u64) -> Result<String, AllocError>
     ensures { IfOk result (λ text. string_bytes text ≡ decimal number) }
 {
     format!(in alloc; "{number}")
 }
 
-/// The name of the consumer that the recreation with this count of recreations makes.
+/// Returns the name of the consumer that the recreation with this count creates.
 pub(crate) fn name(alloc: Global, recreation_count: u64) -> Result<String, AllocError>
     ensures { IfOk result (λ text. string_bytes text ≡ episodes.name_of recreation_count) }
 {
     format!(in alloc; "gen_{recreation_count}")
 }
 
-/// What the server tells of the consumer with this name.
+/// Returns the server's info about the consumer with this name.
 pub(crate) fn info(alloc: Global, name: &str) -> Result<String, AllocError>
     ensures { IfOk result (λ text. string_bytes text ≡ episodes.info_text name.now) }
 {
@@ -40,7 +40,7 @@ pub(crate) fn info(alloc: Global, name: &str) -> Result<String, AllocError>
     Ok(text)
 }
 
-/// What the server tells of the consumer that the recreation with this count of recreations makes.
+/// Returns the server's info about the consumer that the recreation with this count creates.
 pub(crate) fn info_of(alloc: Global, recreation_count: u64) -> Result<String, AllocError>
     ensures { IfOk result (λ text. string_bytes text ≡ episodes.info_text (episodes.name_of recreation_count)) }
 {

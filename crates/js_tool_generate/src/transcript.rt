@@ -25,16 +25,17 @@ fn whole_episodes(alloc: Global, seed: u64, count: u64) -> Result<Vec<Event>, Ou
     Ok(events)
 }
 
-/// The first `count` events that a seed gives, one a millisecond.
+/// Returns the first `count` events that a seed gives, one a millisecond.
 ///
-/// Again and again some messages arrive in order and one is missing. The one behind it shows the gap; the consumer is deleted
-/// and made anew, and the missing message comes late, on the old inbox. Whatever the seed, the server is honest: the log
-/// holds each sequence, with the sequence as its payload, nothing is removed from it, and each inbox is sent all of it from where
-/// it starts. So the yields of a replay leave no gap.
+/// Again and again some messages arrive in order and one is missing. The message after it shows the
+/// gap; the consumer is deleted and recreated, and the missing message arrives late, on the old
+/// inbox. Whatever the seed, the server is honest: the log holds each sequence, with the sequence
+/// as its payload, nothing is removed from it, and each inbox is sent all of it from where it
+/// starts. So the yields of a replay leave no gap.
 ///
 /// # Errors
 ///
-/// Want of memory.
+/// Fails only with `OutOfMemory`.
 pub fn generated(alloc: Global, seed: u64, count: u64) -> Result<Vec<Event>, OutOfMemory>
     requires { count ≤ 200_000 }
     ensures events { IfOk result (λ events. events.items ≡ transcript.generated seed count) }

@@ -1,4 +1,4 @@
-//! How the first line is cut off some bytes, and the first piece.
+//! Cutting the first line, or the first piece, off some bytes.
 
 ghost use Rattle.std.specs.Prelude.{◌≡◌, ◌<◌, ◌≤◌, ◌+◌, ◌-◌, ◌++◌, [], ◌∷◌, length, take, drop, IfSome, MatchOption};
 ghost use Rattle.js_tool_io.specs.Lines.{lines_of};
@@ -7,7 +7,7 @@ use crate::Pieces;
 use memchr::memchr;
 use std::alloc::Global;
 
-/// The first line, and what follows its line feed.
+/// Returns the first line, and what follows its line feed. `bytes` has to be non-empty.
 pub fn cut_line(bytes: &[u8]) -> (&[u8], &[u8])
     requires { 0 < length bytes.now }
     ensures line { lines_of bytes.now ≡ result.0.now ∷ lines_of result.1.now }
@@ -22,7 +22,7 @@ pub fn cut_line(bytes: &[u8]) -> (&[u8], &[u8])
     }
 }
 
-/// How long the line at this place is, and where the next one begins.
+/// Returns the length of the line at this place, and where the next one begins.
 pub(crate) fn line_at(bytes: &[u8], at: usize) -> (usize, usize)
     requires { at < length bytes.now }
     ensures line { lines_of (drop at bytes.now) ≡ take result.0 (drop at bytes.now) ∷ lines_of (drop result.1 bytes.now) }
@@ -33,7 +33,8 @@ pub(crate) fn line_at(bytes: &[u8], at: usize) -> (usize, usize)
     (line.len(), bytes.len() - rest.len())
 }
 
-/// The first piece of the bytes that are left, which has the first of their lines.
+/// Takes off the first piece of the bytes, which has the first of their lines. Returns `None` if no
+/// bytes are left.
 pub fn next_piece(alloc: Global, bytes: &mut Pieces) -> Option<Vec<u8>>
     ensures lines { MatchOption result (bytes.old ≡ []) (λ piece. lines_of bytes.old ≡ lines_of piece.items ++ lines_of bytes.new) }
     ensures filled { IfSome result (λ piece. 0 < length piece.items) }

@@ -8,7 +8,8 @@ use crate::cut::{line_at, next_piece};
 use std::alloc::Global;
 use std::marker::Model;
 
-/// The lines of some bytes, which are given up as they are read. Contracts see the line that is read, and those that are left.
+/// The lines of some bytes, which are freed as they are read. Contracts see the line that was read,
+/// and those that are left.
 #[derive(Drop)]
 pub struct Lines {
     pieces: Pieces,
@@ -30,7 +31,8 @@ impl Model for Lines {
 }
 
 impl Lines {
-    /// The lines of these bytes, of which there are not more than bytes. None is read yet. It takes no memory.
+    /// Creates a reader of the lines of these bytes; there are at most as many lines as bytes. No
+    /// line is read yet. Allocates nothing.
     #[tactic(auto, using(crate::proofs::Cuts::fewer_lines))]
     pub fn new(alloc: Global, bytes: Pieces) -> Lines
         ensures lines { result.left ≡ lines_of bytes }
@@ -45,7 +47,7 @@ impl Lines {
         }
     }
 
-    /// Reads the next line, if one is left.
+    /// Reads the next line and returns `true`, or returns `false` if none is left.
     pub fn read(&mut self, alloc: Global) -> bool
         ensures { IsRead result self.old self.new }
     {
@@ -63,7 +65,7 @@ impl Lines {
         true
     }
 
-    /// The line that was read last, without its line feed.
+    /// Returns the line that was read last, without its line feed.
     pub fn line(&self) -> &[u8]
         ensures { result.now ≡ self.now.line }
     {

@@ -1,4 +1,4 @@
-//! A source and a sink in memory of which chosen calls fail.
+//! A source and a sink in memory whose chosen calls fail.
 
 ghost use Rattle.std.specs.Prelude.{◌≡◌, [], ◌↔◌, min, length, take, Some, IfOk};
 ghost use Rattle.std.specs.Result.{IsErr};
@@ -11,7 +11,7 @@ use crate::{Failed, Sink, Source};
 use std::alloc::Global;
 use std::marker::Model;
 
-/// Bytes in memory. The calls of `read` with these numbers fail, the first call being 1.
+/// Bytes in memory. The calls of `read` whose numbers are listed fail; the first call has number 1.
 #[derive(Drop)]
 pub struct MemorySource {
     bytes: Vec<u8>,
@@ -33,7 +33,7 @@ impl Model for MemorySource {
 }
 
 impl MemorySource {
-    /// A source of these bytes, whose calls with these numbers fail.
+    /// Creates a source of these bytes. The calls of `read` with the numbers in `failing` fail.
     pub fn new(bytes: Vec<u8>, failing: Vec<u64>) -> MemorySource
         ensures { result ≡ record { left = bytes.items; failing = failing.items; calls = 0; faults = 0 } }
     {
@@ -70,7 +70,7 @@ impl Source for MemorySource {
     }
 }
 
-/// Copies as much as there is room for.
+/// Copies as much as fits, and returns how much.
 pub(crate) fn copy_front(from: &[u8], buf: &mut [u8]) -> usize
     ensures count { result ≡ min (length from.now) (length buf.new) }
     ensures bytes { take result buf.new ≡ take result from.now }
@@ -80,7 +80,8 @@ pub(crate) fn copy_front(from: &[u8], buf: &mut [u8]) -> usize
     count
 }
 
-/// Keeps what it takes, at most `most` bytes a call. The calls of `write` with these numbers fail, the first call being 1.
+/// Keeps the bytes that it takes, at most `most` bytes a call. The calls of `write` whose numbers
+/// are listed fail; the first call has number 1.
 #[derive(Drop)]
 pub struct MemorySink {
     taken: Vec<u8>,
@@ -99,7 +100,8 @@ impl Model for MemorySink {
 }
 
 impl MemorySink {
-    /// A sink that has taken nothing. It takes at most `most` bytes a call; where `most` is 0, each write of some bytes is a fault.
+    /// Creates a sink that has taken nothing. It takes at most `most` bytes a call. If `most` is 0,
+    /// each write of a non-empty piece is a fault.
     pub fn new(alloc: Global, most: u64, failing: Vec<u64>) -> MemorySink
         ensures { result ≡ record { taken = []; most = most; failing = failing.items; calls = 0; faults = 0 } }
     {
@@ -112,7 +114,7 @@ impl MemorySink {
         }
     }
 
-    /// All that it has taken.
+    /// Returns all the bytes taken so far.
     pub fn taken(&self) -> &[u8]
         ensures { result.now ≡ self.now.taken }
     {

@@ -1,4 +1,5 @@
-//! An input's bytes in pieces that end where lines do, so that each can be given up once it is read.
+//! An input's bytes in pieces that end at line ends, so that each piece can be freed once it is
+//! read.
 
 ghost use Rattle.std.specs.Prelude.{◌≡◌, ◌<◌, [], ◌++◌, length, OnOk, OnErr, IfSome, MatchOption};
 ghost use Rattle.js_tool_io.specs.Pieces.{EndsLine};
@@ -9,10 +10,11 @@ use std::collections::VecDeque;
 use std::marker::Model;
 use std::mem;
 
-/// How long a piece grows before it is cut, in bytes. With one more read it stays within a mebibyte.
+/// The length in bytes at which a piece is cut. With one more read a piece stays within a mebibyte.
 const PIECE: usize = 983_040;
 
-/// Bytes in pieces, each of which but the last ends with a line feed. Contracts see all the bytes that are left.
+/// Bytes in pieces. Each piece except the last ends with a line feed. Contracts see all the bytes
+/// that are left.
 #[derive(Drop)]
 pub struct Pieces {
     whole: VecDeque<Vec<u8>>,
@@ -32,7 +34,7 @@ impl Model for Pieces {
 }
 
 impl Pieces {
-    /// No bytes, which takes no memory.
+    /// Creates an empty value. Allocates nothing.
     pub fn new(alloc: Global) -> Pieces
         ensures { result ≡ [] }
     {
@@ -42,7 +44,7 @@ impl Pieces {
         }
     }
 
-    /// Adds bytes after all others. After a refusal the bytes are what they were.
+    /// Adds bytes after all others. If it fails, the bytes are unchanged.
     pub fn add(&mut self, alloc: Global, bytes: &[u8]) -> Result<(), AllocError>
         ensures ok { OnOk result (self.new ≡ self.old ++ bytes.now) }
         ensures err { OnErr result (self.new ≡ self.old) }
@@ -68,7 +70,8 @@ impl Pieces {
         Ok(())
     }
 
-    /// Takes the first piece off. It is not empty, and ends with a line feed where bytes are left.
+    /// Takes off the first piece, or returns `None` if no bytes are left. The piece is not empty,
+    /// and ends with a line feed if bytes are left after it.
     pub fn take(&mut self, alloc: Global) -> Option<Vec<u8>>
         ensures bytes { MatchOption result (self.old ≡ []) (λ piece. self.old ≡ piece.items ++ self.new) }
         ensures filled { IfSome result (λ piece. 0 < length piece.items) }

@@ -1,4 +1,5 @@
-//! A source and a sink in memory: the source never fails, and the sink only where it cannot grow.
+//! A source and a sink in memory. The source never fails, and the sink fails only if it cannot
+//! grow.
 
 ghost use Rattle.std.specs.Prelude.{◌≡◌, [], length, Some, OnOk, IfOk, OnErr};
 ghost use Rattle.std.specs.Io.{WritesAtMost};
@@ -10,7 +11,7 @@ use crate::{Failed, Sink, Source};
 use std::alloc::Global;
 use std::marker::Model;
 
-/// Bytes in memory. It never fails. Contracts see the bytes that are left.
+/// Bytes in memory. Reading never fails. Contracts see the bytes that are left.
 #[derive(Drop)]
 pub struct PlainSource {
     bytes: Vec<u8>,
@@ -28,7 +29,7 @@ impl Model for PlainSource {
 }
 
 impl PlainSource {
-    /// A source of these bytes.
+    /// Creates a source of these bytes.
     pub fn new(bytes: Vec<u8>) -> PlainSource
         ensures { result ≡ bytes.items }
     {
@@ -48,7 +49,7 @@ impl Source for PlainSource {
     }
 }
 
-/// Keeps what it takes. It fails only where it can't grow.
+/// Keeps the bytes that it takes. Fails only if it can't grow.
 #[derive(Drop)]
 pub struct PlainSink {
     taken: Vec<u8>,
@@ -64,7 +65,7 @@ impl Model for PlainSink {
 }
 
 impl PlainSink {
-    /// A sink that has taken nothing.
+    /// Creates a sink that has taken nothing.
     pub fn new(alloc: Global) -> PlainSink
         ensures { result ≡ record { taken = []; faults = 0 } }
     {
@@ -74,7 +75,7 @@ impl PlainSink {
         }
     }
 
-    /// All that it has taken.
+    /// Returns all the bytes taken so far.
     pub fn taken(&self) -> &[u8]
         ensures { result.now ≡ self.now.taken }
     {

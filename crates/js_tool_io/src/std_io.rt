@@ -1,4 +1,4 @@
-//! Sources and sinks over the readers and writers of std, as standard input and output are.
+//! Sources and sinks over the readers and writers of std, such as standard input and output.
 
 ghost use Rattle.std.specs.Prelude.{◌≡◌};
 
@@ -13,7 +13,7 @@ pub struct ReadSource<R: Read> {
 }
 
 impl<R: Read> ReadSource<R> {
-    /// A source over the reader, which has not failed yet.
+    /// Creates a source over the reader, with no faults yet.
     pub fn new(reader: R) -> ReadSource<R>
         ensures { (result.reader ≡ reader) × (result.faults ≡ 0) }
     {
@@ -37,7 +37,8 @@ impl<R: Read> Source for ReadSource<R> {
     }
 }
 
-/// A sink over a writer. Each error of the writer is a fault, and so is a write that takes nothing of a piece.
+/// A sink over a writer. Each error of the writer is a fault, and so is a write that takes no byte
+/// of a non-empty piece.
 #[derive(Drop)]
 pub struct WriteSink<W: Write> {
     writer: W,
@@ -45,7 +46,7 @@ pub struct WriteSink<W: Write> {
 }
 
 impl<W: Write> WriteSink<W> {
-    /// A sink over the writer, which has not failed yet.
+    /// Creates a sink over the writer, with no faults yet.
     pub fn new(writer: W) -> WriteSink<W>
         ensures { (result.writer ≡ writer) × (result.faults ≡ 0) }
     {

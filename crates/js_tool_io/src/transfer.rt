@@ -9,7 +9,7 @@ use crate::pieces::Pieces;
 use crate::{Failed, Sink, Source};
 use std::alloc::{AllocError, Global};
 
-/// The longest input that is read, in bytes.
+/// The longest input that `read_all` reads, in bytes.
 pub const MOST_BYTES: usize = 67_108_864;
 
 const BUFFER: usize = 65_536;
@@ -19,7 +19,7 @@ const BUFFER: usize = 65_536;
 pub enum Stop {
     /// The source failed.
     Fault,
-    /// There were more than `MOST_BYTES`.
+    /// The source has more than `MOST_BYTES`.
     TooLong,
     OutOfMemory,
 }
@@ -32,15 +32,16 @@ impl From<AllocError> for Stop {
     }
 }
 
-/// All the bytes of a source, of which there are at most `MOST_BYTES`.
+/// Reads all the bytes of a source, at most `MOST_BYTES`.
 ///
 /// # Errors
 ///
-/// The first of these that is met, and then the bytes that were read so far are lost:
+/// Fails with the first of these that occurs. The bytes read so far are lost.
 ///
 /// - `Fault`: a read failed, so the source's count of faults has risen.
-/// - `TooLong`: the source has more than `MOST_BYTES`. It is told at the read that goes past them, before the source's end.
-/// - `OutOfMemory`: there is no memory for the buffer, or for the bytes.
+/// - `TooLong`: the source has more than `MOST_BYTES`. This is reported by the read that exceeds
+///   them, before the source's end.
+/// - `OutOfMemory`: memory ran out for the buffer or for the bytes.
 pub fn read_all<S: Source>(alloc: Global, input: &mut S) -> Result<Pieces, Stop>
     ensures whole { IfOk result (λ read. IfSome (S.left input.old) (λ bytes. read ≡ bytes)) }
     ensures at_end { OnOk result (IfSome (S.left input.new) (λ rest. rest ≡ [])) }
@@ -88,7 +89,7 @@ fn read_through<S: Source>(alloc: Global, input: &mut S, buf: &mut [u8]) -> Resu
     }
 }
 
-/// Writes all of the text. Where that fails, a front of it was written.
+/// Writes all of the text. If it fails, only the beginning of the text was written.
 pub fn write_all<K: Sink>(output: &mut K, text: &[u8]) -> Result<(), Failed>
     ensures ok { OnOk result (Appends (K.taken output.old) (K.taken output.new) text.now) }
     ensures err { OnErr result (AppendsPrefix (K.taken output.old) (K.taken output.new) text.now) }

@@ -1,4 +1,4 @@
-//! What a command over a log, or sessions, answers and writes.
+//! What a command over a log, or over sessions, returns and writes.
 
 ghost use Rattle.std.specs.Prelude.{◌≡◌, ◌<◌, ℕ, length, IfSome, Err};
 ghost use Rattle.std.specs.Io.KnownBytes.{Keeps};
@@ -17,7 +17,7 @@ use js_tool_io::{Sink, Source, Stop, read_all, write_all};
 use js_tool_transcript::Unread;
 use std::alloc::Global;
 
-/// Reads a transcript to its end, and writes what the command makes of it.
+/// Reads a transcript to its end, and writes the command's result.
 pub(crate) fn answer_log<S: Source, K: Sink>(
     alloc: Global,
     command: LogCommand<'_>,
@@ -44,7 +44,8 @@ pub(crate) fn answer_log<S: Source, K: Sink>(
     }
 }
 
-/// Reads the lines of sessions to their end, and writes what the sessions come to from a bookmark on.
+/// Reads the lines of sessions to their end, and writes the results of the sessions, starting at a
+/// bookmark.
 pub(crate) fn answer_sessions<S: Source, K: Sink>(
     alloc: Global,
     next: u64,

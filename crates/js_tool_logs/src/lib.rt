@@ -1,9 +1,12 @@
-//! What the words over logs and over sessions ask for: `project`, `mirror`, `relay` and `sessions`. Other commands are js_tool's.
+//! Executes the commands over logs and over sessions: `project`, `mirror`, `relay` and `sessions`.
+//! js_tool executes the other commands.
 //!
-//! For the words over logs a transcript is replayed line by line, and what it hands out is kept and nothing else. Then the last
-//! message of each subject is written, or all messages with their holes, or the transcript of a consumer that is sent them again.
-//! Where the server was honest, the table is that of its own log, a mirror shows that log, and who replays the written transcript
-//! reads the same log. `sessions` writes what each session came to, or the line of the first refusal.
+//! The commands over logs replay a transcript line by line and keep only what it hands out. Then
+//! they write the last message of each subject (`project`), or all messages with their holes
+//! (`mirror`), or the transcript of a consumer that receives them again (`relay`). With an honest
+//! server, the table is that of the server's own log, a mirror shows that log, and replaying the
+//! written transcript reads the same log. `sessions` writes the result of each session, or the line
+//! of the first error.
 #![tactic(auto)]
 
 mod answer;

@@ -10,7 +10,7 @@ use js_base::{Entry, Items, OutOfMemory};
 use js_tool_transcript::{Cell, push_line};
 use std::alloc::{AllocError, Global};
 
-/// The messages from a start on, and the holes between them.
+/// Returns the messages from a start on, and the holes between them.
 pub(crate) fn mirror(
     alloc: Global,
     start: u64,

@@ -1,4 +1,4 @@
-//! The top call: what the program does with its words, its source and its sink.
+//! The top-level call: executes the command in the words with a source and a sink.
 
 ghost use Rattle.std.specs.Prelude.{◌≡◌, ◌<◌, ◌↔◌, ℕ, List, length, map, Some, None, IfSome, string_bytes};
 ghost use Rattle.std.specs.Io.KnownBytes.{Keeps};
@@ -19,13 +19,14 @@ use std::alloc::Global;
 use std::sync::Wait;
 use std::thread::Threads;
 
-/// Does what the words say, with a source and a sink. What it promises of words that are not those of `window` is what
-/// [`run_plain`] promises.
+/// Executes the command in the words with a source and a sink. For all words other than those of
+/// `window` it promises what [`run_plain`] promises.
 ///
-/// `project` reads a transcript to its end, replays it, and writes the last entry of each subject that a filter matches.
-/// `mirror` writes all that the replay yields, with the holes between, and `relay` the transcript of another consumer that is
-/// sent all of it. `sessions` reads the lines of sessions to their end, and writes what each comes to, from a bookmark on. What
-/// `replay`, `generate`, `info` and `window` do stands at [`js_tool::run`]. It may wait in `window` alone.
+/// `project` reads a transcript to its end, replays it, and writes the last entry of each subject
+/// that a filter matches. `mirror` writes all that the replay yields, with the holes between, and
+/// `relay` writes the transcript of another consumer that receives all of it. `sessions` reads the
+/// lines of sessions to their end, and writes the result of each, starting at a bookmark. For
+/// `replay`, `generate`, `info` and `window` see [`js_tool::run`]. Only `window` may block.
 pub fn run<R: Threads + Wait + Sync, S: Source, K: Sink>(
     rt: &R,
     alloc: Global,
@@ -89,11 +90,14 @@ pub fn run<R: Threads + Wait + Sync, S: Source, K: Sink>(
         Some(Command::Log(command)) => answer_log(alloc, command, input, output),
         Some(Command::Sessions { next }) => answer_sessions(alloc, next, input, output),
         Some(Command::Tool(command)) => js_tool::run(rt, alloc, command, input, output),
-        Some(Command::Help | Command::Version | Command::Follow) | None => Status::Usage,
+        Some(Command::Help | Command::Version | Command::Follow | Command::Explain) | None => {
+            Status::Usage
+        }
     }
 }
 
-/// Does what the words say without threads, and always returns. To the words of `window` it answers `Usage`.
+/// Executes the command in the words without threads, and always returns. Returns `Usage` for the
+/// words of `window`.
 pub fn run_plain<S: Source, K: Sink>(
     alloc: Global,
     words: &[String],
@@ -153,6 +157,8 @@ pub fn run_plain<S: Source, K: Sink>(
         Some(Command::Log(command)) => answer_log(alloc, command, input, output),
         Some(Command::Sessions { next }) => answer_sessions(alloc, next, input, output),
         Some(Command::Tool(command)) => js_tool::run_plain(alloc, command, input, output),
-        Some(Command::Help | Command::Version | Command::Follow) | None => Status::Usage,
+        Some(Command::Help | Command::Version | Command::Follow | Command::Explain) | None => {
+            Status::Usage
+        }
     }
 }

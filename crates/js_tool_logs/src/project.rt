@@ -12,7 +12,7 @@ use js_log::{ApplyError, Projection};
 use js_tool_transcript::{Cell, push_line};
 use std::alloc::{AllocError, Global};
 
-/// The rows of the table whose subject a filter matches, up to a sequence where one is named.
+/// Returns the rows of the table whose subject matches a filter, up to `sequence` if it is given.
 pub(crate) fn project(
     alloc: Global,
     filter: &str,

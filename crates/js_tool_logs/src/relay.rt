@@ -15,8 +15,8 @@ use js_ordered::OrderedSetup;
 use js_tool_transcript::relay_text;
 use std::alloc::Global;
 
-/// The transcript of a consumer with this name, of the stream with this name, that is sent the messages from a start on. It
-/// has the setup's filters. Both are valid names.
+/// Returns the transcript of a consumer called `name`, of a stream called `stream`, that receives
+/// the messages from a start on. It has the setup's filters. Both names have to be valid.
 pub(crate) fn relay(
     alloc: Global,
     stream: &str,

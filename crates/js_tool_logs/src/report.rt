@@ -1,4 +1,4 @@
-//! What a command over a log makes of a transcript.
+//! The result of a command over a log.
 
 ghost use Rattle.std.specs.Prelude.{◌≡◌, ◌≤◌, ◌<◌, length, IfOk};
 ghost use Rattle.js_tool_transcript.specs.Transcript.{transcript};
@@ -20,30 +20,30 @@ use js_tool_io::{Lines, Pieces};
 use js_tool_transcript::{Cell, Unread, first_line, push_line, refusal_line};
 use std::alloc::{AllocError, Global};
 
-/// What a transcript calls for.
+/// The result for a transcript.
 #[derive(Drop)]
 pub(crate) enum Report {
     /// This text.
     Done(Items<u8>),
-    /// It is refused, and this line says why.
+    /// The replay or the command failed, and this line says why.
     Refused(Items<u8>),
 }
 
-/// A text that is written.
+/// Returns a report with this text.
 pub(crate) fn done(text: Vec<u8>) -> Report
     ensures { result ≡ Done text.items }
 {
     Report::Done(Items::from(text))
 }
 
-/// The line of a refusal.
+/// Returns a report with the line of an error.
 pub(crate) fn refused(line: Vec<u8>) -> Report
     ensures { result ≡ Refused line.items }
 {
     Report::Refused(Items::from(line))
 }
 
-/// The refusal of a sequence that is not above this one, which came before it.
+/// Returns the report of an error: a sequence is not above `last`, which came before it.
 pub(crate) fn not_rising(alloc: Global, last: u64) -> Result<Report, OutOfMemory>
     ensures { IfOk result (λ r. r ≡ Refused (not_rising_text last)) }
 {
@@ -125,7 +125,7 @@ fn report_ending(
     }
 }
 
-/// What the bytes call for, which are given up as they are read.
+/// Returns the report of a command on the bytes, which are freed as they are read.
 pub(crate) fn report_on(
     alloc: Global,
     command: LogCommand<'_>,

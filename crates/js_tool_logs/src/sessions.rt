@@ -1,4 +1,5 @@
-//! What the word `sessions` makes of the lines of sessions. They are read one after another, replayed, and written as text.
+//! The command `sessions`: reads the lines of sessions one after another, replays them, and builds
+//! their text.
 
 ghost use Rattle.std.specs.Prelude.{◌≡◌, ◌≤◌, length};
 ghost use Rattle.js_tool_logs.specs.SessionInput.{sessions as sessions_in};
@@ -26,7 +27,7 @@ fn as_report(made: SessionsReport) -> Report
     }
 }
 
-/// What the sessions that the bytes say call for, from a bookmark on.
+/// Returns the report of the sessions in the bytes, starting at a bookmark.
 pub(crate) fn report_on_sessions(alloc: Global, next: u64, bytes: Pieces) -> Result<Report, Unread>
     requires { length bytes ≤ 67_108_864 }
     ensures { Reports (report_of next) (Joins next) (sessions_in bytes) result }

@@ -1,4 +1,4 @@
-//! What a replay yields, kept as its lines are read. Neither lines nor events are kept.
+//! The yields of a replay, collected as its lines are read. Neither lines nor events are kept.
 
 ghost use Rattle.std.specs.Prelude.{◌≡◌, ◌≤◌, ◌+◌, ◌++◌, ◌∷◌, [], ℕ, List, length, IfOk, OnOk};
 ghost use Rattle.js_log.specs.RunProjection.{yielded};
@@ -15,12 +15,12 @@ use js_tool_io::Lines;
 use js_tool_transcript::{Payloads, Setup, Unread, next_line};
 use std::alloc::Global;
 
-/// What a replay comes to.
+/// The result of a replay.
 #[derive(Drop)]
 pub(crate) enum Ending {
-    /// All that it yields, in order.
+    /// All entries that it yields, in order.
     Yields(Items<Entry>),
-    /// It is refused.
+    /// The replay failed.
     Refused(ReplayError),
 }
 

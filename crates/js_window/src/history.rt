@@ -1,18 +1,19 @@
-//! What callers of a window did. No value of these types is made: they stand in contracts alone.
+//! What callers of a window did. These types are used in contracts only; no value of them is ever
+//! made.
 
-/// A call of a window, with its answer.
+/// A call of a window, with what it returned.
 pub enum Call {
     /// A take that got a permit.
     Got,
-    /// A take that found no permit free.
+    /// A take that found no free permit.
     Full,
-    /// A permit was given back.
+    /// A give, which returned a permit to the window.
     Give,
-    /// Whether all permits were free.
+    /// A question whether all permits were free, with its answer.
     AllFree(bool),
 }
 
-/// A call of the caller with this number.
+/// A call by the caller with this number.
 pub struct Entry {
     pub caller: u64,
     pub call: Call,

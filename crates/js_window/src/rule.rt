@@ -1,4 +1,5 @@
-//! The rule of a window's cell, the kinds of step on it, and what each tells the pass that makes it.
+//! The rule of a window's cell, the kinds of step on it, and what each step tells the pass that
+//! makes it.
 ghost use Rattle.js_window.specs.Rule.{NoPermitIsLost, OneHistoryBalances};
 
 use crate::history::Entry;
@@ -10,22 +11,22 @@ use std::collections::LinkedList;
 /// Two words, the free count and the capacity. Both are 0 while the cell is closed.
 pub type Cell = RuledSeqCell<[u64; 2], View, OneHistory, 2>;
 
-/// A pass of the cell. It takes no memory.
+/// A pass of the cell. It allocates nothing.
 pub type WindowPass = Pass<[u64; 2], View>;
 
-/// Whether a view makes calls, was cut off for a join, or was joined.
+/// Whether a view makes calls, was ended for a join, or was joined.
 pub enum Standing {
     Live,
     Ended,
     Spent,
 }
 
-/// What a pass of the cell knows. No value of it is made.
+/// What a pass of the cell knows. No value of it is ever made.
 pub struct View {
     pub standing: Standing,
     pub number: Option<u64>,
 
-    /// The number of the pass that it was split from.
+    /// The number of the pass from which it was split.
     pub origin: Option<u64>,
 
     pub capacity: Option<u64>,
@@ -36,12 +37,13 @@ pub struct View {
     /// The calls that it made.
     pub mine: LinkedList<Entry>,
 
-    /// What it and the other had seen when they were last joined.
+    /// What it and the other pass had seen when they were last joined.
     pub joined_own: LinkedList<Entry>,
     pub joined_other: LinkedList<Entry>,
 }
 
-/// The rule: all views have seen beginnings of one legal history, and the free count and what they hold make the capacity.
+/// The rule: all views have seen beginnings of one legal history, and the free count plus the
+/// permits that they hold is the capacity.
 pub struct OneHistory;
 
 impl Protocol<[u64; 2], View> for OneHistory {
@@ -52,8 +54,9 @@ impl Protocol<[u64; 2], View> for OneHistory {
     ghost first = { newcomer };
 }
 
-/// The law of permits: between any two steps of a window, the free count and what all its passes hold make the
-/// capacity, since all passes see one legal history. It does nothing.
+/// Proves that no permit is lost: between any two steps of a window, the free count plus the permits
+/// that all its passes hold is the capacity, since all passes see one legal history. Calling it does
+/// nothing.
 pub fn permits_balance()
     ensures between_steps { NoPermitIsLost }
     ensures by_history { OneHistoryBalances }
@@ -68,7 +71,7 @@ impl Outcome<[u64; 2], View> for Opens {
     ghost then = { Opened };
 }
 
-/// A pass looks, and adds no call.
+/// A pass reads the cell, and adds no call.
 pub struct Looks;
 
 impl Outcome<[u64; 2], View> for Looks {
@@ -77,7 +80,7 @@ impl Outcome<[u64; 2], View> for Looks {
     ghost then = { Looked };
 }
 
-/// A new pass looks, and gets its number.
+/// A new pass reads the cell, and gets its number.
 pub struct Names;
 
 impl Outcome<[u64; 2], View> for Names {
@@ -86,7 +89,7 @@ impl Outcome<[u64; 2], View> for Names {
     ghost then = { Named };
 }
 
-/// A pass looks after a join.
+/// A pass reads the cell after a join.
 pub struct LooksAgain;
 
 impl Outcome<[u64; 2], View> for LooksAgain {
@@ -95,7 +98,7 @@ impl Outcome<[u64; 2], View> for LooksAgain {
     ghost then = { Recalled };
 }
 
-/// A take that finds no permit free.
+/// A take that finds no free permit.
 pub struct Refuses;
 
 impl Outcome<[u64; 2], View> for Refuses {
@@ -113,7 +116,7 @@ impl Outcome<[u64; 2], View> for Takes {
     ghost then = { Taken };
 }
 
-/// A permit is given back.
+/// A pass gives a permit back.
 pub struct Gives;
 
 impl Outcome<[u64; 2], View> for Gives {
@@ -142,7 +145,7 @@ impl Split<View> for Copies {
     ghost right = { copy_of };
 }
 
-/// The same split, where the old view ends.
+/// The same split, after which the old view ends.
 pub struct CopiesAndEnds;
 
 impl Split<View> for CopiesAndEnds {

@@ -16,7 +16,8 @@ use std::marker::Model;
 use std::snapshot::Snapshot;
 use std::sync::Wait;
 
-/// A number of permits that callers in any threads share. Contracts see which window it is, and its capacity.
+/// A fixed number of permits that callers in any threads share. Contracts see which window it is,
+/// and its capacity.
 #[derive(Drop)]
 pub struct Window {
     cell: Cell,
@@ -34,9 +35,10 @@ impl Model for Window {
     ghost invariant = { λ w. (0 < w.capacity) × (w.capacity < 2 ^ 32) };
 }
 
-/// One caller of a window, and what it has seen. It takes no memory, and may go to another thread.
+/// One caller of a window, and what it has seen. It allocates nothing, and you may move it to
+/// another thread.
 ///
-/// A pass that is dropped while it holds permits goes on holding them.
+/// Give its permits back before you drop it: a dropped pass keeps holding them.
 #[derive(Drop)]
 pub struct Pass {
     seat: WindowPass,
@@ -55,9 +57,10 @@ impl Model for Pass {
     ghost invariant = { λ p. IsCaller (number_of (cell_view p.seat)) (capacity_of (cell_view p.seat)) (cell_view p.seat) };
 }
 
-/// One permit of a window. Contracts see the number of the pass that got it, which alone can give it back.
+/// One permit of a window. Contracts see the number of the pass that got it. Only that pass can give
+/// it back.
 ///
-/// A permit that is dropped is never free again, and its pass goes on holding it.
+/// Do not drop it: a dropped permit never becomes free again, and its pass keeps holding it.
 #[derive(Drop)]
 pub struct Permit {
     bearer: Snapshot<WindowPass>,
@@ -73,10 +76,10 @@ impl Model for Permit {
     ghost view = { λ p. number_of (cell_view p.bearer.value) };
 }
 
-/// What a take answers.
+/// What a take returns.
 #[derive(Drop)]
 pub enum Take {
-    /// A permit, which the pass holds until it is given back.
+    /// A permit. The pass holds it until you give it back.
     Got(Permit),
     /// No permit was free.
     Full,
@@ -86,8 +89,8 @@ impl Window {
     ghost use Rattle.js_window.specs.declared.history.Call.TheVariants.{Give, AllFree};
     ghost use Rattle.js_window.specs.Take.{call_of, BearsNumber};
 
-    /// A window of 1 to `u32::MAX` permits, all free, and its first pass, which has seen no call. Only this call
-    /// takes memory, and want of memory is its one refusal.
+    /// Creates a window of 1 to `u32::MAX` permits, all free, and its first pass, which has seen no
+    /// call. Fails only with `OutOfMemory`. No other call of the window allocates.
     pub fn new<R: Wait>(rt: &R, alloc: Global, capacity: u64) -> Result<(Window, Pass), OutOfMemory>
         requires least { 0 < capacity }
         requires most { capacity < 2 ^ 32 }
@@ -102,8 +105,9 @@ impl Window {
         Ok((Window { cell, capacity }, pass))
     }
 
-    /// Takes a permit, which bears the pass's number. `Full` comes only where all permits are out at this call's
-    /// place in the history. Waits for no permit; where others take and give at the same time, it tries again.
+    /// Takes a permit, which carries the pass's number. Returns `Full` only if all permits are out
+    /// at this call's place in the history. It does not wait for a permit. If others take and give
+    /// at the same time, it tries again.
     pub fn take<R: Wait>(&self, rt: &R, pass: &mut Pass) -> Take
         requires { pass.old.window ≡ self.now }
         ensures call { Makes (call_of result) pass.old pass.new }
@@ -125,7 +129,7 @@ impl Window {
         unreachable!()
     }
 
-    /// Gives back a permit that this pass got. It is free again.
+    /// Gives back a permit that this pass got. The permit is free again.
     pub fn give<R: Wait>(&self, rt: &R, pass: &mut Pass, permit: Permit)
         requires window { pass.old.window ≡ self.now }
         requires permit { permit ≡ pass.old.number }
@@ -143,7 +147,7 @@ impl Window {
         unreachable!()
     }
 
-    /// Whether all permits are free at this call's place in the history.
+    /// Returns whether all permits are free at this call's place in the history.
     pub fn all_free<R: Wait>(&self, rt: &R, pass: &mut Pass) -> bool
         requires { pass.old.window ≡ self.now }
         ensures { Makes (AllFree result) pass.old pass.new }
@@ -152,8 +156,8 @@ impl Window {
         found[0] == found[1]
     }
 
-    /// A pass for another caller, which has seen as much as this one and holds no permit. Its number is above this one's. This
-    /// pass stays as it is.
+    /// Returns a pass for another caller. The new pass has seen as much as this one, holds no
+    /// permit, and has a higher number. This pass stays as it is.
     pub fn split<R: Wait>(&self, rt: &R, pass: &mut Pass) -> Pass
         requires { pass.old.window ≡ self.now }
         ensures same { pass.new ≡ pass.old }
@@ -165,8 +169,8 @@ impl Window {
         numbered(rt, &self.cell, seat)
     }
 
-    /// Ends the other pass, which holds no permit. This one has then seen what both had seen, and keeps its own
-    /// calls and permits.
+    /// Ends the other pass, which must hold no permit. This pass has then seen what both had seen,
+    /// and keeps its own calls and permits.
     pub fn join<R: Wait>(&self, rt: &R, pass: &mut Pass, other: Pass)
         requires window { pass.old.window ≡ self.now }
         requires other { other.window ≡ self.now }

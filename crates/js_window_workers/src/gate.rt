@@ -1,4 +1,4 @@
-//! Where a worker may be held between its first take and all that follows.
+//! A gate that can hold a worker after its first take, before everything that follows.
 
 ghost use Rattle.std.specs.Prelude.{◌≡◌, ℕ, None, Some, option_map, ⊤};
 
@@ -32,8 +32,8 @@ impl Gate for Open {
     }
 }
 
-/// One worker's passage of a gate, which it makes once at most. Contracts see the caller as it was when it passed,
-/// where it has passed.
+/// One worker's passage through a gate, made at most once. Contracts see the caller as it was when
+/// it passed, if it has passed.
 #[derive(Drop)]
 pub(crate) struct GatePassage<'a, G> {
     gate: &'a G,
@@ -42,7 +42,7 @@ pub(crate) struct GatePassage<'a, G> {
 }
 
 impl<'a, G: Gate> GatePassage<'a, G> {
-    /// A passage that was not made yet.
+    /// Creates a passage that was not made yet.
     pub fn new(gate: &'a G) -> GatePassage<'a, G>
         ensures gate { result.gate ≡ gate.entry }
         ensures new { result.passed ≡ None }
@@ -50,7 +50,7 @@ impl<'a, G: Gate> GatePassage<'a, G> {
         GatePassage { gate, passed: None }
     }
 
-    /// Calls the gate, and keeps the caller as it is then.
+    /// Calls the gate, and keeps the caller as it is at that moment.
     pub fn pass_gate(&mut self, worker: u64, pass: &Pass)
         requires new { self.old.passed ≡ None }
         requires admitted { G.admits self.old.gate.now worker }

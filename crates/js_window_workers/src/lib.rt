@@ -1,8 +1,8 @@
-//! Workers that take permits of one publish window and give them back, each in a thread of its own where threads can be made. The
-//! program's word `window` runs them.
+//! Workers that take permits of one publish window and give them back, each in its own thread if
+//! threads can be made. The program's word `window` runs them.
 //!
-//! The counts that are answered are those of the workers' own calls. Each worker passes a gate once, after its first take and
-//! before it gives a permit back: there whoever runs them can hold it.
+//! The returned counts are those of the workers' own calls. Each worker passes a gate once, after
+//! its first take and before it gives a permit back. Whoever runs the workers can hold them there.
 #![tactic(auto)]
 
 mod gate;

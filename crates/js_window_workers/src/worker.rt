@@ -1,4 +1,4 @@
-//! One worker: it takes permits of a window and gives each back.
+//! One worker, which takes permits of a window and gives each back.
 ghost use Rattle.std.specs.Prelude.{◌≡◌, ◌<◌, ◌+◌, None, option_map};
 ghost use Rattle.js_window_workers.specs.Worker.{TookCalls, PassedGate, AdmitsAfterTake, IsReady, HasEnded};
 
@@ -21,12 +21,12 @@ pub struct Ended {
     pub full: u64,
 }
 
-/// Takes a permit so many times, and gives each back before the next take. Answers how many takes got a permit, and
-/// how many found none free. The pass is one of this window's.
+/// Takes a permit `calls` times, and gives each back before the next take. Returns how many takes
+/// got a permit, and how many found none free. The pass must be one of this window's.
 ///
-/// After the first take, and before any permit is given back, it calls the gate once with the worker's number, which the
-/// gate has to admit by then. With 0 calls it never calls the gate, which need not admit the worker. What the pass has seen
-/// stays legal.
+/// After the first take, and before it gives any permit back, it calls the gate once with the
+/// worker's number. The gate has to admit the worker by then. With 0 calls it never calls the gate,
+/// which need not admit the worker. What the pass has seen stays legal.
 pub fn take_calls<R: Wait, G: Gate>(
     rt: &R,
     window: &Window,
@@ -79,7 +79,7 @@ fn take_by<R: Wait, G: Gate>(
     (got, full)
 }
 
-/// The whole of one worker's calls.
+/// Makes all calls of one worker, and returns its pass and its counts.
 pub fn work<R: Wait, G: Gate>(rt: &R, window: &Window, job: Job, calls: u64, gate: &G) -> Ended
     requires ready { IsReady window.now job }
     requires admitted { 0 < calls → AdmitsAfterTake (G.admits gate.now job.worker) job.pass }

@@ -14,8 +14,8 @@ use std::sync::Wait;
 use std::thread;
 use std::thread::Threads;
 
-/// How many takes of all workers got a permit, how many found none free, and whether all permits were free when
-/// every worker had ended.
+/// How many takes of all workers got a permit, how many found none free, and whether all permits
+/// were free after every worker had ended.
 #[derive(Clone, Copy, Debug, PartialEq, Eq)]
 pub struct WindowCounts {
     pub got: u64,
@@ -23,12 +23,13 @@ pub struct WindowCounts {
     pub all_free: bool,
 }
 
-/// Runs 1 to 8 workers, numbered from 0, on a window of their own with 1 to `u32::MAX` permits. Each makes so many
-/// calls, at most 100,000, as [`take_calls`](crate::take_calls) does, by a pass of its own. When all have ended, joins their
-/// passes and asks once whether all permits are free. With at least one call each worker passes the gate.
+/// Runs 1 to 8 workers, numbered from 0, on a new window with 1 to `u32::MAX` permits. Each worker
+/// has its own pass, and makes `calls` calls, at most 100,000, as [`take_calls`](crate::take_calls)
+/// does. When all have ended, it joins their passes and asks once whether all permits are free. If
+/// `calls` is at least 1, each worker passes the gate.
 ///
-/// A worker for which no thread can be made runs on the caller. Fails with `OutOfMemory` if memory runs out, and with nothing
-/// else.
+/// A worker for which no thread can be made runs on the caller's thread. Fails only with
+/// `OutOfMemory`.
 pub fn run_window<R: Threads + Wait + Sync, G: Gate + Sync>(
     rt: &R,
     alloc: Global,

@@ -1,6 +1,7 @@
 //! `wilfjodi`: JetStream consumers replayed from transcripts and from numbers, tables and mirrors of their logs, sessions with bookmarks, acknowledgement subjects and publish windows, on a command line.
 #![tactic(auto)]
 
+use js_tool_explain::explain;
 use js_tool_follow::follow;
 use js_tool_io::{ReadSource, WriteSink};
 use js_tool_logs::{Command, Status, command_of, run};
@@ -14,6 +15,7 @@ wilfjodi: JetStream consumers, replayed
 
   wilfjodi replay         reads a transcript from standard input, and writes the text of its run to standard output
   wilfjodi follow         reads the same line by line, however long, and writes the text of each step before it reads on
+  wilfjodi explain        reads a transcript, and writes in plain English what the consumer did and why, one sentence a line
   wilfjodi project FILTER [SEQUENCE]
                           reads a transcript that has a configured start, and writes the last entry of each subject that
                           FILTER matches, of all that was handed out or of what was up to SEQUENCE; empty payloads delete
@@ -54,6 +56,11 @@ fn main(rt: HostRuntime) -> ExitCode {
                 let mut input = ReadSource::new(rt.reader());
                 let mut output = WriteSink::new(io::writer(&rt));
                 follow(rt.alloc(), &mut input, &mut output)
+            }
+            Some(Command::Explain) => {
+                let mut input = ReadSource::new(rt.reader());
+                let mut output = WriteSink::new(io::writer(&rt));
+                explain(rt.alloc(), &mut input, &mut output)
             }
             _ => {
                 let mut input = ReadSource::new(rt.reader());

@@ -3,6 +3,7 @@
 //! goes to standard output, which the gate compares with the stored text.
 #![tactic(auto)]
 
+use js_tool_explain::explain;
 use js_tool_io::{PlainSource, WriteSink};
 use js_tool_logs::{Status, run};
 use std::alloc::{AllocError, Global};
@@ -44,5 +45,8 @@ fn answered<R: Threads + Wait + Sync, W: Write>(
         words.push(String::from_str(alloc, word)?)?;
     }
     let mut input = PlainSource::new(bytes);
+    if line == "explain" {
+        return Ok(explain(alloc, &mut input, output));
+    }
     Ok(run(rt, alloc, &words, &mut input, output))
 }

@@ -1,4 +1,4 @@
-//! From each kind of consumer's configuration to the general one, and back.
+//! Conversions between the configuration of each kind of consumer and the general one.
 
 ghost use Rattle.std.specs.Prelude.{◌≡◌, Result, Ok, refl};
 ghost use Rattle.js_json.specs.declared.consumer.config.Config.{Config};
@@ -12,12 +12,12 @@ use std::{error, fmt};
 /// How long an ordered consumer outlives its last reader: 30 seconds.
 pub(crate) const ORDERED_INACTIVE_THRESHOLD: Nanos = 30_000_000_000;
 
-/// Why a general configuration is not one of that kind of consumer.
+/// Why a general configuration does not convert to one kind of consumer.
 #[derive(Clone, Copy, Debug, PartialEq, Eq)]
 pub enum ConfigError {
-    /// A pull consumer has no deliver subject.
+    /// The configuration has a deliver subject, which a pull consumer must not have.
     HasDeliverSubject,
-    /// A push consumer has one.
+    /// The configuration has no deliver subject, which a push consumer must have.
     NoDeliverSubject,
 }
 
@@ -37,20 +37,22 @@ impl fmt::Display for ConfigError {
 
 impl error::Error for ConfigError {}
 
-/// A configuration that the server is sent as a general one.
+/// A configuration that converts to the general one, which is sent to the server.
 pub trait IntoConsumerConfig: Drop {
     ghost config: { Self → Config };
 
-    /// The general configuration. Takes no memory.
+    /// Converts to the general configuration. Allocates no memory.
     fn into_consumer_config(self, alloc: Global) -> Config
         ensures { result ≡ config self };
 }
 
-/// A configuration that a general one may be read as.
+/// A configuration that a general one may convert to.
 pub trait FromConsumer: IntoConsumerConfig {
     ghost of_config: { Config → Result Self ConfigError };
 
-    /// The configuration of this kind. Fields that this kind does not have are passed over.
+    /// Converts from the general configuration. Ignores fields that this kind does not have. Fails
+    /// with `HasDeliverSubject` or `NoDeliverSubject` if the deliver subject does not fit this
+    /// kind.
     fn try_from_consumer_config(config: Config) -> Result<Self, ConfigError>
         ensures { result ≡ of_config config };
 
@@ -76,7 +78,7 @@ impl FromConsumer for Config {
     }
 }
 
-/// A configuration that went to the general one and back, which is what it was.
+/// Converts a configuration to the general one and back. Always returns the same configuration.
 pub fn there_and_back<C: FromConsumer>(alloc: Global, config: C) -> Result<C, ConfigError>
     ensures { result ≡ Ok config }
 {

@@ -1,4 +1,4 @@
-//! The request that makes a consumer.
+//! The request that creates a consumer.
 
 ghost use Rattle.std.specs.Prelude.{false};
 ghost use Rattle.js_json.specs.CreateRequest.{action_data, create_request_value};
@@ -9,14 +9,14 @@ use js_json_members::{Key, Object, ReadError, ToValue, Written};
 use serde_json::Value;
 use std::alloc::Global;
 
-/// What is done where a consumer of that name is there, or is not.
+/// What the server does, depending on whether a consumer of that name exists.
 #[derive(Clone, Copy, Debug, PartialEq, Eq)]
 pub enum Action {
-    /// Makes it, or changes the one that is there.
+    /// Creates the consumer, or updates the existing one.
     CreateOrUpdate,
-    /// Makes it, and is refused where one with another configuration is there.
+    /// Creates the consumer. The server refuses if one with another configuration exists.
     Create,
-    /// Changes it, and is refused where none is there.
+    /// Updates the consumer. The server refuses if it does not exist.
     Update,
 }
 
@@ -39,7 +39,7 @@ impl Written for Action {
     }
 }
 
-/// The body of a request that makes or changes a consumer.
+/// The body of a request that creates or updates a consumer.
 #[derive(Debug, PartialEq, Eq, Drop)]
 pub struct CreateRequest {
     pub action: Action,

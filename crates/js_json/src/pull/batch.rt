@@ -17,28 +17,28 @@ use std::alloc::Global;
 /// What a pull request asks for.
 #[derive(Debug, PartialEq, Eq, Drop)]
 pub struct BatchConfig {
-    /// How many messages.
+    /// How many messages to ask for.
     pub batch: u64,
     /// How long the server keeps the request, in nanoseconds.
     pub expires: Option<Nanos>,
-    /// Whether the server answers at once where no message is there.
+    /// Whether the server answers at once if it has no message.
     pub no_wait: bool,
-    /// How many bytes at most; 0 for no bound.
+    /// How many bytes to ask for at most. 0 means no limit.
     pub max_bytes: u64,
-    /// In nanoseconds; 0 for no heartbeats.
+    /// The idle heartbeat of the request, in nanoseconds. 0 means no heartbeats.
     pub idle_heartbeat: Nanos,
-    /// How many messages have to be pending for the consumer.
+    /// How many messages must be pending for the consumer.
     pub min_pending: Option<u64>,
-    /// How many messages have to wait for their acknowledgement.
+    /// How many messages must be waiting for their acknowledgement.
     pub min_ack_pending: Option<u64>,
-    /// The priority group.
+    /// The priority group of the reader.
     pub group: Option<Text>,
-    /// The priority in the group.
+    /// The priority of the reader in the group.
     pub priority: Option<u64>,
 }
 
 impl BatchConfig {
-    /// The default.
+    /// Returns the default request: every number 0 and nothing else set.
     pub fn new() -> BatchConfig
         ensures { result ≡ new_batch_config }
     {
@@ -55,7 +55,8 @@ impl BatchConfig {
         }
     }
 
-    /// The body of the request, with the id of the client that is pinned where there is one.
+    /// Returns the JSON body of the request, with the id `pin` of the pinned client if given. Fails
+    /// only with `OutOfMemory`.
     #[tactic(auto, unfolding(crate::specs::Batch::pull_request_value, js_json_members::specs::Rows::text_of))]
     pub fn request_text(&self, alloc: Global, pin: Option<&Text>) -> Result<String, ReadError>
         ensures { GivesAs string_bytes result (text_of (pull_request_value (option_copied pin.entry) self.now)) }

@@ -1,4 +1,4 @@
-//! An ordered pull consumer's configuration as one of a plain pull consumer.
+//! Converts the configuration of an ordered pull consumer to that of a plain pull consumer.
 
 ghost use Rattle.std.specs.Prelude.{◌≡◌, Ok};
 ghost use Rattle.js_json.specs.Conversion.{as_pull_config, ordered_pull_config};

@@ -16,70 +16,80 @@ use js_base::{Items, Nanos, OutOfMemory, Text, TryClone, all_7};
 use js_json_members::{FromValue, ReadError, ToValue};
 use std::alloc::Global;
 
-/// The configuration of a stream: the part that this library names (NATS docs, "Stream configuration").
+/// The configuration of a stream, as far as this library supports it (NATS docs, "Stream
+/// configuration").
 ///
-/// What a server holds besides is read past, and is not written: among others the window of duplicates, `no_ack`, the
-/// start time of a source, the metadata, and a sealed stream's mark. So an update by a configuration that was read
-/// resets all of these to the server's defaults, or is refused where the server lets no one change them.
+/// Reading ignores other fields that the server sends, and writing leaves them out: among others
+/// the duplicate window, `no_ack`, the start time of a source, the metadata, and the mark of a
+/// sealed stream. If you update a stream with a configuration that you read, the server therefore
+/// resets all of these to its defaults, or refuses the update if they cannot be changed.
 ///
-/// Written, a field at its default is left out, but for the name and the policies `retention`, `storage` and `discard`.
+/// Writing leaves out every field at its default, except the name and the policies `retention`,
+/// `storage` and `discard`.
 #[derive(Debug, PartialEq, Eq, Drop)]
 pub struct Config {
-    /// Its name, which may be empty in a value that was made, and is not accepted so by a server.
+    /// The name of the stream. It may be empty in a `Config`, but the server does not accept an
+    /// empty name.
     pub name: Text,
-    /// How long messages are kept.
+    /// How long the stream keeps messages.
     pub retention: RetentionPolicy,
-    /// Where messages are kept.
+    /// Where the server keeps messages.
     pub storage: StorageType,
-    /// What gives way where a limit is reached.
+    /// What the server discards if a limit is reached.
     pub discard: DiscardPolicy,
-    /// Words for people; the server does nothing with them.
+    /// A description for people. The server does not use it.
     pub description: Option<Text>,
-    /// The subjects whose messages are stored, which may have wildcards; empty for the stream's name alone.
+    /// The subjects whose messages the stream stores, which may have wildcards. Empty means only
+    /// the stream's name.
     pub subjects: Items<Text>,
-    /// How many messages are kept; -1 is no bound, and 0 leaves it to the server, which sets none.
+    /// How many messages the stream keeps. -1 means no limit. 0 means the server's default, which
+    /// is no limit.
     pub max_messages: i64,
-    /// How many messages of each subject are kept; -1 is no bound, and 0 leaves it to the server, which sets none.
+    /// How many messages of each subject the stream keeps. -1 means no limit. 0 means the server's
+    /// default, which is no limit.
     pub max_messages_per_subject: i64,
-    /// How many bytes are kept; -1 is no bound, and 0 leaves it to the server, which sets none.
+    /// How many bytes the stream keeps. -1 means no limit. 0 means the server's default, which is
+    /// no limit.
     pub max_bytes: i64,
-    /// How many bytes a message may have, headers and payload together; -1 is no bound, and 0 leaves it to the server,
-    /// which sets none but that of its connections.
+    /// How many bytes a message may have, headers and payload together. -1 means no limit. 0 means
+    /// the server's default, which is no limit other than that of its connections.
     pub max_message_size: i64,
-    /// How long a message is kept, in nanoseconds; 0 for no bound.
+    /// How long the stream keeps a message, in nanoseconds. 0 means no limit.
     pub max_age: Nanos,
-    /// How many servers keep it; 0 leaves it to the server.
+    /// How many servers keep the stream. 0 lets the server choose.
     pub num_replicas: u64,
-    /// Where stored messages are sent on to.
+    /// Where the server republishes stored messages.
     pub republish: Option<Republish>,
-    /// Whether a header of a message may remove those before it.
+    /// Whether a header of a message may remove earlier messages.
     pub allow_rollup: bool,
-    /// Whether single messages can't be deleted.
+    /// Whether the server refuses to delete single messages.
     pub deny_delete: bool,
-    /// Whether it can't be emptied.
+    /// Whether the server refuses to purge the stream.
     pub deny_purge: bool,
-    /// Whether each server that keeps it answers requests for a message.
+    /// Whether every server that keeps the stream answers requests for a message.
     pub allow_direct: bool,
     /// Whether a mirror answers such requests for the stream that it copies.
     pub mirror_direct: bool,
-    /// The stream that it copies whole.
+    /// The stream that this one copies whole, as a mirror.
     pub mirror: Option<Source>,
-    /// The streams that it gathers.
+    /// The streams whose messages this one gathers.
     pub sources: Option<Items<Source>>,
-    /// How stored messages are compressed.
+    /// How the server compresses stored messages.
     pub compression: Option<Compression>,
-    /// Which servers may keep it.
+    /// Which servers may keep the stream.
     pub placement: Option<Placement>,
-    /// Whether a header of a message may say how long it is kept.
+    /// Whether a header of a message may set how long the stream keeps it.
     pub allow_message_ttl: bool,
-    /// How long a marker stands for the messages of a subject that were too old, in nanoseconds.
+    /// How long the stream keeps a marker in place of a subject's messages that became too old, in
+    /// nanoseconds.
     pub subject_delete_marker_ttl: Option<Nanos>,
 }
 
 impl Config {
     ghost use Rattle.js_json_streams.specs.StreamConfig.{new_config};
 
-    /// The default, which takes no memory: without a name, kept in files, and bounded by nothing but its limits.
+    /// Returns the default configuration: no name, storage in files, and retention by limits.
+    /// Allocates no memory.
     pub fn new(alloc: Global) -> Config
         ensures { result ≡ new_config }
     {
@@ -152,7 +162,8 @@ impl TryClone for Config {
     }
 }
 
-/// A configuration that was written and read again: what it was, without the domains of the streams that it copies.
+/// Writes a configuration and reads it again. Returns the same configuration without the domains of
+/// the streams that it copies. Fails only with `OutOfMemory`.
 pub fn there_and_back(alloc: Global, config: &Config) -> Result<Config, ReadError>
     ensures { Gives result (Ok (without_domains config.now)) }
 {

@@ -9,7 +9,7 @@ use std::alloc::Global;
 /// The answer to the deletion of a stream or a consumer.
 #[derive(Clone, Copy, Debug, PartialEq, Eq)]
 pub struct DeleteStatus {
-    /// Whether it is gone.
+    /// Whether the stream or consumer was deleted.
     pub success: bool,
 }
 

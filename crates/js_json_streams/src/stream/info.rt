@@ -1,4 +1,4 @@
-//! What the server knows of a stream.
+//! What the server reports about a stream.
 
 ghost use Rattle.js_json_members.specs.Member.{nested as nested_in};
 ghost use Rattle.js_json_streams.specs.State.{state_fields};
@@ -11,14 +11,14 @@ use js_json_members::{FromValue, Key, Member, ReadError, nested, required};
 use serde_json::Value;
 use std::alloc::Global;
 
-/// What the server knows of a stream.
+/// What the server reports about a stream.
 #[derive(Debug, PartialEq, Eq, Drop)]
 pub struct Info {
-    /// How it is configured, with what the server chose.
+    /// The configuration, including what the server chose.
     pub config: Config,
-    /// When it was made.
+    /// When the stream was created.
     pub created: Timestamp,
-    /// What is stored in it.
+    /// What the stream stores.
     pub state: State,
 }
 
@@ -58,16 +58,16 @@ impl Member for Info {
     }
 }
 
-/// What is stored in a stream.
+/// What a stream stores.
 #[derive(Clone, Copy, Debug, PartialEq, Eq)]
 pub struct State {
-    /// How many messages.
+    /// Number of messages.
     pub messages: u64,
-    /// How many bytes they take.
+    /// Size of the messages, in bytes.
     pub bytes: u64,
-    /// The sequence of the first message that is there.
+    /// The sequence of the first message still stored.
     pub first_sequence: u64,
-    /// The sequence of the last message that came in.
+    /// The sequence of the last message that arrived.
     pub last_sequence: u64,
 }
 

@@ -7,12 +7,12 @@ use js_json_members::{FromValue, Key, Member, Object, ReadError, ToValue, option
 use serde_json::Value;
 use std::alloc::Global;
 
-/// A page of a list: the names of streams, or what the server knows of them.
+/// A page of a list: names of streams, or what the server reports about them.
 #[derive(Drop)]
 pub struct Page<T> {
     /// How many items the whole list has.
     pub total: u64,
-    /// The items from the offset on that was asked for, of which a server may leave out all.
+    /// The items from the requested offset on. `None` if the server leaves them all out.
     pub streams: Option<Items<T>>,
 }
 
@@ -33,7 +33,7 @@ impl<T: Member> FromValue for Page<T> {
 pub struct NamesRequest {
     /// How many names come before the page.
     pub offset: u64,
-    /// A subject that each of the streams stores; none for all streams.
+    /// A subject that each listed stream must store. `None` lists all streams.
     pub subject: Option<Text>,
 }
 
@@ -49,7 +49,7 @@ impl ToValue for NamesRequest {
     }
 }
 
-/// Asks for a page of what the server knows of all streams.
+/// Asks for a page of what the server reports about all streams.
 #[derive(Clone, Copy)]
 pub struct ListRequest {
     /// How many streams come before the page.

@@ -14,9 +14,9 @@ use std::alloc::Global;
 /// Which servers may keep a stream.
 #[derive(Debug, PartialEq, Eq, Drop)]
 pub struct Placement {
-    /// The cluster that they are in.
+    /// The cluster of the servers.
     pub cluster: Option<Text>,
-    /// The tags that each of them has.
+    /// The tags that each of the servers must have.
     pub tags: Items<Text>,
 }
 

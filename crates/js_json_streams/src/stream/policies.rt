@@ -1,4 +1,4 @@
-//! How long and where messages are kept, and what gives way.
+//! Policies of a stream: retention, storage, discarding, and compression.
 
 ghost use Rattle.std.specs.Prelude.{false};
 ghost use Rattle.js_json_members.specs.Member.{named};
@@ -15,15 +15,15 @@ use js_json_members::{Blank, FromValue, Key, Member, Named, ReadError, Written, 
 use serde_json::Value;
 use std::alloc::Global;
 
-/// How long messages are kept.
+/// How long the stream keeps messages.
 #[derive(Clone, Copy, Debug, Default, PartialEq, Eq)]
 pub enum RetentionPolicy {
-    /// Until a limit is reached.
+    /// Keeps messages until a limit is reached.
     #[default]
     Limits,
-    /// Until each consumer has acknowledged them.
+    /// Keeps messages until each consumer has acknowledged them.
     Interest,
-    /// Until one consumer has acknowledged them.
+    /// Keeps messages until one consumer has acknowledged them.
     WorkQueue,
 }
 
@@ -84,7 +84,7 @@ impl Written for RetentionPolicy {
     }
 }
 
-/// Where messages are kept.
+/// Where the server keeps messages.
 #[derive(Clone, Copy, Debug, Default, PartialEq, Eq)]
 pub enum StorageType {
     /// In files.
@@ -149,13 +149,13 @@ impl Written for StorageType {
     }
 }
 
-/// What gives way where a limit is reached.
+/// What the server discards if a limit is reached.
 #[derive(Clone, Copy, Debug, Default, PartialEq, Eq)]
 pub enum DiscardPolicy {
-    /// The oldest messages.
+    /// Removes the oldest messages.
     #[default]
     Old,
-    /// The message that comes in, which is refused.
+    /// Refuses the incoming message.
     New,
 }
 
@@ -214,12 +214,12 @@ impl Written for DiscardPolicy {
     }
 }
 
-/// How stored messages are compressed.
+/// How the server compresses stored messages.
 #[derive(Clone, Copy, Debug, PartialEq, Eq)]
 pub enum Compression {
-    /// By S2.
+    /// With S2.
     S2,
-    /// Not at all.
+    /// No compression.
     None,
 }
 

@@ -1,4 +1,4 @@
-//! Where messages are sent on to.
+//! Republishing of stored messages.
 
 ghost use Rattle.std.specs.Prelude.{false};
 ghost use Rattle.js_json_members.specs.Member.{nested as nested_in};
@@ -11,14 +11,14 @@ use js_json_members::{
 use serde_json::Value;
 use std::alloc::Global;
 
-/// Where the stored messages of a stream are sent on to.
+/// Where the server republishes the stored messages of a stream.
 #[derive(Debug, PartialEq, Eq, Drop)]
 pub struct Republish {
-    /// The subjects whose messages are sent on.
+    /// The subjects whose messages the server republishes.
     pub source: Text,
-    /// The subject that they are sent to.
+    /// The subject to which the server republishes them.
     pub destination: Text,
-    /// Whether they go without their payloads.
+    /// Whether the server republishes them without their payloads.
     pub headers_only: bool,
 }
 

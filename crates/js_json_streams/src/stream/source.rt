@@ -1,4 +1,4 @@
-//! Streams that are copied.
+//! Streams that another stream copies.
 
 ghost use Rattle.std.specs.Prelude.{◌≡◌, None, false};
 ghost use Rattle.js_json_members.specs.Member.{nested as nested_in};
@@ -13,18 +13,19 @@ use js_json_members::{
 use serde_json::Value;
 use std::alloc::Global;
 
-/// A stream that is copied, as a mirror or as one of several sources.
+/// A stream that another stream copies, as a mirror or as one of several sources.
 #[derive(Debug, PartialEq, Eq, Drop)]
 pub struct Source {
-    /// The name of that stream.
+    /// The name of the copied stream.
     pub name: Text,
-    /// The sequence that copying begins with.
+    /// The sequence at which copying begins.
     pub start_sequence: Option<u64>,
-    /// The subjects that are copied; none for all of the stream.
+    /// The subjects to copy. `None` means the whole stream.
     pub filter_subject: Option<Text>,
-    /// Where the stream is, if it is none of this account and domain.
+    /// How to reach the stream if it belongs to another account or domain.
     pub external: Option<External>,
-    /// The domain that the stream is in. It is neither read nor written: creation makes an external prefix of it.
+    /// The domain of the stream. It is neither read nor written: creating the copying stream turns
+    /// it into an external prefix.
     pub domain: Option<Text>,
 }
 
@@ -103,12 +104,12 @@ impl Written for Source {
     }
 }
 
-/// Where a stream of another account or domain is reached.
+/// How to reach a stream of another account or domain.
 #[derive(Debug, PartialEq, Eq, Drop)]
 pub struct External {
-    /// The prefix of its API.
+    /// The subject prefix of the other account's or domain's API.
     pub api_prefix: Text,
-    /// The prefix of the subjects that its messages are delivered to.
+    /// The prefix of the subjects to which the stream's messages are delivered.
     pub delivery_prefix: Option<Text>,
 }
 

@@ -1,4 +1,4 @@
-//! Why a call of a mirror was refused.
+//! Why a call of a mirror failed.
 
 ghost use Rattle.std.specs.Prelude.{Some};
 ghost use Rattle.js_log.specs.MirrorCauses.{error_text};
@@ -7,27 +7,30 @@ use js_base::OutOfMemory;
 use std::alloc::AllocError;
 use std::{error, fmt};
 
-/// Why a call of a mirror was refused. The mirror is as it was before.
+/// Why a call of a mirror failed. The mirror is unchanged.
 #[derive(Clone, Copy, Debug, PartialEq, Eq)]
 pub enum MirrorError {
-    /// The entry's sequence is not above the last one. It prints `the sequence is not above` and the latter.
+    /// The entry's sequence is not above the last one. Prints `the sequence is not above` and the
+    /// latter.
     NotRising {
-        /// The sequence of the last entry, or the start less one where there is none.
+        /// The sequence of the last entry, or the start minus one if the mirror is empty.
         last: u64,
     },
-    /// The mirrors have different starts. It prints `the mirrors start at`, the first, `and`, and the other.
+    /// The mirrors have different starts. Prints `the mirrors start at`, the first, `and`, and the
+    /// other.
     StartDiffers {
-        /// Where the mirror starts.
+        /// The start of the mirror.
         start: u64,
-        /// Where the other one starts.
+        /// The start of the other one.
         other: u64,
     },
-    /// The mirrors have unequal entries with one sequence. It prints `the mirrors differ at` and the sequence.
+    /// The mirrors have different entries at one sequence. Prints `the mirrors differ at` and the
+    /// sequence.
     Conflict {
-        /// The least sequence at which both have an entry, and not the same.
+        /// The least sequence at which the two have different entries.
         sequence: u64,
     },
-    /// Memory ran out. It prints `out of memory`.
+    /// Memory ran out. Prints `out of memory`.
     OutOfMemory,
 }
 

@@ -1,4 +1,4 @@
-//! How an entry is found by its sequence.
+//! Looking up an entry by its sequence.
 
 ghost use Rattle.std.specs.Prelude.{◌≡◌};
 ghost use Rattle.std.specs.Option.{option_copied};
@@ -7,7 +7,7 @@ ghost use Rattle.js_log.specs.MirrorJoin.{headed};
 
 use js_base::Entry;
 
-/// The entries at or past a sequence, in a time that grows with the logarithm of their number.
+/// Returns the entries at or after a sequence. The time grows with the logarithm of their number.
 pub(crate) fn entries_from(entries: &[Entry], sequence: u64) -> &[Entry]
     requires { RisesFrom 0 entries.now }
     ensures { result.now ≡ at_or_past sequence entries.now }
@@ -16,7 +16,7 @@ pub(crate) fn entries_from(entries: &[Entry], sequence: u64) -> &[Entry]
     &entries[below..]
 }
 
-/// The first entry, where it has a sequence.
+/// Returns the first entry if it has this sequence.
 pub(crate) fn first_with(entries: &[Entry], sequence: u64) -> Option<&Entry>
     ensures { option_copied result ≡ headed sequence entries.now }
 {
@@ -28,7 +28,7 @@ pub(crate) fn first_with(entries: &[Entry], sequence: u64) -> Option<&Entry>
     }
 }
 
-/// The entry that has a sequence, in a time that grows with the logarithm of their number.
+/// Returns the entry that has a sequence. The time grows with the logarithm of their number.
 pub(crate) fn entry_with(entries: &[Entry], sequence: u64) -> Option<&Entry>
     requires { RisesFrom 0 entries.now }
     ensures { option_copied result ≡ entry_with sequence entries.now }

@@ -1,4 +1,5 @@
-//! How two mirrors are joined: whether their entries conflict, and the list that has the entries of both.
+//! Merging of two mirrors: whether their entries conflict, and the list that has the entries of
+//! both.
 
 ghost use Rattle.std.specs.Prelude.{◌≡◌, ◌+◌, ◌≤◌, ◌++◌, ◌<◌, ◌↔◌, [], length, IfOk, IfSome, IsTrue, OnOk, OnErr};
 ghost use Rattle.std.specs.Option.{option_copied, option_to_list, IfNone};
@@ -58,7 +59,7 @@ fn first_conflict(one: &[Entry], other: &[Entry]) -> Option<u64>
     None
 }
 
-/// Why a list can't be joined with another one, where it can't.
+/// Checks that a list can be merged with another one, and fails with the reason if it can't.
 pub(crate) fn check(
     start: u64,
     own: &[Entry],
@@ -165,7 +166,7 @@ fn join(one: Vec<Entry>, mut other: VecDeque<Entry>, mut to: Vec<Entry>) -> Vec<
     to
 }
 
-/// Adds copies of the other's entries whose sequences a list does not have, each at its place.
+/// Adds copies of the other list's entries whose sequences `own` lacks, each at its place.
 pub(crate) fn add_missing(own: &mut Vec<Entry>, other: &[Entry]) -> Result<(), OutOfMemory>
     requires own { RisesFrom 0 own.old.items }
     requires other { RisesFrom 0 other.now }

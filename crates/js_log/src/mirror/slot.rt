@@ -1,4 +1,5 @@
-//! What a mirror has at a sequence: an entry, a hole, or nothing since the sequence lies outside of it.
+//! What a mirror has at a sequence: an entry, a hole, or nothing because the sequence lies outside
+//! of it.
 
 use js_base::Entry;
 
@@ -9,7 +10,7 @@ pub enum Slot<'a> {
     Before,
     /// This entry has the sequence.
     Message(&'a Entry),
-    /// Between the start and the last entry no entry has the sequence.
+    /// A hole: the sequence lies between the start and the last entry, and no entry has it.
     Hole,
     /// The sequence is above that of the last entry.
     Beyond,

@@ -7,15 +7,16 @@ use js_base::OutOfMemory;
 use std::alloc::AllocError;
 use std::{error, fmt};
 
-/// Why an entry was not applied. The projection is as it was before.
+/// Why an entry was not applied. The projection is unchanged.
 #[derive(Clone, Copy, Debug, PartialEq, Eq)]
 pub enum ApplyError {
-    /// The entry's sequence is not above that of the entry applied last. It prints `the sequence is not above` and the latter.
+    /// The entry's sequence is not above the one applied last. Prints `the sequence is not above`
+    /// and the latter.
     NotRising {
-        /// The sequence applied last, 0 where nothing was applied.
+        /// The sequence applied last, or 0 if nothing was applied.
         last: u64,
     },
-    /// Memory ran out. It prints `out of memory`.
+    /// Memory ran out. Prints `out of memory`.
     OutOfMemory,
 }
 

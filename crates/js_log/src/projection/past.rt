@@ -5,7 +5,7 @@ ghost use Rattle.js_log.specs.Projection.{RisesAbove, last_sequence, up_to, afte
 
 use js_base::Entry;
 
-/// The sequence of the last entry, 0 where there is none.
+/// Returns the sequence of the last entry, or 0 if the list is empty.
 pub(crate) fn last_sequence(entries: &[Entry]) -> u64
     ensures { result ≡ last_sequence entries.now }
 {
@@ -15,7 +15,7 @@ pub(crate) fn last_sequence(entries: &[Entry]) -> u64
     }
 }
 
-/// How many entries stand up to a sequence, in a time that grows with the logarithm of their number.
+/// Counts the entries up to a sequence. The time grows with the logarithm of the number of entries.
 pub(crate) fn count_up_to(entries: &[Entry], sequence: u64) -> usize
     requires { RisesAbove 0 entries.now }
     ensures within { result ≤ length entries.now }

@@ -1,4 +1,4 @@
-//! Where in the list of the applied entries the last one of each subject stands.
+//! The place of each subject's last entry in the list of the applied entries.
 
 ghost use Rattle.std.specs.Prelude.{◌≡◌, List, [], ◌∷◌, ◌++◌, length, IfOk, OnOk, OnErr};
 ghost use Rattle.std.specs.BTreeMap.{IsUnchanged};
@@ -12,7 +12,8 @@ use std::collections::BTreeMap;
 /// The place of the last entry of each subject, counted from 0.
 pub(crate) type Places = BTreeMap<String, usize>;
 
-/// Notes that an entry stands at a place, which is behind all others. After a refusal the places are what they were.
+/// Records that an entry stands at a place, which has to be after all others. If it fails, the
+/// places are unchanged.
 pub(crate) fn set_place(
     alloc: Global,
     places: &mut Places,
@@ -27,7 +28,7 @@ pub(crate) fn set_place(
     Ok(())
 }
 
-/// The places in a list of entries.
+/// Returns the places in a list of entries.
 pub(crate) fn places_of(alloc: Global, entries: &[Entry]) -> Result<Places, OutOfMemory>
     ensures { IfOk result (λ places. IsPlaced places.entries entries.now) }
 {

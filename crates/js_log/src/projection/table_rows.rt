@@ -1,4 +1,4 @@
-//! The rows of the table: those of the last entries that are not deleted and whose subject a filter matches.
+//! The rows of the table: the last entries that are not deleted and whose subject matches a filter.
 
 ghost use Rattle.std.specs.Prelude.{◌≡◌, [], ◌++◌, IfOk, OnOk};
 ghost use Rattle.std.specs.Option.{option_copied};
@@ -10,7 +10,7 @@ use crate::projection::places::Places;
 use js_base::{Entry, OutOfMemory, TryClone, subject_matches};
 use std::alloc::Global;
 
-/// The entry at a place, unless its payload is empty.
+/// Returns the entry at a place, unless its payload is empty.
 pub(crate) fn present_at(entries: &[Entry], place: usize) -> Option<&Entry>
     ensures { option_copied result ≡ present (slice_get entries.now place) }
 {
@@ -42,7 +42,7 @@ fn add_row(rows: &mut Vec<Entry>, row: Option<&Entry>) -> Result<(), OutOfMemory
     Ok(())
 }
 
-/// The rows of a table whose subject a filter matches, in the byte order of subjects.
+/// Returns the rows of a table whose subject matches a filter, in the byte order of subjects.
 pub(crate) fn rows(
     alloc: Global,
     entries: &[Entry],

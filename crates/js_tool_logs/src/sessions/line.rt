@@ -1,4 +1,4 @@
-//! What a line of sessions says.
+//! The content of a line of sessions.
 
 ghost use Rattle.std.specs.Prelude.{◌≡◌, codes, is_some};
 ghost use Rattle.serde_json.specs.Find.{get};
@@ -13,12 +13,12 @@ use js_tool_transcript::{Payloads, Setup, Unread, compact_event, event_of, setup
 use serde_json::{Map, Value};
 use std::alloc::Global;
 
-/// What a line of sessions says.
+/// The content of a line of sessions.
 #[derive(Drop)]
 pub(crate) enum Said {
     /// A session begins.
     Begins(Setup),
-    /// Something happens in a session.
+    /// Something that happens in a session.
     Says(Line),
 }
 
@@ -89,7 +89,7 @@ fn any_line(alloc: Global, payloads: &mut Payloads, line: &[u8]) -> Result<Said,
     }
 }
 
-/// What a further line says, which has this number.
+/// Reads a further line, which has this number.
 pub(crate) fn said_line(
     alloc: Global,
     payloads: &mut Payloads,

@@ -8,7 +8,7 @@ use js_tool_io::{Lines, Pieces};
 use js_tool_transcript::{Payloads, Unread};
 use std::alloc::Global;
 
-/// The lines that are left, and the number of the last that was read.
+/// The lines that are left, and the number of the last line that was read.
 #[derive(Drop)]
 pub(crate) struct Reader {
     pub(crate) lines: Lines,
@@ -17,7 +17,7 @@ pub(crate) struct Reader {
 }
 
 impl Reader {
-    /// What the next line says, if one is left. Once none was left, none is.
+    /// Reads the next line, or returns `None` if none is left. After that it always returns `None`.
     pub(crate) fn next(&mut self, alloc: Global) -> Result<Option<Said>, Unread>
         requires { HasRoom self.old }
         ensures reads { ReadsNext self.old self.new result }
@@ -32,7 +32,7 @@ impl Reader {
         Ok(Some(said))
     }
 
-    /// Reads all lines that are left, and lets go what they say.
+    /// Reads all lines that are left, and drops their content.
     pub(crate) fn read_rest(&mut self, alloc: Global) -> Result<(), Unread>
         requires { HasRoom self.old }
         ensures { ReadsRest self.old result }

@@ -1,4 +1,4 @@
-//! The line of a refusal of sessions.
+//! The line that reports an error of sessions.
 
 ghost use Rattle.std.specs.Prelude.{◌≡◌, ◌++◌, ◌∷◌, [], codes, IfOk, OnOk};
 ghost use Rattle.serde_json.specs.Data.{string};
@@ -85,7 +85,8 @@ fn push_refusal(out: &mut Vec<u8>, refusal: SessionsError) -> Result<(), AllocEr
     }
 }
 
-/// The line of a refusal: its name, the session that is refused, counted from 1, and what else it names.
+/// Returns the line of an error: its name, the session that failed (counted from 1), and the
+/// error's other fields.
 pub(crate) fn refusal_line(alloc: Global, refusal: SessionsError) -> Result<Vec<u8>, AllocError>
     ensures { IfOk result (λ line. line.items ≡ refusal_text refusal) }
 {

@@ -1,4 +1,4 @@
-//! What the lines of sessions call for.
+//! The report of the lines of sessions.
 
 ghost use Rattle.std.specs.Prelude.{◌≡◌, ◌≤◌, ◌++◌, [], length, IfOk, OnOk};
 ghost use Rattle.js_tool_logs.specs.SessionProgress.{HasRoom, IsLess, RefusesBy, RefusesIn, RunsOn, rest_of};
@@ -16,23 +16,23 @@ use js_tool_io::{Lines, Pieces};
 use js_tool_transcript::{Cell, Payloads, Setup, Unread, first_line, push_line};
 use std::alloc::{AllocError, Global};
 
-/// What sessions call for.
+/// The result of sessions.
 #[derive(Drop)]
 pub(crate) enum SessionsReport {
-    /// This text of all sessions.
+    /// The text of all sessions.
     Done(Items<u8>),
-    /// One of them is refused, and this line says which and why.
+    /// One of the sessions failed. This line says which and why.
     Refused(Items<u8>),
 }
 
-/// What one session more comes to.
+/// The result of one more session.
 #[derive(Drop)]
 pub(crate) enum Stage {
     /// No line is left.
     Last(EndedText),
     /// Another session begins.
     More(EndedText, Setup),
-    /// It is refused, and lines may be left.
+    /// The session failed. Lines may be left.
     Refused(SessionsError),
 }
 
@@ -153,20 +153,22 @@ fn run_all(
     }
 }
 
-/// What the sessions that the bytes say call for, from a bookmark on. The bytes are given up as they are read, and neither
-/// events nor outputs are kept.
+/// Returns the report of the sessions in the bytes, starting at a bookmark. The bytes are freed as
+/// they are read, and neither events nor outputs are kept.
 ///
-/// The first line is a setup. A further line with the key `mode` is a setup too, and begins the next session; `{"save":true}`
-/// is a save, and any other line an event. Each session's text is that of its run, in which the end counts the events without
-/// the saves, and `["bookmark",committed,next]`; the last line is `["sessions",number,committed,next]`.
+/// The first line is a setup. A further line with the key `mode` is a setup too, and begins the
+/// next session; `{"save":true}` is a save, and any other line is an event. The text of a session
+/// is that of its run, whose end counts the events without the saves, followed by
+/// `["bookmark",committed,next]`. The last line is `["sessions",number,committed,next]`.
 ///
-/// Where each session was served of one log by an honest server, and what was removed stays removed, the committed yields of
-/// all sessions leave no gap between the first bookmark and the last of them but where a message was removed.
+/// If each session is served from one log by an honest server, and removed messages stay removed,
+/// the committed yields of all sessions leave no gap between the first bookmark and the last of
+/// them, except where a message was removed.
 ///
 /// # Errors
 ///
-/// `BadLine` with the number of the first line that does not read, counted from 1, also behind a session that is refused; or
-/// want of memory.
+/// Fails with `BadLine` and the number (counted from 1) of the first line that cannot be read, even
+/// after a session that failed. Fails with `OutOfMemory` if memory runs out.
 pub(crate) fn sessions_report(
     alloc: Global,
     next: u64,

@@ -1,4 +1,5 @@
-//! A session whose text is made as its lines are passed, so that neither lines nor outputs are kept.
+//! A session whose text is built as its lines are passed, so that neither lines nor outputs are
+//! kept.
 
 ghost use Rattle.std.specs.Prelude.{◌≡◌, ℕ, ◌<◌, ◌∷◌, ◌++◌, List, [], length, OnOk, IfOk, IfSome};
 ghost use Rattle.js_log_sessions.specs.declared.session.Line as lines;
@@ -14,7 +15,7 @@ use js_log_sessions::{Line, SessionEnd, SessionReplay, Sessions, SessionsError};
 use js_tool_transcript::{Cell, Setup, Unread, push_end, push_line, push_outputs};
 use std::alloc::{AllocError, Global};
 
-/// How far a session has come, and the text of it and of all before it.
+/// How far a session has come, and its text together with that of all sessions before it.
 #[derive(Drop)]
 pub(crate) struct SessionText<'s> {
     pub(crate) replay: SessionReplay<'s>,
@@ -42,7 +43,7 @@ fn push_bookmark(out: &mut Vec<u8>, committed: u64, next: u64) -> Result<(), All
 }
 
 impl<'s> SessionText<'s> {
-    /// A session begins, with the text of its opening.
+    /// Begins a session, with the text of its opening.
     pub(crate) fn begin(
         alloc: Global,
         ended: EndedText,
@@ -88,7 +89,7 @@ impl<'s> SessionText<'s> {
         }
     }
 
-    /// Passes the lines up to the next setup, which is answered, or to the end.
+    /// Passes the lines up to the next setup, which is returned, or to the end.
     pub(crate) fn pass_lines(
         &mut self,
         alloc: Global,
@@ -115,7 +116,7 @@ impl<'s> SessionText<'s> {
         Ok(None)
     }
 
-    /// The session ends, with the text of its end and of its bookmark.
+    /// Ends the session, with the text of its end and of its bookmark.
     pub(crate) fn end(self) -> Result<EndedText, SessionsError>
         ensures { Ends self.entry result }
     {

@@ -1,4 +1,4 @@
-//! The single steps on the cell from which the window's calls are made.
+//! The single steps on the cell of which the window's calls consist.
 ghost use Rattle.std.specs.Prelude.{◌≡◌, ◌+◌, ◌<◌, ◌≤◌, MatchBool};
 ghost use Rattle.js_window.specs.Caller.{held, Makes, Watches};
 ghost use Rattle.js_window.specs.History.{out_after};

@@ -1,4 +1,4 @@
-//! How the configuration of a consumer is read: in five parts, one after another.
+//! Reads the configuration of a consumer in five parts.
 
 ghost use Rattle.serde_json.specs.View.{view};
 ghost use Rattle.js_json_members.specs.Member.{Gives, nested as nested_in};
@@ -14,7 +14,7 @@ use js_json_members::{
 use serde_json::Value;
 use std::alloc::Global;
 
-/// Who it is, and to whom it delivers.
+/// The names of a consumer and where it delivers.
 #[derive(Drop)]
 struct Names {
     deliver_subject: Option<Text>,
@@ -48,7 +48,7 @@ impl Names {
     }
 }
 
-/// What is delivered, and how it is acknowledged.
+/// What a consumer delivers, and how readers acknowledge it.
 #[derive(Drop)]
 struct Delivery {
     deliver_policy: DeliverPolicy,
@@ -96,7 +96,7 @@ impl Delivery {
     }
 }
 
-/// How fast it goes.
+/// How fast a consumer delivers.
 #[derive(Drop)]
 struct Flow {
     rate_limit: u64,
@@ -144,7 +144,7 @@ impl Flow {
     }
 }
 
-/// What bounds it.
+/// The limits of a consumer.
 #[derive(Drop)]
 struct Limits {
     max_batch: i64,
@@ -178,7 +178,7 @@ impl Limits {
     }
 }
 
-/// Where it is kept, and who reads first.
+/// Where a consumer is kept, and which reader comes first.
 #[derive(Drop)]
 struct Priorities {
     memory_storage: bool,

@@ -1,4 +1,4 @@
-//! How the configuration of a consumer is written: row by row, in the same five parts.
+//! Writes the configuration of a consumer row by row, in the same five parts.
 
 ghost use Rattle.std.specs.Prelude.{Result, false};
 ghost use Rattle.serde_json.specs.Data.{Members};

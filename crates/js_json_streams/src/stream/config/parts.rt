@@ -1,4 +1,4 @@
-//! How the configuration of a stream is read: in four parts, one after another.
+//! Reads the configuration of a stream in four parts.
 
 ghost use Rattle.serde_json.specs.View.{view};
 ghost use Rattle.js_json_members.specs.Member.{Gives, nested as nested_in};
@@ -13,7 +13,7 @@ use js_json_members::{FromValue, Key, Member, ReadError, defaulted, nested, opti
 use serde_json::Value;
 use std::alloc::Global;
 
-/// What it is called, what it takes in, and how it is kept.
+/// The name of a stream, what it stores, and how.
 #[derive(Drop)]
 struct Basics {
     name: Text,
@@ -50,7 +50,7 @@ impl Basics {
     }
 }
 
-/// What bounds it.
+/// The limits of a stream.
 #[derive(Drop)]
 struct Limits {
     max_messages: i64,
@@ -94,7 +94,7 @@ impl Limits {
     }
 }
 
-/// What may be done with its messages.
+/// What users may do with the messages of a stream.
 #[derive(Drop)]
 struct Rights {
     republish: Option<Republish>,
@@ -131,7 +131,7 @@ impl Rights {
     }
 }
 
-/// What it copies, and where it is kept.
+/// What a stream copies, and where it is kept.
 #[derive(Drop)]
 struct Origins {
     mirror: Option<Source>,

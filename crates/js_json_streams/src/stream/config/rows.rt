@@ -1,4 +1,4 @@
-//! How the configuration of a stream is written: row by row, in the same four parts.
+//! Writes the configuration of a stream row by row, in the same four parts.
 
 ghost use Rattle.std.specs.Prelude.{Result, false};
 ghost use Rattle.serde_json.specs.Data.{Members};
