@@ -10,7 +10,7 @@ use js_call_streams::{ListItem, Listing, StreamHandle, UpdateStream};
 use js_context::{Context, Requester};
 use js_json::pull;
 use js_json_members::{FromValue, ReadError, value_of};
-use js_json_streams::stream;
+use js_json_stream_bodies::stream;
 use js_link::Link;
 use serde_json::Value;
 use std::alloc::Global;

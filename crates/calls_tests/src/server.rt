@@ -6,7 +6,7 @@ use bytes::Bytes;
 use js_base::{Error, Message, OutOfMemory, StatusCode, Subject, Text, Turn};
 use js_call::{ApiScope, State};
 use js_call_streams::StreamHandle;
-use js_json_streams::{DeleteStatus, stream};
+use js_json_stream_bodies::{DeleteStatus, stream};
 use js_link::{Link, MemoryLink, ScriptedServer, Sent};
 use serde_json::Value;
 use std::alloc::Global;

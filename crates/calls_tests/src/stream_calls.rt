@@ -8,7 +8,7 @@ use js_call_streams::{
     delete_stream, domain_prefix, get_or_create_stream, get_stream, get_stream_no_info,
     update_stream, update_stream_keeping,
 };
-use js_json_streams::stream::{Config, External, Info, Source};
+use js_json_stream_bodies::stream::{Config, External, Info, Source};
 use js_link::Link;
 use std::alloc::Global;
 

@@ -121,7 +121,7 @@
 //! | [`account`] | what an account may use |
 //! | [`time`] | seconds in nanoseconds, the first of several moments |
 //!
-//! For projections, mirrors, bookmarks and replay of a log, see the crate `jetstream_logs`.
+//! For projections, mirrors, bookmarks and replay of a log, see the crate `jetstream_event_log`.
 #![tactic(auto)]
 
 pub mod account;

@@ -9,8 +9,8 @@ pub use js_call_streams::{
     GetStreamError, GetStreamErrorKind, Kept, KeptInfo, StreamHandle, UpdateStream,
     UpdateStreamError, UpdateStreamErrorKind,
 };
-pub use js_json_streams::DeleteStatus;
-pub use js_json_streams::stream::{
+pub use js_json_stream_bodies::DeleteStatus;
+pub use js_json_stream_bodies::stream::{
     Compression, Config, DiscardPolicy, External, Info, Placement, Republish, RetentionPolicy,
     Source, State, StorageType,
 };

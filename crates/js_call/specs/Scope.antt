@@ -15,8 +15,8 @@ abbrev pub own_of : Option ℕ → Option (Option ℕ)
 own_of None = None
 own_of (Some wait) = Some (Some wait)
 
-abbrev pub own_timeout : ApiScope → Option (Option ℕ)
-own_timeout scope = own_of scope.timeout
+abbrev pub context_timeout : ApiScope → Option (Option ℕ)
+context_timeout scope = own_of scope.timeout
 
 -- a request's own timeout, and else its context's
 abbrev pub own_or : Option (Option ℕ) → Option (Option ℕ) → Option (Option ℕ)
@@ -25,7 +25,7 @@ own_or (Some own) context = Some own
 
 -- the request with its context's timeout, where it has none of its own
 abbrev pub applied : ApiScope → RawRequest → RawRequest
-applied scope request = record request { timeout = own_or request.timeout (own_timeout scope) }
+applied scope request = record request { timeout = own_or request.timeout (context_timeout scope) }
 
 -- the context's timeout, or none where only the connection has one, or else ten seconds
 abbrev pub recovery_timeout : Option ℕ → Option ℕ → Option ℕ
@@ -44,7 +44,7 @@ asking scope subject body = record {
   subject = under scope.prefix subject;
   headers = None;
   payload = body;
-  timeout = own_timeout scope;
+  timeout = context_timeout scope;
   is_tested = true;
   sent = None;
 }
@@ -55,7 +55,7 @@ raw_asking scope subject request = record {
   subject = subject;
   headers = request.headers;
   payload = body_of request.payload;
-  timeout = own_or request.timeout (own_timeout scope);
+  timeout = own_or request.timeout (context_timeout scope);
   is_tested = true;
   sent = None;
 }

@@ -1,7 +1,7 @@
 //! Where API requests go, and how long they wait for an answer.
 ghost use Rattle.std.specs.Prelude.{◌≡◌, false, IfOk, string_bytes};
 ghost use Rattle.serde_json.specs.View.{view};
-ghost use Rattle.js_call.specs.Scope.{under, own_timeout, applied, recovery_timeout, asking, raw_asking, Calling, IsTextOf};
+ghost use Rattle.js_call.specs.Scope.{under, context_timeout, applied, recovery_timeout, asking, raw_asking, Calling, IsTextOf};
 
 use crate::raw_call::RawCall;
 use crate::raw_request::{RawRequest, body_of};
@@ -50,7 +50,7 @@ impl ApiScope {
     {
         let timeout = match request.timeout {
             Some(own) => Some(own),
-            None => self.own_timeout(),
+            None => self.context_timeout(),
         };
         RawRequest { timeout, ..request }
     }
@@ -98,7 +98,7 @@ impl ApiScope {
             subject: self.subject(alloc, subject)?,
             headers: None,
             payload: body,
-            timeout: self.own_timeout(),
+            timeout: self.context_timeout(),
             is_tested: true,
             sent: None,
         })
@@ -156,8 +156,8 @@ impl ApiScope {
     }
 
     // The context's timeout as one of a request's own.
-    fn own_timeout(&self) -> Option<Option<Nanos>>
-        ensures { result ≡ own_timeout self.now }
+    fn context_timeout(&self) -> Option<Option<Nanos>>
+        ensures { result ≡ context_timeout self.now }
     {
         match self.timeout {
             None => None,

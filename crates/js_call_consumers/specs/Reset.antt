@@ -1,5 +1,6 @@
 -- Resetting a consumer: a row of the table of calls.
-use Rattle.std.specs.Prelude.{ℕ, Option, None, codes, Result, Ok, Err}
+use Rattle.std.specs.Prelude.{ℕ, ◌≡◌, refl, ◌++◌, List, Option, Some, None, unwrap_or, codes, Result, Ok, Err}
+use Rattle.std.specs.Fmt.{decimal}
 use Rattle.js_base.specs.declared.error.Error.{Error}
 use Rattle.js_json_members.specs.Member.{float_free}
 use Rattle.js_json.specs.Response.{response_of}
@@ -16,8 +17,16 @@ use Rattle.js_call_consumers.specs.declared.error.ConsumerErrorKind.TheVariants.
 use Rattle.js_call_consumers.specs.CreateKind.{consumer_failure, failed, held}
 use Rattle.js_call_consumers.specs.declared.copies.InfoCopies.{InfoCopies}
 use Rattle.js_call_consumers.specs.declared.reset.ResettingConsumer.{ResettingConsumer}
-use Rattle.js_call_consumers.specs.KnownConsumer.{asking_on, reset_body}
+use Rattle.js_call_consumers.specs.KnownConsumer.{asking_on}
 use Rattle.js_call_consumers.specs.Renewal.{copies_fields, renewed}
+
+-- the body that names a sequence, as `{"seq":5}`; it is 0 where none is named
+abbrev pub reset_body : Option ℕ → List ℕ
+reset_body seq = codes "{\"seq\":" ++ (decimal (unwrap_or seq 0) ++ codes "}")
+
+-- none is asked for as 0
+none_is_zero : reset_body None ≡ reset_body (Some 0)
+none_is_zero = refl
 
 -- the consumer, and the info once it was reset or why it was not
 abbrev pub was_reset : {T : Type 0} → Consumer T → Response InfoCopies → Consumer T × Result Info (Error ConsumerErrorKind)

@@ -5,9 +5,9 @@ ghost use Rattle.js_call_consumers.specs.Refresh.{refresh_request, refreshing};
 ghost use Rattle.js_call_consumers.specs.Reset.{reset_request, resetting};
 
 use crate::Consumer;
-use crate::known_consumer::{request_on, reset_body};
+use crate::known_consumer::request_on;
 use crate::refresh::{InfoCall, RefreshingConsumer};
-use crate::reset::{Reset, ResettingConsumer};
+use crate::reset::{Reset, ResettingConsumer, reset_body};
 use bytes::Bytes;
 use js_base::OutOfMemory;
 use js_call::{Call, RawCall};

@@ -1,11 +1,13 @@
 //! The call that resets a consumer.
-ghost use Rattle.std.specs.Prelude.{◌≡◌};
-ghost use Rattle.js_call_consumers.specs.Reset.{reset_row, was_reset};
+ghost use Rattle.std.specs.Prelude.{◌≡◌, ◌++◌, IfOk, codes, string_bytes};
+ghost use Rattle.std.specs.Fmt.{decimal};
+ghost use Rattle.js_call_consumers.specs.Reset.{reset_row, was_reset, reset_body};
 
 use crate::copies::InfoCopies;
 use crate::renewal::renewed;
 use crate::{Consumer, ConsumerError, ConsumerErrorKind, CreateKind};
-use js_base::{Error, Source};
+use bytes::Bytes;
+use js_base::{Error, OutOfMemory, Source};
 use js_call::{ApiCall, Call, Failure};
 use js_json::consumer::Info;
 use js_json::{Response, response_as};
@@ -59,4 +61,17 @@ impl<T: Drop> ApiCall for ResettingConsumer<T> {
         let kind = ConsumerErrorKind::of_request(failure.kind());
         (self.consumer, Err(Error::with_source(kind, source)))
     }
+}
+
+fn reset_text(alloc: Global, sequence: u64) -> Result<String, OutOfMemory>
+    ensures { IfOk result (λ text. string_bytes text ≡ codes "{\"seq\":" ++ (decimal sequence ++ codes "}")) }
+{
+    Ok(format!(in alloc; "{{\"seq\":{sequence}}}")?)
+}
+
+/// Returns the body that names the sequence from which a consumer continues; 0 if `seq` is none.
+pub(crate) fn reset_body(alloc: Global, seq: Option<u64>) -> Result<Bytes, OutOfMemory>
+    ensures { IfOk result (λ body. body ≡ reset_body seq) }
+{
+    Ok(Bytes::from_string(reset_text(alloc, seq.unwrap_or(0))?)?)
 }

@@ -13,23 +13,23 @@ use Rattle.js_json_members.specs.declared.error.ReadError.TheVariants as read_er
 use Rattle.js_json_members.specs.Member.{Fails, GivesAs}
 use Rattle.js_json_members.specs.Rows.{Writes, Row, put_some, with_row, with_rows, object_of, always, unless, where_some, or_null, some, text_of, Shows}
 use Rattle.js_json_members.specs.Rows.{text_data, natural_data, integer_data, truth_data, list_data, all_data, is_empty, is_zero, is_zero_integer}
-use Rattle.js_json_streams.specs.declared.stream.config.Config.{Config}
-use Rattle.js_json_streams.specs.declared.stream.page.NamesRequest.{NamesRequest}
-use Rattle.js_json_streams.specs.declared.stream.placement.Placement.{Placement}
-use Rattle.js_json_streams.specs.declared.stream.policies.Compression.TheVariants as compression
-use Rattle.js_json_streams.specs.declared.stream.policies.DiscardPolicy.TheVariants as discard_policy
-use Rattle.js_json_streams.specs.declared.stream.policies.RetentionPolicy.TheVariants as retention_policy
-use Rattle.js_json_streams.specs.declared.stream.policies.StorageType.TheVariants as storage_type
-use Rattle.js_json_streams.specs.Compression.{compression_data}
-use Rattle.js_json_streams.specs.DiscardPolicy.{discard_policy_data}
-use Rattle.js_json_streams.specs.External.{external_rows, external_value, external_data}
-use Rattle.js_json_streams.specs.Page.{names_request_rows, names_request_value}
-use Rattle.js_json_streams.specs.Placement.{placement_rows, placement_value, placement_data}
-use Rattle.js_json_streams.specs.Republish.{republish_rows, republish_value, republish_data}
-use Rattle.js_json_streams.specs.RetentionPolicy.{retention_policy_data}
-use Rattle.js_json_streams.specs.Source.{source_rows, source_value, source_data}
-use Rattle.js_json_streams.specs.StorageType.{storage_type_data}
-use Rattle.js_json_streams.specs.StreamConfig.{config_rows, config_value}
+use Rattle.js_json_stream_bodies.specs.declared.stream.config.Config.{Config}
+use Rattle.js_json_stream_bodies.specs.declared.stream.page.NamesRequest.{NamesRequest}
+use Rattle.js_json_stream_bodies.specs.declared.stream.placement.Placement.{Placement}
+use Rattle.js_json_stream_bodies.specs.declared.stream.policies.Compression.TheVariants as compression
+use Rattle.js_json_stream_bodies.specs.declared.stream.policies.DiscardPolicy.TheVariants as discard_policy
+use Rattle.js_json_stream_bodies.specs.declared.stream.policies.RetentionPolicy.TheVariants as retention_policy
+use Rattle.js_json_stream_bodies.specs.declared.stream.policies.StorageType.TheVariants as storage_type
+use Rattle.js_json_stream_bodies.specs.Compression.{compression_data}
+use Rattle.js_json_stream_bodies.specs.DiscardPolicy.{discard_policy_data}
+use Rattle.js_json_stream_bodies.specs.External.{external_rows, external_value, external_data}
+use Rattle.js_json_stream_bodies.specs.Page.{names_request_rows, names_request_value}
+use Rattle.js_json_stream_bodies.specs.Placement.{placement_rows, placement_value, placement_data}
+use Rattle.js_json_stream_bodies.specs.Republish.{republish_rows, republish_value, republish_data}
+use Rattle.js_json_stream_bodies.specs.RetentionPolicy.{retention_policy_data}
+use Rattle.js_json_stream_bodies.specs.Source.{source_rows, source_value, source_data}
+use Rattle.js_json_stream_bodies.specs.StorageType.{storage_type_data}
+use Rattle.js_json_stream_bodies.specs.StreamConfig.{config_rows, config_value}
 
 -- it is written
 abbrev pub IsWritten : {A : Type 0} → Result A ReadError → Type 0

@@ -7,11 +7,11 @@ use Rattle.serde_json.specs.Data.{Data, depth}
 use Rattle.serde_json.specs.Read.{read, max_depth}
 use Rattle.serde_json.specs.Written.{has_float, compact_text}
 use Rattle.js_json_members.specs.declared.error.ReadError.{ReadError}
-use Rattle.js_json_streams.specs.StreamConfig.{config_value}
+use Rattle.js_json_stream_bodies.specs.StreamConfig.{config_value}
 use Rattle.js_call_streams.specs.KeptText.{IsKeptOf}
 use Rattle.js_call_streams.specs.Overlay.{is_same, over}
-use Rattle.js_json_streams.specs.declared.stream.config.Config.{Config}
-use Rattle.js_json_streams.specs.declared.stream.info.Info.{Info}
+use Rattle.js_json_stream_bodies.specs.declared.stream.config.Config.{Config}
+use Rattle.js_json_stream_bodies.specs.declared.stream.info.Info.{Info}
 use Rattle.js_call.specs.declared.call.Call.{Call}
 use Rattle.js_call.specs.declared.raw_call.RawCall.{RawCall}
 use Rattle.js_call.specs.declared.scope.ApiScope.{ApiScope}

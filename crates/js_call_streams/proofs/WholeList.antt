@@ -10,7 +10,7 @@ use Rattle.js_base.specs.declared.turn.Next.TheVariants as next
 use Rattle.js_base.specs.declared.turn.Turn.TheVariants.{Pending, Ready, OutOfMemory}
 use Rattle.js_link.specs.LinkView.{LinkView}
 use Rattle.js_json_members.specs.Member.{Reads}
-use Rattle.js_json_streams.specs.declared.stream.page.Page.{Page}
+use Rattle.js_json_stream_bodies.specs.declared.stream.page.Page.{Page}
 use Rattle.js_call.specs.declared.scope.ApiScope.{ApiScope}
 use Rattle.js_call_streams.specs.declared.progress.Progress.{Progress}
 use Rattle.js_call_streams.specs.declared.listing.Listing.{Listing}

@@ -11,8 +11,8 @@ use Rattle.js_json_members.specs.declared.error.ReadError.{ReadError}
 use Rattle.js_json.specs.Response.{response_of}
 use Rattle.js_json.specs.declared.response.Response.{Response}
 use Rattle.js_json.specs.declared.response.Response.TheVariants as response
-use Rattle.js_json_streams.specs.Page.{page_fields, names_request_value}
-use Rattle.js_json_streams.specs.declared.stream.page.Page.{Page}
+use Rattle.js_json_stream_bodies.specs.Page.{page_fields, names_request_value}
+use Rattle.js_json_stream_bodies.specs.declared.stream.page.Page.{Page}
 use Rattle.js_call.specs.declared.call.Call.{Call}
 use Rattle.js_call.specs.declared.scope.ApiScope.{ApiScope}
 use Rattle.js_call.specs.Call.{calling}

@@ -6,9 +6,9 @@ use Rattle.js_json_members.specs.Member.{float_free}
 use Rattle.js_json.specs.Response.{response_of}
 use Rattle.js_json.specs.declared.response.Response.{Response}
 use Rattle.js_json.specs.declared.response.Response.TheVariants as response
-use Rattle.js_json_streams.specs.DeleteStatus.{delete_status_fields}
-use Rattle.js_json_streams.specs.declared.stream.delete_status.DeleteStatus.{DeleteStatus}
-use Rattle.js_json_streams.specs.declared.stream.info.Info.{Info}
+use Rattle.js_json_stream_bodies.specs.DeleteStatus.{delete_status_fields}
+use Rattle.js_json_stream_bodies.specs.declared.stream.delete_status.DeleteStatus.{DeleteStatus}
+use Rattle.js_json_stream_bodies.specs.declared.stream.info.Info.{Info}
 use Rattle.js_call.specs.declared.call.Call.{Call}
 use Rattle.js_call.specs.declared.scope.ApiScope.{ApiScope}
 use Rattle.js_call.specs.Call.{calling}

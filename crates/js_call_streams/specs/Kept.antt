@@ -6,7 +6,7 @@ use Rattle.js_json_members.specs.Member.{◌>>=◌, Reads, required}
 use Rattle.js_json_members.specs.declared.error.ReadError.{ReadError}
 use Rattle.js_json_members.specs.declared.error.ReadError.TheVariants.{Float}
 use Rattle.js_json_members.specs.declared.key.Key.TheVariants as key
-use Rattle.js_json_streams.specs.StreamInfo.{info_fields}
+use Rattle.js_json_stream_bodies.specs.StreamInfo.{info_fields}
 use Rattle.js_call_streams.specs.declared.kept.KeptInfo.{KeptInfo}
 
 -- a whole value, in which no float may stand, as its compact text

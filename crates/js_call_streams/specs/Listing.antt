@@ -7,7 +7,7 @@ use Rattle.js_base.specs.declared.turn.Turn.{Turn}
 use Rattle.js_base.specs.declared.turn.Turn.TheVariants.{Pending, Ready, OutOfMemory}
 use Rattle.js_link.specs.LinkView.{LinkView}
 use Rattle.js_json_members.specs.Member.{Reads}
-use Rattle.js_json_streams.specs.declared.stream.page.Page.{Page}
+use Rattle.js_json_stream_bodies.specs.declared.stream.page.Page.{Page}
 use Rattle.js_call.specs.declared.call.Call.{Call}
 use Rattle.js_call.specs.declared.error.RequestErrorKind.{RequestErrorKind}
 use Rattle.js_call.specs.declared.scope.ApiScope.{ApiScope}

@@ -2,9 +2,9 @@
 use Rattle.std.specs.Prelude.{ℕ, Bool, false, ◌&&◌, ◌||◌, Option, Some, None, option_map, List, map, ◌++◌, codes}
 use Rattle.std.specs.Option.{is_some}
 use Rattle.std.specs.List.{list_any}
-use Rattle.js_json_streams.specs.declared.stream.config.Config.{Config}
-use Rattle.js_json_streams.specs.declared.stream.source.External.{External}
-use Rattle.js_json_streams.specs.declared.stream.source.Source.{Source}
+use Rattle.js_json_stream_bodies.specs.declared.stream.config.Config.{Config}
+use Rattle.js_json_stream_bodies.specs.declared.stream.source.External.{External}
+use Rattle.js_json_stream_bodies.specs.declared.stream.source.Source.{Source}
 
 -- both a domain and an external say where it is
 abbrev pub has_two_places : Source → Bool

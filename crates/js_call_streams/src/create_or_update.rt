@@ -11,7 +11,7 @@ use js_base::{Error, OutOfMemory, Source, Text, TryClone, both};
 use js_call::{ApiCall, ApiScope, Call, Decision, Failure, Then};
 use js_json::{Response, response_as};
 use js_json_members::ReadError;
-use js_json_streams::stream::{Config, Info};
+use js_json_stream_bodies::stream::{Config, Info};
 use std::alloc::Global;
 
 /// How the second call of `create_or_update_stream` checks its arguments and reads its answer.

@@ -9,7 +9,7 @@ use js_base::{Error, OutOfMemory, Source, Text};
 use js_call::{ApiCall, ApiScope, Call, Failure};
 use js_json::{Response, response_as};
 use js_json_members::ReadError;
-use js_json_streams::DeleteStatus;
+use js_json_stream_bodies::DeleteStatus;
 use std::alloc::Global;
 
 /// How `delete_stream` checks its arguments and reads its answer.

@@ -11,7 +11,7 @@ use js_base::{Error, OutOfMemory, Source, Text, both, is_valid_subject};
 use js_call::{ApiCall, ApiScope, Call, Failure};
 use js_json::{Response, response_as};
 use js_json_members::ReadError;
-use js_json_streams::stream::{NamesRequest, Page};
+use js_json_stream_bodies::stream::{NamesRequest, Page};
 use std::alloc::Global;
 
 /// How `stream_by_subject` checks its arguments and reads its answer.

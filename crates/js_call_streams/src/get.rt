@@ -11,7 +11,7 @@ use js_base::{Error, OutOfMemory, Source, Text, TryClone, both};
 use js_call::{ApiCall, ApiScope, Call, Failure};
 use js_json::{Response, response_as};
 use js_json_members::ReadError;
-use js_json_streams::stream::Info;
+use js_json_stream_bodies::stream::Info;
 use std::alloc::Global;
 
 /// How `get_stream` checks its arguments and reads its answer.

@@ -12,7 +12,7 @@ use js_base::{Error, OutOfMemory, Source, Text, TryClone, both};
 use js_call::{ApiCall, ApiScope, Call, Failure, IfAbsent, Then};
 use js_json::{Response, response_as};
 use js_json_members::ReadError;
-use js_json_streams::stream::{Config, Info};
+use js_json_stream_bodies::stream::{Config, Info};
 use std::alloc::Global;
 
 /// How the first call of `get_or_create_stream` checks its arguments and reads its answer.

@@ -10,7 +10,7 @@ ghost use Rattle.js_call_streams.specs.KeptText.{IsKeptOf};
 
 use js_base::{Boxed, OutOfMemory, Text};
 use js_json_members::{FromValue, Key, Member, ReadError, has_float, required};
-use js_json_streams::stream::Info;
+use js_json_stream_bodies::stream::Info;
 use serde_json::Value;
 use std::alloc::Global;
 use std::marker::Model;

@@ -7,7 +7,7 @@ ghost use Rattle.js_call_streams.specs.Page.{Lists, names_list, infos_list, name
 
 use js_base::Text;
 use js_json_members::{Member, ReadError, ToValue};
-use js_json_streams::stream::{Info, ListRequest, NamesRequest};
+use js_json_stream_bodies::stream::{Info, ListRequest, NamesRequest};
 use std::alloc::Global;
 
 /// An item of an API list.

@@ -13,7 +13,7 @@ use crate::page::{AskingPage, page_call};
 use crate::progress::Progress;
 use js_base::{Moment, Next, OutOfMemory, Text, TryClone, Turn, replace_with};
 use js_call::{ApiScope, Call, OpenRequest, State};
-use js_json_streams::stream::{Info, Page};
+use js_json_stream_bodies::stream::{Info, Page};
 use js_link::{Link, RequestId};
 use std::alloc::Global;
 

@@ -11,7 +11,7 @@ use js_base::{Error, OutOfMemory, Source};
 use js_call::{ApiCall, ApiScope, Call, Failure};
 use js_json::{Response, response_as};
 use js_json_members::ReadError;
-use js_json_streams::stream::Page;
+use js_json_stream_bodies::stream::Page;
 use std::alloc::Global;
 use std::marker::PhantomData;
 

@@ -1,11 +1,11 @@
 //! Where the streams are that a stream mirrors or sources.
 ghost use Rattle.std.specs.Prelude.{◌≡◌, IfOk, Some, option_map, map, string_bytes};
 ghost use Rattle.std.specs.List.{list_any};
-ghost use Rattle.js_json_streams.specs.declared.stream.config.Config.{Config};
+ghost use Rattle.js_json_stream_bodies.specs.declared.stream.config.Config.{Config};
 ghost use Rattle.js_call_streams.specs.Places.{has_two_places as has_two_places_in, mirror_has_two_places, a_source_has_two_places, two_places as two_places_in, domain_prefix as domain_prefix_in, in_domain, placed, placed_in};
 
 use js_base::{Items, OutOfMemory, Text, TryClone, both, replace_with};
-use js_json_streams::stream::{Config, External, Source};
+use js_json_stream_bodies::stream::{Config, External, Source};
 use std::alloc::{AllocError, Global};
 
 fn has_two_places(source: &Source) -> bool

@@ -5,7 +5,7 @@ ghost use Rattle.js_call_streams.specs.Listing.{loaded, HandsOut, fresh_progress
 use crate::list_error::StreamsError;
 use crate::rest::Rest;
 use js_base::Next;
-use js_json_streams::stream::Page;
+use js_json_stream_bodies::stream::Page;
 use std::alloc::Global;
 
 /// The items that were received and not returned yet, and where the next page begins.

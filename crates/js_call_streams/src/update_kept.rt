@@ -15,7 +15,7 @@ use bytes::Bytes;
 use js_base::{OutOfMemory, both};
 use js_call::{ApiScope, Call, RawCall};
 use js_json_members::ToValue;
-use js_json_streams::stream::{Config, Info};
+use js_json_stream_bodies::stream::{Config, Info};
 use serde_json::Value;
 use std::alloc::Global;
 

@@ -144,11 +144,11 @@ impl Sending {
         ensures { result ≡ answer_to self backpressure met }
     {
         match met {
-            Attempt::Barred(kind) => self.refused(kind),
+            Attempt::Barred(kind) => self.failed(kind),
             Attempt::NoRoom => Turn::OutOfMemory(self),
             Attempt::Full if backpressure => Turn::Pending(self),
-            Attempt::Full => self.refused(PublishErrorKind::MaxAckPending),
-            Attempt::Unsent(LinkError::Failed) => self.refused(PublishErrorKind::Other),
+            Attempt::Full => self.failed(PublishErrorKind::MaxAckPending),
+            Attempt::Unsent(LinkError::Failed) => self.failed(PublishErrorKind::Other),
             Attempt::Unsent(LinkError::OutOfMemory) => Turn::OutOfMemory(self),
             Attempt::Went(future) => {
                 drop(self);
@@ -157,8 +157,8 @@ impl Sending {
         }
     }
 
-    // It ends with that kind of error.
-    fn refused(
+    // Ends the call with an error of that kind.
+    fn failed(
         self,
         kind: PublishErrorKind,
     ) -> Turn<Sending, Result<PublishAckFuture, PublishError>>

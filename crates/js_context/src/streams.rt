@@ -15,7 +15,7 @@ use js_call_streams::{
     StreamHandle, UpdateStream, create_or_update_stream, create_stream, delete_stream,
     get_or_create_stream, get_stream, get_stream_no_info, update_stream, update_stream_keeping,
 };
-use js_json_streams::stream::{Config, Info};
+use js_json_stream_bodies::stream::{Config, Info};
 use std::alloc::Global;
 
 impl Context {

@@ -11,11 +11,11 @@ use Rattle.std.specs.Option.{option_map}
 use Rattle.js_base.specs.declared.message.Message.{Message}
 use Rattle.js_base.specs.declared.headers.Header.{Header}
 use Rattle.js_link.specs.declared.sent.Sent.{Sent}
-use Rattle.js_link.specs.declared.server.Scripted.{Scripted}
+use Rattle.js_link.specs.declared.scripted_server.Scripted.{Scripted}
 use Rattle.js_link.specs.LinkView.{LinkView, Numbers, Status, Waits, Answered, put}
 use Rattle.js_link.specs.Calls.{Asks}
 use Rattle.js_link.specs.Memory.{HasReply, Responds, RespondsAs}
-use Rattle.js_link.specs.Server.{UsesReply, is_for}
+use Rattle.js_link.specs.ScriptedServer.{UsesReply, is_for}
 use Rattle.js_link.proofs.Places.{get_past}
 use Rattle.js_link.proofs.Updates.{put_here, put_put}
 

@@ -12,12 +12,12 @@ mod error;
 mod link;
 mod memory;
 mod sent;
-mod server;
+mod scripted_server;
 mod wish;
 
 pub use copies::{copy_headers, copy_payload, copy_subject, copy_text};
 pub use link::{Answer, Link, LinkError, Taken, Watch};
 pub use memory::MemoryLink;
 pub use sent::{InboxId, RequestId, Sent};
-pub use server::ScriptedServer;
+pub use scripted_server::ScriptedServer;
 pub use wish::{Met, Wish, ask, take};

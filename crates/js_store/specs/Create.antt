@@ -4,7 +4,7 @@ use Rattle.js_base.specs.Error.{caused, kind_of}
 use Rattle.js_base.specs.declared.error.Error.{Error}
 use Rattle.js_store.specs.Kv.{stream_config}
 use Rattle.js_store.specs.declared.kv.Config.{Config}
-use Rattle.js_json_streams.specs.declared.stream.info.Info.{Info}
+use Rattle.js_json_stream_bodies.specs.declared.stream.info.Info.{Info}
 use Rattle.js_call.specs.declared.call.Call.{Call}
 use Rattle.js_call.specs.declared.scope.ApiScope.{ApiScope}
 use Rattle.js_call.specs.declared.then.Then.{Then}

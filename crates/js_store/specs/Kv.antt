@@ -1,13 +1,13 @@
 -- The stream that a bucket of keys is.
 use Rattle.std.specs.Prelude.{ℕ, ℤ, ◌≡◌, ◌==◌, pos, int_lt, Bool, true, false, if◌then◌else◌, List, [], ◌∷◌, ◌++◌, codes, Option, Some, None, refl}
 use Rattle.std.specs.Option.{is_some}
-use Rattle.js_json_streams.specs.StreamConfig.{new_config as new_stream}
-use Rattle.js_json_streams.specs.declared.stream.config.Config.{Config as StreamConfig}
-use Rattle.js_json_streams.specs.declared.stream.policies.Compression.{Compression}
-use Rattle.js_json_streams.specs.declared.stream.policies.Compression.TheVariants.{S2}
-use Rattle.js_json_streams.specs.declared.stream.policies.DiscardPolicy.TheVariants.{New}
-use Rattle.js_json_streams.specs.declared.stream.policies.StorageType.TheVariants.{File}
-use Rattle.js_json_streams.specs.declared.stream.source.Source.{Source}
+use Rattle.js_json_stream_bodies.specs.StreamConfig.{new_config as new_stream}
+use Rattle.js_json_stream_bodies.specs.declared.stream.config.Config.{Config as StreamConfig}
+use Rattle.js_json_stream_bodies.specs.declared.stream.policies.Compression.{Compression}
+use Rattle.js_json_stream_bodies.specs.declared.stream.policies.Compression.TheVariants.{S2}
+use Rattle.js_json_stream_bodies.specs.declared.stream.policies.DiscardPolicy.TheVariants.{New}
+use Rattle.js_json_stream_bodies.specs.declared.stream.policies.StorageType.TheVariants.{File}
+use Rattle.js_json_stream_bodies.specs.declared.stream.source.Source.{Source}
 use Rattle.js_store.specs.declared.kv.Config.{Config}
 use Rattle.js_store.specs.declared.kv.Origins.{Origins}
 use Rattle.js_store.specs.Origins.{stream_name, mirrored, gathered}

@@ -1,9 +1,9 @@
 -- The stream that a bucket of objects is.
 use Rattle.std.specs.Prelude.{ℕ, ◌≡◌, pos, true, false, List, [], ◌∷◌, ◌++◌, codes, None, refl}
-use Rattle.js_json_streams.specs.StreamConfig.{new_config as new_stream}
-use Rattle.js_json_streams.specs.declared.stream.config.Config.{Config as StreamConfig}
-use Rattle.js_json_streams.specs.declared.stream.policies.DiscardPolicy.TheVariants.{New}
-use Rattle.js_json_streams.specs.declared.stream.policies.StorageType.TheVariants.{File}
+use Rattle.js_json_stream_bodies.specs.StreamConfig.{new_config as new_stream}
+use Rattle.js_json_stream_bodies.specs.declared.stream.config.Config.{Config as StreamConfig}
+use Rattle.js_json_stream_bodies.specs.declared.stream.policies.DiscardPolicy.TheVariants.{New}
+use Rattle.js_json_stream_bodies.specs.declared.stream.policies.StorageType.TheVariants.{File}
 use Rattle.js_store.specs.declared.object_store.Config.{Config}
 use Rattle.js_store.specs.Kv.{compression_of}
 

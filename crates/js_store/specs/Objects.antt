@@ -5,8 +5,8 @@ use Rattle.js_base.specs.declared.error.Error.{Error}
 use Rattle.js_store.specs.Name.{is_bucket_name}
 use Rattle.js_store.specs.ObjectStore.{stream_name, stream_config}
 use Rattle.js_store.specs.declared.object_store.Config.{Config}
-use Rattle.js_json_streams.specs.declared.stream.delete_status.DeleteStatus.{DeleteStatus}
-use Rattle.js_json_streams.specs.declared.stream.info.Info.{Info}
+use Rattle.js_json_stream_bodies.specs.declared.stream.delete_status.DeleteStatus.{DeleteStatus}
+use Rattle.js_json_stream_bodies.specs.declared.stream.info.Info.{Info}
 use Rattle.js_call.specs.declared.call.Call.{Call}
 use Rattle.js_call.specs.declared.scope.ApiScope.{ApiScope}
 use Rattle.js_call.specs.Table.{refused_by}

@@ -1,7 +1,7 @@
 -- The streams of other buckets that a bucket of keys copies.
 use Rattle.std.specs.Prelude.{ℕ, ◌≡◌, Bool, nat_eq, if◌then◌else◌, List, ◌++◌, map, codes, Option, option_map, refl}
 use Rattle.std.specs.List.{starts_with}
-use Rattle.js_json_streams.specs.declared.stream.source.Source.{Source}
+use Rattle.js_json_stream_bodies.specs.declared.stream.source.Source.{Source}
 
 -- the name of the stream that a bucket is
 abbrev pub stream_name : List ℕ → List ℕ

@@ -2,8 +2,8 @@
 use Rattle.std.specs.Prelude.{ℕ, ◌≡◌, Bool, true, false, not, if◌then◌else◌, List, [], ◌∷◌, ◌++◌, codes, Option, Some, None, refl}
 use Rattle.std.specs.Str.{bytes_eq}
 use Rattle.js_store.specs.Origins.{begins_as_stream}
-use Rattle.js_json_streams.specs.declared.stream.source.External.{External}
-use Rattle.js_json_streams.specs.declared.stream.source.Source.{Source}
+use Rattle.js_json_stream_bodies.specs.declared.stream.source.External.{External}
+use Rattle.js_json_stream_bodies.specs.declared.stream.source.Source.{Source}
 use Rattle.js_store.specs.declared.places.Places.{Places}
 
 -- what the subjects of a bucket's values begin with

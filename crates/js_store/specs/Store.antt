@@ -1,7 +1,7 @@
 -- What is known of a bucket of keys.
 use Rattle.std.specs.Prelude.{ℕ, List}
-use Rattle.js_json_streams.specs.declared.stream.config.Config.{Config}
-use Rattle.js_json_streams.specs.declared.stream.info.Info.{Info}
+use Rattle.js_json_stream_bodies.specs.declared.stream.config.Config.{Config}
+use Rattle.js_json_stream_bodies.specs.declared.stream.info.Info.{Info}
 use Rattle.js_call_streams.specs.declared.handle.StreamHandle.{StreamHandle}
 use Rattle.js_store.specs.declared.store.Store.{Store}
 use Rattle.js_store.specs.declared.store.StoreNames.{StoreNames}

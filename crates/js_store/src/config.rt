@@ -1,12 +1,12 @@
 //! The configurations of buckets, and the configurations of the streams that follow from them.
 ghost use Rattle.std.specs.Prelude.{◌≡◌, IfOk, List, ℕ};
 ghost use Rattle.js_call_streams.specs.Create.{Creates};
-ghost use Rattle.js_json_streams.specs.declared.stream.config.Config.{Config};
+ghost use Rattle.js_json_stream_bodies.specs.declared.stream.config.Config.{Config};
 
 use js_base::{OutOfMemory, Text, TryClone, both};
 use js_call::ApiScope;
 use js_call_streams::{CreateStream, create_stream};
-use js_json_streams::stream;
+use js_json_stream_bodies::stream;
 use std::alloc::Global;
 
 /// The configuration of a bucket. The configuration of its stream is built in two steps: first the

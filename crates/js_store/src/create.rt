@@ -11,7 +11,7 @@ use crate::store::{Store, StoreNames, answered_names, store_of};
 use js_base::{Error, OutOfMemory, Source, Text};
 use js_call::{ApiScope, Then};
 use js_call_streams::{CreateStream, CreateStreamError, CreateStreamErrorKind, StreamHandle};
-use js_json_streams::stream::Info;
+use js_json_stream_bodies::stream::Info;
 use std::alloc::Global;
 
 /// How the second call of `create_key_value` reads its answer.

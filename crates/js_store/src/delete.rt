@@ -10,7 +10,7 @@ use crate::outcome::{BucketCall, Outcome};
 use js_base::{Error, OutOfMemory, Source, Text, both};
 use js_call::ApiScope;
 use js_call_streams::{DeleteStream, DeleteStreamError, delete_stream};
-use js_json_streams::DeleteStatus;
+use js_json_stream_bodies::DeleteStatus;
 use std::alloc::Global;
 
 /// How `delete_key_value` checks its argument and reads its answer.

@@ -13,7 +13,7 @@ use crate::{is_valid_bucket_name, kv};
 use js_base::{Error, OutOfMemory, Source, Text, both};
 use js_call::ApiScope;
 use js_call_streams::{GetStream, GetStreamError, StreamHandle, get_stream};
-use js_json_streams::stream::Info;
+use js_json_stream_bodies::stream::Info;
 use std::alloc::Global;
 
 /// How `get_key_value` checks its argument and reads its answer.

@@ -7,8 +7,8 @@ use crate::config::{BucketConfig, stream_of};
 pub use crate::origins::stream_name;
 use crate::origins::{gathered, of_bucket};
 use js_base::{Items, Nanos, OutOfMemory, Text, TryClone, both, each_copied};
-use js_json_streams::stream;
-use js_json_streams::stream::{
+use js_json_stream_bodies::stream;
+use js_json_stream_bodies::stream::{
     Compression, DiscardPolicy, Placement, Republish, RetentionPolicy, Source, StorageType,
 };
 use std::alloc::{AllocError, Global};

@@ -5,8 +5,8 @@ ghost use Rattle.js_store.specs.ObjectStore.{stream_name as stream_name_in, chun
 use crate::config::{BucketConfig, stream_of};
 use crate::kv::compression_of;
 use js_base::{Items, Nanos, OutOfMemory, Text, TryClone, both, each_copied};
-use js_json_streams::stream;
-use js_json_streams::stream::{DiscardPolicy, Placement, RetentionPolicy, StorageType};
+use js_json_stream_bodies::stream;
+use js_json_stream_bodies::stream::{DiscardPolicy, Placement, RetentionPolicy, StorageType};
 use std::alloc::{AllocError, Global};
 
 /// The configuration of a bucket of objects.

@@ -18,8 +18,8 @@ use js_call_streams::{
     CreateStream, CreateStreamError, DeleteStream, DeleteStreamError, GetStream, GetStreamError,
     StreamHandle,
 };
-use js_json_streams::DeleteStatus;
-use js_json_streams::stream::Info;
+use js_json_stream_bodies::DeleteStatus;
+use js_json_stream_bodies::stream::Info;
 use std::alloc::Global;
 
 /// How `get_object_store` checks its argument and reads its answer.

@@ -3,7 +3,7 @@ ghost use Rattle.std.specs.Prelude.{◌≡◌, ◌++◌, ◌∷◌, [], IfOk, ma
 ghost use Rattle.js_store.specs.Origins.{stream_name as stream_name_in, begins_as_stream, as_stream_name, of_bucket as of_bucket_in};
 
 use js_base::{Items, OutOfMemory, Text, replace_with};
-use js_json_streams::stream::Source;
+use js_json_stream_bodies::stream::Source;
 use std::alloc::{AllocError, Global};
 
 fn stream_text(alloc: Global, bucket: &str) -> Result<String, AllocError>

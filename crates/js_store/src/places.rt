@@ -3,7 +3,7 @@ ghost use Rattle.std.specs.Prelude.{◌≡◌, IfOk, string_bytes};
 ghost use Rattle.js_store.specs.Places.{key_prefix as key_prefix_in, put_elsewhere as put_elsewhere_in, without_prefix, is_own_api as is_own_api_in, own, moved, mirrored, places_of as places_in};
 
 use js_base::{OutOfMemory, Text, both};
-use js_json_streams::stream::{External, Source};
+use js_json_stream_bodies::stream::{External, Source};
 use std::alloc::{AllocError, Global};
 
 /// Where the values of a bucket are.

@@ -5,7 +5,7 @@ ghost use Rattle.js_store.specs.Store.{answered_names as answered_in, store_of};
 use crate::places::{Places, places_of};
 use js_base::{OutOfMemory, Text, TryClone, both};
 use js_call_streams::StreamHandle;
-use js_json_streams::stream::{Config, Info};
+use js_json_stream_bodies::stream::{Config, Info};
 use std::alloc::Global;
 
 /// A bucket of keys and their values: its stream, and where its values are.

@@ -2,7 +2,7 @@
 ghost use Rattle.std.specs.Prelude.{◌≡◌, IfOk};
 ghost use Rattle.js_store.specs.Origins.{stream_name};
 ghost use Rattle.js_call_streams.specs.Update.{Updates};
-ghost use Rattle.js_json_streams.specs.declared.stream.config.Config.{Config};
+ghost use Rattle.js_json_stream_bodies.specs.declared.stream.config.Config.{Config};
 ghost use Rattle.js_store.specs.Update.{changed_names, changed_store, changes_kind, create_or_update_row, CreatesOrUpdatesBucket, CreatesOrUpdatesStream, update_row, UpdatesBucket, UpdatesStream};
 
 use crate::config::{BucketConfig, stream_of};
@@ -19,8 +19,8 @@ use js_call_streams::{
     CreateOrUpdateStream, CreateStreamError, CreateStreamErrorKind, StreamHandle, UpdateStream,
     UpdateStreamError, create_or_update_stream, update_stream,
 };
-use js_json_streams::stream;
-use js_json_streams::stream::Info;
+use js_json_stream_bodies::stream;
+use js_json_stream_bodies::stream::Info;
 use std::alloc::Global;
 
 /// A bucket of keys that is being changed: its name, and what is known of its stream before the

@@ -7,9 +7,9 @@ use Rattle.js_ordered_table.specs.declared.setup.OrderedSetup.{OrderedSetup}
 use Rattle.js_ordered_table.specs.Texts.{configured_start}
 use Rattle.js_ordered_table.specs.Gapless as gapless
 use Rattle.js_ordered_table.specs.Gapless.{Logged, Server, entry_at, IsGapless, sequences, first_due}
-use Rattle.js_log.specs.Projection as projection
-use Rattle.js_log.specs.RunProjection.{as_entry}
-use Rattle.js_log.proofs.HonestLog.{gapless_rises}
+use Rattle.js_event_log.specs.Projection as projection
+use Rattle.js_event_log.specs.RunProjection.{as_entry}
+use Rattle.js_event_log.proofs.HonestLog.{gapless_rises}
 use Rattle.js_store_keys.specs.declared.entry.Entry.{Entry}
 use Rattle.js_store_table.specs.BucketLog.{RisesAbove, IsAmong, IsChange, IsBucketLog, TellYields, AreOvertaken, KeepsTable, HasLogsRows, last_from}
 use Rattle.js_store_table.specs.Rows.{KeyRows}

@@ -8,7 +8,7 @@ use Rattle.std.proofs.Math.Seq.{drop-length}
 use Rattle.std.proofs.lemmas.Cmp.{nat_list_cmp_total}
 use Rattle.std.proofs.lemmas.List.{drop-append-le, drop-drop, length-drop, length_push}
 use Rattle.std.proofs.lemmas.Map.Lookups.{exact_bytes}
-use Rattle.js_log.proofs.KeyInsertion as insertion
+use Rattle.js_event_log.proofs.KeyInsertion as insertion
 use Rattle.js_store_keys.specs.declared.entry.Entry.{Entry}
 use Rattle.js_store_keys.specs.declared.operation.Operation.{Operation}
 use Rattle.js_store_keys.specs.declared.operation.Operation.TheVariants.{Put, Delete, Purge}

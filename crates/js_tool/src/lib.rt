@@ -3,7 +3,7 @@
 //! and counts its outputs; `info` writes what an ack subject says; `window` lets threads share a
 //! publish window and writes their counts.
 //!
-//! Only [`command_of`] reads the words, for all commands, including those of js_tool_logs and of
+//! Only [`command_of`] reads the words, for all commands, including those of js_tool_event_log and of
 //! the program. [`run`] takes a command of this crate, a source and a sink, and returns a status
 //! with its cause. Each line is replayed as it is read, and the text of its step is built at once,
 //! so that memory holds only the rest of the input and the text so far. [`run_plain`] is the same

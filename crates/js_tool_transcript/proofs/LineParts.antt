@@ -5,7 +5,7 @@ use Rattle.json.specs.Print.{quoted, escape_byte}
 use Rattle.serde_json.specs.Data.{Data, Members}
 use Rattle.serde_json.specs.Written.{compact_text, items_text, members_text}
 use Rattle.js_base.specs.declared.message.Entry.{Entry}
-use Rattle.js_log.specs.Events.{reply}
+use Rattle.js_event_log.specs.Events.{reply}
 use Rattle.js_tool_transcript.specs.RelayConfigText.{filter_text, further_texts, filters_text}
 use Rattle.js_tool_transcript.specs.RelaySetupData.{texts, with_filter, with_filters, start_member, config_data, setup_data}
 use Rattle.js_tool_transcript.specs.RelayText.{arrival_data, value_line}

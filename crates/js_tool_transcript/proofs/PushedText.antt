@@ -4,7 +4,7 @@ use Rattle.json.specs.Print.{quoted}
 use Rattle.serde_json.specs.Data.{Data}
 use Rattle.serde_json.specs.Written.{compact_text}
 use Rattle.js_base.specs.declared.message.Entry.{Entry}
-use Rattle.js_log.specs.Events.{reply}
+use Rattle.js_event_log.specs.Events.{reply}
 use Rattle.js_tool_transcript.specs.RelayConfigText.{filter_text, further_texts, filters_text}
 use Rattle.js_tool_transcript.specs.RelaySetupData.{config_data, setup_data}
 use Rattle.js_tool_transcript.specs.RelayText.{arrival_data, value_line, value_lines, relay_text}

@@ -18,7 +18,7 @@ use Rattle.js_json_members.specs.Member.{◌>>=◌, required, optional, defaulte
 use Rattle.js_json_members.specs.Value.{value_of}
 use Rattle.js_json.specs.ConsumerConfig.{config_fields}
 use Rattle.js_json.specs.ConsumerInfo.{info_fields}
-use Rattle.js_log.specs.Events.{reply, arrival}
+use Rattle.js_event_log.specs.Events.{reply, arrival}
 use Rattle.js_tool_transcript.specs.Event.{event_of, event_line, event_fields, what_fields, with_key, arrival_fields}
 use Rattle.js_tool_transcript.specs.Members.{only, value_as, line_as}
 use Rattle.js_tool_transcript.specs.Message.{message_fields}

@@ -10,7 +10,7 @@ use Rattle.js_codes.specs.Name.{is_name}
 use Rattle.js_json.specs.declared.consumer.info.Info.{Info}
 use Rattle.js_json.specs.declared.pull.OrderedConfig.{OrderedConfig}
 use Rattle.js_tool_io.specs.Lines.{lines_of}
-use Rattle.js_log.specs.Mirror.{Mirrored, IsMirror}
+use Rattle.js_event_log.specs.Mirror.{Mirrored, IsMirror}
 use Rattle.js_ordered_table.specs.declared.consumer.ReplayInput.{ReplayInput}
 use Rattle.js_ordered_table.specs.declared.event.Event.{Event}
 use Rattle.js_ordered_table.specs.declared.run.Run.{Run}
@@ -22,10 +22,10 @@ use Rattle.js_ordered_table.specs.Fold.{opening, run_events}
 use Rattle.js_ordered_table.specs.Refusal.{first_of, bad_field, first_early, refuse_input, refuse_end, refuse}
 use Rattle.js_ordered_table.specs.Texts.{config_of, configured_start, filters as filters_of}
 use Rattle.js_ordered_table.specs.Replay.{IsReplay}
-use Rattle.js_log.specs.Events.{arrival, relayed, AllFit}
-use Rattle.js_log.specs.RelayReader.{IsReader, default_settings}
-use Rattle.js_log.proofs.RelayAnswers.{replays}
-use Rattle.js_log.proofs.MirrorServer.{stays_honest}
+use Rattle.js_event_log.specs.Events.{arrival, relayed, AllFit}
+use Rattle.js_event_log.specs.RelayReader.{IsReader, default_settings}
+use Rattle.js_event_log.proofs.RelayAnswers.{replays}
+use Rattle.js_event_log.proofs.MirrorServer.{stays_honest}
 use Rattle.js_tool_transcript.specs.declared.transcript.setup.Setup.{Setup}
 use Rattle.js_tool_transcript.specs.declared.transcript.Transcript.{Transcript}
 use Rattle.js_tool_transcript.specs.Event.{event_line}

@@ -3,7 +3,7 @@ use Rattle.std.specs.Prelude.{ℕ, ◌+◌, List, [], ◌∷◌, ◌++◌, codes
 use Rattle.serde_json.specs.Data.{Data, string, object, no_members, member}
 use Rattle.serde_json.specs.Written.{compact_text}
 use Rattle.js_base.specs.declared.message.Entry.{Entry}
-use Rattle.js_log.specs.Events.{reply}
+use Rattle.js_event_log.specs.Events.{reply}
 use Rattle.js_tool_transcript.specs.Text.{count}
 use Rattle.js_tool_transcript.specs.RelaySetupData.{config_data, setup_data}
 

@@ -6,7 +6,7 @@ use Rattle.js_base.specs.declared.message.Entry as base
 use Rattle.js_json.specs.declared.consumer.deliver_policy.DeliverPolicy.TheVariants as policy
 use Rattle.js_json.specs.declared.pull.OrderedConfig.{OrderedConfig}
 use Rattle.js_json.specs.PullConfig.{new_ordered_pull_config}
-use Rattle.js_log.specs.Mirror.{Mirrored}
+use Rattle.js_event_log.specs.Mirror.{Mirrored}
 use Rattle.js_ordered_table.specs.declared.consumer.ReplayInput.{ReplayInput}
 use Rattle.js_ordered_table.specs.declared.run.Run.{Run}
 use Rattle.js_ordered_table.specs.declared.event.Event.{Event}
@@ -15,9 +15,9 @@ use Rattle.js_ordered_table.specs.declared.setup.OrderedSetup.TheVariants.{Pull}
 use Rattle.js_ordered_table.specs.Gapless.{Server, IsHonest}
 use Rattle.js_ordered_table.specs.Texts.{filters}
 use Rattle.js_ordered_table.specs.Replay.{IsReplay}
-use Rattle.js_log.specs.Events.{relayed}
-use Rattle.js_log.specs.RelayReader.{HandsOut, default_settings}
-use Rattle.js_log.specs.LogCopy.{IsCopy, server_of}
+use Rattle.js_event_log.specs.Events.{relayed}
+use Rattle.js_event_log.specs.RelayReader.{HandsOut, default_settings}
+use Rattle.js_event_log.specs.LogCopy.{IsCopy, server_of}
 use Rattle.js_tool_transcript.specs.declared.transcript.setup.Setup.{Setup}
 use Rattle.js_tool_transcript.specs.declared.transcript.Transcript.{Transcript}
 use Rattle.js_tool_transcript.specs.TranscriptReplay.{Replays}

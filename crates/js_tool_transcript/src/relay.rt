@@ -6,7 +6,7 @@ ghost use Rattle.serde_json.specs.Data.{Data};
 ghost use Rattle.js_codes.specs.Name.{is_name};
 ghost use Rattle.serde_json.specs.Written.{compact_text};
 ghost use Rattle.js_ordered_table.specs.Texts.{config_of as config_in};
-ghost use Rattle.js_log.specs.Events as relayed;
+ghost use Rattle.js_event_log.specs.Events as relayed;
 ghost use Rattle.js_tool_transcript.specs.RelayText as texts;
 ghost use Rattle.js_tool_transcript.specs.RelaySetupData as setups;
 ghost use Rattle.js_tool_transcript.specs.RelayConfigText.{filter_text, filters_text, further_texts};
@@ -14,7 +14,7 @@ ghost use Rattle.js_tool_transcript.specs.RelayTranscript.{AreTexts, ReadsAs, Re
 
 use crate::text::{push_decimal, push_plain, push_quoted};
 use js_base::{Entry, Text};
-use js_log::{Mirror, ack_subject};
+use js_event_log::{Mirror, ack_subject};
 use js_ordered_table::OrderedSetup;
 use std::alloc::{AllocError, Global};
 

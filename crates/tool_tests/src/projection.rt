@@ -3,7 +3,7 @@
 use crate::tables::{same, says};
 use bytes::Bytes;
 use js_base::{Entry, OutOfMemory, Subject};
-use js_log::{ApplyError, Projection};
+use js_event_log::{ApplyError, Projection};
 use std::alloc::Global;
 use std::process::Abort;
 

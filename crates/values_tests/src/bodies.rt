@@ -8,7 +8,7 @@ use js_codes::is_valid_name;
 use js_json::account::{Account, Limits};
 use js_json::{PublishAck, Response, consumer, response_as};
 use js_json_members::{FromValue, ReadError, ToValue, value_of};
-use js_json_streams::{DeleteStatus, stream};
+use js_json_stream_bodies::{DeleteStatus, stream};
 use std::alloc::Global;
 
 /// What a text is read as.

@@ -9,7 +9,7 @@ use js_json::consumer::{
 use js_json::pull::BatchConfig;
 use js_json::{pull, push};
 use js_json_members::{FromValue, ReadError, ToValue, value_of};
-use js_json_streams::stream::{
+use js_json_stream_bodies::stream::{
     self, DiscardPolicy, ListRequest, NamesRequest, RetentionPolicy, StorageType,
 };
 use std::alloc::Global;

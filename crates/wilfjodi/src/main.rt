@@ -4,7 +4,7 @@
 use js_tool_explain::explain;
 use js_tool_follow::follow;
 use js_tool_io::{ReadSource, WriteSink};
-use js_tool_logs::{Command, Status, command_of, run};
+use js_tool_event_log::{Command, Status, command_of, run};
 use std::process::ExitCode;
 use std::{env, io};
 

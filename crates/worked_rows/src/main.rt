@@ -5,7 +5,7 @@
 
 use js_tool_explain::explain;
 use js_tool_io::{PlainSource, WriteSink};
-use js_tool_logs::{Status, run};
+use js_tool_event_log::{Status, run};
 use std::alloc::{AllocError, Global};
 use std::io::{BufRead, BufReader, Write};
 use std::sync::Wait;

@@ -2,7 +2,7 @@
 
 use crate::mirrors::draw::{entry, entry_with};
 use crate::tables::same;
-use js_log::{Mirror, MirrorError, Slot};
+use js_event_log::{Mirror, MirrorError, Slot};
 use std::alloc::{AllocError, Global};
 use std::test::Fail;
 

@@ -3,7 +3,7 @@ ghost use Rattle.std.specs.Prelude.{◌<◌};
 
 use bytes::Bytes;
 use js_base::{Entry, OutOfMemory, Subject, both};
-use js_log::{Mirror, MirrorError};
+use js_event_log::{Mirror, MirrorError};
 use rand_core::utils::NextWord;
 use rand_pcg::Pcg32;
 use std::alloc::Global;

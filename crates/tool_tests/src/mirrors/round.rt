@@ -5,7 +5,7 @@ use crate::mirrors::draw::mirror;
 use js_base::{Entry, OutOfMemory};
 use js_json::consumer::DeliverPolicy;
 use js_json::pull::OrderedConfig;
-use js_log::{Mirror, Slot, entry_of};
+use js_event_log::{Mirror, Slot, entry_of};
 use js_ordered::{Event, OrderedSetup, Output, ReplayError, Run, replay_ordered};
 use js_tool_generate::replay_input;
 use rand_pcg::Pcg32;

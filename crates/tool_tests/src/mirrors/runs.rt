@@ -4,7 +4,7 @@ use crate::mirrors::calls::fill;
 use crate::mirrors::round::replayed;
 use crate::tables::same;
 use js_base::OutOfMemory;
-use js_log::{Mirror, Projection, RunProjection, project, worked_tables};
+use js_event_log::{Mirror, Projection, RunProjection, project, worked_tables};
 use js_ordered::{Event, Run};
 use std::alloc::Global;
 use std::process::Abort;

@@ -4,8 +4,8 @@ use crate::mirrors::calls::fill;
 use crate::mirrors::round::reader_from;
 use crate::tables::same;
 use js_base::{Entry, Items};
-use js_log::Mirror;
-use js_log_sessions::{
+use js_event_log::Mirror;
+use js_event_log_sessions::{
     Line, Session, SessionEnd, SessionReplay, SessionRun, Sessions, SessionsError, run_sessions,
 };
 use js_ordered::{Event, OrderedSetup};

@@ -4,7 +4,7 @@ use crate::stores::bodies::{add, asked, requests};
 use crate::words::Words;
 use js_base::{Items, OutOfMemory, Text, both, replace_with};
 use js_context::Context;
-use js_json_streams::stream::{External, Placement, Republish, Source, StorageType};
+use js_json_stream_bodies::stream::{External, Placement, Republish, Source, StorageType};
 use js_store::{StoreCalls, kv};
 use std::alloc::Global;
 

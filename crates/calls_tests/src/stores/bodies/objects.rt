@@ -4,7 +4,7 @@ use crate::stores::bodies::{add, asked, requests};
 use crate::words::Words;
 use js_base::{OutOfMemory, Text};
 use js_context::Context;
-use js_json_streams::stream::StorageType;
+use js_json_stream_bodies::stream::StorageType;
 use js_store::{StoreCalls, object_store};
 use std::alloc::Global;
 

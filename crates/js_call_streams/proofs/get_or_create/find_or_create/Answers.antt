@@ -6,7 +6,7 @@ use Rattle.js_call.specs.declared.scope.ApiScope.{ApiScope}
 use Rattle.js_call.specs.declared.then.IfAbsent.{IfAbsent}
 use Rattle.js_call.specs.declared.then.Then.{Then}
 use Rattle.js_call.specs.declared.then.Then.TheVariants.{First}
-use Rattle.js_json_streams.specs.declared.stream.config.Config.{Config}
+use Rattle.js_json_stream_bodies.specs.declared.stream.config.Config.{Config}
 use Rattle.js_call_streams.specs.declared.create.CreatingStream.{CreatingStream}
 use Rattle.js_call_streams.specs.declared.get_or_create.FindingStream.{FindingStream}
 use Rattle.js_call_streams.specs.Create.{finding, FindsOrCreates, OrCreates}

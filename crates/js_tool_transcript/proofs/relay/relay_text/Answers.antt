@@ -1,5 +1,5 @@
 use Rattle.std.proofs.Common.{◌≡◌, ◌<◌, ◌^◌, ℕ, List, Ok, sym, ◌∙◌, subst, arith}
-use Rattle.js_log.specs.Events.{AllFit}
+use Rattle.js_event_log.specs.Events.{AllFit}
 use Rattle.js_ordered_table.specs.Texts.{config_of}
 use Rattle.js_tool_transcript.specs.Transcript.{transcript}
 use Rattle.js_tool_transcript.specs.RelaySetupData.{config_data, setup_data}

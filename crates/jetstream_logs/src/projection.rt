@@ -1,2 +1,0 @@
-//! A table of the last entry of each subject. An entry with an empty payload deletes its subject.
-pub use js_log::{ApplyError, Projection, RunProjection, entry_of, project};

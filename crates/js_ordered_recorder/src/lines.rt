@@ -1,0 +1,111 @@
+//! Recordings of the events' lines, as a transcript has them: all, or the last.
+ghost use Rattle.std.specs.Prelude.{◌≡◌, [], false, IfErr, IfOk, OnOk};
+ghost use Rattle.js_tool_transcript.specs.EventText.{event_text, is_recordable as is_recordable_in};
+ghost use Rattle.circular_buffer.specs.Buffer.{buffer};
+ghost use Rattle.js_ordered_recorder.specs.Lines.{AddsLine, KeepsLine, ReadsBack};
+
+use crate::recording::{Recording, RecordingFault};
+use circular_buffer::HeapCircularBuffer;
+use js_base::OutOfMemory;
+use js_ordered_table::Event;
+use js_tool_transcript::{is_recordable, push_event};
+use std::alloc::{AllocError, Global};
+
+// The line of an event, where it reads back as the event.
+fn line_of(alloc: Global, event: &Event) -> Result<Vec<u8>, RecordingFault>
+    ensures line { IfOk result (λ line. line.items ≡ event_text event.now) }
+    ensures reads { OnOk result (ReadsBack event.now) }
+    ensures refused { IfErr result (λ fault. fault ≡ RecordingFault.Failed → is_recordable_in event.now ≡ false) }
+{
+    if !is_recordable(event) {
+        return Err(RecordingFault::Failed);
+    }
+    let mut line = Vec::new(alloc);
+    match push_event(&mut line, event) {
+        Ok(()) => Ok(line),
+        Err(AllocError) => Err(RecordingFault::OutOfMemory),
+    }
+}
+
+/// A recording of the line of each event, from the first to the last.
+///
+/// An event whose line would not read back as the event is refused as `Failed`. So each line reads
+/// back. The first line of a transcript, which says the settings, is not part of it: write that
+/// yourself before the lines.
+///
+/// It grows with each event. To keep a bounded number of lines, use [`RecentLines`].
+#[derive(Drop)]
+pub struct LineRecording {
+    bytes: Vec<u8>,
+}
+
+impl LineRecording {
+    /// Creates a recording without lines.
+    pub fn new(alloc: Global) -> LineRecording
+        ensures { result.bytes.items ≡ [] }
+    {
+        LineRecording {
+            bytes: Vec::new(alloc),
+        }
+    }
+
+    /// Returns the lines that were written, in order, each with its line feed.
+    pub fn lines(&self) -> &[u8]
+        ensures { result.now ≡ self.now.bytes.items }
+    {
+        self.bytes.as_slice()
+    }
+}
+
+impl Recording for LineRecording {
+    ghost writes = { λ recording e written after. AddsLine recording.bytes.items e written after.bytes.items };
+
+    fn write(&mut self, alloc: Global, event: &Event) -> Result<(), RecordingFault> {
+        let line = line_of(alloc, event)?;
+        match self.bytes.extend_from_slice(&line) {
+            Ok(()) => Ok(()),
+            Err(AllocError) => Err(RecordingFault::OutOfMemory),
+        }
+    }
+}
+
+/// A recording of the lines of the last events. If it is full, the oldest line goes.
+///
+/// An event whose line would not read back as the event is refused as `Failed`. A replay needs the
+/// events from the first on, so use it to look at what came last.
+#[derive(Drop)]
+pub struct RecentLines {
+    lines: HeapCircularBuffer<Vec<u8>>,
+}
+
+impl RecentLines {
+    /// Creates a recording without lines that keeps at most `limit` lines.
+    ///
+    /// # Errors
+    ///
+    /// Fails with `OutOfMemory` if memory runs out.
+    pub fn new(alloc: Global, limit: usize) -> Result<RecentLines, OutOfMemory>
+        ensures { IfOk result (λ recent. recent.lines ≡ buffer [] limit) }
+    {
+        Ok(RecentLines {
+            lines: HeapCircularBuffer::with_capacity(alloc, limit)?,
+        })
+    }
+
+    /// Returns the lines that are kept, the oldest first, each with its line feed.
+    pub fn lines(&self) -> &HeapCircularBuffer<Vec<u8>>
+        ensures { result.now ≡ self.now.lines }
+    {
+        &self.lines
+    }
+}
+
+impl Recording for RecentLines {
+    ghost writes = { λ recent e written after. KeepsLine recent.lines e written after.lines };
+
+    fn write(&mut self, alloc: Global, event: &Event) -> Result<(), RecordingFault> {
+        let line = line_of(alloc, event)?;
+        drop(self.lines.push_back(line));
+        Ok(())
+    }
+}

@@ -1,0 +1,13 @@
+use Rattle.std.proofs.Common.{◌≡◌, ◌-◌, ◌++◌, length}
+use Rattle.std.specs.Vec.Iter.{into_iter_items, into_iter_len}
+use Rattle.js_event_log.specs.Mirror.{last_sequence}
+use Rattle.js_event_log.specs.RunProjection.{not_rising}
+use Rattle.js_tool_event_log.proofs.relay.mirror_of.Given as goal
+
+abbrev pub invariant-loop-entry : goal.invariant-loop-entry
+invariant-loop-entry l = record {
+  start : l.mirror.start ≡ l.start;
+  filled : l.mirror.entries ++ into_iter_items l.entry-iterator ≡ into_iter_items l.initial.entry-iterator;
+  rises : not_rising (l.start - 1) (into_iter_items l.initial.entry-iterator) ≡ not_rising (last_sequence l.mirror) (into_iter_items l.entry-iterator);
+  count : into_iter_len l.entry-iterator ≡ length (into_iter_items l.entry-iterator);
+}
