@@ -1,30 +1,27 @@
-//! The subjects of requests to the JetStream API that speak of a consumer, without the prefix.
+//! The subjects of JetStream API requests on a consumer, without the API prefix.
 //!
-//! A request stands on `CONSUMER.INFO`, `CONSUMER.DELETE`, `CONSUMER.MSG.NEXT` or `CONSUMER.CREATE`, and then the names of the
-//! stream and the consumer. The create request names what the consumer reads too, where it reads one subject alone, so that a
-//! server can permit it by the subject (the NATS docs list the subjects under "JetStream API reference").
+//! A subject begins with the words of a call: `CONSUMER.INFO`, `CONSUMER.DELETE`,
+//! `CONSUMER.MSG.NEXT` or `CONSUMER.CREATE`. The names of the stream and the consumer follow. If
+//! the consumer reads one subject only, the create request also names that subject, so that a
+//! server can permit the request by its subject. The NATS docs list these subjects under "JetStream
+//! API reference".
 
 ghost use Rattle.std.specs.Prelude.{◌≡◌, IfOk, string_bytes};
 ghost use Rattle.js_base.specs.ApiSubject.{under, consumer_api_subject, named_subject};
 
 use std::alloc::{AllocError, Global};
 
-/// Words and one more, after a dot.
-///
-/// # Errors
-///
-/// Want of memory.
+/// Returns `words`, a dot and `word`.
+/// Fails with `AllocError` if memory runs out.
 pub fn with_word(alloc: Global, words: &str, word: &str) -> Result<String, AllocError>
     ensures { IfOk result (λ text. string_bytes text ≡ under words.now word.now) }
 {
     format!(in alloc; "{words}.{word}")
 }
 
-/// The subject of a request on a consumer of a stream by the words of a call, as `CONSUMER.INFO`.
-///
-/// # Errors
-///
-/// Want of memory.
+/// Returns the subject of a request on a consumer of a stream.
+/// `words` are those of the call, such as `CONSUMER.INFO`. Fails with `AllocError` if memory runs
+/// out.
 pub fn consumer_api_subject(
     alloc: Global,
     words: &str,
@@ -37,12 +34,10 @@ pub fn consumer_api_subject(
     with_word(alloc, on_stream.as_str(), consumer)
 }
 
-/// The subject of a request that names a consumer, after the words, and then the one subject that the consumer reads. The filter is
-/// empty where it reads all subjects, or several.
-///
-/// # Errors
-///
-/// Want of memory.
+/// Returns the subject of a request that names a consumer and the one subject that it reads.
+/// `words` come first, then `name`, then `filter`. Pass an empty `filter` if the consumer reads all
+/// subjects or several; the subject then ends with `name`. Fails with `AllocError` if memory runs
+/// out.
 pub fn named_subject(
     alloc: Global,
     words: &str,

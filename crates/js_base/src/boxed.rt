@@ -1,4 +1,4 @@
-//! Values on the heap, which contracts see as the values.
+//! Values on the heap.
 
 ghost use Rattle.std.specs.Prelude.{◌≡◌, IfOk};
 
@@ -6,7 +6,8 @@ use crate::memory::{OutOfMemory, TryClone};
 use std::alloc::Global;
 use std::marker::Model;
 
-/// A value on the heap, which contracts see as the value.
+/// A value on the heap.
+/// Contracts see the value itself.
 #[derive(Debug, Drop)]
 pub struct Boxed<T> {
     inner: Box<T>,
@@ -19,7 +20,7 @@ impl<T> Model for Boxed<T> {
 }
 
 impl<T> Boxed<T> {
-    /// Takes the value off the heap.
+    /// Moves the value off the heap and returns it.
     pub fn into_inner(self) -> T
         ensures { result ≡ self }
     {
@@ -27,7 +28,7 @@ impl<T> Boxed<T> {
         Box::into_inner(inner)
     }
 
-    /// The value.
+    /// Returns a reference to the value.
     pub fn get(&self) -> &T
         ensures { result.now ≡ self.now }
     {
@@ -36,7 +37,8 @@ impl<T> Boxed<T> {
 }
 
 impl<T: Drop> Boxed<T> {
-    /// Moves the value to the heap. A refusal drops it.
+    /// Moves a value to the heap.
+    /// Fails with `OutOfMemory` if memory runs out: it then drops the value.
     pub fn new(alloc: Global, value: T) -> Result<Boxed<T>, OutOfMemory>
         ensures { IfOk result (λ boxed. boxed ≡ value) }
     {

@@ -3,14 +3,14 @@
 ghost use Rattle.std.specs.Prelude.{◌≡◌, ◌<◌, ◌^◌, ◌||◌, ℕ};
 ghost use Rattle.js_base.specs.Clock.{has_come, is_any_due, is_due, is_over};
 
-/// A length of time in whole nanoseconds.
+/// A length of time, in whole nanoseconds.
 pub type Nanos = u64;
 
-/// A moment: whole nanoseconds from a beginning that the caller chooses.
+/// A moment, in whole nanoseconds since an origin that you choose.
 pub type Moment = u64;
 
-/// Whether a wait of `wait` nanoseconds that was set at `set` is over at `now`. A wait that would end past `u64::MAX` is
-/// never over.
+/// Returns whether a wait of `wait` nanoseconds that began at `set` is over at `now`.
+/// A wait that would end after `u64::MAX` is never over.
 pub fn due(now: Moment, set: Moment, wait: Nanos) -> bool
     ensures { result ≡ is_over set wait now }
 {
@@ -20,14 +20,16 @@ pub fn due(now: Moment, set: Moment, wait: Nanos) -> bool
     }
 }
 
-/// The moment from which on a wait of `wait` nanoseconds that was set at `set` is over. None where that is past `u64::MAX`.
+/// Returns the first moment at which a wait that began at `set` is over.
+/// The wait lasts `wait` nanoseconds. Returns `None` if it would end after `u64::MAX`.
 pub fn end_of(set: Moment, wait: Nanos) -> Option<Moment>
     ensures { (now : ℕ) → now < 2 ^ 64 → has_come result now ≡ is_over set wait now }
 {
     set.checked_add(wait)
 }
 
-/// The earlier of two moments, where there are any.
+/// Returns the earlier of two moments.
+/// If only one is given, returns that one. Returns `None` if neither is given.
 pub fn earlier(first: Option<Moment>, second: Option<Moment>) -> Option<Moment>
     ensures { (now : ℕ) → has_come result now ≡ (has_come first now || has_come second now) }
 {
@@ -40,24 +42,26 @@ pub fn earlier(first: Option<Moment>, second: Option<Moment>) -> Option<Moment>
     }
 }
 
-/// A wait that began at a moment.
+/// A wait that began at a known moment.
 #[derive(Clone, Copy, Debug, PartialEq, Eq)]
 pub struct Timer {
-    /// When the wait began.
+    /// The moment at which the wait began.
     pub set: Moment,
-    /// How long it lasts. One that would end past `u64::MAX` is never over.
+    /// The length of the wait, in nanoseconds.
+    /// A wait that would end after `u64::MAX` is never over.
     pub wait: Nanos,
 }
 
 impl Timer {
-    /// Whether the wait is over at `now`.
+    /// Returns whether the wait is over at `now`.
     pub fn is_due(&self, now: Moment) -> bool
         ensures { result ≡ is_due self.now now }
     {
         due(now, self.set, self.wait)
     }
 
-    /// The moment from which on the wait is over. None where that is past `u64::MAX`.
+    /// Returns the first moment at which the wait is over.
+    /// Returns `None` if the wait would end after `u64::MAX`.
     pub fn ends_at(&self) -> Option<Moment>
         ensures { (now : ℕ) → now < 2 ^ 64 → has_come result now ≡ is_due self.now now }
     {
@@ -65,7 +69,7 @@ impl Timer {
     }
 }
 
-/// Whether there is a wait, and it is over at `now`.
+/// Returns whether a wait is set and is over at `now`.
 pub fn is_any_due(timer: &Option<Timer>, now: Moment) -> bool
     ensures { result ≡ is_any_due timer.now now }
 {
@@ -75,7 +79,8 @@ pub fn is_any_due(timer: &Option<Timer>, now: Moment) -> bool
     }
 }
 
-/// The moment from which on a wait is over, where one is set and it ends before a `u64` of nanoseconds does.
+/// Returns the first moment at which the wait is over.
+/// Returns `None` if no wait is set or if it would end after `u64::MAX`.
 pub fn any_ends_at(timer: &Option<Timer>) -> Option<Moment>
     ensures { (now : ℕ) → now < 2 ^ 64 → has_come result now ≡ is_any_due timer.now now }
 {

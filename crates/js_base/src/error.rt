@@ -1,4 +1,4 @@
-//! Errors of calls: a kind, and where it comes from.
+//! Errors of calls, each with a kind and an optional source.
 
 ghost use Rattle.std.specs.Prelude.{◌≡◌, Some, option_map};
 ghost use Rattle.std.specs.Option.{option_copied};
@@ -7,24 +7,24 @@ ghost use Rattle.js_base.specs.Error.{plain, caused, kind_of, source_of, sent_by
 use crate::text::Text;
 use std::{error, fmt};
 
-/// Where an error comes from.
+/// The source of an error.
 #[derive(Debug, PartialEq, Eq, Drop)]
 pub enum Source {
-    /// Something that is told by its text alone.
+    /// A source that is described by a text only.
     Text(Text),
-    /// A refusal by the server's API.
+    /// An error that the server's API sent.
     Api {
-        /// The kind of refusal, in the numbers of HTTP.
+        /// The kind of error, as an HTTP status code.
         code: u64,
-        /// Which error it is; 0 where the server gave no number.
+        /// The number of the error in the server's table of errors, or 0 if the server sent none.
         err_code: u64,
-        /// What the server says of it.
+        /// The server's description of the error, if it sent one.
         description: Option<Text>,
     },
 }
 
 impl Source {
-    // The server's error, where it is the source.
+    // Returns the server's error if it is the source.
     fn api_error(&self) -> Option<ApiError<'_>>
         ensures { option_map parts_of result ≡ sent_by_api (Some self.now) }
     {
@@ -67,14 +67,16 @@ impl fmt::Display for Source {
 
 /// An error that the server's API sent.
 ///
-/// It prints its description, or `unknown` where it has none, and its numbers: `stream not found (code 404, error code 10059)`.
+/// It prints its description and its numbers:
+/// `stream not found (code 404, error code 10059)`.
+/// If it has no description, it prints `unknown` in its place.
 #[derive(Clone, Copy, Debug, PartialEq, Eq)]
 pub struct ApiError<'a> {
-    /// The kind of refusal, in the numbers of HTTP.
+    /// The kind of error, as an HTTP status code.
     pub code: u64,
-    /// Which error it is, by the server's table of errors; 0 where it gave no number.
+    /// The number of the error in the server's table of errors, or 0 if the server sent none.
     pub err_code: u64,
-    /// What the server says of it.
+    /// The server's description of the error, if it sent one.
     pub description: Option<&'a Text>,
 }
 
@@ -91,7 +93,7 @@ impl fmt::Display for ApiError<'_> {
 
 impl error::Error for ApiError<'_> {}
 
-// The description, where there is one.
+// Returns the description, or `unknown` if there is none.
 fn or_unknown(description: Option<&Text>) -> &str
     ensures { result.now ≡ described (option_copied description.entry) }
 {
@@ -101,9 +103,9 @@ fn or_unknown(description: Option<&Text>) -> &str
     }
 }
 
-/// An error of a call: its kind, and where it comes from where that is known.
+/// An error of a call: its kind, and its source if that is known.
 ///
-/// It prints its kind, then `: ` and its source where there is one.
+/// It prints its kind. If it has a source, `: ` and the source follow.
 #[derive(Debug, PartialEq, Eq, Drop)]
 pub struct Error<K> {
     kind: K,
@@ -111,14 +113,14 @@ pub struct Error<K> {
 }
 
 impl<K> Error<K> {
-    /// An error that has no source.
+    /// Returns an error without a source.
     pub fn new(kind: K) -> Error<K>
         ensures { result ≡ plain kind }
     {
         Error { kind, source: None }
     }
 
-    /// An error with its source.
+    /// Returns an error with a source.
     pub fn with_source(kind: K, source: Source) -> Error<K>
         ensures { result ≡ caused kind source }
     {
@@ -128,14 +130,14 @@ impl<K> Error<K> {
         }
     }
 
-    /// What went wrong.
+    /// Returns the kind of the error.
     pub fn kind(&self) -> &K
         ensures { result.now ≡ kind_of self.now }
     {
         &self.kind
     }
 
-    /// Where it comes from.
+    /// Returns the source of the error, or `None` if it has none.
     pub fn source(&self) -> Option<&Source>
         ensures { option_copied result ≡ source_of self.now }
     {
@@ -144,7 +146,8 @@ impl<K> Error<K> {
 }
 
 impl<K> Error<K> {
-    /// The server's error, where one was sent; none where the error has no source, or has a text alone.
+    /// Returns the error that the server's API sent.
+    /// Returns `None` if the error has no source or its source is a text.
     pub fn api_error(&self) -> Option<ApiError<'_>>
         ensures { option_map parts_of result ≡ sent_by_api (source_of self.now) }
     {

@@ -13,19 +13,20 @@ use crate::text::Text;
 use std::alloc::Global;
 use std::marker::Model;
 
-/// A name with one of its values.
+/// A header: a name and one value.
 #[derive(Debug, PartialEq, Eq, Drop)]
 pub struct Header {
-    /// Its name, which compares byte for byte.
+    /// The name, which is compared byte for byte.
     pub name: Text,
-    /// Its value.
+    /// The value of the header.
     pub value: Text,
 }
 
 impl Header {
     ghost use Rattle.js_base.specs.Headers.{line_len};
 
-    // A copy of a name and of its value.
+    // Returns a header with copies of the name and the value.
+    // Fails with `OutOfMemory` if memory runs out.
     fn new(alloc: Global, name: &str, value: &str) -> Result<Header, OutOfMemory>
         ensures { IfOk result (λ header. header ≡ record { name = name.now; value = value.now }) }
     {
@@ -35,7 +36,7 @@ impl Header {
         })
     }
 
-    // The bytes of one line, up to the type's end.
+    // Returns the length of the header's line in bytes, at most `u64::MAX`.
     fn wire_len(&self) -> u64
         ensures { result ≡ min (line_len self.now) (2 ^ 64 - 1) }
     {
@@ -44,7 +45,7 @@ impl Header {
         name.saturating_add(value).saturating_add(4)
     }
 
-    // Whether it arrives as the one header that it is.
+    // Returns whether the header arrives as the one header that it is.
     fn is_sendable(&self) -> bool
         ensures { result ≡ is_sendable_header self.now }
     {
@@ -86,8 +87,9 @@ impl TryClone for Header {
     }
 }
 
-/// The headers of a message, in the order in which they were added. A name may come more than once; names compare byte
-/// for byte. Contracts see the list of headers.
+/// The headers of a message, in the order in which they were added.
+/// A name may occur more than once. Names are compared byte for byte. Contracts see the list of
+/// headers.
 #[derive(Debug, Drop)]
 pub struct HeaderMap {
     headers: Items<Header>,
@@ -103,7 +105,8 @@ impl Model for HeaderMap {
 }
 
 impl HeaderMap {
-    /// No headers, which takes no memory.
+    /// Returns an empty list of headers.
+    /// It allocates nothing.
     pub fn new(alloc: Global) -> HeaderMap
         ensures { result ≡ [] }
     {
@@ -112,8 +115,8 @@ impl HeaderMap {
         }
     }
 
-    /// Sets the one value of a name: all others of that name go, and it stands after all that stay. After a refusal the
-    /// headers are what they were.
+    /// Replaces all values of a name with one value, which it adds at the end.
+    /// Fails with `OutOfMemory` if memory runs out: the headers are then as they were.
     pub fn insert(&mut self, alloc: Global, name: &str, value: &str) -> Result<(), OutOfMemory>
         ensures ok { OnOk result (self.new ≡ with_only name.now value.now self.old) }
         ensures err { OnErr result (self.new ≡ self.old) }
@@ -123,7 +126,8 @@ impl HeaderMap {
             .keep_and_push(|other| name != other.name.as_str(), header)
     }
 
-    /// Adds a value of a name after all others. After a refusal the headers are what they were.
+    /// Adds a value of a name at the end, and keeps the name's other values.
+    /// Fails with `OutOfMemory` if memory runs out: the headers are then as they were.
     pub fn append(&mut self, alloc: Global, name: &str, value: &str) -> Result<(), OutOfMemory>
         ensures ok { OnOk result (self.new ≡ self.old ++ record { name = name.now; value = value.now } ∷ []) }
         ensures err { OnErr result (self.new ≡ self.old) }
@@ -131,21 +135,21 @@ impl HeaderMap {
         self.headers.push(Header::new(alloc, name, value)?)
     }
 
-    /// The first value of a name.
+    /// Returns the first value of a name, or `None` if the name does not occur.
     pub fn get(&self, name: &str) -> Option<&str>
         ensures { option_copied result ≡ first_value name.now self.now }
     {
         first_named(self.headers.as_slice(), name)
     }
 
-    /// The last value of a name.
+    /// Returns the last value of a name, or `None` if the name does not occur.
     pub fn get_last(&self, name: &str) -> Option<&str>
         ensures { option_copied result ≡ last_value name.now self.now }
     {
         last_named(self.headers.as_slice(), name)
     }
 
-    /// The names and values in order.
+    /// Returns an iterator over the names and values, in order.
     pub fn iter(&self) -> HeaderIter<'_>
         ensures { result ≡ self.now }
     {
@@ -154,8 +158,9 @@ impl HeaderMap {
         }
     }
 
-    /// How many bytes the headers take on the wire: none where there are none, and else 12 and, for each header, both
-    /// lengths and 4. The sum stops at `u64::MAX`.
+    /// Returns the length of the headers on the wire, in bytes.
+    /// It is 0 if there are no headers. Otherwise it is 12 plus, for each header, the lengths of
+    /// its name and its value plus 4. The sum stops at `u64::MAX`.
     pub fn wire_len(&self) -> u64
         ensures { result ≡ wire_len self.now }
     {
@@ -169,9 +174,11 @@ impl HeaderMap {
         len
     }
 
-    /// Whether each header arrives as the one that it is: no carriage return, line feed or NUL stands in a value, and none of
-    /// those, no colon and no space in a name. Whoever writes headers to a connection refuses those that are not: the rest of
-    /// such a name or value would be read as headers, or as commands, of its own. An empty name passes, since it breaks no line.
+    /// Returns whether each header arrives as the one header that it is.
+    /// A value must have no carriage return, line feed or NUL. A name must have none of these, no
+    /// colon and no space. Do not write other headers to a connection: the server would read the
+    /// rest of such a name or value as further headers or commands. An empty name passes, because
+    /// it breaks no line.
     pub fn is_sendable(&self) -> bool
         ensures { result ≡ is_sendable self.now }
     {
@@ -198,7 +205,8 @@ fn last_named<'a>(headers: &'a [Header], name: &str) -> Option<&'a str>
     Some(header.value.as_str())
 }
 
-/// The names and values of headers, in order. Contracts see the headers that are left.
+/// An iterator over the names and values of headers, in order.
+/// Contracts see the headers that are left.
 #[derive(Drop)]
 pub struct HeaderIter<'a> {
     rest: &'a [Header],

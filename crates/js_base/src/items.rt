@@ -1,4 +1,4 @@
-//! Items in order, whose growth may end in want of memory.
+//! Lists, whose growth fails with an error if memory runs out.
 
 ghost use Rattle.std.specs.Prelude.{◌≡◌, List, [], ◌∷◌, ◌++◌, length, IfOk, OnOk, OnErr, ◌<◌, ◌==◌};
 ghost use Rattle.std.specs.List.Retain.{IsFiltered};
@@ -9,7 +9,8 @@ use crate::memory::{OutOfMemory, TryClone};
 use std::alloc::Global;
 use std::marker::Model;
 
-/// Items in order, which contracts see as their list.
+/// Items in order.
+/// Contracts see the list of the items.
 #[derive(Debug, Drop)]
 pub struct Items<T> {
     items: Vec<T>,
@@ -24,7 +25,8 @@ impl<T> Model for Items<T> {
 }
 
 impl<T> Items<T> {
-    /// No items, which takes no memory.
+    /// Returns an empty list.
+    /// It allocates nothing.
     pub fn new(alloc: Global) -> Items<T>
         ensures { result ≡ [] }
     {
@@ -33,7 +35,7 @@ impl<T> Items<T> {
         }
     }
 
-    /// The items as a plain `Vec`, with no copy.
+    /// Returns the items as a plain `Vec`, without a copy.
     pub fn into_vec(self) -> Vec<T>
         ensures { result.items ≡ self }
     {
@@ -41,14 +43,14 @@ impl<T> Items<T> {
         items
     }
 
-    /// The items in order.
+    /// Returns the items in order, as a slice.
     pub fn as_slice(&self) -> &[T]
         ensures { result.now ≡ self.now }
     {
         self.items.as_slice()
     }
 
-    /// Whether there is no item.
+    /// Returns whether there are no items.
     pub fn is_empty(&self) -> bool
         ensures { result ≡ (length self.now == 0) }
     {
@@ -57,7 +59,9 @@ impl<T> Items<T> {
 }
 
 impl<T: Drop> Items<T> {
-    /// Adds an item after all others. After a refusal, which drops it, the items are what they were.
+    /// Adds an item at the end.
+    /// Fails with `OutOfMemory` if memory runs out: it then drops the item and leaves the list as
+    /// it was.
     pub fn push(&mut self, item: T) -> Result<(), OutOfMemory>
         ensures ok { OnOk result (self.new ≡ self.old ++ item ∷ []) }
         ensures err { OnErr result (self.new ≡ self.old) }
@@ -68,8 +72,9 @@ impl<T: Drop> Items<T> {
 }
 
 impl<T: Drop> Items<T> {
-    /// Keeps the items that pass a test, and adds an item after them. After a refusal, which drops that item, the items are
-    /// what they were.
+    /// Removes the items for which `keep` returns false, then adds an item at the end.
+    /// Fails with `OutOfMemory` if memory runs out: it then drops the new item and leaves the list
+    /// as it was.
     pub fn keep_and_push<F: FnMut(&T) -> bool>(
         &mut self,
         keep: F,

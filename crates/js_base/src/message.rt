@@ -1,4 +1,4 @@
-//! Messages as the link delivers them, their statuses, and the entries of a log.
+//! Messages as the link delivers them, their status codes, and the entries of a log.
 
 ghost use Rattle.std.specs.Prelude.{Some};
 ghost use Rattle.js_base.specs.Message.{state_text, three_digits};
@@ -11,14 +11,15 @@ use crate::text::Text;
 use bytes::Bytes;
 use std::fmt;
 
-/// Where the connection stands. It prints its name in small letters.
+/// The state of the connection.
+/// It prints as its name in lower case.
 #[derive(Clone, Copy, Debug, PartialEq, Eq)]
 pub enum State {
-    /// It was never there so far.
+    /// The connection has not been established yet.
     Pending,
-    /// It is there.
+    /// The connection is established.
     Connected,
-    /// It is lost, and may come back.
+    /// The connection is lost, and may come back.
     Disconnected,
 }
 
@@ -34,31 +35,31 @@ impl fmt::Display for State {
     }
 }
 
-/// The status of a message that the server sends in place of a stream's message. Any `u16` may stand here. It prints three
-/// digits at least.
+/// The status code of a message that the server sends in place of a stream's message.
+/// It may be any `u16`. It prints with at least three digits.
 #[derive(Clone, Copy, Debug, PartialEq, Eq)]
 pub struct StatusCode(pub u16);
 
 impl StatusCode {
-    /// The server is there, and has nothing to send.
+    /// The server is alive, and has nothing to send.
     pub const IDLE_HEARTBEAT: StatusCode = StatusCode(100);
 
-    /// What was asked for is done.
+    /// The request succeeded.
     pub const OK: StatusCode = StatusCode(200);
 
-    /// There is no message that fits.
+    /// No message matches the request.
     pub const NOT_FOUND: StatusCode = StatusCode(404);
 
-    /// A pull request ran into its time limit.
+    /// A pull request reached its time limit.
     pub const TIMEOUT: StatusCode = StatusCode(408);
 
-    /// A pull request ended before all that it asked for had come.
+    /// A pull request ended before everything that it asked for had arrived.
     pub const REQUEST_TERMINATED: StatusCode = StatusCode(409);
 
     /// Another client of the group is pinned.
     pub const PIN_ID_MISMATCH: StatusCode = StatusCode(423);
 
-    /// Nobody listens to the subject of a request.
+    /// Nobody listens on the subject of the request.
     pub const NO_RESPONDERS: StatusCode = StatusCode(503);
 }
 
@@ -80,17 +81,18 @@ impl fmt::Display for StatusCode {
 /// A message as the link delivers it.
 #[derive(Debug, PartialEq, Eq, Drop)]
 pub struct Message {
-    /// What it was sent under.
+    /// The subject that the message was published on.
     pub subject: Subject,
-    /// Where an answer goes. For a stream's message this is its acknowledgement subject.
+    /// The subject that a reply goes to.
+    /// For a stream's message this is its acknowledgement subject.
     pub reply: Option<Subject>,
-    /// The bytes that it carries.
+    /// The payload of the message.
     pub payload: Bytes,
-    /// Its headers, where it has any.
+    /// The headers of the message, if it has any.
     pub headers: Option<HeaderMap>,
-    /// There only where the server speaks for itself.
+    /// The status code, which only a message from the server itself has.
     pub status: Option<StatusCode>,
-    /// What the server says of the status.
+    /// The server's description of the status, if it sent one.
     pub description: Option<Text>,
     /// The size that counts against a byte limit, in bytes.
     pub length: u64,
@@ -117,14 +119,14 @@ impl TryClone for Message {
     }
 }
 
-/// An entry of a log: a message of a stream by its sequence.
+/// An entry of a log: a message of a stream with its sequence number.
 #[derive(Debug, PartialEq, Eq, Drop)]
 pub struct Entry {
-    /// What it was sent under.
+    /// The subject that the message was published on.
     pub subject: Subject,
-    /// Its place in the stream: the first is 1, and later ones are greater.
+    /// The sequence number in the stream: the first is 1, and later ones are greater.
     pub sequence: u64,
-    /// The bytes that it carries.
+    /// The payload of the message.
     pub payload: Bytes,
 }
 

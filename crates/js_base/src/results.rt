@@ -1,11 +1,12 @@
-//! Several results at once: all values, or the first error. Where they are handed on with one `?`, nothing is held there.
+//! Functions that turn several results into one: all values, or the first error.
+//! Pass the error on with a single `?`: none of the values is held at that `?`.
 
 ghost use Rattle.std.specs.Prelude.{◌≡◌, IfOk, Ok};
 ghost use Rattle.js_base.specs.Results.{both as both_of, all_3 as all_3_of, all_4 as all_4_of, all_5 as all_5_of, all_6 as all_6_of, all_7 as all_7_of};
 
 use crate::memory::{OutOfMemory, TryClone};
 
-/// Both values, or the first error.
+/// Returns both values, or fails with the first error.
 pub fn both<A: Drop, B: Drop, E: Drop>(a: Result<A, E>, b: Result<B, E>) -> Result<(A, B), E>
     ensures values { IfOk result (λ both. (a ≡ Ok both.0) × (b ≡ Ok both.1)) }
     ensures first { result ≡ both_of a b }
@@ -13,7 +14,7 @@ pub fn both<A: Drop, B: Drop, E: Drop>(a: Result<A, E>, b: Result<B, E>) -> Resu
     Ok((a?, b?))
 }
 
-/// All three values, or the first error.
+/// Returns all three values, or fails with the first error.
 pub fn all_3<A: Drop, B: Drop, C: Drop, E: Drop>(
     a: Result<A, E>,
     b: Result<B, E>,
@@ -26,7 +27,7 @@ pub fn all_3<A: Drop, B: Drop, C: Drop, E: Drop>(
     Ok((a, b, c))
 }
 
-/// All four values, or the first error.
+/// Returns all four values, or fails with the first error.
 pub fn all_4<A: Drop, B: Drop, C: Drop, D: Drop, E: Drop>(
     a: Result<A, E>,
     b: Result<B, E>,
@@ -40,7 +41,7 @@ pub fn all_4<A: Drop, B: Drop, C: Drop, D: Drop, E: Drop>(
     Ok((a, b, c, d))
 }
 
-/// All five values, or the first error.
+/// Returns all five values, or fails with the first error.
 pub fn all_5<A: Drop, B: Drop, C: Drop, D: Drop, F: Drop, E: Drop>(
     a: Result<A, E>,
     b: Result<B, E>,
@@ -55,7 +56,7 @@ pub fn all_5<A: Drop, B: Drop, C: Drop, D: Drop, F: Drop, E: Drop>(
     Ok((a, b, c, d, f))
 }
 
-/// All six values, or the first error.
+/// Returns all six values, or fails with the first error.
 pub fn all_6<A: Drop, B: Drop, C: Drop, D: Drop, F: Drop, G: Drop, E: Drop>(
     a: Result<A, E>,
     b: Result<B, E>,
@@ -71,7 +72,7 @@ pub fn all_6<A: Drop, B: Drop, C: Drop, D: Drop, F: Drop, G: Drop, E: Drop>(
     Ok((a, b, c, d, f, g))
 }
 
-/// All seven values, or the first error.
+/// Returns all seven values, or fails with the first error.
 pub fn all_7<A: Drop, B: Drop, C: Drop, D: Drop, F: Drop, G: Drop, H: Drop, E: Drop>(
     a: Result<A, E>,
     b: Result<B, E>,
@@ -88,7 +89,8 @@ pub fn all_7<A: Drop, B: Drop, C: Drop, D: Drop, F: Drop, G: Drop, H: Drop, E: D
     Ok((a, b, c, d, f, g, h))
 }
 
-/// A copy of each of three values. The one refusal is want of memory.
+/// Returns a copy of each of three values.
+/// Fails with `OutOfMemory` if memory runs out.
 pub fn each_copied<A: TryClone, B: TryClone, C: TryClone>(
     a: &A,
     b: &B,

@@ -14,7 +14,8 @@ use std::alloc::Global;
 use std::fmt;
 use std::marker::Model;
 
-/// The name that a message is sent under: tokens joined by dots. Contracts see its text.
+/// The subject that a message is published on: tokens joined by dots.
+/// Contracts see its text.
 #[derive(Debug, Drop)]
 pub struct Subject {
     text: String,
@@ -29,7 +30,9 @@ impl Model for Subject {
 }
 
 impl Subject {
-    /// A copy of the text, whatever it holds: `is_valid_subject` tells whether it may be sent. The one refusal is want of memory.
+    /// Returns a subject with a copy of the text, and does not check the text.
+    /// `is_valid_subject` tells whether you may send it. Fails with `OutOfMemory` if memory runs
+    /// out.
     pub fn new(alloc: Global, text: &str) -> Result<Subject, OutOfMemory>
         ensures { IfOk result (λ subject. subject ≡ text.now) }
     {
@@ -38,7 +41,7 @@ impl Subject {
         })
     }
 
-    /// Its text.
+    /// Returns the text of the subject.
     pub fn as_str(&self) -> &str
         ensures { result.now ≡ self.now }
     {
@@ -92,7 +95,8 @@ fn has_no_space(text: &[u8]) -> bool
     text.iter().all(|byte| !byte.is_ascii_whitespace())
 }
 
-/// Whether a text may be a subject: it is not empty, has no ASCII white space, and neither begins nor ends with a dot.
+/// Returns whether a text is a valid subject.
+/// A valid subject is not empty, has no ASCII white space, and neither begins nor ends with a dot.
 pub fn is_valid_subject(subject: &str) -> bool
     ensures { result ≡ is_valid_subject subject.now }
 {
@@ -116,8 +120,9 @@ fn is_full_wildcard(filter: &str) -> bool
     filter == ">"
 }
 
-/// Whether a filter matches a subject. Both are cut at every dot and compared token by token: a `*` of the filter stands
-/// for one token, a last `>` for one or more, and every other token for itself.
+/// Returns whether a filter matches a subject.
+/// Both are cut at every dot and compared token by token. In the filter, `*` matches any one token,
+/// and `>` as the last token matches one or more tokens. Every other token matches only itself.
 pub fn subject_matches(filter: &str, subject: &str) -> bool
     ensures { result ≡ subject_matches filter.now subject.now }
 {

@@ -1,4 +1,4 @@
-//! The tokens of a subject, which stand between its dots.
+//! The tokens of a subject, which its dots separate.
 
 ghost use Rattle.std.specs.Prelude.{◌≡◌, ◌<◌, ◌∷◌, ◌==◌, length, [], MatchOption};
 ghost use Rattle.std.specs.Option.{option_copied};
@@ -6,7 +6,8 @@ ghost use Rattle.js_base.specs.Subject.{tokens, tokens_left};
 
 use std::marker::Model;
 
-/// The tokens of a text, which is cut at every dot, one by one. Contracts see the list of those that are left.
+/// The tokens of a text that are still to be read.
+/// A text is cut at every dot. Contracts see the list of the tokens that are left.
 #[derive(Drop)]
 pub struct Tokens<'a> {
     rest: Option<&'a str>,
@@ -23,21 +24,21 @@ impl<'a> Model for Tokens<'a> {
 }
 
 impl<'a> Tokens<'a> {
-    /// All tokens of a text: one more than it has dots.
+    /// Returns all tokens of a text: one more than it has dots.
     pub fn new(text: &'a str) -> Tokens<'a>
         ensures { result ≡ tokens text.now }
     {
         Tokens { rest: Some(text) }
     }
 
-    /// Whether no token is left.
+    /// Returns whether no token is left.
     pub fn is_empty(&self) -> bool
         ensures { result ≡ (length self.now == 0) }
     {
         self.rest.is_none()
     }
 
-    /// The next token, where one is left.
+    /// Removes and returns the next token, or returns `None` if none is left.
     pub fn next(&mut self) -> Option<&'a str>
         ensures cut { MatchOption result (self.old ≡ []) (λ token. self.old ≡ token.now ∷ self.new) }
         ensures end { MatchOption result (self.new ≡ []) (λ _. 0 < length self.old) }
@@ -48,7 +49,8 @@ impl<'a> Tokens<'a> {
         Some(token)
     }
 
-    /// The next token, where the caller knows that one is left.
+    /// Removes and returns the next token.
+    /// Call it only if a token is left.
     pub fn take(&mut self) -> &'a str
         requires { 0 < length self.old }
         ensures { self.old ≡ result.now ∷ self.new }
@@ -60,7 +62,7 @@ impl<'a> Tokens<'a> {
     }
 }
 
-// The first token, and what follows its dot.
+// Returns the first token, and the text after its dot if there is one.
 fn cut(text: &str) -> (&str, Option<&str>)
     ensures { tokens text.now ≡ result.0.now ∷ tokens_left (option_copied result.1) }
 {

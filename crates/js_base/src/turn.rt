@@ -1,27 +1,30 @@
-//! What polls answer.
+//! The results of polls.
 
-/// What a poll of a call answers. A state that is not at its end is handed back.
+/// The result of a poll of a call.
+/// If the call is not finished, you get its state back.
 #[derive(Debug, PartialEq, Eq, Drop)]
 #[must_use = "a call that is not polled to its end never answers"]
 pub enum Turn<S, T> {
-    /// Nothing more can be done yet: poll the state again.
+    /// The call must wait: poll the state again.
     Pending(S),
-    /// The call is at its end.
+    /// The call is finished, with this result.
     Ready(T),
-    /// Memory ran out. The state is what it was before the refused step.
+    /// Memory ran out.
+    /// The state is as it was before the step that failed.
     OutOfMemory(S),
 }
 
-/// What a poll of a reader answers.
+/// The result of a poll of a reader.
 #[derive(Debug, PartialEq, Eq, Drop)]
 #[must_use = "what a poll hands out is handed out once"]
 pub enum Next<T> {
-    /// Nothing has come yet.
+    /// No item has arrived yet.
     Pending,
     /// The next item.
     Item(T),
-    /// Nothing more will come.
+    /// No more items will come.
     End,
-    /// Memory ran out. The reader is what it was before the refused step.
+    /// Memory ran out.
+    /// The reader is as it was before the step that failed.
     OutOfMemory,
 }

@@ -1,4 +1,4 @@
-//! The numbers of errors.
+//! The error codes of the JetStream API.
 
 ghost use Rattle.std.specs.Prelude.{false};
 ghost use Rattle.js_codes.specs.ErrorCode.{error_code, no_code, error_code_data};
@@ -7,11 +7,11 @@ use js_json_members::{Blank, Key, Member, ReadError, Written};
 use serde_json::Value;
 use std::alloc::Global;
 
-/// The number that the API gives to a kind of error; 0 where it gives none.
+/// The number by which the API identifies a kind of error, or 0 if it sent none.
 #[derive(Clone, Copy, Debug, Default, PartialEq, Eq)]
 pub struct ErrorCode(pub u64);
 
-/// The numbers that the server knows, in their order.
+/// The error codes that the server knows, in ascending order.
 impl ErrorCode {
     pub const ACCOUNT_RESOURCES_EXCEEDED: ErrorCode = ErrorCode(10002);
 
@@ -461,7 +461,7 @@ impl ErrorCode {
 impl ErrorCode {
     ghost use Rattle.js_codes.specs.CodeTable.{HasNoHole};
 
-    /// The constants have the numbers from 10002 to 10223, one after another, in the order above.
+    /// States that the constants above have the numbers from 10002 to 10223, in order, with no gap.
     pub fn table_has_no_hole()
         ensures { HasNoHole }
     {}

@@ -1,4 +1,4 @@
-//! The error in an answer of the API.
+//! The error in a response of the API.
 
 ghost use Rattle.std.specs.Prelude.{◌≡◌};
 ghost use Rattle.js_codes.specs.Errors.{api_source, error_fields, error_value};
@@ -10,41 +10,41 @@ use serde_json::Value;
 use std::alloc::Global;
 use std::{error, fmt};
 
-/// What the API answers in place of a result. It prints as `js_base::ApiError` does:
-/// `stream not found (code 404, error code 10059)`.
+/// The error that the API sends in place of a result.
+/// It prints as `js_base::ApiError` does: `stream not found (code 404, error code 10059)`.
 #[derive(Debug, PartialEq, Eq, Drop)]
 pub struct Error {
-    /// The kind of refusal, in the numbers of HTTP.
+    /// The kind of error, as an HTTP status code.
     pub code: u64,
-    /// Which error it is.
+    /// The number that identifies the error.
     pub err_code: ErrorCode,
-    /// What the server says of it.
+    /// The server's description of the error, if it sent one.
     pub description: Option<Text>,
 }
 
 impl Error {
-    /// The kind of refusal, in the numbers of HTTP.
+    /// Returns the kind of error, as an HTTP status code.
     pub fn code(&self) -> u64
         ensures { result ≡ self.now.code }
     {
         self.code
     }
 
-    /// Which error it is.
+    /// Returns the number that identifies the error.
     pub fn error_code(&self) -> ErrorCode
         ensures { result ≡ self.now.err_code }
     {
         self.err_code
     }
 
-    /// Which error it is.
+    /// Returns the number that identifies the error, as `error_code` does.
     pub fn kind(&self) -> ErrorCode
         ensures { result ≡ self.now.err_code }
     {
         self.err_code
     }
 
-    /// The same error as the source of a call's error.
+    /// Converts the error into the source of a call's error.
     pub fn into_source(self) -> Source
         ensures { result ≡ api_source self }
     {
