@@ -1,4 +1,4 @@
-//! Why a value could not be read.
+//! Errors of reading a JSON value, and of writing one.
 
 ghost use Rattle.std.specs.Prelude.{◌≡◌};
 ghost use Rattle.js_json_members.specs.Error.{message_of, key_of};
@@ -8,25 +8,27 @@ use crate::key::Key;
 use std::alloc::{AllocError, AllocFailed};
 use std::{error, fmt};
 
-/// Why a JSON value is not read as a type, or a value not written as JSON.
+/// A `ReadError` says why a JSON value cannot be read as a type, or a value written as JSON.
 #[derive(Clone, Copy, Debug, PartialEq, Eq)]
 pub enum ReadError {
-    /// A required key is absent.
+    /// A required member is absent.
     Missing { key: Key },
-    /// The value of the key has another JSON kind.
+    /// The value of the key has the wrong JSON kind, such as a text in place of a number.
     WrongKind { key: Key },
-    /// A number or a text is not a value of the type, or an instant has no text.
+    /// A number or a text is not a value of the type.
+    ///
+    /// Writing an instant fails with this error if its year is before 0.
     OutOfRange { key: Key },
-    /// A number that is neither an `i64` nor a `u64` stands in the value.
+    /// The value contains a number that is neither an `i64` nor a `u64`.
     Float,
-    /// The bytes are no JSON.
+    /// The bytes are not JSON.
     NotJson,
     /// Memory ran out.
     OutOfMemory,
 }
 
 impl ReadError {
-    // What is wrong, without the key.
+    // Returns what is wrong, without the key.
     fn message(self) -> &'static str
         ensures { result.now ≡ message_of self }
     {
@@ -40,7 +42,9 @@ impl ReadError {
         }
     }
 
-    /// The key that it names.
+    /// Returns the key that the error names.
+    ///
+    /// Returns `None` for `Float`, `NotJson` and `OutOfMemory`.
     pub fn key(self) -> Option<Key>
         ensures { result ≡ key_of self }
     {
@@ -53,7 +57,9 @@ impl ReadError {
     }
 }
 
-/// The key, if it names one, and what is wrong.
+/// Prints the key and what is wrong, such as `subject: missing`.
+///
+/// If the error names no key, it prints only what is wrong.
 impl fmt::Display for ReadError {
     ghost use Rattle.std.specs.Prelude.{Some};
     ghost use Rattle.js_json_members.specs.Error.{error_text};

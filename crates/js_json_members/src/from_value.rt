@@ -1,4 +1,4 @@
-//! Whole values, and objects inside others.
+//! Reads whole values, and objects nested in others.
 
 ghost use Rattle.std.specs.Prelude.{Result};
 ghost use Rattle.serde_json.specs.Data.{Data};
@@ -12,16 +12,21 @@ use crate::key::Key;
 use serde_json::Value;
 use std::alloc::Global;
 
-/// What a JSON object may be read as.
+/// Implement `FromValue` for a type that is read from a JSON object.
 pub trait FromValue: Drop {
-    /// What its members say.
+    /// Gives the value or the error that reading the members returns.
     ghost fields: { Data → Result Self ReadError };
 
-    /// Reads the members.
+    /// Reads the members of an object.
+    ///
+    /// Fails with the error that `fields` gives, or with `OutOfMemory` if memory runs out.
     fn from_fields(alloc: Global, object: &Value) -> Result<Self, ReadError>
         ensures { Gives result (fields (view object.now)) };
 
-    /// Reads a whole value, in which no float may stand.
+    /// Reads a whole value without floats.
+    ///
+    /// Fails with `Float` if the value contains a number that is neither an `i64` nor a `u64`.
+    /// Otherwise fails as `from_fields` fails.
     #[tactic(auto, unfolding(crate::specs::Member::float_free))]
     fn from_value(alloc: Global, value: &Value) -> Result<Self, ReadError>
         ensures { Gives result (float_free fields (view value.now)) }
@@ -33,7 +38,9 @@ pub trait FromValue: Drop {
     }
 }
 
-/// The object that a member is.
+/// Reads a member as a nested object.
+///
+/// Fails with `WrongKind` if the value is not an object. Otherwise fails as `from_fields` fails.
 #[tactic(auto, unfolding(crate::specs::Member::nested))]
 pub fn nested<T: FromValue>(alloc: Global, key: Key, value: &Value) -> Result<T, ReadError>
     ensures { Gives result (nested_in T.fields key (view value.now)) }

@@ -1,4 +1,4 @@
-//! The texts of instants.
+//! Reads instants from text and writes them as text.
 
 ghost use Rattle.std.specs.Prelude.{◌≡◌, ◌++◌, codes, IfOk, string_bytes};
 ghost use Rattle.jiff.specs.Words.{iso_datetime_text};
@@ -11,7 +11,9 @@ use jiff::tz::Offset;
 use js_base::{OutOfMemory, Text};
 use std::alloc::{AllocError, Global};
 
-/// The instant that a text is.
+/// Parses a text as an instant.
+///
+/// Returns `None` if the text is not a timestamp or lies outside the range of `Timestamp`.
 #[tactic(auto, unfolding(crate::specs::Instant::instant_of))]
 pub fn instant_of(text: &str) -> Option<Timestamp>
     ensures { result ≡ instant_in text.now }
@@ -19,7 +21,10 @@ pub fn instant_of(text: &str) -> Option<Timestamp>
     text.parse::<Timestamp>().ok()
 }
 
-/// The text of an instant in UTC, unless its year is before 0.
+/// Returns the text of an instant in UTC, such as `2026-01-31T12:30:00.25Z`.
+///
+/// `instant_of` parses the text as the same instant, to the nanosecond. Returns `None` if the year
+/// is before 0. Fails with `OutOfMemory` if memory runs out.
 pub fn instant_text(alloc: Global, instant: Timestamp) -> Result<Option<Text>, OutOfMemory>
     ensures text { IfOk result (λ text. text ≡ text_of_instant instant.nanosecond) }
     ensures reads_back { IfOk result (ReadsBack instant) }

@@ -1,9 +1,9 @@
-//! The keys of members.
+//! Lists the keys that members may have.
 
 ghost use Rattle.std.specs.Prelude.{◌≡◌};
 ghost use Rattle.js_json_members.specs.Key.{key_name};
 
-/// The key of a member.
+/// A `Key` is the key of a member in a JSON object.
 #[derive(Clone, Copy, Debug, PartialEq, Eq)]
 pub enum Key {
     AckFloor,
@@ -154,7 +154,7 @@ pub enum Key {
 }
 
 impl Key {
-    /// The key as it stands in JSON.
+    /// Returns the text of the key in JSON, such as `ack_floor` for `AckFloor`.
     pub fn name(self) -> &'static str
         ensures { result.now ≡ key_name self }
     {
@@ -162,7 +162,8 @@ impl Key {
     }
 }
 
-// One for each variant, in their order: the clause of `name` holds of no other.
+// One name for each variant, in the order of the variants. In any other order the contract of
+// `name` does not hold.
 static NAMES: [&str; 145] = [
     "ack_floor",
     "ack_policy",

@@ -1,13 +1,19 @@
-//! The members of JSON objects, read into values and written from them.
+//! Reads the members of JSON objects into Rust values, and writes Rust values as JSON objects.
 //!
-//! Reading takes a `serde_json::Value` apart. A type says by `Member` how it is read where it stands
-//! under a key, and `required`, `defaulted`, `optional` and `given` fetch such a member from an object.
-//! A type that is an object says by `FromValue` how its members are read. Keys that nobody asks for are
-//! read past, and of equal keys the last counts. Each fault is a `ReadError` that names the key.
+//! To read, parse bytes with `value_of`, then fetch each member from the object by its key.
+//! `required` fails if the member is absent. `defaulted` returns the default if it is absent.
+//! `optional` returns `None` if it is absent or null. `given` returns `None` only if it is absent,
+//! and reads null as it reads any other value.
 //!
-//! Writing goes row by row: an `Object` takes one member after another, each always, unless it is the
-//! default, or where it is there, and keeps its members sorted by their keys. `ToValue` is what has such
-//! an object, and its text is the compact one.
+//! Implement `Member` for a type that is read from the value of one key, and `FromValue` for a type
+//! that is read from a whole object. Keys that you do not ask for are ignored. If a key is
+//! repeated, its last value counts. A failed read returns a `ReadError`. It names the key if a
+//! member is absent, has the wrong JSON kind or is out of range.
+//!
+//! To write, add members to an `Object` one after another. `always` adds a member in every case,
+//! `unless_blank` omits a default, `where_some` omits `None`, and `or_null` writes `None` as null.
+//! An object keeps its members sorted by key. Implement `ToValue` for a type that is written as an
+//! object. Its `to_text` returns compact JSON text.
 #![tactic(auto)]
 
 mod error;

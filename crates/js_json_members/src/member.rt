@@ -1,4 +1,4 @@
-//! How a member is fetched from an object: one that has to be there, one with a default, and one that may be absent.
+//! Fetches a member from an object: a required one, one with a default, or one that may be absent.
 
 ghost use Rattle.std.specs.Prelude.{◌≡◌, Result, None};
 ghost use Rattle.serde_json.specs.Data.{Data};
@@ -13,27 +13,32 @@ use crate::key::Key;
 use serde_json::Value;
 use std::alloc::Global;
 
-/// A kind of value that a member may have.
+/// Implement `Member` for a type that is read from the value of one key.
 pub trait Member: Drop {
-    /// What the value of a member is read as.
+    /// Gives the value or the error that reading a JSON value under a key returns.
     ghost reads: { Key → Data → Result Self ReadError };
 
-    /// The value of the member with that key.
+    /// Reads the JSON value that an object has under `key`.
+    ///
+    /// Fails with the error that `reads` gives, or with `OutOfMemory` if memory runs out.
     fn read(alloc: Global, key: Key, value: &Value) -> Result<Self, ReadError>
         ensures { Gives result (reads key (view value.now)) };
 }
 
-/// A kind of value that has a default where its member is absent.
+/// Implement `Blank` for a member that has a default when it is absent.
 pub trait Blank: Member {
-    /// What stands for an absent member.
+    /// Gives the default of an absent member.
     ghost blank: { Self };
 
-    /// The default, which takes no memory.
+    /// Returns the default and allocates no memory.
     fn blank(alloc: Global) -> Self
         ensures { result ≡ blank };
 }
 
-/// A member that has to be there.
+/// Reads a member that must be present.
+///
+/// Fails with `Missing` if `object` has no such key or is not an object. Otherwise fails as reading
+/// the member fails.
 #[tactic(auto, unfolding(crate::specs::Member::required))]
 pub fn required<T: Member>(alloc: Global, object: &Value, key: Key) -> Result<T, ReadError>
     ensures { Gives result (required_in T.reads key (view object.now)) }
@@ -44,7 +49,9 @@ pub fn required<T: Member>(alloc: Global, object: &Value, key: Key) -> Result<T,
     }
 }
 
-/// A member that has its default where it is absent.
+/// Reads a member, and returns its default if it is absent.
+///
+/// Returns the default too if `object` is not an object. Fails as reading the member fails.
 #[tactic(auto, unfolding(crate::specs::Member::defaulted))]
 pub fn defaulted<T: Blank>(alloc: Global, object: &Value, key: Key) -> Result<T, ReadError>
     ensures { Gives result (defaulted_in T.Member.reads key T.blank (view object.now)) }
@@ -55,7 +62,9 @@ pub fn defaulted<T: Blank>(alloc: Global, object: &Value, key: Key) -> Result<T,
     }
 }
 
-/// A member that may be absent or null.
+/// Reads a member, and returns `None` if it is absent or null.
+///
+/// Returns `None` too if `object` is not an object. Fails as reading the member fails.
 #[tactic(auto, unfolding(crate::specs::Member::optional, crate::specs::Member::defaulted))]
 pub fn optional<T: Member>(alloc: Global, object: &Value, key: Key) -> Result<Option<T>, ReadError>
     ensures { Gives result (optional_in T.reads key (view object.now)) }
@@ -63,7 +72,10 @@ pub fn optional<T: Member>(alloc: Global, object: &Value, key: Key) -> Result<Op
     defaulted(alloc, object, key)
 }
 
-/// A member that may be absent, and for which null is a value as others are.
+/// Reads a member, and returns `None` if it is absent.
+///
+/// Reads null as it reads any other value. Returns `None` too if `object` is not an object. Fails
+/// as reading the member fails.
 #[tactic(auto, unfolding(crate::specs::Member::given))]
 pub fn given<T: Member>(alloc: Global, object: &Value, key: Key) -> Result<Option<T>, ReadError>
     ensures { Gives result (given_in T.reads key (view object.now)) }

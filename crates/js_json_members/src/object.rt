@@ -1,4 +1,4 @@
-//! Objects from the rows of a table.
+//! Builds JSON objects, member by member.
 
 ghost use Rattle.std.specs.Prelude.{Ok, Option, Result, option_map};
 ghost use Rattle.serde_json.specs.Data.{Data, Members, no_members};
@@ -14,7 +14,10 @@ use crate::written::Written;
 use serde_json::{Map, Value};
 use std::alloc::Global;
 
-/// An object that rows are put into, one after another, until one fails.
+/// An `Object` collects the members of a JSON object, which you add one after another.
+///
+/// Each method that adds a member takes the object and returns it. If a member fails, the object
+/// keeps that error, adds no later member, and `finish` returns the error.
 #[derive(Drop)]
 pub struct Object {
     members: Result<Map<String, Value>, ReadError>,
@@ -24,7 +27,7 @@ impl Object {
     ghost use Rattle.js_json_members.specs.Object.{Holds};
     ghost use Rattle.js_json_members.specs.Rows.{object_of, always, unless, where_some, or_null};
 
-    /// An object with no member, which takes no memory.
+    /// Returns an object with no members and allocates no memory.
     pub fn new(alloc: Global) -> Object
         ensures { Holds result (Ok no_members) }
     {
@@ -44,7 +47,7 @@ impl Object {
         }
     }
 
-    /// A row that is always there.
+    /// Adds a member in every case.
     pub fn always<T: Written>(self, alloc: Global, key: Key, value: &T) -> Object
         ensures { (rows : Result Members ReadError) → Holds self rows
             → Holds result (with_row key (always T.writes key value.now) rows) }
@@ -53,7 +56,7 @@ impl Object {
         self.put(alloc, key, value)
     }
 
-    /// A row that is left out at the default.
+    /// Adds a member unless the value is the default.
     pub fn unless_blank<T: Written>(self, alloc: Global, key: Key, value: &T) -> Object
         ensures { (rows : Result Members ReadError) → Holds self rows
             → Holds result (with_row key (unless T.is_blank T.writes key value.now) rows) }
@@ -62,7 +65,7 @@ impl Object {
         self.put(alloc, key, value)
     }
 
-    /// A row that is left out where there is no value.
+    /// Adds a member if there is a value, and nothing if it is `None`.
     pub fn where_some<T: Written>(self, alloc: Global, key: Key, value: &Option<T>) -> Object
         ensures { (rows : Result Members ReadError) → Holds self rows
             → Holds result (with_row key (where_some T.writes key value.now) rows) }
@@ -71,7 +74,7 @@ impl Object {
         self.put(alloc, key, value)
     }
 
-    /// A row that is null where there is no value.
+    /// Adds a member, which is null if the value is `None`.
     pub fn or_null<T: Written>(self, alloc: Global, key: Key, value: &Option<T>) -> Object
         ensures { (rows : Result Members ReadError) → Holds self rows
             → Holds result (with_row key (or_null T.writes key value.now) rows) }
@@ -80,7 +83,9 @@ impl Object {
         self.put(alloc, key, value)
     }
 
-    /// The object, unless a row failed.
+    /// Returns the JSON object, which contains no float.
+    ///
+    /// Fails with the error of the first member that failed.
     #[tactic(auto, unfolding(crate::specs::Rows::object_of))]
     pub fn finish(self) -> Result<Value, ReadError>
         ensures { (rows : Result Members ReadError) → Holds self rows → Shows result (object_of rows) }

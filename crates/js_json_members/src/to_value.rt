@@ -1,4 +1,4 @@
-//! Values that are written.
+//! Writes whole values as JSON objects.
 
 ghost use Rattle.std.specs.Prelude.{Result, string_bytes};
 ghost use Rattle.serde_json.specs.Data.{Data};
@@ -10,16 +10,20 @@ use crate::error::ReadError;
 use serde_json::Value;
 use std::alloc::Global;
 
-/// What is written as a JSON object.
+/// Implement `ToValue` for a type that is written as a JSON object.
 pub trait ToValue {
-    /// The object, or the fault of the first member that has no JSON.
+    /// Gives the object, or the error if the value cannot be written.
     ghost written: { Self → Result Data ReadError };
 
-    /// The object that is written.
+    /// Returns the JSON object, which contains no float.
+    ///
+    /// Fails with the error that `written` gives, or with `OutOfMemory` if memory runs out.
     fn to_value(&self, alloc: Global) -> Result<Value, ReadError>
         ensures { Shows result (written self.now) };
 
-    /// Its compact text.
+    /// Returns the compact text of the JSON object.
+    ///
+    /// Fails as `to_value` fails, or with `OutOfMemory` if memory runs out.
     #[tactic(auto, unfolding(crate::specs::Rows::text_of))]
     fn to_text(&self, alloc: Global) -> Result<String, ReadError>
         ensures { GivesAs string_bytes result (text_of (written self.now)) }

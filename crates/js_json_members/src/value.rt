@@ -1,4 +1,4 @@
-//! From bytes to a JSON value, and the keys of an object.
+//! Parses bytes as a JSON value, and checks the keys of an object.
 
 ghost use Rattle.std.specs.Prelude.{◌≡◌};
 ghost use Rattle.serde_json.specs.View.{view, members_view};
@@ -12,7 +12,11 @@ use crate::key::Key;
 use serde_json::{Map, Value};
 use std::alloc::Global;
 
-/// The JSON value that the bytes are, in which no float may stand.
+/// Parses bytes as a JSON value without floats.
+///
+/// Fails with `NotJson` if the bytes do not parse as one JSON value in UTF-8. Fails with `Float` if
+/// the value contains a number that is neither an `i64` nor a `u64`. Fails with `OutOfMemory` if
+/// memory runs out.
 pub fn value_of(alloc: Global, bytes: &[u8]) -> Result<Value, ReadError>
     ensures { GivesAs view result (value_in bytes.now) }
 {
@@ -31,7 +35,9 @@ pub fn value_of(alloc: Global, bytes: &[u8]) -> Result<Value, ReadError>
     Ok(value)
 }
 
-/// Whether it is an object that has no keys but these.
+/// Returns whether the value is an object whose keys are all among `keys`.
+///
+/// Returns `false` if the value is not an object, and `true` if it is an empty object.
 pub fn has_only(object: &Value, keys: &[Key]) -> bool
     ensures { result ≡ has_only_in keys.now (view object.now) }
 {

@@ -1,4 +1,4 @@
-//! The values that a member may be written from: texts, numbers, truth values, instants, lists, and values by name.
+//! Writes texts, numbers, booleans, instants, lists and values by name as members.
 
 ghost use Rattle.std.specs.Prelude.{◌≡◌, not, false, Bool, Result, map};
 ghost use Rattle.serde_json.specs.Data.{Data, no_members};
@@ -19,19 +19,21 @@ use serde_json::{Map, Value};
 use std::alloc::Global;
 use std::collections::BTreeMap;
 
-/// A kind of value that a member may be written from.
+/// Implement `Written` for a type that is written as the value of one key.
 pub trait Written: Drop {
-    /// The value that is written, or its fault, which names the key.
+    /// Gives the JSON value or the error that writing a value under a key returns.
     ghost writes: { Key → Self → Result Data ReadError };
 
-    /// Which value is the default.
+    /// Tells which value is the default.
     ghost is_blank: { Self → Bool };
 
-    /// The value of the member with that key.
+    /// Returns the JSON value to write under `key`, which contains no float.
+    ///
+    /// Fails with the error that `writes` gives, or with `OutOfMemory` if memory runs out.
     fn write(&self, alloc: Global, key: Key) -> Result<Value, ReadError>
         ensures { Shows result (writes key self.now) };
 
-    /// Whether it is the default, which may be left out.
+    /// Returns whether the value is the default, which `Object::unless_blank` omits.
     fn is_blank(&self) -> bool
         ensures { result ≡ is_blank self.now };
 }
@@ -93,7 +95,7 @@ impl Written for bool {
     }
 }
 
-/// Written as a text.
+/// Writes the number as text, in decimal.
 impl Written for u8 {
     ghost writes = { percent_data };
 
@@ -109,6 +111,9 @@ impl Written for u8 {
     }
 }
 
+/// Writes an instant as text in UTC, and fails with `OutOfRange` if its year is before 0.
+///
+/// No instant is the default.
 impl Written for Timestamp {
     ghost writes = { instant_data };
 
