@@ -5,13 +5,15 @@
 #[cfg(test)]
 mod acks;
 #[cfg(test)]
-mod building;
-#[cfg(test)]
 mod consumers;
+#[cfg(test)]
+mod context_builds;
 #[cfg(test)]
 mod context_calls;
 #[cfg(test)]
 mod contexts;
+#[cfg(test)]
+mod detached_acks;
 #[cfg(test)]
 mod errors;
 #[cfg(test)]
@@ -22,8 +24,6 @@ mod leaks;
 mod lists;
 #[cfg(test)]
 mod publishes;
-#[cfg(test)]
-mod publishing;
 #[cfg(test)]
 mod queue;
 #[cfg(test)]

@@ -5,8 +5,8 @@ ghost use Rattle.jetstream.specs.Stream.{named};
 use js_base::{Items, OutOfMemory, Text};
 pub use js_call_streams::{
     CreateOrUpdateStream, CreateStream, CreateStreamError, CreateStreamErrorKind, DeleteStream,
-    DeleteStreamError, DeleteStreamErrorKind, FindingStream, GetOrCreateStream, GetStream,
-    GetStreamError, GetStreamErrorKind, Kept, KeptInfo, StreamHandle, UpdateStream,
+    DeleteStreamError, DeleteStreamErrorKind, GetOrCreateStream, GetStream, GetStreamError,
+    GetStreamErrorKind, ReceivedConfig, ReceivedInfo, StreamHandle, StreamLookup, UpdateStream,
     UpdateStreamError, UpdateStreamErrorKind,
 };
 pub use js_json_stream_bodies::DeleteStatus;

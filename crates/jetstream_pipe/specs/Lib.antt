@@ -1,4 +1,4 @@
 pub mod Failure
 pub mod Lines
 pub mod Outcomes
-pub mod Reading
+pub mod ReadProgress

@@ -3,7 +3,7 @@
 ghost use Rattle.std.specs.Prelude.{◌≡◌, ◌<◌, [], OnOk};
 
 use crate::failure::{Failure, tell, told};
-use crate::reading::Reading;
+use crate::read_progress::Reading;
 use crate::session::Session;
 use crate::words::Options;
 use js_base::{Moment, Next, OutOfMemory, Text};

@@ -8,7 +8,7 @@ mod lines;
 mod outcomes;
 mod page;
 mod publish;
-mod reading;
+mod read_progress;
 mod session;
 mod start;
 mod words;

@@ -5,7 +5,7 @@ use crate::failure::{Failure, told};
 use crate::lines::Came;
 use crate::outcomes::Outcomes;
 use crate::publish::{WINDOW, publish};
-use crate::reading::Reading;
+use crate::read_progress::Reading;
 use crate::session::Session;
 use crate::words::{Options, Task, read_words};
 use crossbeam_channel::{Receiver, Sender, bounded};

@@ -9,7 +9,7 @@ ghost use Rattle.std.specs.Char.{is_ascii_whitespace};
 ghost use Rattle.js_base.specs.Subject.{is_valid_subject, token_matches, subject_matches};
 
 use crate::memory::{OutOfMemory, TryClone};
-use crate::tokens::Tokens;
+use crate::subject_tokens::Tokens;
 use std::alloc::Global;
 use std::fmt;
 use std::marker::Model;

@@ -6,5 +6,5 @@ pub mod Table
 pub mod Call
 pub mod ApiRequest
 pub mod SendRequest
-pub mod Then
+pub mod CallSequence
 pub mod Wakes

@@ -9,8 +9,8 @@ use Rattle.js_call.specs.declared.call.Call.{Call}
 use Rattle.js_call.specs.declared.call.Stage.{Stage}
 use Rattle.js_call.specs.declared.call.Stage.TheVariants.{Asking, Answered, Failed}
 use Rattle.js_call.specs.declared.open_request.OpenRequest.{OpenRequest}
-use Rattle.js_call.specs.declared.then.Then.{Then}
-use Rattle.js_call.specs.declared.then.Then.TheVariants.{First, Second}
+use Rattle.js_call.specs.declared.call_sequence.Then.{Then}
+use Rattle.js_call.specs.declared.call_sequence.Then.TheVariants.{First, Second}
 use Rattle.js_call.specs.RawCall.{times_out}
 use Rattle.js_call.specs.Table.{Table}
 

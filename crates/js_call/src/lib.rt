@@ -8,6 +8,7 @@
 mod api_call;
 mod api_request;
 mod call;
+mod call_sequence;
 mod error;
 mod failure;
 mod open_request;
@@ -16,11 +17,11 @@ mod raw_request;
 mod scope;
 mod send_request;
 mod state;
-mod then;
 
 pub use api_call::ApiCall;
 pub use api_request::{ApiRequest, AskingValue};
 pub use call::Call;
+pub use call_sequence::{Decision, IfAbsent, Then};
 pub use error::{RequestError, RequestErrorKind, SendError};
 pub use failure::Failure;
 pub use open_request::{OpenRequest, Shown};
@@ -28,4 +29,3 @@ pub use raw_call::{RawCall, has_no_responders};
 pub use raw_request::RawRequest;
 pub use scope::ApiScope;
 pub use state::State;
-pub use then::{Decision, IfAbsent, Then};

@@ -21,8 +21,8 @@ use Rattle.js_json.specs.declared.consumer.policies.PriorityPolicy.TheVariants a
 use Rattle.js_json.specs.declared.consumer.policies.ReplayPolicy.TheVariants as replay
 use Rattle.js_json.specs.declared.consumer.create_request.Action.TheVariants as action
 use Rattle.js_json.specs.declared.consumer.create_request.CreateRequest.{CreateRequest}
-use Rattle.js_call_consumers.specs.Instants.{HasText, HasTexts}
-use Rattle.js_call_consumers.specs.Instants as law
+use Rattle.js_call_consumers.specs.Laws.{HasText, HasTexts}
+use Rattle.js_call_consumers.specs.Laws as law
 
 -- every value of the type is written, under every key
 abbrev IsWritten : {A : Type 0} → Writes A → Type 0

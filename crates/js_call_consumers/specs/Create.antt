@@ -27,7 +27,7 @@ use Rattle.js_call.specs.Call.{calling}
 use Rattle.js_call.specs.Failure.{failure_source}
 use Rattle.js_call.specs.Scope.{asking}
 use Rattle.js_call.specs.Table.{Table, reads_as}
-use Rattle.js_call.specs.Then.{Polls}
+use Rattle.js_call.specs.CallSequence.{Polls}
 use Rattle.js_link.specs.LinkView.{LinkView}
 use Rattle.js_call_consumers.specs.declared.consumer.Consumer.{Consumer}
 use Rattle.js_call_consumers.specs.declared.create.CreatingConsumer.{CreatingConsumer}

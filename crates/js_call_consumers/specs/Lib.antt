@@ -7,7 +7,7 @@ pub mod Info
 pub mod Get
 pub mod Delete
 pub mod Create
-pub mod Instants
+pub mod Laws
 pub mod KnownConsumer
 pub mod Renewal
 pub mod Refresh

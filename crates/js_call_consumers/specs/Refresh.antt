@@ -14,7 +14,7 @@ use Rattle.js_call_consumers.specs.declared.consumer.Consumer.{Consumer}
 use Rattle.js_call_consumers.specs.declared.error.ConsumerInfoErrorKind.{ConsumerInfoErrorKind}
 use Rattle.js_call_consumers.specs.Info.{info_failure, info_refusal}
 use Rattle.js_call_consumers.specs.CreateKind.{failed}
-use Rattle.js_call_consumers.specs.declared.copies.InfoCopies.{InfoCopies}
+use Rattle.js_call_consumers.specs.declared.info_pair.InfoCopies.{InfoCopies}
 use Rattle.js_call_consumers.specs.declared.refresh.RefreshingConsumer.{RefreshingConsumer}
 use Rattle.js_call_consumers.specs.KnownConsumer.{asking_on}
 use Rattle.js_call_consumers.specs.Renewal.{copies_fields, renewed}

@@ -7,7 +7,7 @@ use Rattle.js_json_members.specs.declared.error.ReadError.{ReadError}
 use Rattle.js_json.specs.ConsumerInfo.{info_fields}
 use Rattle.js_json.specs.declared.consumer.info.Info.{Info}
 use Rattle.js_call_consumers.specs.declared.consumer.Consumer.{Consumer}
-use Rattle.js_call_consumers.specs.declared.copies.InfoCopies.{InfoCopies}
+use Rattle.js_call_consumers.specs.declared.info_pair.InfoCopies.{InfoCopies}
 
 -- the info that is told, for the consumer and for the answer
 abbrev pub both : Info → InfoCopies

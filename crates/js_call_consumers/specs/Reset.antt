@@ -15,7 +15,7 @@ use Rattle.js_call_consumers.specs.declared.consumer.Consumer.{Consumer}
 use Rattle.js_call_consumers.specs.declared.error.ConsumerErrorKind.{ConsumerErrorKind}
 use Rattle.js_call_consumers.specs.declared.error.ConsumerErrorKind.TheVariants.{JetStream}
 use Rattle.js_call_consumers.specs.CreateKind.{consumer_failure, failed, held}
-use Rattle.js_call_consumers.specs.declared.copies.InfoCopies.{InfoCopies}
+use Rattle.js_call_consumers.specs.declared.info_pair.InfoCopies.{InfoCopies}
 use Rattle.js_call_consumers.specs.declared.reset.ResettingConsumer.{ResettingConsumer}
 use Rattle.js_call_consumers.specs.KnownConsumer.{asking_on}
 use Rattle.js_call_consumers.specs.Renewal.{copies_fields, renewed}

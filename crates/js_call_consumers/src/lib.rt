@@ -11,7 +11,6 @@
 mod calls;
 mod consumer;
 mod consumer_answer;
-mod copies;
 mod create;
 mod create_call;
 mod create_kind;
@@ -20,8 +19,9 @@ mod delete;
 mod error;
 mod get;
 mod info;
-mod instants;
+mod info_pair;
 mod known_consumer;
+mod laws;
 mod refresh;
 mod refusal;
 mod renewal;
@@ -33,7 +33,6 @@ pub use consumer::{
     Consumer, OrderedPullConsumer, OrderedPushConsumer, PullConsumer, PushConsumer,
 };
 pub use consumer_answer::ConsumerAnswer;
-pub use copies::InfoCopies;
 pub use create::CreatingConsumer;
 pub use create_call::{
     CreateCall, CreateConsumerOnStream, CreateConsumerStrictOnStream, UpdateConsumerOnStream,
@@ -47,6 +46,7 @@ pub use error::{
 };
 pub use get::{GetConsumerFromStream, GettingConsumer, get_consumer_from_stream};
 pub use info::{AskingInfo, GetInfo};
-pub use instants::instants_alone_are_refused;
+pub use info_pair::InfoCopies;
+pub use laws::instants_alone_are_refused;
 pub use refresh::{InfoCall, RefreshingConsumer};
 pub use reset::{ConsumerResetError, Reset, ResettingConsumer};

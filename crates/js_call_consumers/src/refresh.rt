@@ -2,7 +2,7 @@
 ghost use Rattle.std.specs.Prelude.{◌≡◌};
 ghost use Rattle.js_call_consumers.specs.Refresh.{refresh_row, refreshed};
 
-use crate::copies::InfoCopies;
+use crate::info_pair::InfoCopies;
 use crate::renewal::renewed;
 use crate::{AskingInfo, Consumer, ConsumerInfoError};
 use js_base::Source;

@@ -3,7 +3,7 @@ ghost use Rattle.std.specs.Prelude.{◌≡◌};
 ghost use Rattle.js_call_consumers.specs.Renewal.{renewed};
 
 use crate::Consumer;
-use crate::copies::InfoCopies;
+use crate::info_pair::InfoCopies;
 use js_base::Error;
 use js_json::consumer::Info;
 

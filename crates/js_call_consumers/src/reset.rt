@@ -3,7 +3,7 @@ ghost use Rattle.std.specs.Prelude.{◌≡◌, ◌++◌, IfOk, codes, string_byt
 ghost use Rattle.std.specs.Fmt.{decimal};
 ghost use Rattle.js_call_consumers.specs.Reset.{reset_row, was_reset, reset_body};
 
-use crate::copies::InfoCopies;
+use crate::info_pair::InfoCopies;
 use crate::renewal::renewed;
 use crate::{Consumer, ConsumerError, ConsumerErrorKind, CreateKind};
 use bytes::Bytes;

@@ -19,7 +19,7 @@ use Rattle.js_call.specs.Scope.{asking, under}
 use Rattle.js_call_streams.specs.declared.handle.StreamHandle.{StreamHandle}
 use Rattle.js_call_streams.specs.declared.update.UpdatingStream.{UpdatingStream}
 use Rattle.js_call_streams.specs.Update.{updating}
-use Rattle.js_call_streams.specs.UpdateKept.{SentBy, KeepsIn, SendsKept, AsksKeeping, UpdatesKeeping, SendsBack, asking_update}
+use Rattle.js_call_streams.specs.ReceivedConfigUpdate.{SentBy, KeepsIn, SendsKept, AsksKeeping, UpdatesKeeping, SendsBack, asking_update}
 
 -- the text of a value is kept of a copy
 pub kept_as : (kept : List ℕ) (value copy : Data) → has_float value ≡ false → (has_float value ≡ false → kept ≡ compact_text value)

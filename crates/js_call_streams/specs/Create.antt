@@ -14,18 +14,18 @@ use Rattle.js_json_stream_bodies.specs.declared.stream.info.Info.{Info}
 use Rattle.js_call.specs.declared.call.Call.{Call}
 use Rattle.js_call.specs.declared.raw_call.RawCall.{RawCall}
 use Rattle.js_call.specs.declared.scope.ApiScope.{ApiScope}
-use Rattle.js_call.specs.declared.then.IfAbsent.{IfAbsent}
-use Rattle.js_call.specs.declared.then.Then.{Then}
-use Rattle.js_call.specs.declared.then.Then.TheVariants.{First}
+use Rattle.js_call.specs.declared.call_sequence.IfAbsent.{IfAbsent}
+use Rattle.js_call.specs.declared.call_sequence.Then.{Then}
+use Rattle.js_call.specs.declared.call_sequence.Then.TheVariants.{First}
 use Rattle.js_call.specs.Call.{calling}
 use Rattle.js_call.specs.Scope.{asking, under}
 use Rattle.js_call.specs.Table.{Table, reads_as, refused_by}
 use Rattle.js_call_streams.specs.declared.error.CreateStreamErrorKind.{CreateStreamErrorKind}
 use Rattle.js_call_streams.specs.declared.handle.StreamHandle.{StreamHandle}
 use Rattle.js_call_streams.specs.declared.create.CreatingStream.{CreatingStream}
-use Rattle.js_call_streams.specs.declared.get_or_create.FindingStream.{FindingStream}
+use Rattle.js_call_streams.specs.declared.get_or_create.StreamLookup.{StreamLookup}
 use Rattle.js_call_streams.specs.Error.{create_failure, api_error}
-use Rattle.js_call_streams.specs.Places.{two_places, placed_in}
+use Rattle.js_call_streams.specs.SourceDomains.{two_places, placed_in}
 use Rattle.js_call_streams.specs.Refusal.{name_refusal, create_refusal}
 
 -- the body is the text of the configuration
@@ -68,13 +68,13 @@ Creates scope config call =
 -- ---- get_or_create_stream
 
 -- the stream, or nothing where the API says 404, or its error
-abbrev pub found : FindingStream → Response Info → Result (Option (StreamHandle Info)) (Error CreateStreamErrorKind)
+abbrev pub found : StreamLookup → Response Info → Result (Option (StreamHandle Info)) (Error CreateStreamErrorKind)
 found s (response.Ok info) = Ok (Some (record { scope = s.scope; name = s.name; info = info; kept = None }))
 found s (response.Err error) = if error.code == 404 then Ok None else Err (api_error error)
 
 -- the row of the first of its two calls
-abbrev pub find_row : Table FindingStream (Response Info) (Result (Option (StreamHandle Info)) (Error CreateStreamErrorKind))
-find_row = record {
+abbrev pub lookup_table : Table StreamLookup (Response Info) (Result (Option (StreamHandle Info)) (Error CreateStreamErrorKind))
+lookup_table = record {
   refused = λ s. refused_by (option_map plain (name_refusal s.name));
   reads = reads_as (response_of (float_free info_fields));
   means = found;
@@ -82,8 +82,8 @@ find_row = record {
 }
 
 -- the first call, which is not sent
-abbrev pub finding : ApiScope → List ℕ → Call FindingStream
-finding scope name = calling (record { scope = scope; name = name }) (asking scope (under (codes "STREAM.INFO") name) (codes "null"))
+abbrev pub lookup : ApiScope → List ℕ → Call StreamLookup
+lookup scope name = calling (record { scope = scope; name = name }) (asking scope (under (codes "STREAM.INFO") name) (codes "null"))
 
 -- a first call, and then the one that makes the stream, which is not sent
 abbrev pub OrCreates : {A : Type 0} → A → ApiScope → Config → Then A (Call CreatingStream) IfAbsent → Type 0
@@ -91,6 +91,6 @@ OrCreates first scope config calls =
     (create : Call CreatingStream) × Creates scope config create × (calls ≡ First first create (record {}))
 
 -- the calls, of which none is sent
-abbrev pub FindsOrCreates : ApiScope → Config → Then (Call FindingStream) (Call CreatingStream) IfAbsent → Type 0
+abbrev pub FindsOrCreates : ApiScope → Config → Then (Call StreamLookup) (Call CreatingStream) IfAbsent → Type 0
 FindsOrCreates scope config calls =
-    (create : Call CreatingStream) × Creates scope config create × (calls ≡ First (finding scope config.name) create (record {}))
+    (create : Call CreatingStream) × Creates scope config create × (calls ≡ First (lookup scope config.name) create (record {}))

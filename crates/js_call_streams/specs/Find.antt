@@ -4,7 +4,7 @@ use Rattle.serde_json.specs.Data.{Data}
 use Rattle.js_base.specs.Error.{plain, caused}
 use Rattle.js_base.specs.Subject.{is_valid_subject}
 use Rattle.js_base.specs.declared.error.Error.{Error}
-use Rattle.js_codes.specs.Errors.{api_source, error_text}
+use Rattle.js_codes.specs.ApiError.{api_source, error_text}
 use Rattle.js_json_members.specs.Member.{float_free, text}
 use Rattle.js_json_members.specs.Rows.{text_of}
 use Rattle.js_json_members.specs.declared.error.ReadError.{ReadError}
@@ -45,8 +45,8 @@ found (response.Ok page) = first_or_none (first_given (items_of page.streams))
 found (response.Err error) = Err (caused Request (api_source error))
 
 -- the row of `stream_by_subject`
-abbrev pub find_row : Table SearchingStream (Response (Page (List ℕ))) (Result (List ℕ) (Error GetStreamByNameErrorKind))
-find_row = record {
+abbrev pub lookup_table : Table SearchingStream (Response (Page (List ℕ))) (Result (List ℕ) (Error GetStreamByNameErrorKind))
+lookup_table = record {
   refused = λ s. refused_by (option_map plain (find_refusal s.subject));
   reads = reads_as (response_of (float_free (page_fields text)));
   means = λ s reply. found reply;

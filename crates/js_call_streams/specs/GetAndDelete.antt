@@ -18,19 +18,19 @@ use Rattle.js_call_streams.specs.declared.error.GetStreamErrorKind.{GetStreamErr
 use Rattle.js_call_streams.specs.declared.error.GetStreamErrorKind.TheVariants.{JetStream, OutOfMemory}
 use Rattle.js_call_streams.specs.declared.handle.StreamHandle.{StreamHandle}
 use Rattle.js_call_streams.specs.declared.get.GettingStream.{GettingStream}
-use Rattle.js_call_streams.specs.declared.kept.KeptInfo.{KeptInfo}
+use Rattle.js_call_streams.specs.declared.received_config.ReceivedInfo.{ReceivedInfo}
 use Rattle.js_call_streams.specs.declared.delete.DeletingStream.{DeletingStream}
 use Rattle.js_call_streams.specs.Error.{get_failure}
-use Rattle.js_call_streams.specs.Kept.{kept_info_fields}
+use Rattle.js_call_streams.specs.ReceivedConfig.{kept_info_fields}
 use Rattle.js_call_streams.specs.Refusal.{get_refusal}
 
 -- the stream, with its configuration as it was sent, or the API's error
-abbrev pub got : GettingStream → Response KeptInfo → Result (StreamHandle Info) (Error GetStreamErrorKind)
+abbrev pub got : GettingStream → Response ReceivedInfo → Result (StreamHandle Info) (Error GetStreamErrorKind)
 got s (response.Ok read) = Ok (record { scope = s.scope; name = s.name; info = read.info; kept = Some read.config })
 got s (response.Err error) = Err (plain (JetStream error))
 
 -- the row of `get_stream`
-abbrev pub get_row : Table GettingStream (Response KeptInfo) (Result (StreamHandle Info) (Error GetStreamErrorKind))
+abbrev pub get_row : Table GettingStream (Response ReceivedInfo) (Result (StreamHandle Info) (Error GetStreamErrorKind))
 get_row = record {
   refused = λ s. refused_by (option_map plain (get_refusal s.name));
   reads = reads_as (response_of (float_free kept_info_fields));

@@ -1,11 +1,11 @@
-pub mod Written
+pub mod RequestBody
 pub mod Error
 pub mod Refusal
-pub mod Places
+pub mod SourceDomains
 pub mod KeptText
-pub mod Kept
+pub mod ReceivedConfig
 pub mod Overlay
-pub mod UpdateKept
+pub mod ReceivedConfigUpdate
 pub mod GetAndDelete
 pub mod Create
 pub mod Update

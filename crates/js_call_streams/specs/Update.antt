@@ -12,8 +12,8 @@ use Rattle.js_json_stream_bodies.specs.declared.stream.info.Info.{Info}
 use Rattle.js_call.specs.declared.call.Call.{Call}
 use Rattle.js_call.specs.declared.raw_call.RawCall.{RawCall}
 use Rattle.js_call.specs.declared.scope.ApiScope.{ApiScope}
-use Rattle.js_call.specs.declared.then.Then.{Then}
-use Rattle.js_call.specs.declared.then.Then.TheVariants.{First}
+use Rattle.js_call.specs.declared.call_sequence.Then.{Then}
+use Rattle.js_call.specs.declared.call_sequence.Then.TheVariants.{First}
 use Rattle.js_call.specs.Call.{calling}
 use Rattle.js_call.specs.Table.{Table, reads_as, refused_by}
 use Rattle.js_call_streams.specs.declared.error.CreateStreamErrorKind.{CreateStreamErrorKind}
@@ -23,7 +23,7 @@ use Rattle.js_call_streams.specs.declared.create_or_update.CreatingInfo.{Creatin
 use Rattle.js_call_streams.specs.declared.create_or_update.IfNotFound.{IfNotFound}
 use Rattle.js_call_streams.specs.Create.{AsksToCreate, AsksWith}
 use Rattle.js_call_streams.specs.Error.{create_failure, api_error}
-use Rattle.js_call_streams.specs.Places.{two_places}
+use Rattle.js_call_streams.specs.SourceDomains.{two_places}
 use Rattle.js_call_streams.specs.Refusal.{name_refusal, create_refusal}
 
 -- what the server knows of the stream, or the API's error

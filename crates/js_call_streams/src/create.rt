@@ -4,9 +4,9 @@ ghost use Rattle.js_call_streams.specs.Create.{create_row, creating_stream, Asks
 
 use crate::error::{CreateStreamError, api_error, create_failure};
 use crate::handle::StreamHandle;
-use crate::places::{Placing, two_places};
 use crate::refusal::create_refusal;
-use crate::written::body_of;
+use crate::request_body::body_of;
+use crate::source_domains::{Placing, two_places};
 use bytes::Bytes;
 use js_base::{Error, OutOfMemory, Source, Text, TryClone, both};
 use js_call::{ApiCall, ApiScope, Call, Failure, RawCall};

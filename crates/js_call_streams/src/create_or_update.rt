@@ -4,8 +4,8 @@ ghost use Rattle.js_call_streams.specs.Update.{create_info_row, creating_info, C
 
 use crate::create::create_request;
 use crate::error::{CreateStreamError, CreateStreamErrorKind, create_failure};
-use crate::places::{Placing, two_places};
 use crate::refusal::create_refusal;
+use crate::source_domains::{Placing, two_places};
 use crate::update::{UpdateStream, update_stream, updated};
 use js_base::{Error, OutOfMemory, Source, Text, TryClone, both};
 use js_call::{ApiCall, ApiScope, Call, Decision, Failure, Then};

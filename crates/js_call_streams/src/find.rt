@@ -1,11 +1,11 @@
 //! The call that finds the stream that stores a subject.
 ghost use Rattle.std.specs.Prelude.{◌≡◌, Ok, IfOk};
 ghost use Rattle.js_json_members.specs.Rows.{text_of};
-ghost use Rattle.js_call_streams.specs.Find.{find_row, find_refusal, found, Finds, finding_request};
+ghost use Rattle.js_call_streams.specs.Find.{lookup_table, find_refusal, found, Finds, finding_request};
 
 use crate::list_error::{GetStreamByNameError, GetStreamByNameErrorKind};
-use crate::rest::first_of;
-use crate::written::body_of;
+use crate::page_rest::first_of;
+use crate::request_body::body_of;
 use bytes::Bytes;
 use js_base::{Error, OutOfMemory, Source, Text, both, is_valid_subject};
 use js_call::{ApiCall, ApiScope, Call, Failure};
@@ -39,7 +39,7 @@ impl ApiCall for SearchingStream {
 
     type Answer = Result<Text, GetStreamByNameError>;
 
-    ghost table = { find_row };
+    ghost table = { lookup_table };
 
     fn refusal(&self) -> Option<Result<Text, GetStreamByNameError>> {
         match find_refusal(self.subject.as_str()) {

@@ -4,8 +4,8 @@ ghost use Rattle.js_call_streams.specs.GetAndDelete.{get_row, getting, got, Give
 
 use crate::error::{GetStreamError, GetStreamErrorKind};
 use crate::handle::StreamHandle;
-use crate::kept::KeptInfo;
 use crate::named_call::call_on;
+use crate::received_config::ReceivedInfo;
 use crate::refusal::get_refusal;
 use js_base::{Error, OutOfMemory, Source, Text, TryClone, both};
 use js_call::{ApiCall, ApiScope, Call, Failure};
@@ -25,7 +25,7 @@ pub struct GettingStream {
 pub type GetStream = Call<GettingStream>;
 
 impl ApiCall for GettingStream {
-    type Reply = Response<KeptInfo>;
+    type Reply = Response<ReceivedInfo>;
 
     type Answer = Result<StreamHandle<Info>, GetStreamError>;
 
@@ -38,13 +38,13 @@ impl ApiCall for GettingStream {
         }
     }
 
-    fn read(alloc: Global, payload: &[u8]) -> Result<Response<KeptInfo>, ReadError> {
+    fn read(alloc: Global, payload: &[u8]) -> Result<Response<ReceivedInfo>, ReadError> {
         response_as(alloc, payload)
     }
 
-    fn answer(self, reply: Response<KeptInfo>) -> Result<StreamHandle<Info>, GetStreamError> {
+    fn answer(self, reply: Response<ReceivedInfo>) -> Result<StreamHandle<Info>, GetStreamError> {
         match reply {
-            Response::Ok(KeptInfo { info, config }) => Ok(StreamHandle {
+            Response::Ok(ReceivedInfo { info, config }) => Ok(StreamHandle {
                 scope: self.scope,
                 name: self.name,
                 info,

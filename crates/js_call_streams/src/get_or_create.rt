@@ -1,13 +1,13 @@
 //! The call that looks up a stream, and creates it if it does not exist.
 ghost use Rattle.std.specs.Prelude.{◌≡◌, IfOk};
-ghost use Rattle.js_call_streams.specs.Create.{find_row, finding, FindsOrCreates, OrCreates};
+ghost use Rattle.js_call_streams.specs.Create.{lookup_table, lookup, FindsOrCreates, OrCreates};
 
 use crate::create::{CreateStream, create};
 use crate::error::{CreateStreamError, api_error, create_failure};
 use crate::handle::StreamHandle;
 use crate::named_call::call_on;
-use crate::places::Placing;
 use crate::refusal::name_refusal;
+use crate::source_domains::Placing;
 use js_base::{Error, OutOfMemory, Source, Text, TryClone, both};
 use js_call::{ApiCall, ApiScope, Call, Failure, IfAbsent, Then};
 use js_json::{Response, response_as};
@@ -17,20 +17,20 @@ use std::alloc::Global;
 
 /// How the first call of `get_or_create_stream` checks its arguments and reads its answer.
 #[derive(Drop)]
-pub struct FindingStream {
+pub struct StreamLookup {
     scope: ApiScope,
     name: Text,
 }
 
 /// The `get_or_create_stream` call under way.
-pub type GetOrCreateStream = Then<Call<FindingStream>, CreateStream, IfAbsent>;
+pub type GetOrCreateStream = Then<Call<StreamLookup>, CreateStream, IfAbsent>;
 
-impl ApiCall for FindingStream {
+impl ApiCall for StreamLookup {
     type Reply = Response<Info>;
 
     type Answer = Result<Option<StreamHandle<Info>>, CreateStreamError>;
 
-    ghost table = { find_row };
+    ghost table = { lookup_table };
 
     fn refusal(&self) -> Option<Result<Option<StreamHandle<Info>>, CreateStreamError>> {
         match name_refusal(self.name.as_str()) {
@@ -77,21 +77,21 @@ impl ApiCall for FindingStream {
 }
 
 // What the first call keeps of its arguments.
-fn finding_row(alloc: Global, scope: &ApiScope, name: &str) -> Result<FindingStream, OutOfMemory>
+fn lookup_row(alloc: Global, scope: &ApiScope, name: &str) -> Result<StreamLookup, OutOfMemory>
     ensures { IfOk result (λ row. row ≡ record { scope = scope.now; name = name.now }) }
 {
     let (scope, name) = both(scope.try_clone(), Text::from_str(alloc, name))?;
-    Ok(FindingStream { scope, name })
+    Ok(StreamLookup { scope, name })
 }
 
-fn find_stream(
+fn lookup_call(
     alloc: Global,
     scope: &ApiScope,
     name: &str,
-) -> Result<Call<FindingStream>, OutOfMemory>
-    ensures { IfOk result (λ call. call ≡ finding scope.now name.now) }
+) -> Result<Call<StreamLookup>, OutOfMemory>
+    ensures { IfOk result (λ call. call ≡ lookup scope.now name.now) }
 {
-    let row = finding_row(alloc, scope, name)?;
+    let row = lookup_row(alloc, scope, name)?;
     call_on(alloc, scope, row, "STREAM.INFO", name, b"null")
 }
 
@@ -119,7 +119,7 @@ fn find_or_create<C: Placing>(
 ) -> Result<GetOrCreateStream, OutOfMemory>
     ensures { IfOk result (λ calls. FindsOrCreates scope.now (C.config config) calls) }
 {
-    let first = find_stream(alloc, scope, config.config().name.as_str())?;
+    let first = lookup_call(alloc, scope, config.config().name.as_str())?;
     or_create(alloc, scope, first, config)
 }
 

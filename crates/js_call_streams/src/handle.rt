@@ -1,5 +1,5 @@
 //! A stream on the server.
-use crate::kept::Kept;
+use crate::received_config::ReceivedConfig;
 use js_base::Text;
 use js_call::ApiScope;
 
@@ -15,5 +15,5 @@ pub struct StreamHandle<T> {
     pub info: T,
     /// The configuration as `get_stream` read it. `update_stream_keeping` uses it. Handles of other
     /// calls have none.
-    pub kept: Option<Kept>,
+    pub kept: Option<ReceivedConfig>,
 }

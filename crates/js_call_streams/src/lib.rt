@@ -17,20 +17,20 @@ mod find;
 mod get;
 mod get_or_create;
 mod handle;
-mod kept;
 mod list_error;
 mod list_item;
 mod listing;
 mod named_call;
 mod overlay;
 mod page;
-mod places;
+mod page_rest;
 mod progress;
+mod received_config;
+mod received_config_update;
 mod refusal;
-mod rest;
+mod request_body;
+mod source_domains;
 mod update;
-mod update_kept;
-mod written;
 
 pub use account::{QueryAccount, QueryingAccount, query_account};
 pub use account_error::{AccountError, AccountErrorKind};
@@ -45,17 +45,17 @@ pub use error::{
 };
 pub use find::{SearchingStream, StreamBySubject, stream_by_subject};
 pub use get::{GetStream, GettingStream, get_stream, get_stream_no_info};
-pub use get_or_create::{FindingStream, GetOrCreateStream, get_or_create_stream};
+pub use get_or_create::{GetOrCreateStream, StreamLookup, get_or_create_stream};
 pub use handle::StreamHandle;
-pub use kept::{Kept, KeptInfo};
 pub use list_error::{
     GetStreamByNameError, GetStreamByNameErrorKind, StreamsError, StreamsErrorKind,
 };
 pub use list_item::ListItem;
 pub use listing::{Listing, StreamNames, Streams, stream_names, streams};
 pub use page::AskingPage;
-pub use places::domain_prefix;
+pub use page_rest::Rest;
 pub use progress::Progress;
-pub use rest::Rest;
+pub use received_config::{ReceivedConfig, ReceivedInfo};
+pub use received_config_update::update_stream_keeping;
+pub use source_domains::domain_prefix;
 pub use update::{UpdateStream, UpdatingStream, update_stream};
-pub use update_kept::update_stream_keeping;

@@ -2,7 +2,7 @@
 ghost use Rattle.std.specs.Prelude.{◌≡◌, ℕ, string_bytes};
 ghost use Rattle.js_json_members.specs.Member.{GivesAs};
 ghost use Rattle.js_json_members.specs.Rows.{text_of};
-ghost use Rattle.js_call_streams.specs.Written.{HasJson};
+ghost use Rattle.js_call_streams.specs.RequestBody.{HasJson};
 ghost use Rattle.js_call_streams.specs.Page.{Lists, names_list, infos_list, names_are_asked, infos_are_asked};
 
 use js_base::Text;

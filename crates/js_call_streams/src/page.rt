@@ -5,7 +5,7 @@ ghost use Rattle.js_call_streams.specs.Page.{page_row, page_in, AsksPage};
 
 use crate::list_error::{StreamsError, StreamsErrorKind};
 use crate::list_item::ListItem;
-use crate::written::written;
+use crate::request_body::written;
 use bytes::Bytes;
 use js_base::{Error, OutOfMemory, Source};
 use js_call::{ApiCall, ApiScope, Call, Failure};

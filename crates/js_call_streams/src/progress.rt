@@ -3,7 +3,7 @@ ghost use Rattle.std.specs.Prelude.{◌≡◌};
 ghost use Rattle.js_call_streams.specs.Listing.{loaded, HandsOut, fresh_progress};
 
 use crate::list_error::StreamsError;
-use crate::rest::Rest;
+use crate::page_rest::Rest;
 use js_base::Next;
 use js_json_stream_bodies::stream::Page;
 use std::alloc::Global;

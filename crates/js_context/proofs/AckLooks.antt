@@ -9,7 +9,7 @@ use Rattle.js_call.specs.declared.open_request.OpenRequest.{OpenRequest}
 use Rattle.js_call.specs.declared.open_request.Shown.{Shown}
 use Rattle.js_context.specs.AckClock.{begun}
 use Rattle.js_context.specs.Context.{ContextView}
-use Rattle.js_context.specs.Reap.{LooksFirst, GoesRound, Reaps, Look, Looks, Between, Passes, LooksAt, GivesIf, clocked_ack, kept, stays, settled, one_if, is_settled, looked_at}
+use Rattle.js_context.specs.DetachedAcks.{LooksFirst, GoesRound, Reaps, Look, Looks, Between, Passes, LooksAt, GivesIf, clocked_ack, kept, stays, settled, one_if, is_settled, looked_at}
 
 pub some_is : {A : Type 0} (x y : A) → Some x ≡ Some y → x ≡ y
 some_is x y is = cc

@@ -12,7 +12,7 @@ use Rattle.js_context.specs.declared.ack_future.PublishAckFuture.{PublishAckFutu
 use Rattle.js_context.specs.AckFuture.{AckTurn, AckTurns}
 use Rattle.js_context.specs.AckClock.{started, timed}
 use Rattle.js_context.specs.Context.{ContextView}
-use Rattle.js_context.specs.Wakes.{ack_waits_for, unless_kept}
+use Rattle.js_context.specs.AckTimers.{ack_waits_for, unless_kept}
 
 by_clock : (f : PublishAckFuture) (now wait : ℕ) (left : Option Message) (began : Clock) (shown : Shown) (turn : AckTurn) (c d : ContextView) (old new : LinkView) (clock : Option Clock)
     → left ≡ f.reply → f.clock ≡ clock → began ≡ started clock now wait → Shows (timed f.request began) now shown old new

@@ -5,6 +5,6 @@ pub mod Builder
 pub mod AckClock
 pub mod AckFuture
 pub mod Sending
-pub mod Reap
+pub mod DetachedAcks
 pub mod AckWait
-pub mod Wakes
+pub mod AckTimers

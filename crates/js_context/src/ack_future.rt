@@ -8,7 +8,7 @@ ghost use Rattle.js_call.specs.Wakes.{Sleeps, is_due, request_of};
 ghost use Rattle.js_context.specs.Context.{ContextView, GivesBack};
 ghost use Rattle.js_context.specs.AckClock.{started};
 ghost use Rattle.js_context.specs.AckFuture.{ack_in, ack_of, meaning_of, meaning_read, unreadable, AckPolled, AckReads, AckTurns, Ends, IsAwaitedBy, PermitAfter};
-ghost use Rattle.js_context.specs.Wakes.{ack_waits_for};
+ghost use Rattle.js_context.specs.AckTimers.{ack_waits_for};
 
 use crate::context::{Context, Detached};
 use crate::publish_error::{PublishError, PublishErrorKind, refusal_by};

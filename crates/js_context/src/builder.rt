@@ -1,6 +1,6 @@
 //! Building a context.
 ghost use Rattle.std.specs.Prelude.{◌≡◌, ◌<◌, ◌^◌, IfOk, Some, codes};
-ghost use Rattle.js_call_streams.specs.Places.{domain_prefix as domain_prefix_in};
+ghost use Rattle.js_call_streams.specs.SourceDomains.{domain_prefix as domain_prefix_in};
 ghost use Rattle.js_context.specs.Builder.{Builds, IsBuilder, capacity_of, refusal_of, scope_of, settings_of};
 ghost use Rattle.js_context.specs.Context.{IsNew, usual_scope, usual_settings};
 

@@ -3,16 +3,16 @@ ghost use Rattle.std.specs.Prelude.{◌≡◌, ◌+◌, ◌<◌, ◌≤◌, ◌^
 ghost use Rattle.std.specs.Arc.{arc_value};
 ghost use Rattle.js_window.specs.Caller.{Makes, held};
 ghost use Rattle.js_window.specs.declared.history.Call.TheVariants.{AllFree, Give};
-ghost use Rattle.js_call_streams.specs.Places.{domain_prefix};
+ghost use Rattle.js_call_streams.specs.SourceDomains.{domain_prefix};
 ghost use Rattle.js_base.specs.Clock.{has_come};
 ghost use Rattle.js_context.specs.Context.{GivesBack, IsNew, IsUsual, SplitsOff, Takes, timeout_of};
-ghost use Rattle.js_context.specs.Reap.{GivesIf, clocked_ack, stays};
+ghost use Rattle.js_context.specs.DetachedAcks.{GivesIf, clocked_ack, stays};
 ghost use Rattle.js_context.specs.AckWait.{Settles};
-ghost use Rattle.js_context.specs.Wakes.{is_one_due};
+ghost use Rattle.js_context.specs.AckTimers.{is_one_due};
 ghost use Rattle.js_context.specs.declared.context.Detached.{Detached};
 
+use crate::ack_timers::clock_end;
 use crate::builder::ContextBuilder;
-use crate::wakes::clock_end;
 use js_base::{Moment, Nanos, OutOfMemory, TryClone, earlier};
 use js_call::{ApiScope, OpenRequest};
 use js_link::RequestId;

@@ -14,19 +14,19 @@
 
 mod account;
 mod ack_future;
+mod ack_timers;
 mod build_error;
 mod builder;
 mod consumers;
 mod context;
+mod detached_acks;
 mod lists;
 mod provider;
 mod publish;
 mod publish_error;
-mod reap;
 mod requests;
 mod sending;
 mod streams;
-mod wakes;
 
 pub use ack_future::PublishAckFuture;
 pub use build_error::BuildError;

@@ -158,10 +158,7 @@ impl Sending {
     }
 
     // Ends the call with an error of that kind.
-    fn failed(
-        self,
-        kind: PublishErrorKind,
-    ) -> Turn<Sending, Result<PublishAckFuture, PublishError>>
+    fn failed(self, kind: PublishErrorKind) -> Turn<Sending, Result<PublishAckFuture, PublishError>>
         ensures { result ≡ Ready (Err (plain kind)) }
     {
         drop(self);

@@ -5,7 +5,7 @@
 ghost use Rattle.std.specs.Prelude.{◌≡◌, IfOk};
 ghost use Rattle.js_call_streams.specs.Create.{Creates, FindsOrCreates};
 ghost use Rattle.js_call_streams.specs.GetAndDelete.{deleting, getting, GivesHandle};
-ghost use Rattle.js_call_streams.specs.UpdateKept.{SendsBack, UpdatesKeeping};
+ghost use Rattle.js_call_streams.specs.ReceivedConfigUpdate.{SendsBack, UpdatesKeeping};
 ghost use Rattle.js_call_streams.specs.Update.{Updates, UpdatesOrCreates};
 
 use crate::context::Context;

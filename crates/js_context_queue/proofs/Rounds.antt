@@ -6,7 +6,7 @@ use Rattle.std.specs.Prelude.{All, ◌||◌}
 use Rattle.js_link.specs.LinkView.{LinkView}
 use Rattle.js_call.specs.declared.open_request.OpenRequest.{OpenRequest}
 use Rattle.js_call.specs.Wakes.{IsLeftAlone, IsSent, is_due}
-use Rattle.js_context.specs.Wakes.{ack_waits_for}
+use Rattle.js_context.specs.AckTimers.{ack_waits_for}
 use Rattle.js_context_queue.specs.declared.in_flight.InFlight.{InFlight}
 use Rattle.js_context_queue.specs.declared.queue.StepResult.{StepResult}
 use Rattle.js_context_queue.specs.declared.queue.StepResult.TheVariants.{Made, Stays, Over, NoMemory}

@@ -13,7 +13,7 @@ use Rattle.js_context.specs.declared.ack_future.Clock.{Clock}
 use Rattle.js_context.specs.declared.ack_future.PublishAckFuture.{PublishAckFuture}
 use Rattle.js_context.specs.AckFuture.{Acked, AckPolled, AckTurn, AckTurns, clock_at}
 use Rattle.js_context.specs.Context.{ContextView}
-use Rattle.js_context.specs.Wakes.{ack_waits_for, unless_kept}
+use Rattle.js_context.specs.AckTimers.{ack_waits_for, unless_kept}
 use Rattle.js_context_queue.specs.declared.published.Published.{Published}
 use Rattle.js_context_queue.specs.declared.queue.StepResult.{StepResult}
 use Rattle.js_context_queue.specs.declared.queue.StepResult.TheVariants as steps

@@ -22,7 +22,7 @@ use Rattle.js_context.specs.AckClock.{timed}
 use Rattle.js_context.specs.AckFuture.{Acked, AckPolled, AckTurn, AckTurns, clock_at}
 use Rattle.js_context.specs.Context.{ContextView, Takes}
 use Rattle.js_context.specs.Sending.{TakesAndGives}
-use Rattle.js_context.specs.Wakes.{ack_waits_for, unless_kept}
+use Rattle.js_context.specs.AckTimers.{ack_waits_for, unless_kept}
 use Rattle.js_context_queue.specs.declared.in_flight.InFlight.{InFlight}
 use Rattle.js_context_queue.specs.declared.published.Published.{Published}
 use Rattle.js_context_queue.specs.declared.queue.StepResult.{StepResult}

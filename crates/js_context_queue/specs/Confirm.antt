@@ -11,7 +11,7 @@ use Rattle.js_window.specs.Caller.{held}
 use Rattle.js_context.specs.AckFuture.{Acked, AckPolled, AckTurn, IsAwaitedBy}
 use Rattle.js_context.specs.Context.{ContextView}
 use Rattle.js_context.specs.Sending.{SendPolled, SendTurn}
-use Rattle.js_context.specs.Wakes.{ack_waits_for}
+use Rattle.js_context.specs.AckTimers.{ack_waits_for}
 use Rattle.js_context_queue.specs.InFlight.{detached_ack}
 use Rattle.js_context_queue.specs.declared.confirm.Confirming.{Confirming}
 use Rattle.js_context_queue.specs.declared.confirm.Confirming.TheVariants.{Sends, Awaits}

@@ -4,7 +4,7 @@ use Rattle.js_call.specs.declared.open_request.OpenRequest.{OpenRequest}
 use Rattle.js_context.specs.declared.ack_future.PublishAckFuture.{PublishAckFuture}
 use Rattle.js_context.specs.declared.context.Detached.{Detached}
 use Rattle.js_context.specs.Context.{ContextView}
-use Rattle.js_context.specs.Wakes.{ack_waits_for}
+use Rattle.js_context.specs.AckTimers.{ack_waits_for}
 use Rattle.js_context_queue.specs.declared.in_flight.InFlight.{InFlight}
 
 -- this caller awaits each of these acks, and maybe more

@@ -7,7 +7,7 @@ use Rattle.js_call.specs.declared.open_request.OpenRequest.{OpenRequest}
 use Rattle.js_call.specs.Wakes.{IsLeftAlone, IsSent}
 use Rattle.js_context.specs.Context.{ContextView, Takes}
 use Rattle.js_context.specs.Sending.{LacksPermit}
-use Rattle.js_context.specs.Wakes.{ack_waits_for}
+use Rattle.js_context.specs.AckTimers.{ack_waits_for}
 use Rattle.js_context_queue.specs.declared.in_flight.InFlight.{InFlight}
 use Rattle.js_context_queue.specs.declared.published.Published.{Published}
 use Rattle.js_context_queue.specs.declared.unsent.Unsent.{Unsent}

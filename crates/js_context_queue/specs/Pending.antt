@@ -8,7 +8,7 @@ use Rattle.js_base.specs.declared.turn.Next.TheVariants as next
 use Rattle.js_link.specs.LinkView.{LinkView, Status, Waits, Answered}
 use Rattle.js_link.specs.declared.sent.RequestId.{RequestId}
 use Rattle.js_call.specs.Wakes.{IsLeftAlone}
-use Rattle.js_context.specs.Wakes.{ack_waits_for, unless_kept}
+use Rattle.js_context.specs.AckTimers.{ack_waits_for, unless_kept}
 use Rattle.js_context.specs.declared.ack_future.Clock.{Clock}
 use Rattle.js_context_queue.specs.declared.in_flight.InFlight.{InFlight}
 use Rattle.js_context_queue.specs.declared.published.Published.{Published}

@@ -5,7 +5,7 @@ ghost use Rattle.js_base.specs.Clock.{has_come};
 ghost use Rattle.js_call.specs.Wakes.{Sleeps, is_due, request_of};
 ghost use Rattle.js_context.specs.AckFuture.{IsAwaitedBy};
 ghost use Rattle.js_context.specs.Publish.{sending};
-ghost use Rattle.js_context.specs.Wakes.{ack_waits_for};
+ghost use Rattle.js_context.specs.AckTimers.{ack_waits_for};
 ghost use Rattle.js_context_queue.specs.Confirm.{BelongsTo, ConfirmPolled, HoldsBeside, IsStillOf, Looks, confirming_waits_for, detached_of, permits};
 ghost use Rattle.js_context_queue.specs.declared.confirm.Confirming.TheVariants.{Awaits, Sends};
 

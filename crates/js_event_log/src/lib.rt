@@ -15,14 +15,14 @@
 
 mod events;
 mod mirror;
+mod output_entry;
 mod projection;
 mod run_projection;
 mod worked_runs;
-mod yields;
 
 pub use events::ack_subject;
 pub use mirror::{Mirror, MirrorError, Slot};
+pub use output_entry::entry_of;
 pub use projection::{ApplyError, Projection};
 pub use run_projection::{RunProjection, project};
 pub use worked_runs::worked_tables;
-pub use yields::entry_of;

@@ -6,12 +6,12 @@ ghost use Rattle.js_event_log.specs.Projection.{RisesAbove, last_sequence, value
 ghost use Rattle.js_event_log.specs.ProjectionCauses.{HasCause};
 
 mod error;
-mod past;
 mod places;
+mod prefix;
 mod table_rows;
 
-use crate::projection::past::{count_up_to, last_sequence};
 use crate::projection::places::{Places, places_of, set_place};
+use crate::projection::prefix::{count_up_to, last_sequence};
 use crate::projection::table_rows::{present_at, rows};
 pub use error::ApplyError;
 use js_base::{Entry, OutOfMemory};

@@ -10,7 +10,7 @@ ghost use Rattle.js_ordered_table.specs.Gapless.{Server, IsHonest, all_outputs};
 ghost use Rattle.js_event_log.specs.RunProjection.{yielded, projected, IsProjected};
 ghost use Rattle.js_event_log.specs.LogTable.{HasLogsTable};
 
-use crate::yields::entry_of;
+use crate::output_entry::entry_of;
 use crate::{ApplyError, Projection};
 use js_base::OutOfMemory;
 use js_ordered_table::{Output, Run};

@@ -9,10 +9,10 @@ use Rattle.js_json_members.specs.Rows.{Writes, Row, row, with_rows, object_of, a
 use Rattle.js_json_members.specs.Rows.{text_data, natural_data, integer_data, truth_data, list_data}
 use Rattle.js_json_members.specs.Rows.{is_empty, is_zero, is_zero_integer}
 use Rattle.js_json_stream_bodies.specs.declared.stream.config.Config.{Config}
-use Rattle.js_json_stream_bodies.specs.declared.stream.config.parts.Basics.{Basics}
-use Rattle.js_json_stream_bodies.specs.declared.stream.config.parts.Limits.{Limits}
-use Rattle.js_json_stream_bodies.specs.declared.stream.config.parts.Rights.{Rights}
-use Rattle.js_json_stream_bodies.specs.declared.stream.config.parts.Origins.{Origins}
+use Rattle.js_json_stream_bodies.specs.declared.stream.config.reader.Basics.{Basics}
+use Rattle.js_json_stream_bodies.specs.declared.stream.config.reader.Limits.{Limits}
+use Rattle.js_json_stream_bodies.specs.declared.stream.config.reader.Rights.{Rights}
+use Rattle.js_json_stream_bodies.specs.declared.stream.config.reader.Origins.{Origins}
 use Rattle.js_json_stream_bodies.specs.declared.stream.policies.DiscardPolicy.TheVariants as discard_policy
 use Rattle.js_json_stream_bodies.specs.declared.stream.policies.RetentionPolicy.TheVariants as retention_policy
 use Rattle.js_json_stream_bodies.specs.declared.stream.policies.StorageType.TheVariants as storage_type

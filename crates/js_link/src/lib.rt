@@ -11,13 +11,13 @@ mod copies;
 mod error;
 mod link;
 mod memory;
-mod sent;
 mod scripted_server;
+mod sent;
 mod wish;
 
 pub use copies::{copy_headers, copy_payload, copy_subject, copy_text};
 pub use link::{Answer, Link, LinkError, Taken, Watch};
 pub use memory::MemoryLink;
-pub use sent::{InboxId, RequestId, Sent};
 pub use scripted_server::ScriptedServer;
+pub use sent::{InboxId, RequestId, Sent};
 pub use wish::{Met, Wish, ask, take};

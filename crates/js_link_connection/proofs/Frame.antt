@@ -11,7 +11,7 @@ use Rattle.js_link_wire.specs.Incoming.{incoming}
 use Rattle.js_link_connection.specs.declared.connection.Connection.{Connection}
 use Rattle.js_link_connection.specs.declared.error.ConnectionError.{ConnectionError}
 use Rattle.js_link_connection.specs.declared.error.ConnectionError.TheVariants as failed
-use Rattle.js_link_connection.specs.Receiving.{Delivers, EndsBy, IsAt, IsWhy, Messages, Takes, TakesMessage, is_refusal, told_view}
+use Rattle.js_link_connection.specs.Delivery.{Delivers, EndsBy, IsAt, IsWhy, Messages, Takes, TakesMessage, is_refusal, told_view}
 
 -- a frame that no refusal is
 pub no_refusal : (frame : ServerFrame) → ((text : List ℕ) → frame ≡ frames.Refused text → ⊥) → is_refusal frame ≡ false

@@ -4,15 +4,15 @@ use Rattle.std.proofs.lemmas.List.{append-nil, length-drop}
 use Rattle.js_link_outbox.specs.declared.outbox.OutboxLink.{OutboxLink}
 use Rattle.js_link_wire.specs.declared.damage.Damage.{Damage}
 use Rattle.js_link_wire.specs.declared.frame.ServerFrame.{ServerFrame}
-use Rattle.js_link_wire.specs.declared.reading.Reading.{Reading}
-use Rattle.js_link_wire.specs.declared.reading.Reading.TheVariants as readings
+use Rattle.js_link_wire.specs.declared.first_frame.Reading.{Reading}
+use Rattle.js_link_wire.specs.declared.first_frame.Reading.TheVariants as readings
 use Rattle.js_link_wire.specs.FrameReader.{taken_off, next_frame, AreRead}
-use Rattle.js_link_wire.specs.Reading.{read}
+use Rattle.js_link_wire.specs.FirstFrame.{read}
 use Rattle.js_link_wire.proofs.Stable.{damaged_stays}
 use Rattle.js_link_connection.specs.declared.connection.Connection.{Connection}
 use Rattle.js_link_connection.specs.declared.error.ConnectionError.{ConnectionError}
 use Rattle.js_link_connection.specs.declared.error.ConnectionError.TheVariants as failed
-use Rattle.js_link_connection.specs.Receiving.{EndsBy, Ends, IsSame, IsSameLink, Reads, Receives, Takes, TakesAll, TakesNext, place_after}
+use Rattle.js_link_connection.specs.Delivery.{EndsBy, Ends, IsSame, IsSameLink, Reads, Receives, Takes, TakesAll, TakesNext, place_after}
 
 -- ---- frames after frames
 

@@ -3,4 +3,4 @@ pub mod ConnectText
 pub mod ServerInfo
 pub mod Writer
 pub mod Connection
-pub mod Receiving
+pub mod Delivery

@@ -5,7 +5,7 @@ ghost use Rattle.js_link_wire.specs.declared.damage.Damage.{Damage};
 ghost use Rattle.js_link_wire.specs.declared.frame.ServerFrame.{ServerFrame};
 ghost use Rattle.js_link_wire.specs.FrameReader.{next_frame, AreRead};
 ghost use Rattle.js_link_connection.specs.declared.connection.Connection.{Connection};
-ghost use Rattle.js_link_connection.specs.Receiving.{TakesAll};
+ghost use Rattle.js_link_connection.specs.Delivery.{TakesAll};
 
 /// It does not matter in which pieces bytes come. Read frames from some bytes, and then from what is
 /// left together with more: these are the frames of all the bytes together, and taking them in two

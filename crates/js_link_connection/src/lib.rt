@@ -19,12 +19,12 @@
 mod buffer;
 mod connect_text;
 mod connection;
+mod delivery;
 mod error;
 mod keep_alive;
 mod laws;
 mod lifecycle;
 mod options;
-mod receiving;
 mod server_info;
 mod writer;
 

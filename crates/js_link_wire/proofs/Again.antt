@@ -17,11 +17,11 @@ use Rattle.js_link_wire.specs.declared.damage.Unread.{Unread}
 use Rattle.js_link_wire.specs.declared.damage.Unread.TheVariants.{Damaged}
 use Rattle.js_link_wire.specs.declared.frame.ServerFrame.{ServerFrame}
 use Rattle.js_link_wire.specs.declared.frame.ServerFrame.TheVariants.{Info, Message, HeaderedMessage, Ping, Pong, Taken, Refused}
-use Rattle.js_link_wire.specs.declared.reading.Reading.TheVariants as readings
+use Rattle.js_link_wire.specs.declared.first_frame.Reading.TheVariants as readings
 use Rattle.js_link_wire.specs.Lines.{is_feed, line_limit, line_at, without_return, text_of}
 use Rattle.js_link_wire.specs.Words.{is_blank, parts, words, some_number, number_of}
 use Rattle.js_link_wire.specs.Messages.{Line, HeaderedLine, line_of, head_of, headered_line_of, headered_of, body_at, message_of, headered_message_of}
-use Rattle.js_link_wire.specs.Reading.{said, frame_of, first_frame, reading_of, read}
+use Rattle.js_link_wire.specs.FirstFrame.{said, frame_of, first_frame, reading_of, read}
 use Rattle.js_link_wire.specs.ServerText.{spaced, addressed, server_line, line_end, server_body, server_text, longest, IsWord, IsMessage, HasParts, IsFrame}
 use Rattle.js_link_wire.proofs.Feeds.{feed_place, cut_at}
 use Rattle.js_link_wire.proofs.Stable.{cut_is, message_with, headered_with, counted, after_line}

@@ -10,12 +10,12 @@ use Rattle.js_link_wire.specs.declared.damage.Damage.TheVariants.{NoLineEnd}
 use Rattle.js_link_wire.specs.declared.damage.Unread.{Unread}
 use Rattle.js_link_wire.specs.declared.damage.Unread.TheVariants.{More, Damaged}
 use Rattle.js_link_wire.specs.declared.frame.ServerFrame.{ServerFrame}
-use Rattle.js_link_wire.specs.declared.reading.Reading.{Reading}
-use Rattle.js_link_wire.specs.declared.reading.Reading.TheVariants as readings
+use Rattle.js_link_wire.specs.declared.first_frame.Reading.{Reading}
+use Rattle.js_link_wire.specs.declared.first_frame.Reading.TheVariants as readings
 use Rattle.js_link_wire.specs.Lines.{line_limit, line_at, text_of}
 use Rattle.js_link_wire.specs.Words.{is_blank, words}
 use Rattle.js_link_wire.specs.Messages.{Line, HeaderedLine, head_of, headered_of, body_at, message_of, headered_message_of}
-use Rattle.js_link_wire.specs.Reading.{said, frame_of, first_frame, reading_of, read}
+use Rattle.js_link_wire.specs.FirstFrame.{said, frame_of, first_frame, reading_of, read}
 use Rattle.js_link_wire.specs.FrameReader.{taken_off, next_frame, AreRead}
 use Rattle.js_link_wire.proofs.Feeds.{feed_place, place_within, cut_at, ends_late, ends_nowhere}
 use Rattle.js_link_wire.proofs.Stable.{message_with, headered_with, counted, after_line, whole_stays}

@@ -13,11 +13,11 @@ use Rattle.js_link_wire.specs.declared.damage.Unread.{Unread}
 use Rattle.js_link_wire.specs.declared.damage.Unread.TheVariants.{More}
 use Rattle.js_link_wire.specs.declared.frame.ServerFrame.{ServerFrame}
 use Rattle.js_link_wire.specs.declared.frame.ServerFrame.TheVariants as frames
-use Rattle.js_link_wire.specs.declared.reading.Reading.TheVariants as readings
+use Rattle.js_link_wire.specs.declared.first_frame.Reading.TheVariants as readings
 use Rattle.js_link_wire.specs.Lines.{is_feed, line_limit, line_at, text_of}
 use Rattle.js_link_wire.specs.Words.{is_blank, words}
 use Rattle.js_link_wire.specs.Messages.{Line, HeaderedLine, head_of, headered_of, body_at, message_of, headered_message_of}
-use Rattle.js_link_wire.specs.Reading.{said, frame_of, first_frame, reading_of, read}
+use Rattle.js_link_wire.specs.FirstFrame.{said, frame_of, first_frame, reading_of, read}
 use Rattle.js_link_wire.proofs.Feeds.{feed_place, place_within, cut_at, ends_late, ends_nowhere}
 
 -- ---- the first line

@@ -5,11 +5,11 @@ use lib.Utf8.{encode}
 use Rattle.js_link_wire.specs.declared.damage.Damage.TheVariants.{BadNumber, WrongArguments, BodyTooLong, HeadersTooLong, NoLineEnd, UnknownVerb}
 use Rattle.js_link_wire.specs.declared.damage.Unread.TheVariants.{More, Damaged}
 use Rattle.js_link_wire.specs.declared.frame.ServerFrame.TheVariants.{Message, HeaderedMessage, Ping, Refused}
-use Rattle.js_link_wire.specs.declared.reading.Reading.TheVariants as readings
+use Rattle.js_link_wire.specs.declared.first_frame.Reading.TheVariants as readings
 use Rattle.js_link_wire.specs.Lines.{line_at, text_of, without_return}
 use Rattle.js_link_wire.specs.Words.{number_of}
 use Rattle.js_link_wire.specs.Messages.{line_of, headered_line_of, body_at, message_of, headered_message_of}
-use Rattle.js_link_wire.specs.Reading.{said, frame_of, first_frame, read}
+use Rattle.js_link_wire.specs.FirstFrame.{said, frame_of, first_frame, read}
 use Rattle.js_link_wire.specs.ServerText.{line_end}
 use Rattle.js_link_wire.specs.declared.headers.HeadersDamage.TheVariants.{BadStatus, CutShort}
 use Rattle.js_link_wire.specs.Headers.{read_block, cut_at, headers_in, line_text, version_of, status_of, status_at, digit_of, description_of, trimmed, text_in, name_and_value}

@@ -4,9 +4,9 @@ use Rattle.js_link_wire.specs.declared.damage.Damage.{Damage}
 use Rattle.js_link_wire.specs.declared.frame.ServerFrame.{ServerFrame}
 use Rattle.js_link_wire.specs.declared.frame_reader.FrameError.{FrameError}
 use Rattle.js_link_wire.specs.declared.frame_reader.FrameError.TheVariants as errors
-use Rattle.js_link_wire.specs.declared.reading.Reading.{Reading}
-use Rattle.js_link_wire.specs.declared.reading.Reading.TheVariants as readings
-use Rattle.js_link_wire.specs.Reading.{read}
+use Rattle.js_link_wire.specs.declared.first_frame.Reading.{Reading}
+use Rattle.js_link_wire.specs.declared.first_frame.Reading.TheVariants as readings
+use Rattle.js_link_wire.specs.FirstFrame.{read}
 
 -- bytes of which no frame was read, and how many bytes a body has at most
 pub record Coming : Type 0 where

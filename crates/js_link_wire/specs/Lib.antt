@@ -2,7 +2,7 @@ pub mod Lines
 pub mod Words
 pub mod Views
 pub mod Messages
-pub mod Reading
+pub mod FirstFrame
 pub mod ServerText
 pub mod Written
 pub mod Headers

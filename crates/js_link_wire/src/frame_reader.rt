@@ -4,8 +4,8 @@ ghost use Rattle.std.specs.Prelude.{◌≡◌, ◌++◌, [], OnOk, OnErr};
 ghost use Rattle.js_link_wire.specs.FrameReader.{Reads};
 
 use crate::damage::Damage;
+use crate::first_frame::{Reading, read_frame};
 use crate::frame::ServerFrame;
-use crate::reading::{Reading, read_frame};
 use js_base::OutOfMemory;
 use std::alloc::Global;
 use std::marker::Model;

@@ -15,22 +15,24 @@
 
 mod client_lines;
 mod damage;
+mod first_frame;
 mod frame;
 mod frame_reader;
+mod frame_writer;
 mod headers;
 mod incoming;
 mod laws;
 mod line;
 mod message;
 mod number;
-mod reading;
 mod refusals;
 mod words;
-mod writing;
 
 pub use damage::Damage;
+pub use first_frame::{Reading, read_frame};
 pub use frame::{ClientFrame, ServerFrame};
 pub use frame_reader::{FrameError, FrameReader};
+pub use frame_writer::write_frame;
 pub use headers::{HeaderBlock, HeadersDamage, HeadersError, read_headers};
 pub use incoming::{Incoming, message_of_frame};
 pub use laws::{
@@ -38,6 +40,4 @@ pub use laws::{
     pieces_are_read_as_one,
 };
 pub use line::{LONGEST_INFO, LONGEST_LINE};
-pub use reading::{Reading, read_frame};
 pub use refusals::WriteError;
-pub use writing::write_frame;

@@ -8,7 +8,7 @@ use Rattle.std.specs.Str.{IsUtf8, IsCharBoundary}
 use Rattle.std.specs.List.{onto_first, slice_range}
 use Rattle.js_base.specs.Subject.{tokens}
 use Rattle.js_message.specs.AckSubject.{token_at}
-use Rattle.js_message.specs.Dots.{dots_from, dots_of, token_start, token_end}
+use Rattle.js_message.specs.DotPositions.{dots_from, dots_of, token_start, token_end}
 
 -- one byte more
 push_step : (t : Bool) (place : ℕ) (ds es more : List ℕ) → es ≡ ds ++ more → cond t (place ∷ es) es ≡ cond t (place ∷ ds) ds ++ more

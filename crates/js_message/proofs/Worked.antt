@@ -2,7 +2,7 @@
 use Rattle.std.specs.Prelude.{◌≡◌, refl, [], ◌∷◌, Err, codes}
 use Rattle.js_base.specs.Subject.{tokens}
 use Rattle.js_message.specs.AckSubject.{token_at}
-use Rattle.js_message.specs.Dots.{dots_of, token_start, token_end}
+use Rattle.js_message.specs.DotPositions.{dots_of, token_start, token_end}
 use Rattle.js_message.specs.StreamMessage.{is_missing, is_unreadable, fields_in}
 use Rattle.js_message.specs.declared.stream_message.StreamHeader.TheVariants.{Sequence, TimeStamp}
 use Rattle.js_message.specs.declared.info_error.InfoError.TheVariants.{Prefix}

@@ -4,10 +4,10 @@ ghost use Rattle.std.specs.Option.{option_copied};
 ghost use Rattle.std.specs.Result.{result_map_both};
 ghost use Rattle.js_base.specs.Subject.{tokens};
 ghost use Rattle.js_message.specs.AckSubject.{ack, seven_at, domain_of, i128_of, of_tokens, read_then};
-ghost use Rattle.js_message.specs.Dots.{IsScanned};
+ghost use Rattle.js_message.specs.DotPositions.{IsScanned};
 ghost use Rattle.js_message.specs.Info.{shown_result, instant_of};
 
-use crate::dots::Dots;
+use crate::dot_positions::Dots;
 use crate::info::Info;
 use crate::info_error::InfoError;
 use crate::numbers::{read_i64, read_i128, read_u64};

@@ -5,7 +5,7 @@
 mod ack_kind;
 mod ack_subject;
 mod acker;
-mod dots;
+mod dot_positions;
 mod double_ack;
 mod info;
 mod info_error;

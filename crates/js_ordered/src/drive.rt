@@ -14,8 +14,8 @@ ghost use Rattle.js_ordered_table.specs.declared.row.Row.TheVariants as row;
 
 pub(crate) mod arrivals;
 pub(crate) mod give;
-pub(crate) mod listening;
-pub(crate) mod reading;
+pub(crate) mod pull_rows;
+pub(crate) mod push_rows;
 pub(crate) mod recreation;
 pub(crate) mod success;
 

@@ -9,8 +9,8 @@ use Rattle.js_ordered_stream.specs.declared.error.OrderedErrorKind.{OrderedError
 use Rattle.js_link.specs.LinkView.{LinkView}
 use Rattle.js_ordered_table.specs.Fold.{is_over}
 use Rattle.js_ordered_table.specs.declared.event.EventKind.{EventKind}
-use Rattle.js_ordered_recorder.specs.Taking.{kind_of as event_kind, message_at}
-use Rattle.js_ordered_recorder.specs.declared.taken.Taken.{Taken}
+use Rattle.js_ordered_recorder.specs.LinkInput.{kind_of as event_kind, message_at}
+use Rattle.js_ordered_recorder.specs.declared.link_event.Taken.{Taken}
 use Rattle.std.proofs.lemmas.Option.{slice_get_within}
 use Rattle.js_ordered_table.specs.declared.event.Event.{Event}
 use Rattle.js_ordered_table.specs.declared.run.ItemKind.{ItemKind}
@@ -23,8 +23,8 @@ use Rattle.js_ordered_recorder.specs.Writing.{WritesAll}
 use Rattle.js_ordered_recorder.specs.Writing as writing
 use Rattle.js_ordered_recorder.proofs.Written.{writes_one}
 use Rattle.js_ordered_recorder.specs.declared.recorder.Recorder.{Recorder}
-use Rattle.js_ordered_recorder.specs.declared.worked.Worked.{Worked}
-use Rattle.js_ordered_recorder.specs.declared.worked.Worked.TheVariants as worked
+use Rattle.js_ordered_recorder.specs.declared.output_delivery.Worked.{Worked}
+use Rattle.js_ordered_recorder.specs.declared.output_delivery.Worked.TheVariants as worked
 use Rattle.js_ordered_recorder.specs.declared.recorder.Ending.{Ending}
 use Rattle.js_ordered_recorder.specs.declared.recorder.Ending.TheVariants as ending
 

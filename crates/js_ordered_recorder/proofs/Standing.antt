@@ -21,7 +21,7 @@ use Rattle.js_ordered_table.specs.declared.run.Step.{Step}
 use Rattle.js_ordered_recorder.specs.Acts.{Act, Does, DoesAll, PassesEvent, Stops, StopsWithin, Takes, TakesOne, Passes, Works, WorksOff, World, Writes, WritesDown, events_of, left_of, outputs_of, queue}
 use Rattle.js_ordered_recorder.specs.Recorder.{Answers, EndsAs, Goes, HandsError, HandsMessage, HandsOver, IsAt, Stands, half_passed}
 use Rattle.js_ordered_recorder.specs.declared.recorder.Recorder.{Recorder}
-use Rattle.js_ordered_recorder.specs.declared.taken.Taken.{Taken}
+use Rattle.js_ordered_recorder.specs.declared.link_event.Taken.{Taken}
 
 -- ---- what a fold puts out
 

@@ -3,11 +3,11 @@ use Rattle.std.specs.Prelude.{◌≡◌, ◌⊎◌, ℕ, ◌+◌, max, Bool, tru
 use Rattle.js_base.specs.declared.message.Message.{Message}
 use Rattle.js_link.specs.LinkView.{LinkView}
 use Rattle.js_ordered_recorder.specs.Sending.{GoesTo, Outgoing, worked_as}
-use Rattle.js_ordered_recorder.specs.Taking.{AnswersAs, ArrivesAs, HasNoAnswer, HasNoArrival, awaited_at, awaited_in, change_in, kind_of, link_in, listened_at, message_at, read_in, tick_in}
+use Rattle.js_ordered_recorder.specs.LinkInput.{AnswersAs, ArrivesAs, HasNoAnswer, HasNoArrival, awaited_at, awaited_in, change_in, kind_of, link_in, listened_at, message_at, read_in, tick_in}
 use Rattle.js_ordered_recorder.specs.declared.recorder.Recorder.{Recorder}
-use Rattle.js_ordered_recorder.specs.declared.worked.Worked.{Worked}
-use Rattle.js_ordered_recorder.specs.declared.worked.Worked.TheVariants as worked
-use Rattle.js_ordered_recorder.specs.declared.taken.Taken.{Taken}
+use Rattle.js_ordered_recorder.specs.declared.output_delivery.Worked.{Worked}
+use Rattle.js_ordered_recorder.specs.declared.output_delivery.Worked.TheVariants as worked
+use Rattle.js_ordered_recorder.specs.declared.link_event.Taken.{Taken}
 use Rattle.js_ordered.specs.IncrementalReplay.{HasCome, IsWithin}
 use Rattle.js_ordered_table.specs.Fold.{is_over}
 use Rattle.js_ordered_table.specs.declared.consumer.Phase.{Phase}

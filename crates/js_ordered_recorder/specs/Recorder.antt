@@ -7,7 +7,7 @@ use Rattle.js_base.specs.declared.turn.Next.{Next}
 use Rattle.js_base.specs.declared.turn.Next.TheVariants as next
 use Rattle.js_link.specs.LinkView.{LinkView}
 use Rattle.js_ordered_recorder.specs.Acts.{Act, AreSilent, DoesAll, LiesNothing, Rests, WorksOff, World, events_of, outputs_of, phase_of, queue}
-use Rattle.js_ordered_recorder.specs.Taking.{link_in}
+use Rattle.js_ordered_recorder.specs.LinkInput.{link_in}
 use Rattle.js_ordered_recorder.specs.Writing.{WritesAll}
 use Rattle.js_ordered_recorder.specs.declared.recorder.Ending.{Ending}
 use Rattle.js_ordered_recorder.specs.declared.recorder.Ending.TheVariants as ending

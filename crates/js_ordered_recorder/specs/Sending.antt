@@ -7,8 +7,8 @@ use Rattle.js_link.specs.declared.sent.InboxId.{InboxId}
 use Rattle.js_link.specs.declared.sent.RequestId.{RequestId}
 use Rattle.js_ordered_recorder.specs.declared.sends.Asked.{Asked}
 use Rattle.js_ordered_recorder.specs.declared.sends.Sends.{Sends}
-use Rattle.js_ordered_recorder.specs.declared.worked.Worked.{Worked}
-use Rattle.js_ordered_recorder.specs.declared.worked.Worked.TheVariants as worked
+use Rattle.js_ordered_recorder.specs.declared.output_delivery.Worked.{Worked}
+use Rattle.js_ordered_recorder.specs.declared.output_delivery.Worked.TheVariants as worked
 use Rattle.js_ordered_table.specs.declared.run.Output.{Output}
 use Rattle.js_ordered_table.specs.declared.run.Output.TheVariants as out
 

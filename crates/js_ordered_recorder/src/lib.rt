@@ -10,12 +10,12 @@
 mod error;
 mod event_list;
 mod lines;
+mod link_event;
+mod link_input;
+mod output_delivery;
 mod recorder;
 mod recording;
 mod sends;
-mod taken;
-mod taking;
-mod worked;
 
 pub use event_list::EventList;
 pub use lines::{LineRecording, RecentLines};

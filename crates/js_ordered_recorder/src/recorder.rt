@@ -12,11 +12,11 @@ ghost use Rattle.js_ordered_recorder.specs.Writing.{WritesAll};
 ghost use Rattle.js_tool_transcript.specs.TranscriptReplay.{replay_input};
 
 use crate::error::error_of;
+use crate::link_event::Taken;
+use crate::link_input::{later, take_answer, take_arrival, take_change, take_link, take_tick};
+use crate::output_delivery::{Worked, work_off};
 use crate::recording::Recording;
 use crate::sends::Sends;
-use crate::taken::Taken;
-use crate::taking::{later, take_answer, take_arrival, take_change, take_link, take_tick};
-use crate::worked::{Worked, work_off};
 use js_base::{Message, Moment, Next, OutOfMemory, replace_with};
 use js_link::{InboxId, Link};
 use js_ordered::IncrementalReplay;
@@ -26,7 +26,7 @@ use js_ordered_table::{Event, ItemKind, OrderedSetup, phase_wakes_at};
 use js_tool_transcript::Setup;
 use std::alloc::Global;
 
-mod passing;
+mod event_step;
 
 /// How a poll ends.
 #[derive(Clone, Copy)]

@@ -17,7 +17,7 @@ use Rattle.js_ordered_table.specs.Tasks.{IsHeardFrom, StepsTo, heard_outputs, he
 use Rattle.js_ordered_table.proofs.ReaderSteps.{reads_row}
 use Rattle.js_ordered_table.proofs.PassedRows.{from_stream}
 use Rattle.js_ordered_stream.specs.declared.remaining_rows.Seen.{Seen}
-use Rattle.js_ordered_stream.specs.declared.reading.ReaderStep.{ReaderStep}
+use Rattle.js_ordered_stream.specs.declared.pull_rows.ReaderStep.{ReaderStep}
 use Rattle.js_ordered_stream.specs.declared.rows.RowItem.{RowItem}
 use Rattle.js_ordered_stream.specs.declared.rows.RowItem.TheVariants as hands
 use Rattle.js_ordered_stream.specs.declared.rows.Stepped.{Stepped}

@@ -24,8 +24,8 @@ use Rattle.js_ordered_stream.specs.declared.remaining_rows.Seen.{Seen}
 use Rattle.js_ordered_stream.specs.declared.remaining_rows.Seen.TheVariants as sight
 use Rattle.js_ordered_stream.specs.declared.remaining_rows.TaskQueue.{TaskQueue}
 use Rattle.js_ordered_stream.specs.declared.remaining_rows.TaskQueue.TheVariants as todo
-use Rattle.js_ordered_stream.specs.declared.reading.ReadMet.{ReadMet}
-use Rattle.js_ordered_stream.specs.declared.reading.ReaderStep.{ReaderStep}
+use Rattle.js_ordered_stream.specs.declared.pull_rows.ReadMet.{ReadMet}
+use Rattle.js_ordered_stream.specs.declared.pull_rows.ReaderStep.{ReaderStep}
 use Rattle.js_ordered_stream.specs.declared.rows.RowItem.{RowItem}
 use Rattle.js_ordered_stream.specs.declared.rows.RowItem.TheVariants as hands
 use Rattle.js_ordered_stream.specs.declared.rows.Stepped.{Stepped}

@@ -11,25 +11,25 @@
 
 mod answer;
 mod error;
+mod examples;
 mod health;
 mod inbox;
 mod later_row;
-mod listening;
+mod laws;
 mod ordered;
 mod polled;
 pub mod pull;
+mod pull_rows;
 pub mod push;
-mod reading;
+mod push_rows;
 mod recreation;
 mod remaining_rows;
 mod rows;
-mod same_rows;
-mod standing;
 mod success;
-mod wakes;
-mod worked;
+mod task_row;
+mod timers;
 
 pub use error::{OrderedError, OrderedErrorKind};
+pub use examples::worked_lives_leave_no_gap;
 pub use health::{Activity, Health};
-pub use same_rows::links_fix_rows;
-pub use worked::worked_lives_leave_no_gap;
+pub use laws::links_fix_rows;

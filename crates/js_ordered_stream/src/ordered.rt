@@ -17,7 +17,7 @@ use crate::error::{OrderedError, error_of, limit_error, sequence_end};
 use crate::inbox::{close_inbox, inbox_of};
 use crate::remaining_rows::{RemainingRows, Seen, TaskQueue};
 use crate::rows::{RowItem, Stepped, Stop, begin, pass};
-use crate::wakes::wakes_at;
+use crate::timers::wakes_at;
 use js_base::{Boxed, Message, Moment, Next, OutOfMemory, State, Text, replace_with};
 use js_json::consumer::Info;
 use js_link::{InboxId, Link};

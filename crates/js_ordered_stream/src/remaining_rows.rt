@@ -9,7 +9,7 @@ ghost use Rattle.js_ordered_table.specs.Consumer.{Matter};
 ghost use Rattle.js_ordered_table.specs.declared.row.Row.TheVariants as row;
 
 use crate::later_row::{LaterRow, task_of, waiting_row};
-use crate::standing::stands;
+use crate::task_row::stands;
 use js_base::{Message, replace_with};
 use js_link::Met;
 use js_ordered_table::transitions::{NextTasks, Task};

@@ -14,8 +14,8 @@ ghost use Rattle.js_ordered_table.specs.Wishes.{change_of};
 ghost use Rattle.js_link.specs.Meets.{Meets};
 ghost use Rattle.js_link.specs.Wish.{watch_met};
 
-use crate::listening::{arm, hear, look, look_at_silence};
-use crate::reading::pass_read;
+use crate::pull_rows::pass_read;
+use crate::push_rows::{arm, hear, look, look_at_silence};
 use crate::recreation::{pass_open, start};
 use crate::remaining_rows::Seen;
 use js_base::OutOfMemory;

@@ -20,8 +20,8 @@ use Rattle.js_pull.specs.Poll.{PollAnswer}
 use Rattle.js_pull.specs.Stream.{advance_answer, opened_at, poll_answer, position_of}
 use Rattle.js_pull.specs.declared.stream.Advance as below
 use Rattle.js_pull.specs.declared.stream.Advance.TheVariants as part
-use Rattle.js_readers.specs.declared.pull.advance.Advance.{Advance}
-use Rattle.js_readers.specs.declared.pull.advance.Advance.TheVariants as advance
+use Rattle.js_readers.specs.declared.pull.stream_step.Advance.{Advance}
+use Rattle.js_readers.specs.declared.pull.stream_step.Advance.TheVariants as advance
 use Rattle.js_readers.specs.declared.pull.error.StreamErrorKind.{StreamErrorKind}
 use Rattle.js_readers.specs.declared.pull.error.StreamErrorKind.TheVariants.{Other, OutOfMemory}
 use Rattle.js_readers.specs.declared.pull.stream.Stream.{Stream}

@@ -14,7 +14,7 @@
 //! `close` ends a reader and closes its inbox. Dropping a reader leaves its inbox open.
 #![tactic(auto)]
 
+mod ack_timeout;
 pub mod ordered;
 pub mod pull;
 pub mod push;
-mod timed;

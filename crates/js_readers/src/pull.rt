@@ -4,20 +4,19 @@
 //! One table by builder (`specs/Builder.antt`) fixes what a request asks for: what was set, or else
 //! the default of the builder.
 
-mod advance;
 mod batch;
 mod batch_item;
+mod batch_opening;
 mod builder;
 mod calls;
 mod consumer;
 mod error;
-mod opening;
 mod request;
 mod sequence;
 mod settings;
 mod stream;
+mod stream_step;
 
-pub use advance::Advance;
 pub use batch::{Batch, batches_keep_their_number, ended_batches_stay_ended};
 pub use batch_item::BatchItemError;
 pub use builder::{BatchBuilder, Builder, FetchBuilder, StreamBuilder};
@@ -32,3 +31,4 @@ pub use js_pull::{MessagesError, MessagesErrorKind};
 pub use sequence::Sequence;
 pub use settings::defaults_keep_limits;
 pub use stream::Stream;
+pub use stream_step::Advance;

@@ -3,7 +3,7 @@ use Rattle.std.proofs.Common.{ℕ, ◌≡◌, List, [], ◌∷◌, ◌++◌, dro
 use Rattle.std.specs.Str.Pattern.{CutsPrefixes, IsTrimStartMatches, FindsTextPrefix}
 use Rattle.std.proofs.lemmas.Slice.Eq.{starts_is}
 use Rattle.std.proofs.lemmas.Bool.Decides.{Decides-eqb}
-use Rattle.js_store.specs.Origins.{begins_as_stream}
+use Rattle.js_store.specs.SourceBuckets.{begins_as_stream}
 use Rattle.js_store.specs.Places.{without_prefix}
 
 -- one `KV_` is passed over

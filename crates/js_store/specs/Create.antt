@@ -7,7 +7,7 @@ use Rattle.js_store.specs.declared.kv.Config.{Config}
 use Rattle.js_json_stream_bodies.specs.declared.stream.info.Info.{Info}
 use Rattle.js_call.specs.declared.call.Call.{Call}
 use Rattle.js_call.specs.declared.scope.ApiScope.{ApiScope}
-use Rattle.js_call.specs.declared.then.Then.{Then}
+use Rattle.js_call.specs.declared.call_sequence.Then.{Then}
 use Rattle.js_call_streams.specs.Create.{Creates}
 use Rattle.js_call_streams.specs.declared.create.CreatingStream.{CreatingStream}
 use Rattle.js_call_streams.specs.declared.error.CreateStreamErrorKind.{CreateStreamErrorKind}
@@ -16,11 +16,11 @@ use Rattle.js_call_streams.specs.declared.handle.StreamHandle.{StreamHandle}
 use Rattle.js_store.specs.declared.create.CreatingBucket.{CreatingBucket}
 use Rattle.js_store.specs.declared.error.CreateKeyValueErrorKind.{CreateKeyValueErrorKind}
 use Rattle.js_store.specs.declared.error.CreateKeyValueErrorKind.TheVariants.{TimedOut, BucketCreate}
-use Rattle.js_store.specs.declared.level.IfAllowed.{IfAllowed}
+use Rattle.js_store.specs.declared.api_level.IfAllowed.{IfAllowed}
 use Rattle.js_store.specs.declared.outcome.BucketCall.{BucketCall}
 use Rattle.js_store.specs.declared.store.Store.{Store}
 use Rattle.js_store.specs.declared.store.StoreNames.{StoreNames}
-use Rattle.js_store.specs.Level.{LevelCall, LevelFirst}
+use Rattle.js_store.specs.ApiLevel.{LevelCall, LevelFirst}
 use Rattle.js_store.specs.Outcome.{Row, asking}
 use Rattle.js_store.specs.Store.{answered_names, store_of}
 

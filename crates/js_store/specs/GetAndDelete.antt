@@ -3,7 +3,7 @@ use Rattle.std.specs.Prelude.{ℕ, pos, int_lt, if◌then◌else◌, Option, Som
 use Rattle.js_base.specs.Error.{plain, caused}
 use Rattle.js_base.specs.declared.error.Error.{Error}
 use Rattle.js_store.specs.Name.{is_bucket_name}
-use Rattle.js_store.specs.Origins.{stream_name}
+use Rattle.js_store.specs.SourceBuckets.{stream_name}
 use Rattle.js_json_stream_bodies.specs.declared.stream.delete_status.DeleteStatus.{DeleteStatus}
 use Rattle.js_json_stream_bodies.specs.declared.stream.info.Info.{Info}
 use Rattle.js_call.specs.declared.call.Call.{Call}

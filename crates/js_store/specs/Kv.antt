@@ -10,7 +10,7 @@ use Rattle.js_json_stream_bodies.specs.declared.stream.policies.StorageType.TheV
 use Rattle.js_json_stream_bodies.specs.declared.stream.source.Source.{Source}
 use Rattle.js_store.specs.declared.kv.Config.{Config}
 use Rattle.js_store.specs.declared.kv.Origins.{Origins}
-use Rattle.js_store.specs.Origins.{stream_name, mirrored, gathered}
+use Rattle.js_store.specs.SourceBuckets.{stream_name, mirrored, gathered}
 
 -- every field is 0, false, empty, none or its enum's default
 abbrev pub new_config : Config

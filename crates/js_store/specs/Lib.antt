@@ -1,5 +1,5 @@
 pub mod Name
-pub mod Origins
+pub mod SourceBuckets
 pub mod Kv
 pub mod ObjectStore
 pub mod Error
@@ -7,7 +7,7 @@ pub mod ToSource
 pub mod Places
 pub mod Outcome
 pub mod Refusal
-pub mod Level
+pub mod ApiLevel
 pub mod Store
 pub mod GetAndDelete
 pub mod Create

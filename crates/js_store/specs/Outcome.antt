@@ -4,7 +4,7 @@ use Rattle.js_base.specs.declared.error.Source.{Source}
 use Rattle.js_base.specs.declared.turn.Turn.{Turn}
 use Rattle.js_base.specs.declared.turn.Turn.TheVariants.{Pending, Ready, OutOfMemory}
 use Rattle.js_link.specs.LinkView.{LinkView}
-use Rattle.js_call.specs.Then.{Polls}
+use Rattle.js_call.specs.CallSequence.{Polls}
 use Rattle.js_call.specs.Wakes.{unless_refused}
 use Rattle.js_call.specs.declared.open_request.OpenRequest.{OpenRequest}
 use Rattle.js_store.specs.declared.outcome.BucketCall.{BucketCall}

@@ -1,7 +1,7 @@
 -- Where the values of a bucket are.
 use Rattle.std.specs.Prelude.{ℕ, ◌≡◌, Bool, true, false, not, if◌then◌else◌, List, [], ◌∷◌, ◌++◌, codes, Option, Some, None, refl}
 use Rattle.std.specs.Str.{bytes_eq}
-use Rattle.js_store.specs.Origins.{begins_as_stream}
+use Rattle.js_store.specs.SourceBuckets.{begins_as_stream}
 use Rattle.js_json_stream_bodies.specs.declared.stream.source.External.{External}
 use Rattle.js_json_stream_bodies.specs.declared.stream.source.Source.{Source}
 use Rattle.js_store.specs.declared.places.Places.{Places}

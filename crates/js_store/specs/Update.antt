@@ -3,12 +3,12 @@ use Rattle.std.specs.Prelude.{◌≡◌, None, Result, Ok, Err}
 use Rattle.js_base.specs.Error.{caused, kind_of}
 use Rattle.js_base.specs.declared.error.Error.{Error}
 use Rattle.js_store.specs.Kv.{stream_config}
-use Rattle.js_store.specs.Origins.{stream_name}
+use Rattle.js_store.specs.SourceBuckets.{stream_name}
 use Rattle.js_store.specs.declared.kv.Config.{Config}
 use Rattle.js_json_stream_bodies.specs.declared.stream.info.Info.{Info}
 use Rattle.js_call.specs.declared.call.Call.{Call}
 use Rattle.js_call.specs.declared.scope.ApiScope.{ApiScope}
-use Rattle.js_call.specs.declared.then.Then.{Then}
+use Rattle.js_call.specs.declared.call_sequence.Then.{Then}
 use Rattle.js_call_streams.specs.Update.{Updates, UpdatesOrCreates}
 use Rattle.js_call_streams.specs.declared.create_or_update.CreatingInfo.{CreatingInfo}
 use Rattle.js_call_streams.specs.declared.create_or_update.IfNotFound.{IfNotFound}
@@ -22,11 +22,11 @@ use Rattle.js_store.specs.declared.error.CreateKeyValueErrorKind.{CreateKeyValue
 use Rattle.js_store.specs.declared.error.CreateKeyValueErrorKind.TheVariants as creates
 use Rattle.js_store.specs.declared.error.UpdateKeyValueErrorKind.{UpdateKeyValueErrorKind}
 use Rattle.js_store.specs.declared.error.UpdateKeyValueErrorKind.TheVariants.{NotFound, JetStream}
-use Rattle.js_store.specs.declared.level.IfAllowed.{IfAllowed}
+use Rattle.js_store.specs.declared.api_level.IfAllowed.{IfAllowed}
 use Rattle.js_store.specs.declared.outcome.BucketCall.{BucketCall}
 use Rattle.js_store.specs.declared.store.Store.{Store}
 use Rattle.js_store.specs.declared.store.StoreNames.{StoreNames}
-use Rattle.js_store.specs.Level.{LevelCall, LevelFirst}
+use Rattle.js_store.specs.ApiLevel.{LevelCall, LevelFirst}
 use Rattle.js_store.specs.Outcome.{Row, asking}
 use Rattle.js_store.specs.Store.{answered_names, store_of}
 

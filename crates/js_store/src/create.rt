@@ -2,10 +2,10 @@
 ghost use Rattle.std.specs.Prelude.{◌≡◌, IfOk};
 ghost use Rattle.js_store.specs.Create.{create_row, creates_kind, CreatesBucket, CreatesStream};
 
+use crate::api_level::{AfterLevel, AskLevel, IfAllowed, after_level};
 use crate::config::create_its_stream;
 use crate::error::{CreateKeyValueError, CreateKeyValueErrorKind};
 use crate::kv;
-use crate::level::{AfterLevel, AskLevel, IfAllowed, after_level};
 use crate::outcome::{BucketCall, Outcome};
 use crate::store::{Store, StoreNames, answered_names, store_of};
 use js_base::{Error, OutOfMemory, Source, Text};

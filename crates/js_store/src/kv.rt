@@ -1,11 +1,11 @@
 //! Buckets of keys and their values: how to configure them, and which stream one is (NATS ADR-8).
 ghost use Rattle.std.specs.Prelude.{◌≡◌, IfOk, Some, None, [], true, map, string_bytes};
-ghost use Rattle.js_store.specs.Origins.{mirrored, of_bucket as of_bucket_in};
+ghost use Rattle.js_store.specs.SourceBuckets.{mirrored, of_bucket as of_bucket_in};
 ghost use Rattle.js_store.specs.Kv.{all_keys as all_keys_in, history_of as history_in, replicas_of as replicas_in, compression_of as compression_in, subjects_of as subjects_in, origins_of as origins_in, stream_config};
 
 use crate::config::{BucketConfig, stream_of};
-pub use crate::origins::stream_name;
-use crate::origins::{gathered, of_bucket};
+pub use crate::source_buckets::stream_name;
+use crate::source_buckets::{gathered, of_bucket};
 use js_base::{Items, Nanos, OutOfMemory, Text, TryClone, both, each_copied};
 use js_json_stream_bodies::stream;
 use js_json_stream_bodies::stream::{

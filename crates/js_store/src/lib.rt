@@ -9,6 +9,7 @@
 //! where they are.
 #![tactic(auto)]
 
+mod api_level;
 mod calls;
 mod config;
 mod create;
@@ -16,18 +17,18 @@ mod delete;
 mod error;
 mod get;
 pub mod kv;
-mod level;
 mod name;
 pub mod object_store;
 mod objects;
-mod origins;
 mod outcome;
 mod places;
 mod refusal;
+mod source_buckets;
 mod store;
 mod to_source;
 mod update;
 
+pub use api_level::{AskLevel, AskingLevel, IfAllowed};
 pub use calls::StoreCalls;
 pub use create::{CreateBucket, CreateKeyValue, CreatingBucket, create_key_value};
 pub use delete::{DeleteKeyValue, DeletingBucket, delete_key_value};
@@ -38,7 +39,6 @@ pub use error::{
     UpdateKeyValueErrorKind,
 };
 pub use get::{GetKeyValue, GettingBucket, get_key_value};
-pub use level::{AskLevel, AskingLevel, IfAllowed};
 pub use name::is_valid_bucket_name;
 pub use objects::{
     CreateObjectStore, CreatingObjects, DeleteObjects, DeletingObjects, GetObjectStore,

@@ -1,16 +1,16 @@
 //! The calls that change a bucket of keys.
 ghost use Rattle.std.specs.Prelude.{◌≡◌, IfOk};
-ghost use Rattle.js_store.specs.Origins.{stream_name};
+ghost use Rattle.js_store.specs.SourceBuckets.{stream_name};
 ghost use Rattle.js_call_streams.specs.Update.{Updates};
 ghost use Rattle.js_json_stream_bodies.specs.declared.stream.config.Config.{Config};
 ghost use Rattle.js_store.specs.Update.{changed_names, changed_store, changes_kind, create_or_update_row, CreatesOrUpdatesBucket, CreatesOrUpdatesStream, update_row, UpdatesBucket, UpdatesStream};
 
+use crate::api_level::{AfterLevel, AskLevel, IfAllowed, after_level};
 use crate::config::{BucketConfig, stream_of};
 use crate::error::{
     CreateKeyValueError, CreateKeyValueErrorKind, UpdateKeyValueError, UpdateKeyValueErrorKind,
 };
 use crate::kv;
-use crate::level::{AfterLevel, AskLevel, IfAllowed, after_level};
 use crate::outcome::{BucketCall, Outcome};
 use crate::store::{Store, StoreNames, answered_names, store_of};
 use js_base::{Error, OutOfMemory, Source, Text, TryClone, all_3, both};

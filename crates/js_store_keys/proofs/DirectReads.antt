@@ -10,7 +10,7 @@ use Rattle.js_message.specs.declared.stream_message.StreamMessageErrorKind.{Stre
 use Rattle.js_message.specs.declared.stream_message.StreamMessageErrorKind.TheVariants.{MissingHeader, ParseError, OutOfMemory}
 use Rattle.js_store_keys.specs.declared.get_error.GetError.{GetError}
 use Rattle.js_store_keys.specs.declared.get_error.GetError.TheVariants.{Unreadable}
-use Rattle.js_store_keys.specs.declared.stored.Stored.{Stored}
+use Rattle.js_store_keys.specs.declared.stored_message.Stored.{Stored}
 use Rattle.js_store_keys.specs.Answer.{Answers, by_fields, direct_stored, unread_message}
 use Rattle.js_store_keys.specs.Operation.{operation_in}
 

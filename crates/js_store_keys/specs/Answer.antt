@@ -9,8 +9,8 @@ use Rattle.serde_json.specs.Find.{get, as_str, as_number, as_u64}
 use Rattle.js_base.specs.declared.headers.Header.{Header}
 use Rattle.js_base.specs.declared.message.Message.{Message}
 use Rattle.js_base.specs.declared.message.StatusCode.{StatusCode}
-use Rattle.js_codes.specs.Errors.{error_fields}
-use Rattle.js_codes.specs.declared.errors.Error.{Error}
+use Rattle.js_codes.specs.ApiError.{error_fields}
+use Rattle.js_codes.specs.declared.api_error.Error.{Error}
 use Rattle.js_json_members.specs.Instant.{instant_of}
 use Rattle.js_json_members.specs.Value.{value_of}
 use Rattle.js_json_members.specs.declared.error.ReadError.{ReadError}
@@ -26,7 +26,7 @@ use Rattle.js_store_keys.specs.declared.get_error.GetError.{GetError}
 use Rattle.js_store_keys.specs.declared.get_error.GetError.TheVariants.{Refused, Unreadable, OutOfMemory}
 use Rattle.js_store_keys.specs.declared.operation.Operation.{Operation}
 use Rattle.js_store_keys.specs.declared.operation.Operation.TheVariants.{Put}
-use Rattle.js_store_keys.specs.declared.stored.Stored.{Stored}
+use Rattle.js_store_keys.specs.declared.stored_message.Stored.{Stored}
 use Rattle.js_store_keys.specs.Operation.{operation_in, is_put}
 
 -- how an error is printed

@@ -6,7 +6,7 @@ use crate::entry::Entry;
 use crate::get_error::GetError;
 use crate::key_places::KeyPlaces;
 use crate::operation::operation_of;
-use crate::stored::{Stored, value_of};
+use crate::stored_message::{Stored, value_of};
 use js_base::{Message, StatusCode};
 use js_message::{StreamMessage, StreamMessageErrorKind};
 use std::alloc::Global;

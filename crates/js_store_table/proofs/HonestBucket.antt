@@ -12,7 +12,7 @@ use Rattle.js_event_log.specs.RunProjection.{as_entry}
 use Rattle.js_event_log.proofs.HonestLog.{gapless_rises}
 use Rattle.js_store_keys.specs.declared.entry.Entry.{Entry}
 use Rattle.js_store_table.specs.BucketLog.{RisesAbove, IsAmong, IsChange, IsBucketLog, TellYields, AreOvertaken, KeepsTable, HasLogsRows, last_from}
-use Rattle.js_store_table.specs.Rows.{KeyRows}
+use Rattle.js_store_table.specs.TableRows.{KeyRows}
 use Rattle.js_store_table.proofs.KeptChanges.{same_table}
 
 -- ---- changes that rise

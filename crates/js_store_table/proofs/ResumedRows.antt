@@ -3,7 +3,7 @@ use Rattle.std.proofs.Common.{◌≡◌, ℕ, List, [], ◌∷◌, ◌++◌, sym
 use Rattle.std.proofs.lemmas.List.{append_assoc}
 use Rattle.js_store_keys.specs.declared.entry.Entry.{Entry}
 use Rattle.js_store_table.specs.Resume.{AfterPolls, GoesOn, told_in_all}
-use Rattle.js_store_table.specs.Rows.{KeyRows, IsTable}
+use Rattle.js_store_table.specs.TableRows.{KeyRows, IsTable}
 
 pub after_polls : (h : ℕ) (from : KeyRows) (before : List Entry) (polls : List (List Entry)) (to : KeyRows) → IsTable h from before → AfterPolls h from polls to
     → IsTable h to (before ++ told_in_all polls)

@@ -9,7 +9,7 @@ use Rattle.js_store_keys.specs.declared.entry.Entry.{Entry}
 use Rattle.js_store_keys.specs.declared.operation.Operation.{Operation}
 use Rattle.js_store_keys.specs.declared.operation.Operation.TheVariants.{Purge}
 use Rattle.js_store_table.specs.History.{changes_of}
-use Rattle.js_store_table.specs.Rows.{KeyRows, IsTable, most}
+use Rattle.js_store_table.specs.TableRows.{KeyRows, IsTable, most}
 
 -- ---- what was removed
 

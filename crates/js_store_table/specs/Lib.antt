@@ -2,6 +2,6 @@ pub mod BucketLog
 pub mod Entry
 pub mod History
 pub mod Resume
-pub mod Rows
+pub mod TableRows
 pub mod Table
 pub mod WorkedLogs

@@ -1,8 +1,8 @@
 -- A table that goes on with the rows of an earlier one.
 use Rattle.std.specs.Prelude.{ℕ, ◌≡◌, List, [], ◌∷◌, ◌++◌}
 use Rattle.js_store_keys.specs.declared.entry.Entry.{Entry}
-use Rattle.js_store_table.specs.declared.rows.Rows.{Rows}
-use Rattle.js_store_table.specs.Rows.{KeyRows, Follows, IsTable}
+use Rattle.js_store_table.specs.declared.table_rows.Rows.{Rows}
+use Rattle.js_store_table.specs.TableRows.{KeyRows, Follows, IsTable}
 
 -- the same rows, at the same revision, and so much is to come
 abbrev pub resumed : ℕ → Rows → Rows

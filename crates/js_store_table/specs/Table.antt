@@ -5,13 +5,13 @@ use Rattle.js_base.specs.declared.turn.Next.{Next}
 use Rattle.js_base.specs.declared.turn.Next.TheVariants as next
 use Rattle.js_link.specs.LinkView.{LinkView}
 use Rattle.js_store_keys.specs.declared.entry.Entry.{Entry}
-use Rattle.js_store_table.specs.declared.rows.BucketKeys.{BucketKeys}
-use Rattle.js_store_table.specs.declared.rows.Progress.{Progress}
+use Rattle.js_store_table.specs.declared.table_rows.BucketKeys.{BucketKeys}
+use Rattle.js_store_table.specs.declared.table_rows.Progress.{Progress}
 use Rattle.js_store_table.specs.declared.table.Table.{Table}
 use Rattle.js_store_table.specs.declared.table_error.TableError.{TableError}
 use Rattle.js_store_table.specs.declared.table_error.TableError.TheVariants.{Reader, NoEntry}
 use Rattle.js_store_table.specs.Entry.{told_by}
-use Rattle.js_store_table.specs.Rows.{at_entry}
+use Rattle.js_store_table.specs.TableRows.{at_entry}
 
 -- how an error is printed
 abbrev pub table_error_text : {E : Type 0} → (E → Option (List ℕ)) → TableError E → Option (List ℕ)

@@ -1,7 +1,7 @@
 //! The rows of a table, by key.
 ghost use Rattle.std.specs.Prelude.{◌≡◌, None, OnOk, OnErr};
 ghost use Rattle.std.specs.BTreeMap.{get_by_text};
-ghost use Rattle.js_store_table.specs.Rows.{IsSame, Notes};
+ghost use Rattle.js_store_table.specs.TableRows.{IsSame, Notes};
 
 use crate::key_history::KeyHistory;
 use js_base::{OutOfMemory, TryClone, both};

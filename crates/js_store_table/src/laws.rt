@@ -4,7 +4,7 @@ ghost use Rattle.js_ordered_table.specs.Gapless.{Server, Entry as Yield};
 ghost use Rattle.js_ordered_table.specs.declared.setup.OrderedSetup.{OrderedSetup};
 ghost use Rattle.js_store_keys.specs.declared.entry.Entry.{Entry};
 ghost use Rattle.js_store_table.specs.BucketLog.{HasLogsRows};
-ghost use Rattle.js_store_table.specs.Rows.{KeyRows};
+ghost use Rattle.js_store_table.specs.TableRows.{KeyRows};
 ghost use Rattle.js_store_table.specs.WorkedLogs as worked;
 
 /// Proves that the rows of a table are those of its bucket's log, from the configured start of its

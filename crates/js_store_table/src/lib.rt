@@ -12,13 +12,13 @@ mod key_history;
 mod key_rows;
 mod laws;
 mod message_entry;
-mod rows;
 mod table;
 mod table_error;
+mod table_rows;
 
 pub use js_readers::ordered::OrderedReader;
 pub use js_store_keys::Entry;
 pub use laws::{rows_are_those_of_the_log, worked_logs};
-pub use rows::Rows;
 pub use table::Table;
 pub use table_error::TableError;
+pub use table_rows::Rows;

@@ -1,12 +1,12 @@
 //! A live table of the keys of a bucket.
 ghost use Rattle.std.specs.Prelude.{◌≡◌, None};
 ghost use Rattle.js_store_table.specs.Resume.{GoesOn, resumed};
-ghost use Rattle.js_store_table.specs.Rows.{Follows};
+ghost use Rattle.js_store_table.specs.TableRows.{Follows};
 ghost use Rattle.js_store_table.specs.Table.{PollsTable, ReadsNext, TellsMessage, WakesAt, progress_after, told_of};
 
 use crate::message_entry::Untold;
-use crate::rows::Rows;
 use crate::table_error::TableError;
+use crate::table_rows::Rows;
 use js_base::{Message, Moment, Next, replace_with};
 use js_link::{InboxId, Link};
 use js_readers::ordered::OrderedReader;

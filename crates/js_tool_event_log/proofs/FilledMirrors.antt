@@ -12,8 +12,8 @@ use Rattle.js_tool_transcript.specs.RelayText.{relay_text}
 use Rattle.js_ordered_table.specs.declared.setup.OrderedSetup.{OrderedSetup}
 use Rattle.js_ordered_table.specs.declared.run.ReplayError.{ReplayError}
 use Rattle.js_ordered_table.specs.Texts.{config_of}
-use Rattle.js_tool_event_log.specs.declared.yields.Ending.{Ending}
-use Rattle.js_tool_event_log.specs.declared.yields.Ending.TheVariants as ending
+use Rattle.js_tool_event_log.specs.declared.replay_entries.Ending.{Ending}
+use Rattle.js_tool_event_log.specs.declared.replay_entries.Ending.TheVariants as ending
 use Rattle.js_tool_event_log.specs.declared.report.Report.{Report}
 use Rattle.js_tool_event_log.specs.declared.report.Report.TheVariants as report
 use Rattle.js_tool.specs.LogCommand.{Wanted, Relay}

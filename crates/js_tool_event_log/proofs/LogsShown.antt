@@ -31,7 +31,7 @@ use Rattle.js_tool_transcript.specs.Transcript.{transcript}
 use Rattle.js_tool.specs.LogCommand.{Wanted, Project, Mirror, Relay}
 use Rattle.js_tool_event_log.specs.declared.report.Report.{Report}
 use Rattle.js_tool_event_log.specs.declared.report.Report.TheVariants as report
-use Rattle.js_tool_event_log.specs.Yields.{ends, ending_of}
+use Rattle.js_tool_event_log.specs.ReplayEntries.{ends, ending_of}
 use Rattle.js_tool_event_log.specs.LogTexts.{rows_text, table_text, mirror_text, served_text}
 use Rattle.js_tool_event_log.specs.LogPromises.{WritesLogsTable, WritesLogsMirror, WritesLogsRelay}
 use Rattle.js_tool_event_log.specs.Report.{unless_falling, log_report, report_from, report_of}

@@ -4,7 +4,7 @@ use Rattle.js_base.specs.declared.message.Entry.{Entry}
 use Rattle.js_ordered_table.specs.declared.run.ReplayError.TheVariants.{BadEvent}
 use Rattle.js_ordered_table.specs.declared.setup.OrderedSetup.{OrderedSetup}
 use Rattle.js_tool.specs.LogCommand.{Project, Mirror, Relay, sessions_bookmark, bookmark_number, wanted_of, project_of, project_up_to, relay_of, three_words}
-use Rattle.js_tool_event_log.specs.declared.yields.Ending.TheVariants as ending
+use Rattle.js_tool_event_log.specs.declared.replay_entries.Ending.TheVariants as ending
 use Rattle.js_tool_event_log.specs.declared.report.Report.TheVariants as report
 use Rattle.js_tool_event_log.specs.LogTexts.{no_start_text, not_rising_text, hole_text}
 use Rattle.js_tool_event_log.specs.Report.{log_report, report_from}

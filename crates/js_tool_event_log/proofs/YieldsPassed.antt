@@ -19,9 +19,9 @@ use Rattle.js_tool_transcript.specs.TranscriptReplay.{replay_input}
 use Rattle.js_tool_transcript.specs.Setup.{setup_line}
 use Rattle.js_tool_transcript.specs.Transcript.{◌>>=◌, numbered, events_from, with_lines, StopsAt, transcript, transcript_of}
 use Rattle.js_tool_transcript.proofs.LinesRead.{whole}
-use Rattle.js_tool_event_log.specs.declared.yields.Ending.{Ending}
-use Rattle.js_tool_event_log.specs.declared.yields.YieldProgress.{YieldProgress}
-use Rattle.js_tool_event_log.specs.Yields.{ending_of, HasYielded, PassesTo, StopsOn, ReadsYields}
+use Rattle.js_tool_event_log.specs.declared.replay_entries.Ending.{Ending}
+use Rattle.js_tool_event_log.specs.declared.replay_entries.YieldProgress.{YieldProgress}
+use Rattle.js_tool_event_log.specs.ReplayEntries.{ending_of, HasYielded, PassesTo, StopsOn, ReadsYields}
 use Rattle.js_event_log.specs.RunProjection.{yielded}
 use Rattle.js_event_log.proofs.AppliedYields.{yielded_append, joined_push}
 

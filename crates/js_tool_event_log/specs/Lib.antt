@@ -1,4 +1,4 @@
-pub mod Yields
+pub mod ReplayEntries
 pub mod LogTexts
 pub mod Report
 pub mod Relay

@@ -11,8 +11,8 @@ use Rattle.js_ordered_table.specs.Gapless.{all_outputs}
 use Rattle.js_ordered_table.specs.Texts.{config_of, configured_start}
 use Rattle.js_tool_transcript.specs.declared.transcript.Transcript.{Transcript}
 use Rattle.js_tool_transcript.specs.TranscriptReplay.{replay_input}
-use Rattle.js_tool_event_log.specs.declared.yields.Ending.{Ending}
-use Rattle.js_tool_event_log.specs.declared.yields.Ending.TheVariants as ending
+use Rattle.js_tool_event_log.specs.declared.replay_entries.Ending.{Ending}
+use Rattle.js_tool_event_log.specs.declared.replay_entries.Ending.TheVariants as ending
 use Rattle.js_tool_event_log.specs.declared.report.Report.{Report}
 use Rattle.js_tool_event_log.specs.declared.report.Report.TheVariants as report
 use Rattle.js_tool.specs.LogCommand.{Wanted, Relay}

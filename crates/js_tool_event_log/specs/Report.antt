@@ -14,12 +14,12 @@ use Rattle.js_tool_transcript.specs.declared.transcript.Unread.{Unread}
 use Rattle.js_tool_transcript.specs.TranscriptReplay.{replay_input}
 use Rattle.js_tool_transcript.specs.Text.{refusal_text}
 use Rattle.js_tool_transcript.specs.Transcript.{StopsAt}
-use Rattle.js_tool_event_log.specs.declared.yields.Ending.{Ending}
-use Rattle.js_tool_event_log.specs.declared.yields.Ending.TheVariants as ending
+use Rattle.js_tool_event_log.specs.declared.replay_entries.Ending.{Ending}
+use Rattle.js_tool_event_log.specs.declared.replay_entries.Ending.TheVariants as ending
 use Rattle.js_tool_event_log.specs.declared.report.Report.{Report}
 use Rattle.js_tool_event_log.specs.declared.report.Report.TheVariants as report
 use Rattle.js_tool.specs.LogCommand.{Wanted, Project, Mirror, Relay}
-use Rattle.js_tool_event_log.specs.Yields.{ending_of}
+use Rattle.js_tool_event_log.specs.ReplayEntries.{ending_of}
 use Rattle.js_tool_event_log.specs.LogTexts.{no_start_text, not_rising_text, table_text, mirror_text, served_text}
 
 -- a text, unless a sequence was not above the one before

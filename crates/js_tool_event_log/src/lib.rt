@@ -14,9 +14,9 @@ mod mirror;
 mod program;
 mod project;
 mod relay;
+mod replay_entries;
 mod report;
 mod sessions;
-mod yields;
 
 pub use js_tool::{Command, Status, command_of};
 pub use program::{run, run_plain};

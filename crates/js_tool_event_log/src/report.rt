@@ -12,7 +12,7 @@ ghost use Rattle.js_tool_event_log.specs.declared.report.Report.TheVariants.{Don
 use crate::mirror::mirror;
 use crate::project::project;
 use crate::relay::relay;
-use crate::yields::{Ending, read_yields};
+use crate::replay_entries::{Ending, read_yields};
 use js_base::{Entry, Items, OutOfMemory};
 use js_ordered::OrderedSetup;
 use js_tool::LogCommand;

@@ -2,7 +2,7 @@
 use Rattle.std.proofs.Common.{◌≡◌, ℕ, zero, suc, ◌+◌, ◌*◌, ◌/◌, ◌%◌, ◌-◌, List, ◌∷◌, ◌++◌, refl, ap, ◌∙◌, append_assoc, arith}
 use Rattle.std.proofs.lemmas.Bool.{ne_eqb}
 use Rattle.js_base.specs.Clock.{second}
-use Rattle.js_tool_explain.specs.Part.{digits}
+use Rattle.js_tool_explain.specs.SentencePart.{digits}
 
 pub next_digit : (places rest : ℕ) → (places ≡ 0 → ⊥) → (rest ≡ 0 → ⊥) → digits places rest ≡ (48 + rest * 10 / second) ∷ digits (places - 1) (rest * 10 % second)
 next_digit zero rest some more = absurd (some refl)

@@ -14,16 +14,16 @@ use Rattle.js_ordered_table.specs.Fold.{Ran, event, fold, is_over, opening}
 use Rattle.js_ordered_table.specs.Texts.{configured_start}
 use Rattle.js_tool_transcript.specs.declared.transcript.Transcript.{Transcript}
 use Rattle.js_tool_transcript.specs.TranscriptReplay.{replay_input}
-use Rattle.js_tool_explain.specs.declared.arrived.Arrived.{Arrived}
-use Rattle.js_tool_explain.specs.declared.awaited.Awaited.{Awaited}
-use Rattle.js_tool_explain.specs.declared.outside.Outside.{Outside}
+use Rattle.js_tool_explain.specs.declared.arrivals.Arrived.{Arrived}
+use Rattle.js_tool_explain.specs.declared.replies.Awaited.{Awaited}
+use Rattle.js_tool_explain.specs.declared.outside_events.Outside.{Outside}
 use Rattle.js_tool_explain.specs.declared.step.Before.{Before}
-use Rattle.js_tool_explain.specs.Arrived.{arrived, arrived_text}
-use Rattle.js_tool_explain.specs.Awaited.{awaited, awaited_text, ends_at}
+use Rattle.js_tool_explain.specs.Arrivals.{arrived, arrived_text}
+use Rattle.js_tool_explain.specs.Replies.{awaited, awaited_text, ends_at}
 use Rattle.js_tool_explain.specs.Outcome.{StepPlace, output_text}
-use Rattle.js_tool_explain.specs.Outside.{outside, outside_text}
-use Rattle.js_tool_explain.specs.Part.{Said, Text, Number, Count, line_text, said_text}
-use Rattle.js_tool_explain.specs.Rest.{new_rest_text, rest_of}
+use Rattle.js_tool_explain.specs.OutsideEvents.{outside, outside_text}
+use Rattle.js_tool_explain.specs.SentencePart.{Said, Text, Number, Count, line_text, said_text}
+use Rattle.js_tool_explain.specs.RetryWait.{new_rest_text, rest_of}
 
 -- ---- why it happens, by the consumer before an event
 

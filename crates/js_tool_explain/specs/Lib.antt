@@ -1,8 +1,8 @@
-pub mod Part
-pub mod Outside
-pub mod Awaited
-pub mod Arrived
-pub mod Rest
+pub mod SentencePart
+pub mod OutsideEvents
+pub mod Replies
+pub mod Arrivals
+pub mod RetryWait
 pub mod Outcome
 pub mod Explained
 pub mod Answer

@@ -14,7 +14,7 @@ use Rattle.js_ordered_table.specs.declared.run.Start.TheVariants as start
 use Rattle.js_tool_explain.specs.declared.outcome.Place.{Place}
 use Rattle.js_tool_explain.specs.declared.outcome.Purpose.{Purpose}
 use Rattle.js_tool_explain.specs.declared.outcome.Purpose.TheVariants as purpose
-use Rattle.js_tool_explain.specs.Part.{Said, Text, Number, Count, line_text}
+use Rattle.js_tool_explain.specs.SentencePart.{Said, Text, Number, Count, line_text}
 
 -- in which step something is put out: its moment, whether the consumer was being recreated before it, whether the end of the watcher
 -- ended the consumer in it, and the link and the consumer after it

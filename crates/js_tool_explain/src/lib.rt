@@ -8,13 +8,13 @@
 #![tactic(auto)]
 
 mod answer;
-mod arrived;
-mod awaited;
+mod arrivals;
 mod outcome;
-mod outside;
-mod part;
+mod outside_events;
 mod progress;
-mod rest;
+mod replies;
+mod retry_wait;
+mod sentence_part;
 mod step;
 
 pub use answer::explain;

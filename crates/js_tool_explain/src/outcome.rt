@@ -3,7 +3,7 @@
 ghost use Rattle.std.specs.Prelude.{◌≡◌, ◌++◌, flat_map, length, OnOk};
 ghost use Rattle.js_tool_explain.specs.Outcome as sentences;
 
-use crate::part::{Part, push_line};
+use crate::sentence_part::{Part, push_line};
 use js_base::Moment;
 use js_ordered_table::{Consumer, ItemKind, Output, Phase, Recreation, Stage, Start};
 use std::alloc::AllocError;

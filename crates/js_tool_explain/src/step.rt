@@ -2,15 +2,15 @@
 
 ghost use Rattle.std.specs.Prelude.{◌≡◌, ◌++◌, ◌∷◌, [], OnOk};
 ghost use Rattle.js_tool_explain.specs.Explained as sentences;
-ghost use Rattle.js_tool_explain.specs.Part.{said_text};
+ghost use Rattle.js_tool_explain.specs.SentencePart.{said_text};
 ghost use Rattle.js_ordered_table.specs.declared.consumer.ReplayInput.{ReplayInput};
 
-use crate::arrived::{Arrived, arrived_in, push_arrived};
-use crate::awaited::{Awaited, awaited_in, ends_at, push_awaited};
+use crate::arrivals::{Arrived, arrived_in, push_arrived};
 use crate::outcome::{Place, push_outputs};
-use crate::outside::{Outside, outside_in, push_outside};
-use crate::part::{Part, push_line, push_parts};
-use crate::rest::{Rest, push_new_rest, rest_of};
+use crate::outside_events::{Outside, outside_in, push_outside};
+use crate::replies::{Awaited, awaited_in, ends_at, push_awaited};
+use crate::retry_wait::{Rest, push_new_rest, rest_of};
+use crate::sentence_part::{Part, push_line, push_parts};
 use js_base::{Moment, OutOfMemory};
 use js_json::consumer::Info;
 use js_ordered_table::transitions::event::is_over;

@@ -9,11 +9,11 @@
 
 mod answer;
 mod conversation;
-mod ends;
 mod incoming_lines;
 mod output;
 mod peer;
+mod source_sink_peer;
 
 pub use conversation::converse;
-pub use ends::{Ends, follow};
 pub use peer::{Peer, Turn};
+pub use source_sink_peer::{Ends, follow};

@@ -5,7 +5,7 @@
 //! from bytes in memory or from a source, one after another.
 #![tactic(auto)]
 
-mod cut;
+mod line_cut;
 mod lines;
 mod memory;
 mod pieces;
@@ -18,7 +18,7 @@ ghost use Rattle.std.specs.Io.{ReadsAtMost, WritesAtMost};
 ghost use Rattle.std.specs.Io.KnownBytes.{ReadConsumes, WriteAppends};
 ghost use Rattle.js_tool_io.specs.Causes.{HasCause, HasWriteCause};
 
-pub use cut::{cut_line, next_piece};
+pub use line_cut::{cut_line, next_piece};
 pub use lines::Lines;
 pub use memory::{MemorySink, MemorySource};
 pub use pieces::Pieces;

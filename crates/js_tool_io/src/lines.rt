@@ -4,7 +4,7 @@ ghost use Rattle.std.specs.Prelude.{◌≡◌, ◌≤◌, length};
 ghost use Rattle.js_tool_io.specs.Lines.{lines_of, IsRead};
 
 use crate::Pieces;
-use crate::cut::{line_at, next_piece};
+use crate::line_cut::{line_at, next_piece};
 use std::alloc::Global;
 use std::marker::Model;
 

@@ -2,8 +2,8 @@
 
 use crate::steps::{Faults, GAP, GAP_TEXT, NO_FAULTS, Told, gap_told, told, words_of};
 use crate::tables::same;
-use js_tool_io::{PlainSink, PlainSource, Sink, Source};
 use js_tool_event_log::{Status, run_plain};
+use js_tool_io::{PlainSink, PlainSource, Sink, Source};
 use std::alloc::{AllocError, Global};
 use std::process::Abort;
 use std::sync::Wait;

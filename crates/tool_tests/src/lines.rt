@@ -2,8 +2,8 @@
 
 use crate::steps::{NO_FAULTS, Told, told};
 use crate::tables::same;
-use js_tool_io::{MemorySink, MemorySource, Sink, Source};
 use js_tool_event_log::{Status, run};
+use js_tool_io::{MemorySink, MemorySource, Sink, Source};
 use std::alloc::{AllocError, Global};
 use std::sync::Wait;
 use std::thread::Threads;

@@ -1,8 +1,8 @@
 //! One run over ends in memory, from which the tests are made.
 
 use crate::faults::failing;
-use js_tool_io::{MemorySink, MemorySource, Sink, Source};
 use js_tool_event_log::{Status, run};
+use js_tool_io::{MemorySink, MemorySource, Sink, Source};
 use std::alloc::{AllocError, Global};
 use std::sync::Wait;
 use std::thread::Threads;

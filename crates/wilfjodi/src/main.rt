@@ -1,10 +1,10 @@
 //! `wilfjodi`: JetStream consumers replayed from transcripts and from numbers, tables and mirrors of their logs, sessions with bookmarks, acknowledgement subjects and publish windows, on a command line.
 #![tactic(auto)]
 
+use js_tool_event_log::{Command, Status, command_of, run};
 use js_tool_explain::explain;
 use js_tool_follow::follow;
 use js_tool_io::{ReadSource, WriteSink};
-use js_tool_event_log::{Command, Status, command_of, run};
 use std::process::ExitCode;
 use std::{env, io};
 

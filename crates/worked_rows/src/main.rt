@@ -3,9 +3,9 @@
 //! goes to standard output, which the gate compares with the stored text.
 #![tactic(auto)]
 
+use js_tool_event_log::{Status, run};
 use js_tool_explain::explain;
 use js_tool_io::{PlainSource, WriteSink};
-use js_tool_event_log::{Status, run};
 use std::alloc::{AllocError, Global};
 use std::io::{BufRead, BufReader, Write};
 use std::sync::Wait;

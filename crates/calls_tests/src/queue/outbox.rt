@@ -1,8 +1,8 @@
 //! A link with a limit that refuses a pull request, and not the subscription before it.
 
+use crate::queue::call_text::opened;
 use crate::queue::reader::Reader;
 use crate::queue::server::consumer;
-use crate::queue::told::opened;
 use crate::tables::says;
 use crate::words::Words;
 use js_base::OutOfMemory;

@@ -1,6 +1,6 @@
 //! What a worker reads by.
 
-use crate::queue::told::{followed, given, opened};
+use crate::queue::call_text::{followed, given, opened};
 use crate::server::Answered;
 use crate::words::{Words, word};
 use js_base::{Moment, Next, OutOfMemory};

@@ -1,7 +1,7 @@
 //! Asking anew what the server knows of the consumer.
 
+use crate::queue::call_text::turned;
 use crate::queue::server::consumer;
-use crate::queue::told::turned;
 use crate::server::Answered;
 use crate::words::{Words, word};
 use js_base::OutOfMemory;

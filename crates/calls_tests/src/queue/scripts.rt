@@ -1,6 +1,6 @@
 //! Scripts for a worker of a queue, and what it answers and sends.
 
-use crate::queue::sending;
+use crate::queue::sent_text;
 use crate::queue::worker::{Worker, Works};
 use crate::tables::says;
 use crate::words::Words;

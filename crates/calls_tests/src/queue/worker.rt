@@ -1,12 +1,12 @@
 //! A worker of the queue: what it reads by, and the last job that it was given.
 
+use crate::queue::call_text::{done, outcome};
 use crate::queue::pushed::push_consumer;
 use crate::queue::reader::Reader;
 use crate::queue::renewal::Renewal;
 use crate::queue::server::{
     consumer, flow_control, job, limited_consumer, number, reply, stalled, status,
 };
-use crate::queue::told::{done, outcome};
 use crate::tables::numbered;
 use crate::words::{Words, word};
 use js_base::{Message as Received, OutOfMemory};

@@ -5,8 +5,8 @@ ghost use Rattle.std.specs.Int.{w64};
 ghost use Rattle.js_json_members.specs.Member.{Gives};
 ghost use Rattle.js_json_stream_bodies.specs.RoundTrip.{without_domains, HasNumbers};
 
-mod parts;
-mod rows;
+mod reader;
+mod writer;
 
 use crate::stream::placement::Placement;
 use crate::stream::policies::{Compression, DiscardPolicy, RetentionPolicy, StorageType};

@@ -9,8 +9,8 @@ ghost use Rattle.js_ordered_table.specs.Passes.{heard};
 ghost use Rattle.js_ordered_table.specs.declared.row.Row.TheVariants as row;
 
 use crate::drive::give::put;
-use crate::drive::listening::output_of;
-use crate::drive::reading::finish;
+use crate::drive::pull_rows::finish;
+use crate::drive::push_rows::output_of;
 use crate::event_context::EventContext;
 use js_base::{Message, OutOfMemory};
 use js_ordered_table::transitions::pull::take_message;

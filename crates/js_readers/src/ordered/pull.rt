@@ -14,9 +14,9 @@ ghost use Rattle.js_readers.specs.OrderedOpening.{OpensPull};
 ghost use Rattle.js_readers.specs.OrderedPolls.{PollsWithSource, given_answer};
 ghost use Rattle.js_readers.specs.Stream.{IsTimed};
 
+use crate::ack_timeout::timed;
 use crate::ordered::settings::settings_of;
 use crate::pull::{StreamError, message_timeout, stream_error_kind};
-use crate::timed::timed;
 use js_base::{Error, Moment, Nanos, Next};
 use js_call_consumers::OrderedPullConsumer;
 use js_link::{InboxId, Link};

@@ -14,9 +14,9 @@ ghost use Rattle.js_readers.specs.OrderedOpening.{OpensPush, open_error_kind};
 ghost use Rattle.js_readers.specs.OrderedPolls.{PollsWithSource, given_answer};
 ghost use Rattle.js_readers.specs.Stream.{IsTimed};
 
+use crate::ack_timeout::timed;
 use crate::ordered::settings::settings_of;
 use crate::pull::{StreamError, StreamErrorKind, message_timeout};
-use crate::timed::timed;
 use js_base::{Error, Moment, Nanos, Next};
 use js_call_consumers::OrderedPushConsumer;
 use js_link::{InboxId, Link};

@@ -8,9 +8,9 @@ ghost use Rattle.js_readers.specs.declared.pull.settings.BuilderKind.{BuilderKin
 ghost use Rattle.js_readers.specs.declared.pull.settings.BuilderKind.TheVariants as rows;
 
 use crate::pull::batch::Batch;
+use crate::pull::batch_opening::open_batch;
 use crate::pull::consumer::is_pinned;
 use crate::pull::error::{BatchError, StreamError};
-use crate::pull::opening::open_batch;
 use crate::pull::settings::{BuilderKind, Settings, defaults_of};
 use crate::pull::stream::Stream;
 use js_base::{Moment, Nanos, OutOfMemory};

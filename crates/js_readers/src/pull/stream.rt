@@ -8,10 +8,10 @@ ghost use Rattle.js_base.specs.Clock.{has_come};
 ghost use Rattle.js_pull.specs.Timers.{SleepsIfLeftAlone, timer_due};
 ghost use Rattle.js_readers.specs.Stream.{IsTimed, IsTimedAdvance, OpensStream, given_advance, given_answer};
 
-use crate::pull::advance::{Advance, timed_advance};
+use crate::ack_timeout::timed;
 use crate::pull::consumer::{info_timeout, message_timeout};
 use crate::pull::error::{StreamError, stream_error_kind};
-use crate::timed::timed;
+use crate::pull::stream_step::{Advance, timed_advance};
 use js_base::{Error, Moment, Nanos, Next, State};
 use js_call::ApiScope;
 use js_json::consumer::Info;

@@ -7,8 +7,8 @@ ghost use Rattle.js_json_members.specs.Member.{Gives};
 ghost use Rattle.js_tool_transcript.specs.Transcript.{GivesLines, numbered};
 ghost use Rattle.js_tool_event_log.specs.SessionLine.{has_no_other as has_no_other_in, is_save as is_save_in, members_named, said as said_in, session_line};
 
-use js_json_members::{ReadError, value_of};
 use js_event_log_sessions::Line;
+use js_json_members::{ReadError, value_of};
 use js_tool_transcript::{Payloads, Setup, Unread, compact_event, event_of, setup_of};
 use serde_json::{Map, Value};
 use std::alloc::Global;

@@ -3,9 +3,9 @@ ghost use Rattle.std.specs.Prelude.{◌<◌};
 
 use crate::mirrors::draw::mirror;
 use js_base::{Entry, OutOfMemory};
+use js_event_log::{Mirror, Slot, entry_of};
 use js_json::consumer::DeliverPolicy;
 use js_json::pull::OrderedConfig;
-use js_event_log::{Mirror, Slot, entry_of};
 use js_ordered::{Event, OrderedSetup, Output, ReplayError, Run, replay_ordered};
 use js_tool_generate::replay_input;
 use rand_pcg::Pcg32;

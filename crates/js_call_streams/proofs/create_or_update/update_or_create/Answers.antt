@@ -3,7 +3,7 @@ use Rattle.std.specs.Prelude.{IfOk}
 use Rattle.js_base.specs.declared.memory.OutOfMemory.{OutOfMemory}
 use Rattle.js_call.specs.declared.call.Call.{Call}
 use Rattle.js_call.specs.declared.scope.ApiScope.{ApiScope}
-use Rattle.js_call.specs.declared.then.Then.{Then}
+use Rattle.js_call.specs.declared.call_sequence.Then.{Then}
 use Rattle.js_json_stream_bodies.specs.declared.stream.config.Config.{Config}
 use Rattle.js_call_streams.specs.declared.create_or_update.CreatingInfo.{CreatingInfo}
 use Rattle.js_call_streams.specs.declared.create_or_update.IfNotFound.{IfNotFound}

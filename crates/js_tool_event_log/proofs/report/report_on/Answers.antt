@@ -6,7 +6,7 @@ use Rattle.js_tool_transcript.specs.declared.transcript.Transcript.{Transcript}
 use Rattle.js_tool_transcript.specs.Transcript.{StopsAt, transcript, with_lines}
 use Rattle.js_tool_transcript.proofs.LinesRead.{with_setup}
 use Rattle.js_tool.specs.LogCommand.{wanted}
-use Rattle.js_tool_event_log.specs.declared.yields.Ending.{Ending}
+use Rattle.js_tool_event_log.specs.declared.replay_entries.Ending.{Ending}
 use Rattle.js_tool_event_log.specs.Report.{report_from, report_of}
 use Rattle.js_tool_event_log.specs.Relay.{ServesFrom}
 use Rattle.js_tool_event_log.proofs.LogsShown.{serves_read}

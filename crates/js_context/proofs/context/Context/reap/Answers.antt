@@ -1,5 +1,5 @@
 use Rattle.std.proofs.Common.{◌≡◌, ◌+◌, ◌-◌, length, arith, subst}
-use Rattle.js_context.specs.Reap.{Reaps}
+use Rattle.js_context.specs.DetachedAcks.{Reaps}
 use Rattle.js_context.proofs.AckLooks.{looked_within, turned_back, still_there}
 use Rattle.js_context.proofs.context.Context.reap.Goals as goal
 

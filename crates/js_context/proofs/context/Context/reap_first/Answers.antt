@@ -1,5 +1,5 @@
 use Rattle.std.proofs.Common.{◌≡◌, ◌<◌, length, arith, ap, subst}
-use Rattle.js_context.specs.Reap.{GoesRound, one_if}
+use Rattle.js_context.specs.DetachedAcks.{GoesRound, one_if}
 use Rattle.js_context.proofs.AckLooks.{none_looked, some_left, next_look}
 use Rattle.js_context.proofs.context.Context.reap_first.Goals as goal
 use Rattle.js_context.proofs.context.Context.reap_first.Goals.{then-reap_one, else-reap_one}

@@ -1,7 +1,7 @@
 use Rattle.std.proofs.Common.{◌≡◌, ◌++◌, ℕ, List, ap, refl, subst}
 use Rattle.js_link_connection.specs.declared.connection.Connection.{Connection}
 use Rattle.js_link_connection.specs.declared.keep_alive.KeepAlive.{KeepAlive}
-use Rattle.js_link_connection.specs.Receiving.{IsSame, Reads}
+use Rattle.js_link_connection.specs.Delivery.{IsSame, Reads}
 use Rattle.js_link_connection.proofs.Frames.{reads_from_same, receives_read, same_link}
 use Rattle.js_link_connection.proofs.connection.Connection.received.Goals as goal
 

@@ -1,6 +1,6 @@
 use Rattle.std.proofs.Common.{sym, subst}
 use Rattle.js_store_table.specs.Resume.{GoesOn}
-use Rattle.js_store_table.specs.declared.rows.Rows.{Rows}
+use Rattle.js_store_table.specs.declared.table_rows.Rows.{Rows}
 use Rattle.js_store_table.proofs.ResumedRows.{goes_on}
 use Rattle.js_store_table.proofs.table.Table.resume.Goals as goal
 

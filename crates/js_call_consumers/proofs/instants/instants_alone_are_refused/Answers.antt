@@ -1,5 +1,0 @@
-use Rattle.js_call_consumers.proofs.Rows.{request_written}
-use Rattle.js_call_consumers.proofs.instants.instants_alone_are_refused.Goals as goal
-
-pub returns : goal.returns
-returns c = request_written

@@ -1,4 +1,0 @@
-use Rattle.js_call_streams.proofs.get_or_create.find_stream.Goals as goal
-
-pub returns : goal.returns
-returns c = rw c.in_ok-row.ensures at c.call_on.ensures

@@ -1,6 +1,0 @@
-use Rattle.std.proofs.Common.{◌≡◌, take, map}
-use Rattle.js_call_streams.specs.Places.{placed}
-use Rattle.js_call_streams.proofs.places.place_each.Given as goal
-
-abbrev pub invariant-loop-source : goal.invariant-loop-source
-invariant-loop-source l = l.there.items ≡ map placed (take l.source-index l.sources)

@@ -1,0 +1,11 @@
+use Rattle.std.proofs.Common.{◌≡◌, rules}
+use Rattle.std.specs.Prelude.{Err}
+use Rattle.js_json_members.proofs.Gathered.{gathered_7}
+use Rattle.js_json.specs.ConsumerConfig.{flow}
+use Rattle.js_json.proofs.consumer.config.reader.Flow.read.Goals as goal
+
+pub returns-in_err-rate_limit : goal.returns-in_err-rate_limit
+unfolding flow
+returns-in_err-rate_limit c =
+    let is : c.from_residual.result ≡ Err c.in_err-rate_limit.field-0.0 = search rules in
+    rw (is) (gathered_7 _ _ _ _ _ _ _ _ _ _ _ _ _ _ _ c.in_err-rate_limit.ensures.first c.defaulted.ensures c.defaulted-2.ensures c.defaulted-3.ensures c.defaulted-4.ensures c.defaulted-5.ensures c.defaulted-6.ensures c.defaulted-7.ensures _)

@@ -1,5 +1,0 @@
-use Rattle.std.proofs.Common.{ℕ}
-use Rattle.js_tool_explain.proofs.part.+push_digits.Given as goal
-
-abbrev pub decreases-push_digits : goal.decreases-push_digits
-decreases-push_digits l = l.places
