@@ -3,8 +3,8 @@ use Rattle.std.specs.Prelude.{◌==◌, if◌then◌else◌}
 use Rattle.js_base.specs.Error.{plain, caused}
 use Rattle.js_base.specs.declared.error.Error.{Error}
 use Rattle.js_base.specs.declared.error.Source.{Source}
-use Rattle.js_codes.specs.ApiError.{api_source}
-use Rattle.js_codes.specs.declared.api_error.Error as api
+use Rattle.js_codes.specs.Errors.{api_source}
+use Rattle.js_codes.specs.declared.errors.Error as api
 use Rattle.js_json.specs.declared.consumer.create_request.Action.{Action}
 use Rattle.js_json.specs.declared.consumer.create_request.Action.TheVariants.{CreateOrUpdate, Create, Update}
 use Rattle.js_call.specs.declared.error.RequestErrorKind.{RequestErrorKind}

@@ -1,7 +1,7 @@
 -- How refusals of calls on consumers are printed, and the errors of the API that they hold.
 use Rattle.std.specs.Prelude.{ℕ, Option, Some, None, List, ◌++◌, codes}
-use Rattle.js_codes.specs.ApiError.{error_text}
-use Rattle.js_codes.specs.declared.api_error.Error.{Error}
+use Rattle.js_codes.specs.Errors.{error_text}
+use Rattle.js_codes.specs.declared.errors.Error.{Error}
 use Rattle.js_call_consumers.specs.declared.error.ConsumerInfoErrorKind.{ConsumerInfoErrorKind}
 use Rattle.js_call_consumers.specs.declared.error.ConsumerInfoErrorKind.TheVariants as infos
 use Rattle.js_call_consumers.specs.declared.error.ConsumerErrorKind.{ConsumerErrorKind}

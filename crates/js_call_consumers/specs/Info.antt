@@ -2,8 +2,8 @@
 use Rattle.std.specs.Prelude.{◌==◌, None, codes, Result, Ok, Err, if◌then◌else◌}
 use Rattle.js_base.specs.Error.{caused}
 use Rattle.js_base.specs.declared.error.Error.{Error}
-use Rattle.js_codes.specs.ApiError.{api_source}
-use Rattle.js_codes.specs.declared.api_error.Error as api
+use Rattle.js_codes.specs.Errors.{api_source}
+use Rattle.js_codes.specs.declared.errors.Error as api
 use Rattle.js_json_members.specs.Member.{float_free}
 use Rattle.js_json.specs.ConsumerInfo.{info_fields}
 use Rattle.js_json.specs.Response.{response_of}

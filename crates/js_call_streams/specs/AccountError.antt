@@ -4,8 +4,8 @@ use Rattle.js_base.specs.Error.{caused}
 use Rattle.js_base.specs.declared.error.Error.{Error}
 use Rattle.js_base.specs.declared.error.Source.{Source}
 use Rattle.js_base.specs.declared.error.Source.TheVariants.{Text}
-use Rattle.js_codes.specs.declared.api_error.Error.{Error as ApiError}
-use Rattle.js_codes.specs.ApiError.{error_text}
+use Rattle.js_codes.specs.declared.errors.Error.{Error as ApiError}
+use Rattle.js_codes.specs.Errors.{error_text}
 use Rattle.js_json_members.specs.declared.error.ReadError.TheVariants.{Missing}
 use Rattle.js_json_members.specs.declared.key.Key.TheVariants as key
 use Rattle.js_call.specs.declared.error.RequestErrorKind.{RequestErrorKind}

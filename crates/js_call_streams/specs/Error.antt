@@ -4,8 +4,8 @@ use Rattle.js_base.specs.Error.{plain, caused}
 use Rattle.js_base.specs.declared.error.Error.{Error}
 use Rattle.js_base.specs.declared.error.Source.{Source}
 use Rattle.js_base.specs.declared.error.Source.TheVariants.{Api, Text}
-use Rattle.js_codes.specs.declared.api_error.Error.{Error as ApiError}
-use Rattle.js_codes.specs.ApiError.{api_source, error_text}
+use Rattle.js_codes.specs.declared.errors.Error.{Error as ApiError}
+use Rattle.js_codes.specs.Errors.{api_source, error_text}
 use Rattle.js_call.specs.declared.error.RequestErrorKind.{RequestErrorKind}
 use Rattle.js_call.specs.declared.error.RequestErrorKind.TheVariants as request
 use Rattle.js_call.specs.declared.failure.Failure.{Failure}

@@ -4,7 +4,7 @@ use Rattle.serde_json.specs.Data.{Data}
 use Rattle.js_base.specs.Error.{plain, caused}
 use Rattle.js_base.specs.Subject.{is_valid_subject}
 use Rattle.js_base.specs.declared.error.Error.{Error}
-use Rattle.js_codes.specs.ApiError.{api_source, error_text}
+use Rattle.js_codes.specs.Errors.{api_source, error_text}
 use Rattle.js_json_members.specs.Member.{float_free, text}
 use Rattle.js_json_members.specs.Rows.{text_of}
 use Rattle.js_json_members.specs.declared.error.ReadError.{ReadError}

@@ -3,7 +3,7 @@ use Rattle.std.specs.Prelude.{ℕ, ◌≡◌, Option, Some, None, List, [], ◌�
 use Rattle.serde_json.specs.Data.{Data, object}
 use Rattle.js_base.specs.Error.{caused}
 use Rattle.js_base.specs.declared.error.Error.{Error}
-use Rattle.js_codes.specs.ApiError.{api_source}
+use Rattle.js_codes.specs.Errors.{api_source}
 use Rattle.js_json_members.specs.Member.{Reads, float_free}
 use Rattle.js_json_members.specs.Rows.{text_of, object_of, with_row, always, or_null}
 use Rattle.js_json_members.specs.declared.error.ReadError.{ReadError}

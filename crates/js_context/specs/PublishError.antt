@@ -2,8 +2,8 @@
 use Rattle.std.specs.Prelude.{ℕ, ◌==◌, ◌||◌, List, codes, if◌then◌else◌}
 use Rattle.js_base.specs.Error.{caused}
 use Rattle.js_base.specs.declared.error.Error.{Error}
-use Rattle.js_codes.specs.ApiError.{api_source}
-use Rattle.js_codes.specs.declared.api_error.Error.{Error as ApiError}
+use Rattle.js_codes.specs.Errors.{api_source}
+use Rattle.js_codes.specs.declared.errors.Error.{Error as ApiError}
 use Rattle.js_context.specs.declared.publish_error.PublishErrorKind.{PublishErrorKind}
 use Rattle.js_context.specs.declared.publish_error.PublishErrorKind.TheVariants.{StreamNotFound, TimedOut, Other, BrokenPipe, WrongLastMessageId, WrongLastSequence, MaxAckPending, MaxPayloadExceeded}
 

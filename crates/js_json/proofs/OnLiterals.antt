@@ -3,7 +3,7 @@ use Rattle.std.specs.Prelude.{⊤}
 use Rattle.std.specs.Str.{is_utf8, chars}
 use Rattle.js_json_members.proofs.OnLiterals.{reading_on_literals, writing_on_literals}
 use Rattle.js_codes.specs.ErrorCode.{error_code}
-use Rattle.js_codes.specs.ApiError.{error_fields}
+use Rattle.js_codes.specs.Errors.{error_fields}
 use Rattle.js_json.specs.AckPolicy.{ack_policy_named}
 use Rattle.js_json.specs.Batch.{batch_config_value, pull_request_value}
 use Rattle.js_json.specs.ConsumerConfig.{names, delivery, flow, limits, priorities, config_fields, config_value}

@@ -133,7 +133,7 @@ fn hear_held(
     if place >= messages.len() {
         return Ok(NextTasks::Nothing);
     }
-    listening::hear(context, state, held.inbox, &messages[place], outputs)
+    push_rows::hear(context, state, held.inbox, &messages[place], outputs)
 }
 
 // What the event brings on an inbox is heard.
@@ -148,7 +148,7 @@ fn hear_brought(
 {
     match context.message_on(inbox) {
         None => Ok(NextTasks::Nothing),
-        Some(message) => listening::hear(context, state, inbox, message, outputs),
+        Some(message) => push_rows::hear(context, state, inbox, message, outputs),
     }
 }
 
@@ -187,15 +187,15 @@ fn pass(
         | Task::Succeed(_)
         | Task::Fail => pass_try(alloc, context, state, task, outputs),
         Task::Hold => hold(context, state, outputs),
-        Task::CheckArrival => Ok(listening::look(context, state)),
+        Task::CheckArrival => Ok(push_rows::look(context, state)),
         Task::Hear { inbox } => hear_brought(context, state, *inbox, outputs),
         Task::HearHeld(held) => hear_held(context, state, held, outputs),
-        Task::CheckSilence => Ok(listening::look_at_silence(context, state, outputs)),
+        Task::CheckSilence => Ok(push_rows::look_at_silence(context, state, outputs)),
         Task::Arm => {
-            listening::arm(context, state);
+            push_rows::arm(context, state);
             Ok(NextTasks::Nothing)
         }
-        Task::Read(due) => reading::pass_read(alloc, context, state, *due, outputs),
+        Task::Read(due) => pull_rows::pass_read(alloc, context, state, *due, outputs),
     }
 }
 
@@ -258,7 +258,7 @@ fn has_row(context: &EventContext<'_>, task: &Task) -> bool
 {
     match task {
         Task::Answered { request } => recreation::has_reply(context, *request),
-        Task::Hear { inbox } => listening::arrives(context, *inbox),
+        Task::Hear { inbox } => push_rows::arrives(context, *inbox),
         Task::HearHeld(held) => has_held(held),
         Task::Event
         | Task::Start

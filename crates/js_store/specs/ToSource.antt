@@ -5,8 +5,8 @@ use Rattle.js_base.specs.declared.error.Error.{Error}
 use Rattle.js_base.specs.declared.error.Source.{Source}
 use Rattle.js_base.specs.declared.error.Source.TheVariants.{Api}
 use Rattle.js_base.specs.declared.error.Source.TheVariants as source
-use Rattle.js_codes.specs.ApiError.{api_source}
-use Rattle.js_codes.specs.declared.api_error.Error.{Error as ApiError}
+use Rattle.js_codes.specs.Errors.{api_source}
+use Rattle.js_codes.specs.declared.errors.Error.{Error as ApiError}
 use Rattle.js_call_streams.specs.Error.{get_text, get_held, create_text, create_held}
 use Rattle.js_call_streams.specs.declared.error.GetStreamErrorKind.{GetStreamErrorKind}
 use Rattle.js_call_streams.specs.declared.error.GetStreamErrorKind.TheVariants as gets

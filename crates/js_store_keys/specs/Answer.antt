@@ -9,8 +9,8 @@ use Rattle.serde_json.specs.Find.{get, as_str, as_number, as_u64}
 use Rattle.js_base.specs.declared.headers.Header.{Header}
 use Rattle.js_base.specs.declared.message.Message.{Message}
 use Rattle.js_base.specs.declared.message.StatusCode.{StatusCode}
-use Rattle.js_codes.specs.ApiError.{error_fields}
-use Rattle.js_codes.specs.declared.api_error.Error.{Error}
+use Rattle.js_codes.specs.Errors.{error_fields}
+use Rattle.js_codes.specs.declared.errors.Error.{Error}
 use Rattle.js_json_members.specs.Instant.{instant_of}
 use Rattle.js_json_members.specs.Value.{value_of}
 use Rattle.js_json_members.specs.declared.error.ReadError.{ReadError}

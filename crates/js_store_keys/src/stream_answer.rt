@@ -12,7 +12,7 @@ use base64::DecodeAllocError;
 use base64::engine::general_purpose::STANDARD;
 use bytes::Bytes;
 use js_codes::ErrorCode;
-use js_codes::api_error::Error;
+use js_codes::errors::Error;
 use js_json_members::{FromValue, ReadError, instant_of};
 use js_link_wire::{HeadersError, read_headers};
 use serde_json::Value;

@@ -3,7 +3,7 @@
 use crate::tables::{same, says};
 use crate::{answer_rows, consumer_rows, stream_rows};
 use js_base::{Text, TryClone, both};
-use js_codes::api_error::Error;
+use js_codes::errors::Error;
 use js_codes::is_valid_name;
 use js_json::account::{Account, Limits};
 use js_json::{PublishAck, Response, consumer, response_as};

@@ -13,7 +13,7 @@ use std::process::Abort;
 type Row = (&'static str, &'static str);
 
 fn add_sent(alloc: Global, words: &mut String, sent: &Sent) -> Result<(), OutOfMemory> {
-    let sent = sending::told(alloc, sent)?;
+    let sent = sent_text::told(alloc, sent)?;
     words.push_str("\n> ")?;
     words.push_str(sent.as_str())?;
     Ok(())

@@ -8,7 +8,7 @@ use Rattle.js_json_members.specs.declared.key.Key.TheVariants as key
 use Rattle.js_json_members.specs.declared.error.ReadError.{ReadError}
 use Rattle.js_json_members.specs.Member.{◌>>=◌, required, optional, defaulted, text, natural}
 use Rattle.js_json_members.specs.Rows.{Row, row, with_rows, object_of, always, or_null, text_data, natural_data}
-use Rattle.js_codes.specs.declared.api_error.Error.{Error}
+use Rattle.js_codes.specs.declared.errors.Error.{Error}
 use Rattle.js_codes.specs.ErrorCode.{error_code, no_code, error_code_data}
 
 -- an error from its members

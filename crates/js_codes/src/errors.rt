@@ -1,7 +1,7 @@
 //! The error in a response of the API.
 
 ghost use Rattle.std.specs.Prelude.{◌≡◌};
-ghost use Rattle.js_codes.specs.ApiError.{api_source, error_fields, error_value};
+ghost use Rattle.js_codes.specs.Errors.{api_source, error_fields, error_value};
 
 pub use crate::error_code::ErrorCode;
 use js_base::{ApiError, OutOfMemory, Source, Text, TryClone};
@@ -58,7 +58,7 @@ impl Error {
 
 impl fmt::Display for Error {
     ghost use Rattle.std.specs.Prelude.{Some};
-    ghost use Rattle.js_codes.specs.ApiError.{error_text};
+    ghost use Rattle.js_codes.specs.Errors.{error_text};
 
     ghost output = { λ e. Some (error_text e) };
 
@@ -87,7 +87,7 @@ impl TryClone for Error {
 impl FromValue for Error {
     ghost fields = { error_fields };
 
-    #[tactic(auto, unfolding(crate::specs::ApiError::error_fields))]
+    #[tactic(auto, unfolding(crate::specs::Errors::error_fields))]
     fn from_fields(alloc: Global, object: &Value) -> Result<Error, ReadError> {
         Ok(Error {
             code: required(alloc, object, Key::Code)?,
@@ -100,7 +100,7 @@ impl FromValue for Error {
 impl ToValue for Error {
     ghost written = { error_value };
 
-    #[tactic(auto, unfolding(crate::specs::ApiError::error_value))]
+    #[tactic(auto, unfolding(crate::specs::Errors::error_value))]
     fn to_value(&self, alloc: Global) -> Result<Value, ReadError> {
         Object::new(alloc)
             .always(alloc, Key::Code, &self.code)
