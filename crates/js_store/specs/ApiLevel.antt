@@ -15,12 +15,12 @@ use Rattle.js_store.specs.declared.error.CreateKeyValueErrorKind.TheVariants as 
 use Rattle.js_store.specs.declared.kv.Config.{Config}
 use Rattle.js_store.specs.declared.api_level.AskingLevel.{AskingLevel}
 use Rattle.js_store.specs.declared.api_level.IfAllowed.{IfAllowed}
-use Rattle.js_store.specs.declared.outcome.BucketCall.{BucketCall}
+use Rattle.js_store.specs.declared.bucket_call.BucketCall.{BucketCall}
 use Rattle.js_store.specs.declared.refusal.Refusal.{Refusal}
 use Rattle.js_store.specs.declared.refusal.Refusal.TheVariants.{JetStream, LimitMarkersNotSupported}
 use Rattle.js_store.specs.declared.refusal.Refused.{Refused}
 use Rattle.js_store.specs.declared.store.Store.{Store}
-use Rattle.js_store.specs.Outcome.{Row, asking}
+use Rattle.js_store.specs.BucketCall.{Row, asking}
 use Rattle.js_store.specs.Refusal.{config_refusal, create_refusal, error_of}
 
 -- a refusal that has no source

@@ -17,11 +17,11 @@ use Rattle.js_store.specs.declared.create.CreatingBucket.{CreatingBucket}
 use Rattle.js_store.specs.declared.error.CreateKeyValueErrorKind.{CreateKeyValueErrorKind}
 use Rattle.js_store.specs.declared.error.CreateKeyValueErrorKind.TheVariants.{TimedOut, BucketCreate}
 use Rattle.js_store.specs.declared.api_level.IfAllowed.{IfAllowed}
-use Rattle.js_store.specs.declared.outcome.BucketCall.{BucketCall}
+use Rattle.js_store.specs.declared.bucket_call.BucketCall.{BucketCall}
 use Rattle.js_store.specs.declared.store.Store.{Store}
 use Rattle.js_store.specs.declared.store.StoreNames.{StoreNames}
 use Rattle.js_store.specs.ApiLevel.{LevelCall, LevelFirst}
-use Rattle.js_store.specs.Outcome.{Row, asking}
+use Rattle.js_store.specs.BucketCall.{Row, asking}
 use Rattle.js_store.specs.Store.{answered_names, store_of}
 
 -- what a stream that was not made means: a timeout is told

@@ -18,10 +18,10 @@ use Rattle.js_store.specs.declared.delete.DeletingBucket.{DeletingBucket}
 use Rattle.js_store.specs.declared.error.KeyValueErrorKind.{KeyValueErrorKind}
 use Rattle.js_store.specs.declared.error.KeyValueErrorKind.TheVariants.{InvalidStoreName, GetBucket, JetStream}
 use Rattle.js_store.specs.declared.get.GettingBucket.{GettingBucket}
-use Rattle.js_store.specs.declared.outcome.BucketCall.{BucketCall}
+use Rattle.js_store.specs.declared.bucket_call.BucketCall.{BucketCall}
 use Rattle.js_store.specs.declared.store.Store.{Store}
 use Rattle.js_store.specs.declared.store.StoreNames.{StoreNames}
-use Rattle.js_store.specs.Outcome.{Row, asking}
+use Rattle.js_store.specs.BucketCall.{Row, asking}
 use Rattle.js_store.specs.Places.{places_of}
 use Rattle.js_store.specs.Store.{store_of}
 

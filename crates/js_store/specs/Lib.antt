@@ -5,11 +5,11 @@ pub mod ObjectStore
 pub mod Error
 pub mod ToSource
 pub mod Places
-pub mod Outcome
+pub mod BucketCall
 pub mod Refusal
 pub mod ApiLevel
 pub mod Store
 pub mod GetAndDelete
 pub mod Create
 pub mod Update
-pub mod Objects
+pub mod ObjectCalls

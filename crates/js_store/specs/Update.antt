@@ -23,11 +23,11 @@ use Rattle.js_store.specs.declared.error.CreateKeyValueErrorKind.TheVariants as 
 use Rattle.js_store.specs.declared.error.UpdateKeyValueErrorKind.{UpdateKeyValueErrorKind}
 use Rattle.js_store.specs.declared.error.UpdateKeyValueErrorKind.TheVariants.{NotFound, JetStream}
 use Rattle.js_store.specs.declared.api_level.IfAllowed.{IfAllowed}
-use Rattle.js_store.specs.declared.outcome.BucketCall.{BucketCall}
+use Rattle.js_store.specs.declared.bucket_call.BucketCall.{BucketCall}
 use Rattle.js_store.specs.declared.store.Store.{Store}
 use Rattle.js_store.specs.declared.store.StoreNames.{StoreNames}
 use Rattle.js_store.specs.ApiLevel.{LevelCall, LevelFirst}
-use Rattle.js_store.specs.Outcome.{Row, asking}
+use Rattle.js_store.specs.BucketCall.{Row, asking}
 use Rattle.js_store.specs.Store.{answered_names, store_of}
 
 -- the bucket that is changed, as its configuration names it

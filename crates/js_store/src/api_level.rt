@@ -4,8 +4,8 @@ ghost use Rattle.js_call.specs.declared.scope.ApiScope.{ApiScope};
 ghost use Rattle.js_store.specs.ApiLevel.{asking_level, level_row, refused_with, unless_allowed, LevelFirst};
 ghost use Rattle.js_store.specs.declared.kv.Config.{Config};
 
+use crate::bucket_call::{BucketCall, BucketCallRow};
 use crate::kv;
-use crate::outcome::{BucketCall, Outcome};
 use crate::refusal::{OfRefusal, Refusal, Refused, config_refusal};
 use crate::store::Store;
 use js_base::{Error, OutOfMemory, Source};
@@ -25,7 +25,7 @@ pub struct AskingLevel {
 /// level.
 pub type AskLevel = BucketCall<QueryAccount, Account, AccountError, AskingLevel>;
 
-impl Outcome<Account, AccountError> for AskingLevel {
+impl BucketCallRow<Account, AccountError> for AskingLevel {
     type Needs = ();
 
     type Answer = Result<u64, Refused>;

@@ -5,12 +5,12 @@ ghost use Rattle.js_context.specs.Context.{scope_in};
 ghost use Rattle.js_store.specs.Update.{CreatesOrUpdatesBucket, UpdatesBucket};
 ghost use Rattle.js_store.specs.Create.{CreatesBucket};
 ghost use Rattle.js_store.specs.GetAndDelete.{deleting as deleting_bucket, getting as getting_bucket};
-ghost use Rattle.js_store.specs.Objects.{CreatesObjects, deleting as deleting_objects, getting as getting_objects};
+ghost use Rattle.js_store.specs.ObjectCalls.{CreatesObjects, deleting as deleting_objects, getting as getting_objects};
 
 use crate::create::{CreateKeyValue, create_key_value};
 use crate::delete::{DeleteKeyValue, delete_key_value};
 use crate::get::{GetKeyValue, get_key_value};
-use crate::objects::{
+use crate::object_calls::{
     CreateObjectStore, DeleteObjects, GetObjectStore, create_object_store, delete_object_store,
     get_object_store,
 };

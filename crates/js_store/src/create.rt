@@ -3,10 +3,10 @@ ghost use Rattle.std.specs.Prelude.{◌≡◌, IfOk};
 ghost use Rattle.js_store.specs.Create.{create_row, creates_kind, CreatesBucket, CreatesStream};
 
 use crate::api_level::{AfterLevel, AskLevel, IfAllowed, after_level};
+use crate::bucket_call::{BucketCall, BucketCallRow};
 use crate::config::create_its_stream;
 use crate::error::{CreateKeyValueError, CreateKeyValueErrorKind};
 use crate::kv;
-use crate::outcome::{BucketCall, Outcome};
 use crate::store::{Store, StoreNames, answered_names, store_of};
 use js_base::{Error, OutOfMemory, Source, Text};
 use js_call::{ApiScope, Then};
@@ -41,7 +41,7 @@ fn creates_kind(kind: &CreateStreamErrorKind) -> CreateKeyValueErrorKind
     }
 }
 
-impl Outcome<StreamHandle<Info>, CreateStreamError> for CreatingBucket {
+impl BucketCallRow<StreamHandle<Info>, CreateStreamError> for CreatingBucket {
     type Needs = StoreNames;
 
     type Answer = Result<Store, CreateKeyValueError>;

@@ -3,10 +3,10 @@ ghost use Rattle.std.specs.Prelude.{◌≡◌, IfOk};
 ghost use Rattle.js_store.specs.GetAndDelete.{delete_row, deleting};
 ghost use Rattle.js_call_streams.specs.GetAndDelete.{deleting as deleting_stream};
 
+use crate::bucket_call::{BucketCall, BucketCallRow};
 use crate::error::{KeyValueError, KeyValueErrorKind};
 use crate::get::name_refusal;
 use crate::kv;
-use crate::outcome::{BucketCall, Outcome};
 use js_base::{Error, OutOfMemory, Source, Text, both};
 use js_call::ApiScope;
 use js_call_streams::{DeleteStream, DeleteStreamError, delete_stream};
@@ -22,7 +22,7 @@ pub struct DeletingBucket {
 /// The state of `delete_key_value`.
 pub type DeleteKeyValue = BucketCall<DeleteStream, DeleteStatus, DeleteStreamError, DeletingBucket>;
 
-impl Outcome<DeleteStatus, DeleteStreamError> for DeletingBucket {
+impl BucketCallRow<DeleteStatus, DeleteStreamError> for DeletingBucket {
     type Needs = ();
 
     type Answer = Result<DeleteStatus, KeyValueError>;

@@ -5,8 +5,8 @@ ghost use Rattle.js_store.specs.declared.error.KeyValueErrorKind.TheVariants.{In
 ghost use Rattle.js_store.specs.GetAndDelete.{get_row, getting, got_names, name_refusal};
 ghost use Rattle.js_call_streams.specs.GetAndDelete.{getting as getting_stream};
 
+use crate::bucket_call::{BucketCall, BucketCallRow};
 use crate::error::{KeyValueError, KeyValueErrorKind};
-use crate::outcome::{BucketCall, Outcome};
 use crate::places::places_of;
 use crate::store::{Store, StoreNames, store_of};
 use crate::{is_valid_bucket_name, kv};
@@ -47,7 +47,7 @@ fn unless<T: Drop>(keeps_nothing: bool, got: T) -> Result<T, KeyValueError>
     }
 }
 
-impl Outcome<StreamHandle<Info>, GetStreamError> for GettingBucket {
+impl BucketCallRow<StreamHandle<Info>, GetStreamError> for GettingBucket {
     type Needs = StoreNames;
 
     type Answer = Result<Store, KeyValueError>;

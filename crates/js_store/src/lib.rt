@@ -10,6 +10,7 @@
 #![tactic(auto)]
 
 mod api_level;
+mod bucket_call;
 mod calls;
 mod config;
 mod create;
@@ -18,9 +19,8 @@ mod error;
 mod get;
 pub mod kv;
 mod name;
+mod object_calls;
 pub mod object_store;
-mod objects;
-mod outcome;
 mod places;
 mod refusal;
 mod source_buckets;
@@ -29,6 +29,7 @@ mod to_source;
 mod update;
 
 pub use api_level::{AskLevel, AskingLevel, IfAllowed};
+pub use bucket_call::{BucketCall, BucketCallRow};
 pub use calls::StoreCalls;
 pub use create::{CreateBucket, CreateKeyValue, CreatingBucket, create_key_value};
 pub use delete::{DeleteKeyValue, DeletingBucket, delete_key_value};
@@ -40,11 +41,10 @@ pub use error::{
 };
 pub use get::{GetKeyValue, GettingBucket, get_key_value};
 pub use name::is_valid_bucket_name;
-pub use objects::{
+pub use object_calls::{
     CreateObjectStore, CreatingObjects, DeleteObjects, DeletingObjects, GetObjectStore,
     GettingObjects, create_object_store, delete_object_store, get_object_store,
 };
-pub use outcome::{BucketCall, Outcome};
 pub use places::Places;
 pub use refusal::{OfRefusal, Refusal, Refused};
 pub use store::{ObjectStore, Store, StoreNames};

@@ -6,12 +6,12 @@ ghost use Rattle.js_json_stream_bodies.specs.declared.stream.config.Config.{Conf
 ghost use Rattle.js_store.specs.Update.{changed_names, changed_store, changes_kind, create_or_update_row, CreatesOrUpdatesBucket, CreatesOrUpdatesStream, update_row, UpdatesBucket, UpdatesStream};
 
 use crate::api_level::{AfterLevel, AskLevel, IfAllowed, after_level};
+use crate::bucket_call::{BucketCall, BucketCallRow};
 use crate::config::{BucketConfig, stream_of};
 use crate::error::{
     CreateKeyValueError, CreateKeyValueErrorKind, UpdateKeyValueError, UpdateKeyValueErrorKind,
 };
 use crate::kv;
-use crate::outcome::{BucketCall, Outcome};
 use crate::store::{Store, StoreNames, answered_names, store_of};
 use js_base::{Error, OutOfMemory, Source, Text, TryClone, all_3, both};
 use js_call::{ApiScope, Then};
@@ -136,7 +136,7 @@ fn changes_kind(kind: &CreateStreamErrorKind) -> UpdateKeyValueErrorKind
     }
 }
 
-impl Outcome<Info, UpdateStreamError> for UpdatingBucket {
+impl BucketCallRow<Info, UpdateStreamError> for UpdatingBucket {
     type Needs = StoreNames;
 
     type Answer = Result<Store, UpdateKeyValueError>;
@@ -184,7 +184,7 @@ pub type CreateOrUpdateBucket = BucketCall<
 /// The state of `create_or_update_key_value`.
 pub type CreateOrUpdateKeyValue = Then<AskLevel, CreateOrUpdateBucket, IfAllowed>;
 
-impl Outcome<Info, CreateStreamError> for CreatingOrUpdatingBucket {
+impl BucketCallRow<Info, CreateStreamError> for CreatingOrUpdatingBucket {
     type Needs = StoreNames;
 
     type Answer = Result<Store, CreateKeyValueError>;

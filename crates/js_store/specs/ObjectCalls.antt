@@ -22,12 +22,12 @@ use Rattle.js_store.specs.declared.error.CreateKeyValueErrorKind.{CreateKeyValue
 use Rattle.js_store.specs.declared.error.CreateKeyValueErrorKind.TheVariants.{InvalidStoreName, BucketCreate}
 use Rattle.js_store.specs.declared.error.ObjectStoreErrorKind.{ObjectStoreErrorKind}
 use Rattle.js_store.specs.declared.error.ObjectStoreErrorKind.TheVariants.{InvalidBucketName, GetStore}
-use Rattle.js_store.specs.declared.objects.CreatingObjects.{CreatingObjects}
-use Rattle.js_store.specs.declared.objects.DeletingObjects.{DeletingObjects}
-use Rattle.js_store.specs.declared.objects.GettingObjects.{GettingObjects}
-use Rattle.js_store.specs.declared.outcome.BucketCall.{BucketCall}
+use Rattle.js_store.specs.declared.object_calls.CreatingObjects.{CreatingObjects}
+use Rattle.js_store.specs.declared.object_calls.DeletingObjects.{DeletingObjects}
+use Rattle.js_store.specs.declared.object_calls.GettingObjects.{GettingObjects}
+use Rattle.js_store.specs.declared.bucket_call.BucketCall.{BucketCall}
 use Rattle.js_store.specs.declared.store.ObjectStore.{ObjectStore}
-use Rattle.js_store.specs.Outcome.{Row, asking}
+use Rattle.js_store.specs.BucketCall.{Row, asking}
 
 -- the bucket of a name
 abbrev pub objects_of : List ℕ → StreamHandle Info → ObjectStore

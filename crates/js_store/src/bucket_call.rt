@@ -1,7 +1,7 @@
 //! Calls on a bucket, each of which makes a call on its stream or on the account.
 ghost use Rattle.std.specs.Prelude.{◌≡◌, IfOk, Result};
 ghost use Rattle.js_base.specs.declared.turn.Turn.{Turn};
-ghost use Rattle.js_store.specs.Outcome.{Row, answered, asking, bucket_waits_for, stage_waits_for, AnswersOf, Polled, TurnsTo};
+ghost use Rattle.js_store.specs.BucketCall.{Row, answered, asking, bucket_waits_for, stage_waits_for, AnswersOf, Polled, TurnsTo};
 
 use crate::to_source::ToSource;
 use js_base::{Moment, OutOfMemory, Source, Turn};
@@ -14,7 +14,7 @@ use std::alloc::Global;
 ///
 /// The implementing type holds what the call keeps of its arguments. A `BucketCall` of it is the
 /// state to poll.
-pub trait Outcome<X, E>: Drop {
+pub trait BucketCallRow<X, E>: Drop {
     /// What must be built from the inner call's result before the call can return its answer.
     type Needs: Drop;
 
@@ -93,7 +93,7 @@ impl<S, X, E, M> BucketCall<S, X, E, M> {
 }
 
 // Tells what the call that it stands on has answered, which is kept where memory runs out.
-fn tell<S: Drop, X: Drop, E: ToSource, M: Outcome<X, E>>(
+fn tell<S: Drop, X: Drop, E: ToSource, M: BucketCallRow<X, E>>(
     alloc: Global,
     row: M,
     given: Result<X, E>,
@@ -113,7 +113,7 @@ fn tell<S: Drop, X: Drop, E: ToSource, M: Outcome<X, E>>(
 }
 
 // What the call answers to what the call that it stands on does.
-fn turn<S: Drop, X: Drop, E: ToSource, M: Outcome<X, E>>(
+fn turn<S: Drop, X: Drop, E: ToSource, M: BucketCallRow<X, E>>(
     alloc: Global,
     row: M,
     asked: Turn<S, Result<X, E>>,
@@ -127,7 +127,7 @@ fn turn<S: Drop, X: Drop, E: ToSource, M: Outcome<X, E>>(
     }
 }
 
-impl<S: State<Answer = Result<X, E>>, X: Drop, E: ToSource, M: Outcome<X, E>> State
+impl<S: State<Answer = Result<X, E>>, X: Drop, E: ToSource, M: BucketCallRow<X, E>> State
     for BucketCall<S, X, E, M> {
     type Answer = M::Answer;
 

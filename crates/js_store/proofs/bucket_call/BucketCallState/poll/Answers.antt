@@ -1,5 +1,5 @@
 use Rattle.std.proofs.Common.{sym}
-use Rattle.js_store.proofs.outcome.BucketCallState.poll.Goals as goal
+use Rattle.js_store.proofs.bucket_call.BucketCallState.poll.Goals as goal
 
 -- the other call was polled, and its turn is told
 pub returns-in-Asking-clause-polled : goal.returns-in-Asking-clause-polled

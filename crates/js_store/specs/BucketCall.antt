@@ -7,9 +7,9 @@ use Rattle.js_link.specs.LinkView.{LinkView}
 use Rattle.js_call.specs.CallSequence.{Polls}
 use Rattle.js_call.specs.Wakes.{unless_refused}
 use Rattle.js_call.specs.declared.open_request.OpenRequest.{OpenRequest}
-use Rattle.js_store.specs.declared.outcome.BucketCall.{BucketCall}
-use Rattle.js_store.specs.declared.outcome.Stage.{Stage}
-use Rattle.js_store.specs.declared.outcome.Stage.TheVariants.{Asking, Answered}
+use Rattle.js_store.specs.declared.bucket_call.BucketCall.{BucketCall}
+use Rattle.js_store.specs.declared.bucket_call.Stage.{Stage}
+use Rattle.js_store.specs.declared.bucket_call.Stage.TheVariants.{Asking, Answered}
 
 -- a call's row
 pub record Row (Self X E Needs Answer : Type 0) : Type 0 where

@@ -1,7 +1,8 @@
 //! The calls on buckets of objects.
 ghost use Rattle.std.specs.Prelude.{◌≡◌, IfOk};
-ghost use Rattle.js_store.specs.Objects.{creates_refusal, create_row, CreatesObjects, delete_row, deleting, get_refusal, get_row, getting};
+ghost use Rattle.js_store.specs.ObjectCalls.{creates_refusal, create_row, CreatesObjects, delete_row, deleting, get_refusal, get_row, getting};
 
+use crate::bucket_call::{BucketCall, BucketCallRow};
 use crate::config::create_its_stream;
 use crate::delete::delete_named;
 use crate::error::{
@@ -9,7 +10,6 @@ use crate::error::{
     ObjectStoreErrorKind,
 };
 use crate::get::get_named;
-use crate::outcome::{BucketCall, Outcome};
 use crate::store::ObjectStore;
 use crate::{is_valid_bucket_name, object_store};
 use js_base::{Error, OutOfMemory, Source, Text, both};
@@ -42,7 +42,7 @@ fn get_refusal(bucket: &str) -> Option<ObjectStoreErrorKind>
     }
 }
 
-impl Outcome<StreamHandle<Info>, GetStreamError> for GettingObjects {
+impl BucketCallRow<StreamHandle<Info>, GetStreamError> for GettingObjects {
     type Needs = ();
 
     type Answer = Result<ObjectStore, ObjectStoreError>;
@@ -127,7 +127,7 @@ fn creates_refusal(bucket: &str) -> Option<CreateObjectStoreErrorKind>
     }
 }
 
-impl Outcome<StreamHandle<Info>, CreateStreamError> for CreatingObjects {
+impl BucketCallRow<StreamHandle<Info>, CreateStreamError> for CreatingObjects {
     type Needs = ();
 
     type Answer = Result<ObjectStore, CreateObjectStoreError>;
@@ -192,7 +192,7 @@ pub struct DeletingObjects;
 /// The state of `delete_object_store`.
 pub type DeleteObjects = BucketCall<DeleteStream, DeleteStatus, DeleteStreamError, DeletingObjects>;
 
-impl Outcome<DeleteStatus, DeleteStreamError> for DeletingObjects {
+impl BucketCallRow<DeleteStatus, DeleteStreamError> for DeletingObjects {
     type Needs = ();
 
     type Answer = Result<(), DeleteObjectStore>;
