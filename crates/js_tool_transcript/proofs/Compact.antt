@@ -13,9 +13,10 @@ use Rattle.serde_json.proofs.Numbers.{number_of-decimal}
 use Rattle.js_json_members.specs.Value.{value_of}
 use Rattle.js_json_members.specs.Member.{float_free, required, optional, defaulted, given, text, natural, natural_of}
 use Rattle.js_ordered_table.specs.declared.event.EventKind.TheVariants as what
-use Rattle.js_tool_transcript.specs.Members.{only, value_as, line_as}
+use Rattle.js_tool_transcript.specs.Members.{value_as, line_as}
 use Rattle.js_tool_transcript.specs.Message.{message_fields}
-use Rattle.js_tool_transcript.specs.Event.{arrival_fields, with_key, what_fields, event_fields}
+use Rattle.js_tool_transcript.specs.Event.{arrival_fields, with_key, what_fields, event_fields_in}
+use Rattle.js_tool_transcript.specs.ExtendedMessage.{only_in}
 use Rattle.js_tool_transcript.specs.Compact.{IsPlain, Says, plain_message, tick_text, arrival_rest, arrival_text}
 use Rattle.js_tool_transcript.proofs.Printed.{digits_utf8, read_printed}
 
@@ -49,7 +50,7 @@ tick_utf8 at small =
     (IsUtf8-append (decimal at) (codes "}") (digits_utf8 at small) (utf8 (codes "}") refl))
 
 tick_said : (at : ℕ) → at < 2 ^ 64 → IsUtf8 (tick_text at) → Says (tick_text at) at what.Tick
-unfolding value_of float_free line_as value_as event_fields what_fields with_key required given natural
+unfolding value_of float_free line_as value_as event_fields_in what_fields with_key required given natural
 tick_said at small utf8 = rw (is_utf8-from_IsUtf8 (tick_text at) utf8, tick_read at small) refl
 
 tick_says : (at : ℕ) → at < 2 ^ 64 → Says (tick_text at) at what.Tick
@@ -84,7 +85,7 @@ arrival_read at inbox reply payload a i r p =
     ap read (sym (arrival_printed at inbox reply payload r p)) ∙ read_printed j (IsNumber-decimal at a, ((IsNumber-decimal inbox i, (tt, (tt, tt))), tt)) (omega arith) ∙ is
 
 arrival_said : (at inbox : ℕ) (reply payload : List ℕ) → at < 2 ^ 64 → inbox < 2 ^ 64 → escape reply ≡ reply → escape payload ≡ payload → IsUtf8 (arrival_text at inbox reply payload) → Says (arrival_text at inbox reply payload) at (what.Arrival inbox (plain_message reply payload))
-unfolding value_of float_free line_as value_as only event_fields what_fields with_key arrival_fields message_fields required given optional defaulted natural natural_of text
+unfolding value_of float_free line_as value_as only_in event_fields_in what_fields with_key arrival_fields message_fields required given optional defaulted natural natural_of text
 arrival_said at inbox reply payload a i r p utf8 = rw (is_utf8-from_IsUtf8 (arrival_text at inbox reply payload) utf8, arrival_read at inbox reply payload a i r p) refl
 
 -- an arrival is UTF-8 where its texts are

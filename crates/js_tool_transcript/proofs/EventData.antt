@@ -12,7 +12,7 @@ use Rattle.js_base.specs.Headers.{pairs}
 use Rattle.js_ordered_table.specs.declared.event.Event.{Event}
 use Rattle.js_ordered_table.specs.declared.event.EventKind.{EventKind}
 use Rattle.js_ordered_table.specs.declared.event.EventKind.TheVariants as what
-use Rattle.js_tool_transcript.specs.EventText.{subject_text, reply_text, payload_text, status_text, description_text, header_text, list_text, headers_text, message_text, link_text, connection_text, what_text, event_json}
+use Rattle.js_tool_transcript.specs.EventText.{subject_text, reply_text, payload_text, status_text, description_text, header_text, list_text, headers_text, address_text, status_and_headers_text, message_text, link_text, connection_text, what_text, event_json}
 
 -- ---- rows
 
@@ -29,11 +29,11 @@ abbrev pub written : List Row → Members
 written [] = no_members
 written (row ∷ rows) = with_row row.0 row.1 (written rows)
 
-abbrev row_text : List ℕ → Option Data → List ℕ
+abbrev pub row_text : List ℕ → Option Data → List ℕ
 row_text k None = []
 row_text k (Some d) = 44 ∷ (quoted k ++ 58 ∷ compact_text d)
 
-abbrev rows_text : List Row → List ℕ
+abbrev pub rows_text : List Row → List ℕ
 rows_text [] = []
 rows_text (row ∷ rows) = row_text row.0 row.1 ++ rows_text rows
 
@@ -41,7 +41,7 @@ with_row_is : (k : List ℕ) (o : Option Data) (more : Members) → members_text
 with_row_is k None more = refl
 with_row_is k (Some d) more = ap (λ (s : List ℕ). 44 ∷ s) (sym (append_assoc (quoted k) (58 ∷ compact_text d) (members_text true more)))
 
-written_is : (rows : List Row) → members_text true (written rows) ≡ rows_text rows ++ codes "}"
+pub written_is : (rows : List Row) → members_text true (written rows) ≡ rows_text rows ++ codes "}"
 written_is [] = refl
 written_is (row ∷ rows) =
     with_row_is row.0 row.1 (written rows)
@@ -71,10 +71,14 @@ status_data status = count status.0
 abbrev pub headers_data : List Header → Data
 headers_data headers = array (header_items (pairs headers))
 
-abbrev pub message_rows : Message → List Row
-message_rows m =
-    (codes "subject", unless_empty m.subject) ∷ (codes "reply", option_map string m.reply) ∷ (codes "payload", Some (string m.payload))
+-- with this row for its payload
+abbrev pub rows_with : Row → Message → List Row
+rows_with row m =
+    (codes "subject", unless_empty m.subject) ∷ (codes "reply", option_map string m.reply) ∷ row
     ∷ (codes "status", option_map status_data m.status) ∷ (codes "description", option_map string m.description) ∷ (codes "headers", option_map headers_data m.headers) ∷ []
+
+abbrev pub message_rows : Message → List Row
+message_rows m = rows_with (codes "payload", Some (string m.payload)) m
 
 subject_is : (subject : List ℕ) → row_text (codes "subject") (unless_empty subject) ≡ subject_text subject
 unfolding escape_byte
@@ -120,21 +124,25 @@ six a b c d e f = rw (append-nil f) (simp append_assoc)
 abbrev joined : List ℕ → List ℕ → List ℕ → List ℕ → List ℕ → List ℕ → List ℕ
 joined a b c d e f = (a ++ b) ++ (c ++ (d ++ (e ++ f)))
 
-message_is : (m : Message) → rows_text (message_rows m) ≡ message_text m
-message_is m =
+pub rows_are : (row : Row) (m : Message) → rows_text (rows_with row m) ≡ address_text m ++ (row_text row.0 row.1 ++ status_and_headers_text m)
+rows_are row m =
     let subject = row_text (codes "subject") (unless_empty m.subject) in
     let reply = row_text (codes "reply") (option_map string m.reply) in
-    let payload = row_text (codes "payload") (Some (string m.payload)) in
+    let payload = row_text row.0 row.1 in
     let status = row_text (codes "status") (option_map status_data m.status) in
     let description = row_text (codes "description") (option_map string m.description) in
     let headers = row_text (codes "headers") (option_map headers_data m.headers) in
     six subject reply payload status description headers
     ∙ ap (λ (s : List ℕ). joined s reply payload status description headers) (subject_is m.subject)
     ∙ ap (λ (s : List ℕ). joined (subject_text m.subject) s payload status description headers) (reply_is m.reply)
-    ∙ ap (λ (s : List ℕ). joined (subject_text m.subject) (reply_text m.reply) s status description headers) (payload_is m.payload)
-    ∙ ap (λ (s : List ℕ). joined (subject_text m.subject) (reply_text m.reply) (payload_text m.payload) s description headers) (status_is m.status)
-    ∙ ap (λ (s : List ℕ). joined (subject_text m.subject) (reply_text m.reply) (payload_text m.payload) (status_text m.status) s headers) (description_is m.description)
-    ∙ ap (λ (s : List ℕ). joined (subject_text m.subject) (reply_text m.reply) (payload_text m.payload) (status_text m.status) (description_text m.description) s) (headers_are m.headers)
+    ∙ ap (λ (s : List ℕ). joined (subject_text m.subject) (reply_text m.reply) payload s description headers) (status_is m.status)
+    ∙ ap (λ (s : List ℕ). joined (subject_text m.subject) (reply_text m.reply) payload (status_text m.status) s headers) (description_is m.description)
+    ∙ ap (λ (s : List ℕ). joined (subject_text m.subject) (reply_text m.reply) payload (status_text m.status) (description_text m.description) s) (headers_are m.headers)
+
+message_is : (m : Message) → rows_text (message_rows m) ≡ message_text m
+message_is m =
+    rows_are (codes "payload", Some (string m.payload)) m
+    ∙ ap (λ (s : List ℕ). address_text m ++ (s ++ status_and_headers_text m)) (payload_is m.payload)
 
 members_are : (m : Message) → members_text true (written (message_rows m)) ≡ message_text m ++ codes "}"
 members_are m = written_is (message_rows m) ∙ ap (λ (s : List ℕ). s ++ codes "}") (message_is m)
@@ -142,8 +150,11 @@ members_are m = written_is (message_rows m) ∙ ap (λ (s : List ℕ). s ++ code
 -- ---- an event
 
 -- a message behind a number
+abbrev pub numbered_rows : List ℕ → ℕ → List Row → Data
+numbered_rows key n rows = object (member key (count n) (written rows))
+
 abbrev pub numbered_data : List ℕ → ℕ → Message → Data
-numbered_data key n message = object (member key (count n) (written (message_rows message)))
+numbered_data key n message = numbered_rows key n (message_rows message)
 
 abbrev pub gone_data : ℕ → Data
 gone_data request = object (member (codes "request") (count request) (member (codes "gone") (boolean true) no_members))
@@ -180,7 +191,7 @@ connection_is Connected = refl
 connection_is Disconnected = refl
 connection_is Pending = refl
 
-what_is : (kind : EventKind) → what_text kind ++ codes "}" ≡ members_text true (what_member kind)
+pub what_is : (kind : EventKind) → what_text kind ++ codes "}" ≡ members_text true (what_member kind)
 unfolding escape_byte
 what_is what.Tick = refl
 what_is (what.Arrival inbox message) = ap (λ (s : List ℕ). codes ",\"arrival\":{\"inbox\":" ++ ((decimal inbox ++ s) ++ codes "}")) (sym (members_are message))

@@ -22,7 +22,7 @@ use Rattle.js_json_members.specs.Key.{key_name}
 use Rattle.js_tool_transcript.specs.Message.{payload, header, status_code, message_fields}
 use Rattle.js_tool_transcript.specs.EventText.{AreTextPairs, IsTyped}
 use Rattle.js_tool_transcript.proofs.CompactText.{IsSimple, ItemsAreSimple}
-use Rattle.js_tool_transcript.proofs.EventData.{Row, unless_empty, header_items, status_data, headers_data, message_rows}
+use Rattle.js_tool_transcript.proofs.EventData.{Row, unless_empty, header_items, status_data, headers_data, rows_with, message_rows}
 use Rattle.js_tool_transcript.proofs.RowsRead.{held, IsSame, over, rows_left, AreSimple, IsShallow}
 
 -- ---- headers
@@ -61,13 +61,13 @@ filled P (c ∷ cs) is = is
 small : (n : ℕ) → n < 2 ^ 16 → n < 2 ^ 64
 small n low = omega arith
 
-pub message_same : (m : Message) → IsTyped m → AllByRecursion (λ (row : Row). IfSome row.1 IsSame) (message_rows m)
-message_same m typed = (
+pub message_same : (row : Row) (m : Message) → IsTyped m → IfSome row.1 IsSame → AllByRecursion (λ (row : Row). IfSome row.1 IsSame) (rows_with row m)
+message_same row m typed same = (
   filled IsSame m.subject refl,
   (
     mapped IsSame string IsUtf8 (λ s is. refl) m.reply typed.reply,
     (
-      refl,
+      same,
       (
         mapped IsSame status_data (λ status. status.0 < 2 ^ 16) (λ status low. rw (number_of-decimal status.0 (small status.0 low)) refl) m.status typed.status,
         (
@@ -79,13 +79,13 @@ message_same m typed = (
   ),
 )
 
-pub message_simple : (m : Message) → IsTyped m → IsUtf8 m.payload → AreSimple IsUtf8 (message_rows m)
-message_simple m typed utf8 = (
+pub message_simple : (row : Row) (m : Message) → IsTyped m → IsUtf8 row.0 × IfSome row.1 (IsSimple IsUtf8) → AreSimple IsUtf8 (rows_with row m)
+message_simple row m typed simple = (
   (IsUtf8-are_ascii (codes "subject") refl, filled (IsSimple IsUtf8) m.subject typed.subject),
   (
     (IsUtf8-are_ascii (codes "reply") refl, mapped (IsSimple IsUtf8) string IsUtf8 (λ s is. is) m.reply typed.reply),
     (
-      (IsUtf8-are_ascii (codes "payload") refl, utf8),
+      simple,
       (
         (IsUtf8-are_ascii (codes "status") refl, mapped (IsSimple IsUtf8) status_data (λ status. status.0 < 2 ^ 16) (λ status low. small status.0 low) m.status typed.status),
         (
@@ -103,20 +103,20 @@ message_simple m typed utf8 = (
   ),
 )
 
-level : 0 ≤ 2
+pub level : 0 ≤ 2
 level = omega arith
 
 any : {A : Type 0} (o : Option A) → IfSome o (λ a. Unit {0})
 any None = tt
 any (Some a) = tt
 
-pub message_shallow : (m : Message) → AllByRecursion (λ (row : Row). IfSome row.1 IsShallow) (message_rows m)
-message_shallow m = (
+pub message_shallow : (row : Row) (m : Message) → IfSome row.1 IsShallow → AllByRecursion (λ (row : Row). IfSome row.1 IsShallow) (rows_with row m)
+message_shallow row m shallow = (
   filled IsShallow m.subject level,
   (
     mapped IsShallow string (λ s. Unit {0}) (λ s is. level) m.reply (any m.reply),
     (
-      level,
+      shallow,
       (
         mapped IsShallow status_data (λ s. Unit {0}) (λ s is. level) m.status (any m.status),
         (
@@ -185,20 +185,63 @@ pub record IsBare (found : Members) : Type 0 where
 abbrev good : Message → Result Message ReadError
 good m = Ok m
 
-same_message : (m : Message) (subject : List ℕ) (status : Option StatusCode) (n : ℕ) → subject ≡ m.subject → status ≡ m.status → n ≡ m.length
-    → good (record { subject = subject; reply = m.reply; payload = m.payload; headers = m.headers; status = status; description = m.description; length = n }) ≡ good m
-same_message m subject status n one two three = rw (one, two, three) refl
+same_message : (m : Message) (subject : List ℕ) (status : Option StatusCode) (said : List ℕ) → subject ≡ m.subject → status ≡ m.status
+    → good (record { subject = subject; reply = m.reply; payload = said; headers = m.headers; status = status; description = m.description; length = length said })
+    ≡ good (record m { payload = said; length = length said })
+same_message m subject status said one two = rw (one, two) refl
+
+-- all keys of a message are there but that of its payload
+pub record HasMembers (m : Message) (ms : Members) : Type 0 where
+  pub subject : get_member (codes "subject") ms ≡ over (unless_empty m.subject) None
+  pub reply : get_member (codes "reply") ms ≡ over (option_map string m.reply) None
+  pub status : get_member (codes "status") ms ≡ over (option_map status_data m.status) None
+  pub description : get_member (codes "description") ms ≡ over (option_map string m.description) None
+  pub headers : get_member (codes "headers") ms ≡ over (option_map headers_data m.headers) None
+
+fields_read : (m : Message) (ms : Members) (said : List ℕ) → IsTyped m → HasMembers m ms → defaulted payload key.Payload [] (object ms) ≡ Ok said
+    → message_fields (object ms) ≡ Ok (record m { payload = said; length = length said })
+unfolding message_fields
+fields_read m ms said typed has three =
+    let one = subject_read m.subject ms has.subject in
+    let two = text_read key.Reply m.reply ms has.reply in
+    let four = status_read m.status ms typed.status has.status in
+    let five = text_read key.Description m.description ms has.description in
+    let last = headers_there m.headers ms has.headers in
+    rw (one, two, three, four, five, last)
+    (same_message m (unwrap_or (nonempty m.subject) []) (option_map status_code (option_map number_in m.status)) said (or_empty m.subject) (status_same m.status))
+
+-- a message whose payload is a text, but for its length
+pub text_read_with : (m : Message) (found : Members) → IsTyped m → IsBare found → message_fields (object (held (message_rows m) found)) ≡ Ok (record m { length = length m.payload })
+text_read_with m found typed bare =
+    let rows = message_rows m in
+    fields_read m (held rows found) m.payload typed
+    (record {
+      subject = rows_left (codes "subject") rows found ∙ ap (over (unless_empty m.subject)) bare.subject;
+      reply = rows_left (codes "reply") rows found ∙ ap (over (option_map string m.reply)) bare.reply;
+      status = rows_left (codes "status") rows found ∙ ap (over (option_map status_data m.status)) bare.status;
+      description = rows_left (codes "description") rows found ∙ ap (over (option_map string m.description)) bare.description;
+      headers = rows_left (codes "headers") rows found ∙ ap (over (option_map headers_data m.headers)) bare.headers;
+    })
+    (payload_read m.payload (held rows found) (rows_left (codes "payload") rows found))
+
+no_payload : (ms : Members) → get_member (codes "payload") ms ≡ None → defaulted payload key.Payload [] (object ms) ≡ Ok []
+unfolding defaulted
+no_payload ms is = rw is refl
+
+-- a message whose payload stands under another name
+pub other_read_with : (m : Message) (d : Data) (found : Members) → IsTyped m → IsBare found
+    → message_fields (object (held (rows_with (codes "payload_base64", Some d) m) found)) ≡ Ok (record m { payload = []; length = 0 })
+other_read_with m d found typed bare =
+    let rows = rows_with (codes "payload_base64", Some d) m in
+    fields_read m (held rows found) [] typed
+    (record {
+      subject = rows_left (codes "subject") rows found ∙ ap (over (unless_empty m.subject)) bare.subject;
+      reply = rows_left (codes "reply") rows found ∙ ap (over (option_map string m.reply)) bare.reply;
+      status = rows_left (codes "status") rows found ∙ ap (over (option_map status_data m.status)) bare.status;
+      description = rows_left (codes "description") rows found ∙ ap (over (option_map string m.description)) bare.description;
+      headers = rows_left (codes "headers") rows found ∙ ap (over (option_map headers_data m.headers)) bare.headers;
+    })
+    (no_payload (held rows found) (rows_left (codes "payload") rows found ∙ bare.payload))
 
 pub message_read : (m : Message) (found : Members) → IsTyped m → m.length ≡ length m.payload → IsBare found → message_fields (object (held (message_rows m) found)) ≡ Ok m
-unfolding message_fields
-message_read m found typed sized bare =
-    let rows = message_rows m in
-    let ms = held rows found in
-    let one = subject_read m.subject ms (rows_left (codes "subject") rows found ∙ ap (over (unless_empty m.subject)) bare.subject) in
-    let two = text_read key.Reply m.reply ms (rows_left (codes "reply") rows found ∙ ap (over (option_map string m.reply)) bare.reply) in
-    let three = payload_read m.payload ms (rows_left (codes "payload") rows found) in
-    let four = status_read m.status ms typed.status (rows_left (codes "status") rows found ∙ ap (over (option_map status_data m.status)) bare.status) in
-    let five = text_read key.Description m.description ms (rows_left (codes "description") rows found ∙ ap (over (option_map string m.description)) bare.description) in
-    let last = headers_there m.headers ms (rows_left (codes "headers") rows found ∙ ap (over (option_map headers_data m.headers)) bare.headers) in
-    rw (one, two, three, four, five, last)
-    (same_message m (unwrap_or (nonempty m.subject) []) (option_map status_code (option_map number_in m.status)) (length m.payload) (or_empty m.subject) (status_same m.status) (sym sized))
+message_read m found typed sized bare = text_read_with m found typed bare ∙ ap (λ (n : ℕ). good (record m { length = n })) (sym sized)

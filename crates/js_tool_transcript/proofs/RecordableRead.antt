@@ -17,12 +17,14 @@ use Rattle.js_ordered_table.specs.declared.event.Event.{Event}
 use Rattle.js_ordered_table.specs.declared.event.EventKind.{EventKind}
 use Rattle.js_ordered_table.specs.declared.event.EventKind.TheVariants as what
 use Rattle.js_ordered_table.proofs.Rewritten.{if_both}
-use Rattle.js_tool_transcript.specs.Event.{arrival, arrival_fields, reply_fields, gone_fields, answer, link_named, connection_named, watcher_named, alone, with_key, what_fields, event_keys, event_fields, event_line}
+use Rattle.js_tool_transcript.specs.Event.{arrival, arrival_fields, reply_fields, gone_fields, answer, link_named, connection_named, watcher_named, alone, with_key, what_fields, event_keys, event_fields, event_fields_in, event_line}
+use Rattle.js_tool_transcript.specs.ExtendedMessage.{only_in}
+use Rattle.js_tool_transcript.specs.declared.transcript.lines.Lines.TheVariants.{Plain}
 use Rattle.js_tool_transcript.specs.EventText.{is_recordable_message, is_recordable_kind, is_recordable}
 use Rattle.js_tool_transcript.specs.Members.{only}
 use Rattle.js_tool_transcript.specs.Message.{message_keys, payload, header, message_fields}
 use Rattle.js_tool_transcript.proofs.MembersRead.{Gives, then_is, then_any, defaulted_is, given_is, row_is, named_is}
-use Rattle.js_tool_transcript.proofs.TranscriptsRead.{payload_is, only_is, line_is}
+use Rattle.js_tool_transcript.proofs.TranscriptsRead.{payload_is, only_is, only_in_is, line_is}
 
 -- ---- a message
 
@@ -50,14 +52,14 @@ message_is d is =
 abbrev Fits : EventKind → Type 0
 Fits kind = is_recordable_kind kind ≡ true
 
-arrival_fields_are : Gives Fits arrival_fields
+arrival_fields_are : Gives Fits (arrival_fields Plain)
 unfolding arrival_fields
 arrival_fields_are d is = then_any Fits (required natural key.Inbox d) _ (λ inbox. then_is IsText Fits (message_fields d) _ (message_is d is) (λ message are. are))
 
-arrival_is : (k : Key) → Gives Fits (arrival k)
-arrival_is k = only_is Fits (key.Inbox ∷ message_keys) arrival_fields k arrival_fields_are
+arrival_is : (k : Key) → Gives Fits (arrival Plain k)
+arrival_is k = only_in_is Fits Plain (key.Inbox ∷ message_keys) (arrival_fields Plain) k arrival_fields_are
 
-reply_is : Gives Fits reply_fields
+reply_is : Gives Fits (reply_fields Plain)
 unfolding reply_fields
 reply_is d is = then_any Fits (required natural key.Request d) _ (λ request. then_is IsText Fits (message_fields d) _ (message_is d is) (λ message are. are))
 
@@ -67,11 +69,11 @@ gone_is d is =
     then_any Fits (required natural key.Request d) _ (λ request.
     then_any Fits (required truth key.Gone d) _ (λ gone. if_both (λ r. IfOk r Fits) gone (Ok (what.Answer request None)) (Err (OutOfRange key.Gone)) refl tt))
 
-answer_is : (k : Key) → Gives Fits (answer k)
+answer_is : (k : Key) → Gives Fits (answer Plain k)
 unfolding answer
 answer_is k d is =
-    if_both (λ r. IfOk r Fits) (is_some (get (key_name key.Gone) d)) (only (key.Request ∷ key.Gone ∷ []) gone_fields k d) (only (key.Request ∷ message_keys) reply_fields k d)
-    (only_is Fits (key.Request ∷ key.Gone ∷ []) gone_fields k gone_is d is) (only_is Fits (key.Request ∷ message_keys) reply_fields k reply_is d is)
+    if_both (λ r. IfOk r Fits) (is_some (get (key_name key.Gone) d)) (only (key.Request ∷ key.Gone ∷ []) gone_fields k d) (only_in Plain (key.Request ∷ message_keys) (reply_fields Plain) k d)
+    (only_is Fits (key.Request ∷ key.Gone ∷ []) gone_fields k gone_is d is) (only_in_is Fits Plain (key.Request ∷ message_keys) (reply_fields Plain) k reply_is d is)
 
 link_is : (k : Key) → Gives Fits (named link_named k)
 unfolding link_named
@@ -105,11 +107,11 @@ or_tick : (o : Option EventKind) → IsFound o → Fits (unwrap_or o what.Tick)
 or_tick None is = refl
 or_tick (Some found) is = is
 
-what_is : Gives Fits what_fields
+what_is : Gives Fits (what_fields Plain)
 unfolding what_fields
 what_is d is =
-    then_is IsFound Fits (with_key arrival key.Arrival None d) _ (with_key_is arrival key.Arrival None arrival_is tt d is) (λ one first.
-    then_is IsFound Fits (with_key answer key.Answer one d) _ (with_key_is answer key.Answer one answer_is first d is) (λ two second.
+    then_is IsFound Fits (with_key (arrival Plain) key.Arrival None d) _ (with_key_is (arrival Plain) key.Arrival None arrival_is tt d is) (λ one first.
+    then_is IsFound Fits (with_key (answer Plain) key.Answer one d) _ (with_key_is (answer Plain) key.Answer one answer_is first d is) (λ two second.
     then_is IsFound Fits (with_key (named link_named) key.Link two d) _ (with_key_is (named link_named) key.Link two link_is second d is) (λ three third.
     then_is IsFound Fits (with_key (named connection_named) key.Connection three d) _ (with_key_is (named connection_named) key.Connection three connection_is third d is) (λ four fourth.
     then_is IsFound Fits (with_key (named watcher_named) key.Watcher four d) _ (with_key_is (named watcher_named) key.Watcher four watcher_is fourth d is) (λ five fifth.
@@ -119,10 +121,10 @@ abbrev IsRecordable : Event → Type 0
 IsRecordable e = is_recordable e ≡ true
 
 event_is : Gives IsRecordable event_fields
-unfolding event_fields
+unfolding event_fields_in
 event_is d is =
     then_any IsRecordable (required natural key.At d) _ (λ at.
-    then_is Fits IsRecordable (what_fields d) _ (what_is d is) (λ what fits. fits))
+    then_is Fits IsRecordable (what_fields Plain d) _ (what_is d is) (λ what fits. fits))
 
 -- each event that is read is so; a reader that takes over a length of its own is refused by it
 pub said_is_recordable : (e : Event) (line : List ℕ) → event_line line ≡ Ok e → is_recordable e ≡ true

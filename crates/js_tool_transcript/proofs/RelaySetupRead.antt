@@ -19,7 +19,8 @@ use Rattle.js_json_members.specs.Value.{value_of}
 use Rattle.js_json.specs.ConsumerConfig.{config_fields}
 use Rattle.js_json.specs.ConsumerInfo.{info_fields}
 use Rattle.js_event_log.specs.Events.{reply, arrival}
-use Rattle.js_tool_transcript.specs.Event.{event_of, event_line, event_fields, what_fields, with_key, arrival_fields}
+use Rattle.js_tool_transcript.specs.Event.{event_of, event_line, event_fields, event_fields_in, what_fields, with_key, arrival_fields}
+use Rattle.js_tool_transcript.specs.ExtendedMessage.{only_in}
 use Rattle.js_tool_transcript.specs.Members.{only, value_as, line_as}
 use Rattle.js_tool_transcript.specs.Message.{message_fields}
 use Rattle.js_tool_transcript.specs.Setup.{mode_named, settings_fields, ordered_setup, setup_with, setup_fields, setup_of, setup_line}
@@ -222,7 +223,7 @@ arrival_shallow : (stream name : List ℕ) (number : ℕ) (entry : Entry) → de
 arrival_shallow stream name number entry = omega arith
 
 arrival_fields_read : (stream name : List ℕ) (number : ℕ) (entry : Entry) → event_fields (arrival_data stream name number entry) ≡ Ok (arrival stream name number entry)
-unfolding only event_fields what_fields with_key arrival_fields message_fields required given optional defaulted natural natural_of text
+unfolding only_in event_fields_in what_fields with_key arrival_fields message_fields required given optional defaulted natural natural_of text
 arrival_fields_read stream name number entry = refl
 
 pub arrival_reads : (stream name : List ℕ) (number : ℕ) (entry : Entry) → IsUtf8 stream → IsUtf8 name → number < 2 ^ 64 → entry.sequence < 2 ^ 64 → IsText entry

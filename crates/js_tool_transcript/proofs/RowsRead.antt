@@ -64,7 +64,7 @@ put_name name k true d ms is =
     subst (λ (k : List ℕ). get_member name (put k d ms) ≡ Some d) same (get_member-put name d ms)
 put_name name k false d ms is = get_member-put_other name k d ms (λ same. true≢false (sym ((bytes_eq-Decides name k).1 same) ∙ is))
 
-row_left : (name k : List ℕ) (o : Option Data) (found : Members) → get_member name (put_row k o found) ≡ (if bytes_eq name k then over o (get_member name found) else get_member name found)
+pub row_left : (name k : List ℕ) (o : Option Data) (found : Members) → get_member name (put_row k o found) ≡ (if bytes_eq name k then over o (get_member name found) else get_member name found)
 row_left name k None found = both_alike (bytes_eq name k) (get_member name found)
 row_left name k (Some d) found = put_name name k (bytes_eq name k) d found refl
 
@@ -78,26 +78,40 @@ rows_left name (row ∷ rows) found = rows_left name rows (put_row row.0 row.1 f
 both_true : (a b : Bool) → a ≡ true → b ≡ true → (a && b) ≡ true
 both_true a b p q = rw (p, q) refl
 
-only_put : (keys : List Key) (k : List ℕ) (d : Data) (ms : Members) → is_among keys k ≡ true → members_only keys ms ≡ true → members_only keys (put k d ms) ≡ true
-only_put keys k d no_members is only = both_true (is_among keys k) true is refl
-only_put keys k d (member l e ms) is only =
-    let parts = and_parts (is_among keys l) (members_only keys ms) only in
-    by_order (slice_cmp nat_cmp k l) parts.0 parts.1 (only_put keys k d ms is parts.1)
-  where
-    by_order : (o : Ordering) → is_among keys l ≡ true → members_only keys ms ≡ true → members_only keys (put k d ms) ≡ true
-        → members_only keys (match_ordering o (member k d (member l e ms)) (member l d ms) (member l e (put k d ms))) ≡ true
-    by_order Less one more rest = both_true (is_among keys k) (members_only keys (member l e ms)) is only
-    by_order Equal one more rest = both_true (is_among keys l) (members_only keys ms) one more
-    by_order Greater one more rest = both_true (is_among keys l) (members_only keys (put k d ms)) one rest
+-- each name passes a test
+abbrev pub names_are : (List ℕ → Bool) → Members → Bool
+names_are passes no_members = true
+names_are passes (member k d ms) = passes k && names_are passes ms
 
-row_only : (keys : List Key) (k : List ℕ) (o : Option Data) (found : Members) → is_among keys k ≡ true → members_only keys found ≡ true → members_only keys (put_row k o found) ≡ true
-row_only keys k None found is only = only
-row_only keys k (Some d) found is only = only_put keys k d found is only
+names_put : (passes : List ℕ → Bool) (k : List ℕ) (d : Data) (ms : Members) → passes k ≡ true → names_are passes ms ≡ true → names_are passes (put k d ms) ≡ true
+names_put passes k d no_members is only = both_true (passes k) true is refl
+names_put passes k d (member l e ms) is only =
+    let parts = and_parts (passes l) (names_are passes ms) only in
+    by_order (slice_cmp nat_cmp k l) parts.0 parts.1 (names_put passes k d ms is parts.1)
+  where
+    by_order : (o : Ordering) → passes l ≡ true → names_are passes ms ≡ true → names_are passes (put k d ms) ≡ true
+        → names_are passes (match_ordering o (member k d (member l e ms)) (member l d ms) (member l e (put k d ms))) ≡ true
+    by_order Less one more rest = both_true (passes k) (names_are passes (member l e ms)) is only
+    by_order Equal one more rest = both_true (passes l) (names_are passes ms) one more
+    by_order Greater one more rest = both_true (passes l) (names_are passes (put k d ms)) one rest
+
+row_names : (passes : List ℕ → Bool) (k : List ℕ) (o : Option Data) (found : Members) → passes k ≡ true → names_are passes found ≡ true → names_are passes (put_row k o found) ≡ true
+row_names passes k None found is only = only
+row_names passes k (Some d) found is only = names_put passes k d found is only
+
+pub rows_names : (passes : List ℕ → Bool) (rows : List Row) (found : Members) → AllByRecursion (λ (row : Row). passes row.0 ≡ true) rows → names_are passes found ≡ true
+    → names_are passes (held rows found) ≡ true
+rows_names passes [] found are only = only
+rows_names passes (row ∷ rows) found are only = rows_names passes rows (put_row row.0 row.1 found) are.1 (row_names passes row.0 row.1 found are.0 only)
+
+only_names : (keys : List Key) (ms : Members) → names_are (is_among keys) ms ≡ members_only keys ms
+only_names keys no_members = refl
+only_names keys (member k d ms) = ap (λ (b : Bool). is_among keys k && b) (only_names keys ms)
 
 pub rows_only : (keys : List Key) (rows : List Row) (found : Members) → AllByRecursion (λ (row : Row). is_among keys row.0 ≡ true) rows → members_only keys found ≡ true
     → members_only keys (held rows found) ≡ true
-rows_only keys [] found are only = only
-rows_only keys (row ∷ rows) found are only = rows_only keys rows (put_row row.0 row.1 found) are.1 (row_only keys row.0 row.1 found are.0 only)
+rows_only keys rows found are only =
+    sym (only_names keys (held rows found)) ∙ rows_names (is_among keys) rows found are (only_names keys found ∙ only)
 
 -- ---- texts and numbers alone
 

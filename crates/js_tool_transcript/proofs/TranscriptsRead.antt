@@ -33,7 +33,10 @@ use Rattle.js_ordered_table.specs.Texts.{config_of}
 use Rattle.js_ordered_table.proofs.Rewritten.{if_both}
 use Rattle.js_tool_transcript.specs.declared.transcript.setup.Setup.{Setup}
 use Rattle.js_tool_transcript.specs.declared.transcript.Transcript.{Transcript}
-use Rattle.js_tool_transcript.specs.Event.{arrival, arrival_fields, reply_fields, gone_fields, answer, link_named, connection_named, watcher_named, alone, with_key, what_fields, event_keys, event_fields, event_line}
+use Rattle.js_tool_transcript.specs.Event.{arrival, arrival_fields, reply_fields, gone_fields, answer, link_named, connection_named, watcher_named, alone, with_key, what_fields, event_keys, event_fields, event_fields_in, event_line}
+use Rattle.js_tool_transcript.specs.ExtendedMessage.{has_only_in, only_in}
+use Rattle.js_tool_transcript.specs.declared.transcript.lines.Lines.{Lines}
+use Rattle.js_tool_transcript.specs.declared.transcript.lines.Lines.TheVariants.{Plain}
 use Rattle.js_tool_transcript.specs.Members.{only, value_as, line_as}
 use Rattle.js_tool_transcript.specs.Message.{message_keys, json_text, payload, header, message_fields}
 use Rattle.js_tool_transcript.specs.TranscriptReplay.{replay_input}
@@ -96,16 +99,24 @@ only_is {A = A} P keys fields k gives d is = by_test (has_only keys d)
     by_test true = gives d is
     by_test false = tt
 
-arrival_fields_are : Gives BringsTexts arrival_fields
+pub only_in_is : {A : Type 0} (P : A → Type 0) (form : Lines) (keys : List Key) (fields : Data → Result A ReadError) (k : Key) → Gives P fields → Gives P (only_in form keys fields k)
+unfolding only_in
+only_in_is {A = A} P form keys fields k gives d is = by_test (has_only_in form keys d)
+  where
+    by_test : (b : Bool) → IfOk {T = A} (if b then fields d else Err (WrongKind k)) P
+    by_test true = gives d is
+    by_test false = tt
+
+arrival_fields_are : Gives BringsTexts (arrival_fields Plain)
 unfolding arrival_fields
 arrival_fields_are d is =
     then_any BringsTexts (required natural key.Inbox d) _ (λ inbox.
     then_is HasTexts BringsTexts (message_fields d) _ (message_is d is) (λ message are. are))
 
-arrival_is : (k : Key) → Gives BringsTexts (arrival k)
-arrival_is k = only_is BringsTexts (key.Inbox ∷ message_keys) arrival_fields k arrival_fields_are
+arrival_is : (k : Key) → Gives BringsTexts (arrival Plain k)
+arrival_is k = only_in_is BringsTexts Plain (key.Inbox ∷ message_keys) (arrival_fields Plain) k arrival_fields_are
 
-reply_is : Gives BringsTexts reply_fields
+reply_is : Gives BringsTexts (reply_fields Plain)
 unfolding reply_fields
 reply_is d is = then_any BringsTexts (required natural key.Request d) _ (λ request. then_any BringsTexts (message_fields d) _ (λ message. tt))
 
@@ -115,11 +126,11 @@ gone_is d is =
     then_any BringsTexts (required natural key.Request d) _ (λ request.
     then_any BringsTexts (required truth key.Gone d) _ (λ gone. if_both (λ r. IfOk r BringsTexts) gone (Ok (what.Answer request None)) (Err (OutOfRange key.Gone)) tt tt))
 
-answer_is : (k : Key) → Gives BringsTexts (answer k)
+answer_is : (k : Key) → Gives BringsTexts (answer Plain k)
 unfolding answer
 answer_is k d is =
-    if_both (λ r. IfOk r BringsTexts) (is_some (get (key_name key.Gone) d)) (only (key.Request ∷ key.Gone ∷ []) gone_fields k d) (only (key.Request ∷ message_keys) reply_fields k d)
-    (only_is BringsTexts (key.Request ∷ key.Gone ∷ []) gone_fields k gone_is d is) (only_is BringsTexts (key.Request ∷ message_keys) reply_fields k reply_is d is)
+    if_both (λ r. IfOk r BringsTexts) (is_some (get (key_name key.Gone) d)) (only (key.Request ∷ key.Gone ∷ []) gone_fields k d) (only_in Plain (key.Request ∷ message_keys) (reply_fields Plain) k d)
+    (only_is BringsTexts (key.Request ∷ key.Gone ∷ []) gone_fields k gone_is d is) (only_in_is BringsTexts Plain (key.Request ∷ message_keys) (reply_fields Plain) k reply_is d is)
 
 link_is : (k : Key) → Gives BringsTexts (named link_named k)
 unfolding link_named
@@ -153,11 +164,11 @@ or_tick : (o : Option EventKind) → IsFound o → BringsTexts (unwrap_or o what
 or_tick None is = tt
 or_tick (Some found) is = is
 
-what_is : Gives BringsTexts what_fields
+what_is : Gives BringsTexts (what_fields Plain)
 unfolding what_fields
 what_is d is =
-    then_is IsFound BringsTexts (with_key arrival key.Arrival None d) _ (with_key_is arrival key.Arrival None arrival_is tt d is) (λ one first.
-    then_is IsFound BringsTexts (with_key answer key.Answer one d) _ (with_key_is answer key.Answer one answer_is first d is) (λ two second.
+    then_is IsFound BringsTexts (with_key (arrival Plain) key.Arrival None d) _ (with_key_is (arrival Plain) key.Arrival None arrival_is tt d is) (λ one first.
+    then_is IsFound BringsTexts (with_key (answer Plain) key.Answer one d) _ (with_key_is (answer Plain) key.Answer one answer_is first d is) (λ two second.
     then_is IsFound BringsTexts (with_key (named link_named) key.Link two d) _ (with_key_is (named link_named) key.Link two link_is second d is) (λ three third.
     then_is IsFound BringsTexts (with_key (named connection_named) key.Connection three d) _ (with_key_is (named connection_named) key.Connection three connection_is third d is) (λ four fourth.
     then_is IsFound BringsTexts (with_key (named watcher_named) key.Watcher four d) _ (with_key_is (named watcher_named) key.Watcher four watcher_is fourth d is) (λ five fifth.
@@ -167,10 +178,10 @@ abbrev IsTextEvent : Event → Type 0
 IsTextEvent e = BringsTexts e.what
 
 event_is : Gives IsTextEvent event_fields
-unfolding event_fields
+unfolding event_fields_in
 event_is d is =
     then_any IsTextEvent (required natural key.At d) _ (λ at.
-    then_is BringsTexts IsTextEvent (what_fields d) _ (what_is d is) (λ what brings. brings))
+    then_is BringsTexts IsTextEvent (what_fields Plain d) _ (what_is d is) (λ what brings. brings))
 
 -- ---- a setup
 

@@ -96,7 +96,7 @@ event_text e = event_json e ++ codes "\n"
 
 -- ---- examples: one line of each kind
 
-abbrev plain : Message
+abbrev pub plain : Message
 plain = record { subject = []; reply = Some (codes "r"); payload = codes "p"; headers = None; status = None; description = None; length = 1 }
 
 a_tick : event_text (record { at = 7; what = what.Tick }) ≡ codes "{\"at\":7}\n"

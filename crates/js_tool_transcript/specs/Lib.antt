@@ -1,8 +1,10 @@
 pub mod Members
 pub mod Setup
 pub mod Message
+pub mod ExtendedMessage
 pub mod Event
 pub mod EventText
+pub mod ExtendedText
 pub mod Compact
 pub mod Transcript
 pub mod Text

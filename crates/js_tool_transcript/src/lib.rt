@@ -7,6 +7,10 @@
 //! form are read without building a JSON value, with the same result. What is written is byte for
 //! byte the text of the definitions. The transcript that [`relay_text`] writes of a mirror can be
 //! read back.
+//!
+//! A line of a transcript cannot say every event: its payload is a text, and its length is the
+//! payload's. An extended line says every event: [`push_extended_event`] writes it, and
+//! [`next_line_in`] with [`Lines::Extended`] reads it, and reads the lines of a transcript too.
 #![tactic(auto)]
 
 mod relay;
@@ -16,6 +20,7 @@ mod transcript;
 pub use relay::relay_text;
 pub use text::{Cell, field_text, push_end, push_line, push_outputs, push_refused, refusal_line};
 pub use transcript::{
-    Payloads, Setup, Transcript, Unread, compact_event, event_line, event_of, first_line,
-    is_recordable, next_line, push_event, setup_line, setup_of,
+    Lines, Payloads, Setup, Transcript, Unread, compact_event, event_line, event_line_in, event_of,
+    first_line, is_recordable, next_line, next_line_in, push_event, push_extended_event,
+    setup_line, setup_of,
 };

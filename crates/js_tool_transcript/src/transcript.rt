@@ -1,24 +1,31 @@
 //! Transcripts: a setup, and the events that happen to a consumer.
 
-ghost use Rattle.std.specs.Prelude.{◌≡◌};
+ghost use Rattle.std.specs.Prelude.{◌≡◌, Ok};
 ghost use Rattle.js_tool_transcript.specs.Transcript.{GivesLines, numbered};
 ghost use Rattle.js_tool_transcript.specs.Setup.{setup_line as setup_in};
-ghost use Rattle.js_tool_transcript.specs.Event.{event_line as event_in};
+ghost use Rattle.js_ordered_table.specs.declared.event.Event as events;
+ghost use Rattle.js_tool_transcript.specs.Event.{event_line as event_in, event_line_in as line_of};
 ghost use Rattle.js_tool_transcript.specs.declared.transcript.Unread.TheVariants.{OutOfMemory};
 
 mod compact;
 mod event;
 mod event_text;
+mod extended;
+mod extended_text;
+mod lines;
 mod members;
 mod message;
 mod payloads;
 mod setup;
 
-pub use event::{compact_event, event_line, event_of};
+pub use compact::compact_event;
+pub use event::{event_line, event_line_in, event_of};
 pub use event_text::{is_recordable, push_event};
+pub use extended_text::push_extended_event;
 use js_base::Items;
 use js_json_members::ReadError;
 use js_ordered_table::Event;
+pub use lines::Lines;
 pub use payloads::Payloads;
 pub use setup::{Setup, setup_line, setup_of};
 use std::alloc::{AllocFailed, Global};
@@ -80,7 +87,40 @@ pub fn next_line(
 ) -> Result<Event, Unread>
     ensures { GivesLines (λ e. e) result (numbered number (event_in line.now)) }
 {
-    match event_line(alloc, payloads, line) {
+    next_line_in(alloc, payloads, Lines::Plain, number, line)
+}
+
+/// Reads the event on a further line of a form, as [`next_line`] does. A line of a transcript reads
+/// the same in both forms.
+///
+/// # Errors
+///
+/// Fails as `next_line` does. In `Lines::Extended` a message may have two more keys, and the line
+/// also is no event if a `payload_base64` is no base64 or stands beside a `payload`, or if a
+/// `length` is no number of 64 bits.
+pub fn next_line_in(
+    alloc: Global,
+    payloads: &mut Payloads,
+    lines: Lines,
+    number: u64,
+    line: &[u8],
+) -> Result<Event, Unread>
+    ensures event { GivesLines (λ e. e) result (numbered number (line_of lines line.now)) }
+    ensures plain { (said : events.Event) → event_in line.now ≡ Ok said → GivesLines (λ e. e) result (Ok said) }
+{
+    numbered_line(alloc, payloads, lines, number, line)
+}
+
+fn numbered_line(
+    alloc: Global,
+    payloads: &mut Payloads,
+    lines: Lines,
+    number: u64,
+    line: &[u8],
+) -> Result<Event, Unread>
+    ensures { GivesLines (λ e. e) result (numbered number (line_of lines line.now)) }
+{
+    match event_line_in(alloc, payloads, lines, line) {
         Ok(event) => Ok(event),
         Err(ReadError::OutOfMemory) => Err(Unread::OutOfMemory),
         Err(_) => Err(Unread::BadLine(number)),

@@ -1,12 +1,18 @@
 //! Lines in their shortest form, as most lines of a long transcript are. They are read without
 //! building a JSON value.
 
-ghost use Rattle.std.specs.Prelude.{◌≡◌, ◌≤◌, ◌<◌, ◌^◌, ◌++◌, ◌∷◌, length, decimal, codes, IfSome};
+ghost use Rattle.std.specs.Prelude.{◌≡◌, ◌≤◌, ◌<◌, ◌^◌, ◌++◌, ◌∷◌, length, decimal, codes, Ok, IfOk, IfSome};
 ghost use Rattle.json.specs.Print.{escape};
-ghost use Rattle.js_tool_transcript.specs.Compact.{IsPlain, SaysCompact, arrival_rest};
+ghost use Rattle.js_ordered_table.specs.declared.event.EventKind.TheVariants.{Arrival};
+ghost use Rattle.js_tool_transcript.specs.Compact.{IsPlain, SaysCompact, arrival_rest, plain_message};
+ghost use Rattle.js_tool_transcript.specs.Event.{event_line as line_in};
 
+use super::payloads::Payloads;
 use crate::text::plain_front;
 use itoa::Buffer;
+use js_base::{Boxed, Message, OutOfMemory, Subject};
+use js_ordered_table::{Event, EventKind};
+use std::alloc::Global;
 use std::str::from_utf8;
 
 /// The content of a line in its shortest form.
@@ -25,6 +31,58 @@ pub(crate) struct PlainArrival<'l> {
     pub(crate) inbox: u64,
     pub(crate) reply: &'l str,
     pub(crate) payload: &'l str,
+}
+
+/// Reads the event on a line in its shortest form, without building a JSON value: a bare tick, or
+/// an arrival with only a reply and a payload. Returns `None` if the line has another form,
+/// whatever it contains. The payload is kept in the room that short payloads share.
+///
+/// Fails only with `OutOfMemory`.
+pub fn compact_event(
+    alloc: Global,
+    payloads: &mut Payloads,
+    line: &[u8],
+) -> Result<Option<Event>, OutOfMemory>
+    ensures { IfOk result (λ found. IfSome found (λ event. line_in line.now ≡ Ok event)) }
+{
+    match compact_line(line) {
+        Some(CompactLine::Tick { at }) => Ok(Some(Event {
+            at,
+            what: EventKind::Tick,
+        })),
+        Some(CompactLine::Arrival { at, arrival }) => {
+            Ok(Some(arrived(alloc, payloads, at, arrival)?))
+        }
+        None => Ok(None),
+    }
+}
+
+fn arrived(
+    alloc: Global,
+    payloads: &mut Payloads,
+    at: u64,
+    found: PlainArrival,
+) -> Result<Event, OutOfMemory>
+    ensures { IfOk result (λ event. event ≡ record { at = at; what = Arrival found.entry.inbox (plain_message found.entry.reply.now found.entry.payload.now) }) }
+{
+    let reply = Subject::new(alloc, found.reply)?;
+    let payload = payloads.keep(alloc, found.payload.as_bytes())?;
+    let message = Message {
+        subject: Subject::from(String::new(alloc)),
+        reply: Some(reply),
+        payload,
+        headers: None,
+        status: None,
+        description: None,
+        length: found.payload.len() as u64,
+    };
+    Ok(Event {
+        at,
+        what: EventKind::Arrival {
+            inbox: found.inbox,
+            message: Boxed::new(alloc, message)?,
+        },
+    })
 }
 
 /// Reads a line that is a bare tick, or an arrival with only a reply and a payload. Goes over the

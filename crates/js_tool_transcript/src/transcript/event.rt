@@ -5,15 +5,14 @@ ghost use Rattle.serde_json.specs.View.{view};
 ghost use Rattle.js_json_members.specs.Member.{Gives, named, given as given_in};
 ghost use Rattle.js_json_members.specs.declared.key.Key.TheVariants as key;
 ghost use Rattle.js_ordered_table.specs.declared.event.EventKind.{EventKind};
-ghost use Rattle.js_ordered_table.specs.declared.event.EventKind.TheVariants.{Arrival};
-ghost use Rattle.js_tool_transcript.specs.Compact.{plain_message};
-ghost use Rattle.js_tool_transcript.specs.Event.{arrival_fields as arrival_fields_in, arrival as arrival_in, reply_fields as reply_fields_in, gone_fields as gone_fields_in, answer as answer_in, link_named, connection_named, watcher_named, alone as alone_in, with_key, what_fields as what_in, event_fields as event_in, event_of as event_of_in, event_line as line_in};
+ghost use Rattle.js_tool_transcript.specs.Event.{arrival_fields as arrival_fields_in, arrival as arrival_in, reply_fields as reply_fields_in, gone_fields as gone_fields_in, answer as answer_in, link_named, connection_named, watcher_named, alone as alone_in, with_key, what_fields as what_in, event_fields_in as event_in, event_of_in as value_in, event_of as event_of_line, event_line as line_in, event_line_in as line_of};
 
-use super::compact::{CompactLine, PlainArrival, compact_line};
+use super::compact::compact_event;
+use super::extended::{fields_in, has_only_in};
+use super::lines::Lines;
 use super::members::text_of;
-use super::message::message_fields;
 use super::payloads::Payloads;
-use js_base::{Boxed, Message, OutOfMemory, State, Subject};
+use js_base::{Boxed, State};
 use js_json_members::{Key, ReadError, has_only, required, value_of};
 use js_ordered_table::{Event, EventKind};
 use serde_json::Value;
@@ -23,28 +22,31 @@ use std::alloc::Global;
 fn arrival_fields(
     alloc: Global,
     payloads: &mut Payloads,
+    lines: Lines,
     object: &Value,
 ) -> Result<EventKind, ReadError>
-    ensures { Gives result (arrival_fields_in (view object.now)) }
+    ensures { Gives result (arrival_fields_in lines (view object.now)) }
 {
     let inbox = required(alloc, object, Key::Inbox)?;
-    let message = message_fields(alloc, payloads, object)?;
+    let message = fields_in(alloc, payloads, lines, object)?;
     Ok(EventKind::Arrival {
         inbox,
         message: Boxed::new(alloc, message)?,
     })
 }
 
-#[tactic(auto, unfolding(crate::specs::Members::only))]
+#[tactic(auto, unfolding(crate::specs::ExtendedMessage::only_in))]
 fn arrival(
     alloc: Global,
     payloads: &mut Payloads,
+    lines: Lines,
     key: Key,
     value: &Value,
 ) -> Result<EventKind, ReadError>
-    ensures { Gives result (arrival_in key (view value.now)) }
+    ensures { Gives result (arrival_in lines key (view value.now)) }
 {
-    if has_only(
+    if has_only_in(
+        lines,
         value,
         &[
             Key::Inbox,
@@ -56,7 +58,7 @@ fn arrival(
             Key::Headers,
         ],
     ) {
-        arrival_fields(alloc, payloads, value)
+        arrival_fields(alloc, payloads, lines, value)
     } else {
         Err(ReadError::WrongKind { key })
     }
@@ -66,12 +68,13 @@ fn arrival(
 fn reply_fields(
     alloc: Global,
     payloads: &mut Payloads,
+    lines: Lines,
     object: &Value,
 ) -> Result<EventKind, ReadError>
-    ensures { Gives result (reply_fields_in (view object.now)) }
+    ensures { Gives result (reply_fields_in lines (view object.now)) }
 {
     let request = required(alloc, object, Key::Request)?;
-    let message = message_fields(alloc, payloads, object)?;
+    let message = fields_in(alloc, payloads, lines, object)?;
     Ok(EventKind::Answer {
         request,
         reply: Some(Boxed::new(alloc, message)?),
@@ -94,14 +97,15 @@ fn gone_fields(alloc: Global, object: &Value) -> Result<EventKind, ReadError>
     }
 }
 
-#[tactic(auto, unfolding(crate::specs::Event::answer, crate::specs::Members::only))]
+#[tactic(auto, unfolding(crate::specs::Event::answer, crate::specs::Members::only, crate::specs::ExtendedMessage::only_in))]
 fn answer(
     alloc: Global,
     payloads: &mut Payloads,
+    lines: Lines,
     key: Key,
     value: &Value,
 ) -> Result<EventKind, ReadError>
-    ensures { Gives result (answer_in key (view value.now)) }
+    ensures { Gives result (answer_in lines key (view value.now)) }
 {
     if value.get(Key::Gone.name()).is_some() {
         if has_only(value, &[Key::Request, Key::Gone]) {
@@ -109,7 +113,8 @@ fn answer(
         }
         return Err(ReadError::WrongKind { key });
     }
-    if has_only(
+    if has_only_in(
+        lines,
         value,
         &[
             Key::Request,
@@ -121,7 +126,7 @@ fn answer(
             Key::Headers,
         ],
     ) {
-        return reply_fields(alloc, payloads, value);
+        return reply_fields(alloc, payloads, lines, value);
     }
     Err(ReadError::WrongKind { key })
 }
@@ -216,14 +221,15 @@ fn alone(
 fn with_arrival(
     alloc: Global,
     payloads: &mut Payloads,
+    lines: Lines,
     object: &Value,
 ) -> Result<Option<EventKind>, ReadError>
-    ensures { Gives result (with_key arrival_in key.Arrival None (view object.now)) }
+    ensures { Gives result (with_key (arrival_in lines) key.Arrival None (view object.now)) }
 {
     let key = Key::Arrival;
     match object.get(key.name()) {
         None => Ok(None),
-        Some(value) => Ok(Some(arrival(alloc, payloads, key, value)?)),
+        Some(value) => Ok(Some(arrival(alloc, payloads, lines, key, value)?)),
     }
 }
 
@@ -231,15 +237,20 @@ fn with_arrival(
 fn with_answer(
     alloc: Global,
     payloads: &mut Payloads,
+    lines: Lines,
     object: &Value,
     found: Option<EventKind>,
 ) -> Result<Option<EventKind>, ReadError>
-    ensures { Gives result (with_key answer_in key.Answer found (view object.now)) }
+    ensures { Gives result (with_key (answer_in lines) key.Answer found (view object.now)) }
 {
     let key = Key::Answer;
     match object.get(key.name()) {
         None => alone(key, found, None),
-        Some(value) => alone(key, found, Some(answer(alloc, payloads, key, value)?)),
+        Some(value) => alone(
+            key,
+            found,
+            Some(answer(alloc, payloads, lines, key, value)?),
+        ),
     }
 }
 
@@ -261,77 +272,31 @@ fn with_change<C: NamedChange>(
 fn what_fields(
     alloc: Global,
     payloads: &mut Payloads,
+    lines: Lines,
     object: &Value,
 ) -> Result<EventKind, ReadError>
-    ensures { Gives result (what_in (view object.now)) }
+    ensures { Gives result (what_in lines (view object.now)) }
 {
-    let found = with_arrival(alloc, payloads, object)?;
-    let found = with_answer(alloc, payloads, object, found)?;
+    let found = with_arrival(alloc, payloads, lines, object)?;
+    let found = with_answer(alloc, payloads, lines, object, found)?;
     let found = with_change::<LinkChange>(object, Key::Link, found)?;
     let found = with_change::<ConnectionChange>(object, Key::Connection, found)?;
     let found = with_change::<WatcherChange>(object, Key::Watcher, found)?;
     Ok(found.unwrap_or(EventKind::Tick))
 }
 
-#[tactic(auto, unfolding(crate::specs::Event::event_fields))]
-fn event_fields(alloc: Global, payloads: &mut Payloads, object: &Value) -> Result<Event, ReadError>
-    ensures { Gives result (event_in (view object.now)) }
+#[tactic(auto, unfolding(crate::specs::Event::event_fields_in))]
+fn event_fields(
+    alloc: Global,
+    payloads: &mut Payloads,
+    lines: Lines,
+    object: &Value,
+) -> Result<Event, ReadError>
+    ensures { Gives result (event_in lines (view object.now)) }
 {
     let at = required(alloc, object, Key::At)?;
-    let what = what_fields(alloc, payloads, object)?;
+    let what = what_fields(alloc, payloads, lines, object)?;
     Ok(Event { at, what })
-}
-
-/// Reads the event on a line in its shortest form, without building a JSON value: a bare tick, or
-/// an arrival with only a reply and a payload. Returns `None` if the line has another form,
-/// whatever it contains. The payload is kept in the room that short payloads share.
-///
-/// Fails only with `OutOfMemory`.
-pub fn compact_event(
-    alloc: Global,
-    payloads: &mut Payloads,
-    line: &[u8],
-) -> Result<Option<Event>, OutOfMemory>
-    ensures { IfOk result (λ found. IfSome found (λ event. line_in line.now ≡ Ok event)) }
-{
-    match compact_line(line) {
-        Some(CompactLine::Tick { at }) => Ok(Some(Event {
-            at,
-            what: EventKind::Tick,
-        })),
-        Some(CompactLine::Arrival { at, arrival }) => {
-            Ok(Some(arrived(alloc, payloads, at, arrival)?))
-        }
-        None => Ok(None),
-    }
-}
-
-fn arrived(
-    alloc: Global,
-    payloads: &mut Payloads,
-    at: u64,
-    found: PlainArrival,
-) -> Result<Event, OutOfMemory>
-    ensures { IfOk result (λ event. event ≡ record { at = at; what = Arrival found.entry.inbox (plain_message found.entry.reply.now found.entry.payload.now) }) }
-{
-    let reply = Subject::new(alloc, found.reply)?;
-    let payload = payloads.keep(alloc, found.payload.as_bytes())?;
-    let message = Message {
-        subject: Subject::from(String::new(alloc)),
-        reply: Some(reply),
-        payload,
-        headers: None,
-        status: None,
-        description: None,
-        length: found.payload.len() as u64,
-    };
-    Ok(Event {
-        at,
-        what: EventKind::Arrival {
-            inbox: found.inbox,
-            message: Boxed::new(alloc, message)?,
-        },
-    })
 }
 
 /// Reads the event in the value of a line. Its payload, if any, is kept in the room that short
@@ -340,9 +305,21 @@ fn arrived(
 /// Fails with `NotJson` if the value is no object or has a key that an event does not have.
 /// Otherwise fails with the error of the first member that cannot be read, or because memory runs
 /// out.
-#[tactic(auto, unfolding(crate::specs::Members::value_as))]
 pub fn event_of(alloc: Global, payloads: &mut Payloads, value: &Value) -> Result<Event, ReadError>
-    ensures { Gives result (event_of_in (view value.now)) }
+    ensures { Gives result (event_of_line (view value.now)) }
+{
+    event_of_in(alloc, payloads, Lines::Plain, value)
+}
+
+// The event in the value of a line of a form.
+#[tactic(auto, unfolding(crate::specs::Members::value_as))]
+fn event_of_in(
+    alloc: Global,
+    payloads: &mut Payloads,
+    lines: Lines,
+    value: &Value,
+) -> Result<Event, ReadError>
+    ensures { Gives result (value_in lines (view value.now)) }
 {
     if has_only(
         value,
@@ -355,19 +332,24 @@ pub fn event_of(alloc: Global, payloads: &mut Payloads, value: &Value) -> Result
             Key::Watcher,
         ],
     ) {
-        event_fields(alloc, payloads, value)
+        event_fields(alloc, payloads, lines, value)
     } else {
         Err(ReadError::NotJson)
     }
 }
 
-// The event that a line says, whatever its form.
+// The event that a line says, whatever its keys and their order.
 #[tactic(auto, unfolding(crate::specs::Members::line_as))]
-fn any_line(alloc: Global, payloads: &mut Payloads, line: &[u8]) -> Result<Event, ReadError>
-    ensures { Gives result (line_in line.now) }
+fn any_line(
+    alloc: Global,
+    payloads: &mut Payloads,
+    lines: Lines,
+    line: &[u8],
+) -> Result<Event, ReadError>
+    ensures { Gives result (line_of lines line.now) }
 {
     let value = value_of(alloc, line)?;
-    let event = event_of(alloc, payloads, &value);
+    let event = event_of_in(alloc, payloads, lines, &value);
     drop(value);
     event
 }
@@ -376,8 +358,21 @@ fn any_line(alloc: Global, payloads: &mut Payloads, line: &[u8]) -> Result<Event
 pub fn event_line(alloc: Global, payloads: &mut Payloads, line: &[u8]) -> Result<Event, ReadError>
     ensures { Gives result (line_in line.now) }
 {
+    event_line_in(alloc, payloads, Lines::Plain, line)
+}
+
+/// Reads the event on a line of a form. Its payload, if any, is kept in the room that short payloads
+/// share.
+pub fn event_line_in(
+    alloc: Global,
+    payloads: &mut Payloads,
+    lines: Lines,
+    line: &[u8],
+) -> Result<Event, ReadError>
+    ensures { Gives result (line_of lines line.now) }
+{
     match compact_event(alloc, payloads, line)? {
         Some(event) => Ok(event),
-        None => any_line(alloc, payloads, line),
+        None => any_line(alloc, payloads, lines, line),
     }
 }

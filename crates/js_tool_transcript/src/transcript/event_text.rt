@@ -18,7 +18,7 @@ use std::str::from_utf8;
 // ---- the members of a message
 
 // A key with its comma and its colon, and a text.
-fn push_text_member(out: &mut Vec<u8>, key: &[u8], text: &str) -> Result<(), AllocError>
+pub(super) fn push_text_member(out: &mut Vec<u8>, key: &[u8], text: &str) -> Result<(), AllocError>
     ensures text { OnOk result (out.new.items ≡ out.old.items ++ (key.now ++ quoted text.now)) }
     ensures utf8 { IsUtf8 text.now }
 {
@@ -46,14 +46,18 @@ fn push_reply(out: &mut Vec<u8>, reply: &Option<Subject>) -> Result<(), AllocErr
     }
 }
 
-fn push_payload(out: &mut Vec<u8>, payload: &[u8]) -> Result<(), AllocError>
+pub(super) fn push_payload(out: &mut Vec<u8>, payload: &[u8]) -> Result<(), AllocError>
     ensures { OnOk result (out.new.items ≡ out.old.items ++ payload_text payload.now) }
 {
     push_plain(out, b",\"payload\":")?;
     push_quoted(out, payload)
 }
 
-fn push_number_member(out: &mut Vec<u8>, key: &[u8], number: u64) -> Result<(), AllocError>
+pub(super) fn push_number_member(
+    out: &mut Vec<u8>,
+    key: &[u8],
+    number: u64,
+) -> Result<(), AllocError>
     ensures small { number < 2 ^ 64 }
     ensures text { OnOk result (out.new.items ≡ out.old.items ++ (key.now ++ decimal number)) }
 {
@@ -123,7 +127,7 @@ fn push_headers(out: &mut Vec<u8>, headers: &Option<HeaderMap>) -> Result<(), Al
     }
 }
 
-fn push_address(out: &mut Vec<u8>, message: &Message) -> Result<(), AllocError>
+pub(super) fn push_address(out: &mut Vec<u8>, message: &Message) -> Result<(), AllocError>
     ensures text { OnOk result (out.new.items ≡ out.old.items ++ address_text message.now) }
     ensures subject { OnOk result (IsUtf8 message.now.subject) }
     ensures reply { OnOk result (IfSome message.now.reply IsUtf8) }
@@ -132,7 +136,10 @@ fn push_address(out: &mut Vec<u8>, message: &Message) -> Result<(), AllocError>
     push_reply(out, &message.reply)
 }
 
-fn push_status_and_headers(out: &mut Vec<u8>, message: &Message) -> Result<(), AllocError>
+pub(super) fn push_status_and_headers(
+    out: &mut Vec<u8>,
+    message: &Message,
+) -> Result<(), AllocError>
     ensures text { OnOk result (out.new.items ≡ out.old.items ++ status_and_headers_text message.now) }
     ensures small { OnOk result (IfSome message.now.status (λ status. status.0 < 2 ^ 16)) }
     ensures description { OnOk result (IfSome message.now.description IsUtf8) }
@@ -216,7 +223,7 @@ fn connection_member(state: State) -> &'static [u8]
     }
 }
 
-fn push_what(out: &mut Vec<u8>, what: &EventKind) -> Result<(), AllocError>
+pub(super) fn push_what(out: &mut Vec<u8>, what: &EventKind) -> Result<(), AllocError>
     ensures text { OnOk result (out.new.items ≡ out.old.items ++ what_text what.now) }
     ensures typed { OnOk result (IsTypedKind what.now) }
 {
@@ -240,7 +247,8 @@ fn push_what(out: &mut Vec<u8>, what: &EventKind) -> Result<(), AllocError>
 ///
 /// The line reads back as the event if [`is_recordable`] returns true, and does not otherwise: a
 /// line says neither a payload that is no UTF-8 nor a length other than the payload's. Ask it
-/// first: this call writes the line of any event.
+/// first: this call writes the line of any event. [`push_extended_event`](crate::push_extended_event)
+/// writes a line that reads back for every event.
 ///
 /// # Errors
 ///
@@ -258,7 +266,7 @@ pub fn push_event(out: &mut Vec<u8>, event: &Event) -> Result<(), AllocError>
 
 // ---- what reads back
 
-fn is_text(bytes: &[u8]) -> bool
+pub(super) fn is_text(bytes: &[u8]) -> bool
     ensures { result ≡ is_utf8 bytes.now }
 {
     match from_utf8(bytes) {
