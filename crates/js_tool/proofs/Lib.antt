@@ -1,3 +1,5 @@
 pub mod RunText
 pub mod Called
 pub mod LinesPassed
+pub mod Reruns
+pub mod LineErrors

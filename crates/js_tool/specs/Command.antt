@@ -1,10 +1,11 @@
 -- Which words are a command, and what they ask for.
-use Rattle.std.specs.Prelude.{ℕ, ◌^◌, ◌&&◌, Bool, List, [], ◌∷◌, length, codes, Option, Some, None, option_and_then, nat_le, nat_lt, if◌then◌else◌}
+use Rattle.std.specs.Prelude.{ℕ, ◌^◌, ◌&&◌, Bool, true, false, List, [], ◌∷◌, length, codes, Option, Some, None, option_and_then, option_map, nat_le, nat_lt, if◌then◌else◌}
 use Rattle.std.specs.Str.{bytes_eq}
 use Rattle.std.specs.Str.Parse.{digits_value}
 use Rattle.js_message.specs.Numbers.{is_numeral}
 use Rattle.js_tool.specs.declared.command.Command.{Command}
 use Rattle.js_tool.specs.declared.command.Command.TheVariants as command
+use Rattle.js_tool.specs.declared.command.FollowOptions.{FollowOptions}
 use Rattle.js_tool.specs.declared.command.ToolCommand.{ToolCommand}
 use Rattle.js_tool.specs.declared.command.ToolCommand.TheVariants as tool
 
@@ -46,38 +47,58 @@ asked (tool.Window capacity threads calls) = window_within capacity threads call
 abbrev pub asked_of_tool : Command → Option Asked
 asked_of_tool command.Help = None
 asked_of_tool command.Version = None
-asked_of_tool command.Follow = None
+asked_of_tool (command.Follow options) = None
 asked_of_tool command.Explain = None
+asked_of_tool command.Rerun = None
 asked_of_tool (command.Tool one) = asked one
 asked_of_tool (command.Log one) = None
 asked_of_tool (command.Sessions next) = None
 
 -- ---- the program's own words
 
--- the page of all words, the version, a conversation, or an explanation
+-- the page of all words, the version, a conversation with its options, an explanation, or a replay that reads extended lines too
 pub data Own : Type 0 where
   Help : Own
   Version : Own
-  Follow : Own
+  Follow : FollowOptions → Own
   Explain : Own
+  Rerun : Own
 
 -- what a command asks for of these
 abbrev pub own : Command → Option Own
 own command.Help = Some Help
 own command.Version = Some Version
-own command.Follow = Some Follow
+own (command.Follow options) = Some (Follow options)
 own command.Explain = Some Explain
+own command.Rerun = Some Rerun
 own (command.Tool one) = None
 own (command.Log one) = None
 own (command.Sessions next) = None
 
--- what the words ask for of these, each of which stands alone
+-- nothing but the text of the replay
+abbrev pub plain : FollowOptions
+plain = record { details = false; wakes = false }
+
+-- these options, and the one that a word names
+abbrev pub with_option : FollowOptions → List ℕ → Option FollowOptions
+with_option options word =
+    if bytes_eq word (codes "--details") then Some (record options { details = true })
+    else if bytes_eq word (codes "--wakes") then Some (record options { wakes = true }) else None
+
+-- the options that two words name, in any order
+unfoldable pub follow_of : List ℕ → List ℕ → Option FollowOptions
+follow_of first second = option_and_then (λ options. with_option options second) (with_option plain first)
+
+-- what the words ask for of these. Each stands alone, but `follow`, which may have options
 abbrev pub own_of : List (List ℕ) → Option Own
 own_of (name ∷ []) =
     if bytes_eq name (codes "--help") then Some Help
     else if bytes_eq name (codes "--version") then Some Version
-    else if bytes_eq name (codes "follow") then Some Follow
-    else if bytes_eq name (codes "explain") then Some Explain else None
+    else if bytes_eq name (codes "follow") then Some (Follow plain)
+    else if bytes_eq name (codes "explain") then Some Explain
+    else if bytes_eq name (codes "rerun") then Some Rerun else None
+own_of (name ∷ word ∷ []) = if bytes_eq name (codes "follow") then option_map Follow (with_option plain word) else None
+own_of (name ∷ first ∷ second ∷ []) = if bytes_eq name (codes "follow") then option_map Follow (follow_of first second) else None
 own_of words = None
 
 -- ---- number words

@@ -25,8 +25,9 @@ wanted (log.Relay stream name) = Relay stream.now name.now
 abbrev pub wanted_of_log : Command → Option Wanted
 wanted_of_log command.Help = None
 wanted_of_log command.Version = None
-wanted_of_log command.Follow = None
+wanted_of_log (command.Follow options) = None
 wanted_of_log command.Explain = None
+wanted_of_log command.Rerun = None
 wanted_of_log (command.Tool one) = None
 wanted_of_log (command.Log one) = Some (wanted one)
 wanted_of_log (command.Sessions next) = None
@@ -79,8 +80,9 @@ sessions_bookmark words = None
 abbrev pub bookmark : Command → Option ℕ
 bookmark command.Help = None
 bookmark command.Version = None
-bookmark command.Follow = None
+bookmark (command.Follow options) = None
 bookmark command.Explain = None
+bookmark command.Rerun = None
 bookmark (command.Tool one) = None
 bookmark (command.Log one) = None
 bookmark (command.Sessions next) = Some next

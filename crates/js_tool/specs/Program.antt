@@ -1,5 +1,5 @@
 -- What the program answers to an input, and what it writes.
-use Rattle.std.specs.Prelude.{◌≡◌, ◌⊎◌, ◌≤◌, ◌+◌, ◌*◌, ℕ, List, length, nat_lt, if◌then◌else◌, Option, Some, None, IfSome, Result, Ok, Err, ⊤}
+use Rattle.std.specs.Prelude.{◌≡◌, ◌⊎◌, ◌+◌, ◌*◌, ℕ, List, length, nat_lt, if◌then◌else◌, Option, Some, None, IfSome, Result, Ok, Err, ⊤}
 use Rattle.std.specs.Io.KnownBytes.{Appends, IsAtEnd}
 use Rattle.js_tool_io.specs.Causes.{Rose, AppendsPrefix}
 use Rattle.js_tool_generate.specs.declared.summary.Summary.{Summary}
@@ -21,17 +21,17 @@ use Rattle.js_tool_transcript.specs.declared.transcript.Transcript.{Transcript}
 use Rattle.js_tool.specs.CommandTexts.{summary_text, info_text, error_text, info_status, window_text}
 use Rattle.js_tool.specs.Command.{Asked, Replay, Generate, Window}
 use Rattle.js_tool.specs.Command as commands
-use Rattle.js_tool_transcript.specs.Transcript.{transcript}
-use Rattle.js_tool_transcript.specs.TranscriptReplay.{replay_input, Replays, IsRefused, FirstUnread, IsValidTranscript}
+use Rattle.js_tool_transcript.specs.Transcript.{transcript, extended_transcript}
+use Rattle.js_tool_transcript.specs.TranscriptReplay.{replay_input, ReplaysAs, IsRefusedAs, FirstUnreadAs, IsValidAs}
 use Rattle.js_tool_transcript.specs.Text.{run_text, refusal_text}
 
 -- ---- what the bytes call for
 
--- the outcome is what the bytes call for
-abbrev pub IsOutcome : List ℕ → ReplayOutcome → Type 0
-IsOutcome bytes (outcome.Done written) = (run : Run) × Replays bytes run × (written.items ≡ run_text run)
-IsOutcome bytes (outcome.Refused written) = (refusal : ReplayError) × IsRefused bytes refusal × (written.items ≡ refusal_text refusal)
-IsOutcome bytes (outcome.BadLine line) = FirstUnread bytes line
+-- the outcome is what the bytes call for, by what they say
+abbrev pub IsOutcome : Result Transcript ℕ → List ℕ → ReplayOutcome → Type 0
+IsOutcome reading bytes (outcome.Done written) = (run : Run) × ReplaysAs reading bytes run × (written.items ≡ run_text run)
+IsOutcome reading bytes (outcome.Refused written) = (refusal : ReplayError) × IsRefusedAs reading bytes refusal × (written.items ≡ refusal_text refusal)
+IsOutcome reading bytes (outcome.BadLine line) = FirstUnreadAs reading bytes line
 
 -- ---- the status that they call for, where nothing fails
 
@@ -43,8 +43,12 @@ abbrev pub transcript_status : Result Transcript ℕ → Status
 transcript_status (Ok t) = replay_status (refuse (replay_input t.setup) t.setup.start t.events)
 transcript_status (Err line) = status.BadLine line
 
-unfoldable pub called_for : List ℕ → Status
-called_for bytes = if nat_lt 67_108_864 (length bytes) then status.TooLong else transcript_status (transcript bytes)
+unfoldable pub called_by : Result Transcript ℕ → List ℕ → Status
+called_by reading bytes = if nat_lt 67_108_864 (length bytes) then status.TooLong else transcript_status reading
+
+-- of a transcript
+abbrev pub called_for : List ℕ → Status
+called_for bytes = called_by (transcript bytes) bytes
 
 -- a status for want of memory or after a fault, or else this one
 abbrev pub IsUnlessFailed : Status → Status → Type 0
@@ -120,18 +124,26 @@ HasReadAll status.TooLong = ⊥
 
 -- ---- what a command answers and writes, over ends before and after it: what the source had left, what the sink had taken, and the sink's count of faults
 
--- `replay`
-pub record AnswersReplay (left left_after taken taken_after : Option (List ℕ)) (faults faults_after : ℕ) (answer : Status) : Type 0 where
+-- a transcript that is replayed, where this is how its bytes are read
+pub record AnswersReading (reading : List ℕ → Result Transcript ℕ) (left left_after taken taken_after : Option (List ℕ)) (faults faults_after : ℕ) (answer : Status) : Type 0 where
   -- the whole text of the input's run was written, and nothing else
-  pub done : answer ≡ status.Done → IfSome left (λ bytes. (run : Run) × Replays bytes run × Appends taken taken_after (run_text run))
-  pub refused : answer ≡ status.Refused → IfSome left (λ bytes. (refusal : ReplayError) × IsRefused bytes refusal
+  pub done : answer ≡ status.Done → IfSome left (λ bytes. (run : Run) × ReplaysAs (reading bytes) bytes run × Appends taken taken_after (run_text run))
+  pub refused : answer ≡ status.Refused → IfSome left (λ bytes. (refusal : ReplayError) × IsRefusedAs (reading bytes) bytes refusal
       × WritesUnlessFault taken taken_after faults faults_after (refusal_text refusal))
   -- a front of the run's text was written
-  pub written_before_fault : answer ≡ status.WriteFault → IfSome left (λ bytes. (run : Run) × Replays bytes run × AppendsPrefix taken taken_after (run_text run))
+  pub written_before_fault : answer ≡ status.WriteFault → IfSome left (λ bytes. (run : Run) × ReplaysAs (reading bytes) bytes run × AppendsPrefix taken taken_after (run_text run))
   pub at_end : HasReadAll answer → IsAtEnd left_after
   -- what the input calls for is answered, unless memory ran out or a count of faults rose
-  pub otherwise : IfSome left (λ bytes. IsUnlessFailed answer (called_for bytes))
-  pub valid : IfSome left (λ bytes. IsValidTranscript bytes → IsUnlessFailed answer status.Done)
+  pub otherwise : IfSome left (λ bytes. IsUnlessFailed answer (called_by (reading bytes) bytes))
+  pub valid : IfSome left (λ bytes. IsValidAs (reading bytes) bytes → IsUnlessFailed answer status.Done)
+
+-- `replay`
+abbrev pub AnswersReplay : Option (List ℕ) → Option (List ℕ) → Option (List ℕ) → Option (List ℕ) → ℕ → ℕ → Status → Type 0
+AnswersReplay = AnswersReading transcript
+
+-- `rerun`
+abbrev pub AnswersRerun : Option (List ℕ) → Option (List ℕ) → Option (List ℕ) → Option (List ℕ) → ℕ → ℕ → Status → Type 0
+AnswersRerun = AnswersReading extended_transcript
 
 -- `generate`: the line of how much the generated transcript's run puts out
 pub record AnswersGenerate (seed events : ℕ) (taken taken_after : Option (List ℕ)) (answer : Status) : Type 0 where

@@ -1,12 +1,22 @@
 //! The words of a command line, and the command that they name. Only this module reads them.
 
 ghost use Rattle.std.specs.Prelude.{◌≡◌, ◌∷◌, [], map, option_and_then, option_map, string_bytes, None};
-ghost use Rattle.js_tool.specs.Command.{asked, asked_of_tool, command_of as command_in, generate_of as generate_in, number_of, own, own_of, window_of as window_in};
+ghost use Rattle.js_tool.specs.Command.{asked, asked_of_tool, command_of as command_in, follow_of as follow_in, generate_of as generate_in, number_of, own, own_of, plain, window_of as window_in, with_option as with_option_in};
 ghost use Rattle.js_tool.specs.LogCommand.{bookmark, bookmark_number as bookmark_number_in, project_of as project_in, project_up_to as project_up_to_in, relay_of as relay_in, sessions_bookmark, wanted, wanted_of_log, wanted_of};
 
 use js_base::is_valid_subject;
 use js_codes::is_valid_name;
 use js_message::read_u64;
+
+/// What `follow` writes besides the text of the replay. By default it writes nothing else.
+#[derive(Clone, Copy, Debug, PartialEq, Eq)]
+pub struct FollowOptions {
+    /// `--details`: for each message that a line hands out, its time, what is pending, its headers,
+    /// and its payload in base64 if it is no text.
+    pub details: bool,
+    /// `--wakes`: after each line that was answered, when the consumer wakes.
+    pub wakes: bool,
+}
 
 /// The command that a command line asks for. It borrows from the words.
 #[derive(Clone, Copy)]
@@ -15,10 +25,12 @@ pub enum Command<'a> {
     Help,
     /// `--version`: writes the version.
     Version,
-    /// `follow`: answers a transcript as its lines arrive.
-    Follow,
+    /// `follow`: answers a transcript as its lines arrive, and writes more with its options.
+    Follow(FollowOptions),
     /// `explain`: says in plain English what a transcript's replay does and why.
     Explain,
+    /// `rerun`: replays a transcript that may have extended lines, with [`rerun`](crate::rerun).
+    Rerun,
     /// A command of this crate, which [`run`](crate::run) executes.
     Tool(ToolCommand<'a>),
     /// A command over everything that a transcript's replay yields.
@@ -104,8 +116,9 @@ fn one_word<'a>(name: &str) -> Option<Command<'a>>
     match name {
         "--help" => Some(Command::Help),
         "--version" => Some(Command::Version),
-        "follow" => Some(Command::Follow),
+        "follow" => Some(Command::Follow(no_options())),
         "explain" => Some(Command::Explain),
+        "rerun" => Some(Command::Rerun),
         "replay" => Some(Command::Tool(ToolCommand::Replay)),
         "mirror" => Some(Command::Log(LogCommand::Mirror)),
         _ => None,
@@ -113,12 +126,13 @@ fn one_word<'a>(name: &str) -> Option<Command<'a>>
 }
 
 fn two_words<'a>(name: &str, word: &'a str) -> Option<Command<'a>>
-    ensures own { option_and_then own result ≡ None }
+    ensures own { option_and_then own result ≡ own_of (name.now ∷ word.now ∷ []) }
     ensures tool { option_and_then asked_of_tool result ≡ command_in (name.now ∷ word.now ∷ []) }
     ensures log { option_and_then wanted_of_log result ≡ wanted_of (name.now ∷ word.now ∷ []) }
     ensures sessions { option_and_then bookmark result ≡ sessions_bookmark (name.now ∷ word.now ∷ []) }
 {
     match name {
+        "follow" => Some(Command::Follow(with_option(no_options(), word)?)),
         "info" => Some(Command::Tool(ToolCommand::Info { subject: word })),
         "project" => Some(Command::Log(project_of(word, None)?)),
         "sessions" => Some(Command::Sessions {
@@ -130,12 +144,13 @@ fn two_words<'a>(name: &str, word: &'a str) -> Option<Command<'a>>
 
 #[tactic(auto, unfolding(crate::specs::LogCommand::three_words))]
 fn three_words<'a>(name: &str, first: &'a str, second: &'a str) -> Option<Command<'a>>
-    ensures own { option_and_then own result ≡ None }
+    ensures own { option_and_then own result ≡ own_of (name.now ∷ first.now ∷ second.now ∷ []) }
     ensures tool { option_and_then asked_of_tool result ≡ command_in (name.now ∷ first.now ∷ second.now ∷ []) }
     ensures log { option_and_then wanted_of_log result ≡ wanted_of (name.now ∷ first.now ∷ second.now ∷ []) }
     ensures sessions { option_and_then bookmark result ≡ None }
 {
     match name {
+        "follow" => Some(Command::Follow(follow_of(first, second)?)),
         "generate" => Some(Command::Tool(generate_of(first, second)?)),
         "project" => Some(Command::Log(project_up_to(first, second)?)),
         "relay" => Some(Command::Log(relay_of(first, second)?)),
@@ -153,6 +168,42 @@ fn four_words<'a>(name: &str, capacity: &str, threads: &str, calls: &str) -> Opt
         "window" => Some(Command::Tool(window_of(capacity, threads, calls)?)),
         _ => None,
     }
+}
+
+// No option.
+fn no_options() -> FollowOptions
+    ensures { result ≡ plain }
+{
+    FollowOptions {
+        details: false,
+        wakes: false,
+    }
+}
+
+// The options with the one that a word names.
+fn with_option(options: FollowOptions, word: &str) -> Option<FollowOptions>
+    ensures { result ≡ with_option_in options word.now }
+{
+    match word {
+        "--details" => Some(FollowOptions {
+            details: true,
+            wakes: options.wakes,
+        }),
+        "--wakes" => Some(FollowOptions {
+            details: options.details,
+            wakes: true,
+        }),
+        _ => None,
+    }
+}
+
+// The options that two words name.
+#[tactic(auto, unfolding(crate::specs::Command::follow_of))]
+fn follow_of(first: &str, second: &str) -> Option<FollowOptions>
+    ensures { result ≡ follow_in first.now second.now }
+{
+    let options = with_option(no_options(), first)?;
+    with_option(options, second)
 }
 
 #[tactic(auto, unfolding(crate::specs::Command::generate_of))]

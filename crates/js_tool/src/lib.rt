@@ -7,7 +7,8 @@
 //! the program. [`run`] takes a command of this crate, a source and a sink, and returns a status
 //! with its cause. Each line is replayed as it is read, and the text of its step is built at once,
 //! so that memory holds only the rest of the input and the text so far. [`run_plain`] is the same
-//! for all commands that need no threads.
+//! for all commands that need no threads. [`rerun`] does what `replay` does, and reads extended
+//! lines too.
 #![tactic(auto)]
 
 mod command;
@@ -18,6 +19,8 @@ mod progress;
 mod status;
 mod window;
 
-pub use command::{Command, LogCommand, ToolCommand, command_of};
-pub use program::{run, run_plain};
+pub use command::{Command, FollowOptions, LogCommand, ToolCommand, command_of};
+pub use js_json_members::ReadError;
+pub use js_tool_transcript::Lines;
+pub use program::{answer_replay, rerun, run, run_plain};
 pub use status::Status;

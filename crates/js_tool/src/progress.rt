@@ -1,22 +1,24 @@
 //! A replay that runs while its lines are read. The text is built at once, so that neither events
 //! nor steps are kept.
 
-ghost use Rattle.std.specs.Prelude.{◌≡◌, ◌≤◌, ◌+◌, ◌++◌, ◌∷◌, [], ℕ, List, length, IfOk, OnOk};
+ghost use Rattle.std.specs.Prelude.{◌≡◌, ◌≤◌, ◌+◌, ◌++◌, ◌∷◌, [], ℕ, List, length, None, IfOk, OnOk};
 ghost use Rattle.js_ordered_table.specs.declared.consumer.ReplayInput.{ReplayInput};
 ghost use Rattle.js_ordered_table.specs.declared.event.Event as events;
 ghost use Rattle.js_tool_io.specs.Lines.{lines_of};
 ghost use Rattle.js_tool.specs.Program.{IsOutcome};
 ghost use Rattle.js_tool_transcript.specs.TranscriptReplay.{replay_input};
-ghost use Rattle.js_tool.specs.Progress.{HasPassed, PassesLines, IsOutcomeOn, IsOutcomeTo};
-ghost use Rattle.js_tool_transcript.specs.Setup.{setup_line};
-ghost use Rattle.js_tool_transcript.specs.Transcript.{GivesLines, numbered, transcript_of, with_lines};
+ghost use Rattle.js_tool.specs.Progress.{HasPassed, PassesLines, IsOutcomeOn, IsOutcomeTo, TellsError, TellsOutcome, error_or, event_error, line_error};
+ghost use Rattle.js_tool_transcript.specs.Event.{event_line_in as event_in};
+ghost use Rattle.js_tool_transcript.specs.Setup.{setup_line as setup_in};
+ghost use Rattle.js_tool_transcript.specs.Transcript.{GivesLines, numbered, transcript_in, transcript_of_in, with_lines_in};
 
 use crate::program::ReplayOutcome;
 use js_base::OutOfMemory;
+use js_json_members::ReadError;
 use js_ordered::{Event, IncrementalReplay};
 use js_tool_io::{Pieces, cut_line, next_piece};
 use js_tool_transcript::{
-    Payloads, Setup, Unread, first_line, next_line, push_end, push_outputs, refusal_line,
+    Lines, Payloads, Setup, Unread, event_line_in, push_end, push_outputs, refusal_line, setup_line,
 };
 use std::alloc::{AllocError, Global};
 
@@ -26,6 +28,8 @@ pub(crate) struct Progress<'s> {
     // On the heap, so that it is moved with little.
     replay: Box<IncrementalReplay<'s>>,
     text: Vec<u8>,
+    // Why the last line did not read.
+    error: Option<ReadError>,
 }
 
 impl<'s> Progress<'s> {
@@ -42,7 +46,11 @@ impl<'s> Progress<'s> {
         let replay = Box::new(alloc, opened)?;
         let mut text = Vec::new(alloc);
         push_outputs(&mut text, 0, replay.outputs())?;
-        Ok(Progress { replay, text })
+        Ok(Progress {
+            replay,
+            text,
+            error: None,
+        })
     }
 
     fn pass(&mut self, alloc: Global, event: &Event) -> Result<(), OutOfMemory>
@@ -60,7 +68,11 @@ impl<'s> Progress<'s> {
         ensures { (g : ReplayInput) → (start : ℕ) → (es : List events.Event) → HasPassed g start es self.entry
             → IfOk result (λ outcome. IsOutcomeOn g start es outcome) }
     {
-        let Progress { replay, mut text } = self;
+        let Progress {
+            replay,
+            mut text,
+            ..
+        } = self;
         match replay.end() {
             Ok(ended) => {
                 push_end(&mut text, ended, replay.count())?;
@@ -71,18 +83,57 @@ impl<'s> Progress<'s> {
     }
 }
 
+// The setup that a first line says. Where it says none, why.
+fn read_setup(alloc: Global, line: &[u8], error: &mut Option<ReadError>) -> Result<Setup, Unread>
+    ensures setup { GivesLines (λ s. s) result (numbered 1 (setup_in line.now)) }
+    ensures told { TellsError (error_or (setup_in line.now) None) error.new result }
+{
+    match setup_line(alloc, line) {
+        Ok(setup) => Ok(setup),
+        Err(ReadError::OutOfMemory) => Err(Unread::OutOfMemory),
+        Err(cause) => {
+            *error = Some(cause);
+            Err(Unread::BadLine(1))
+        }
+    }
+}
+
+// The event that a further line of this form says. Where it says none, why.
+fn read_event(
+    alloc: Global,
+    payloads: &mut Payloads,
+    form: Lines,
+    number: u64,
+    line: &[u8],
+    error: &mut Option<ReadError>,
+) -> Result<Event, Unread>
+    ensures event { GivesLines (λ e. e) result (numbered number (event_in form line.now)) }
+    ensures told { TellsError (event_error form (line.now ∷ [])) error.new result }
+{
+    match event_line_in(alloc, payloads, form, line) {
+        Ok(event) => Ok(event),
+        Err(ReadError::OutOfMemory) => Err(Unread::OutOfMemory),
+        Err(cause) => {
+            *error = Some(cause);
+            Err(Unread::BadLine(number))
+        }
+    }
+}
+
 fn pass_line(
     alloc: Global,
     payloads: &mut Payloads,
+    form: Lines,
     progress: &mut Progress<'_>,
     line: &[u8],
 ) -> Result<(), Unread>
     requires { progress.old.replay.value.count ≤ 67_108_864 }
-    ensures lines { PassesLines progress.old (line.now ∷ []) progress.new result }
+    ensures lines { PassesLines form progress.old (line.now ∷ []) progress.new result }
+    ensures told { TellsError (event_error form (line.now ∷ [])) progress.new.error result }
     ensures counted { OnOk result (progress.new.replay.value.count ≡ progress.old.replay.value.count + 1) }
 {
     let number = progress.replay.count() + 2;
-    let event = next_line(alloc, payloads, number, line)?;
+    let event = read_event(alloc, payloads, form, number, line, &mut progress.error)?;
     let passed = progress.pass(alloc, &event);
     drop(event);
     match passed {
@@ -95,17 +146,19 @@ fn pass_line(
 fn pass_lines(
     alloc: Global,
     payloads: &mut Payloads,
+    form: Lines,
     progress: &mut Progress<'_>,
     bytes: &[u8],
 ) -> Result<(), Unread>
     requires { progress.old.replay.value.count + length bytes.now ≤ 67_108_864 }
-    ensures lines { PassesLines progress.old (lines_of bytes.now) progress.new result }
+    ensures lines { PassesLines form progress.old (lines_of bytes.now) progress.new result }
+    ensures told { TellsError (event_error form (lines_of bytes.now)) progress.new.error result }
     ensures counted { OnOk result (progress.new.replay.value.count ≤ progress.old.replay.value.count + length bytes.now) }
 {
     let mut rest = bytes;
     while !rest.is_empty() {
         let (line, after) = cut_line(rest);
-        pass_line(alloc, payloads, progress, line)?;
+        pass_line(alloc, payloads, form, progress, line)?;
         rest = after;
     }
     Ok(())
@@ -115,19 +168,21 @@ fn pass_lines(
 fn pass_pieces(
     alloc: Global,
     payloads: &mut Payloads,
+    form: Lines,
     progress: &mut Progress<'_>,
     piece: &[u8],
     bytes: &mut Pieces,
 ) -> Result<(), Unread>
     requires { progress.old.replay.value.count + length piece.now + length bytes.old ≤ 67_108_864 }
-    ensures { PassesLines progress.old (lines_of piece.now ++ lines_of bytes.old) progress.new result }
+    ensures lines { PassesLines form progress.old (lines_of piece.now ++ lines_of bytes.old) progress.new result }
+    ensures told { TellsError (event_error form (lines_of piece.now ++ lines_of bytes.old)) progress.new.error result }
 {
-    match pass_lines(alloc, payloads, progress, piece) {
+    match pass_lines(alloc, payloads, form, progress, piece) {
         Ok(()) => {}
         Err(unread) => return Err(unread),
     }
     while let Some(piece) = next_piece(alloc, bytes) {
-        let passed = pass_lines(alloc, payloads, progress, &piece);
+        let passed = pass_lines(alloc, payloads, form, progress, &piece);
         drop(piece);
         match passed {
             Ok(()) => {}
@@ -139,15 +194,17 @@ fn pass_pieces(
 
 fn pass_all(
     alloc: Global,
+    form: Lines,
     progress: &mut Progress<'_>,
     piece: &[u8],
     mut bytes: Pieces,
 ) -> Result<(), Unread>
     requires { progress.old.replay.value.count + length piece.now + length bytes ≤ 67_108_864 }
-    ensures { PassesLines progress.old (lines_of piece.now ++ lines_of bytes) progress.new result }
+    ensures lines { PassesLines form progress.old (lines_of piece.now ++ lines_of bytes) progress.new result }
+    ensures told { TellsError (event_error form (lines_of piece.now ++ lines_of bytes)) progress.new.error result }
 {
     let mut payloads = Payloads::new(alloc);
-    let passed = pass_pieces(alloc, &mut payloads, progress, piece, &mut bytes);
+    let passed = pass_pieces(alloc, &mut payloads, form, progress, piece, &mut bytes);
     drop(payloads);
     drop(bytes);
     passed
@@ -155,12 +212,15 @@ fn pass_all(
 
 fn replay_events(
     alloc: Global,
+    form: Lines,
     setup: &Setup,
     piece: &[u8],
     bytes: Pieces,
+    error: &mut Option<ReadError>,
 ) -> Result<ReplayOutcome, AllocError>
     requires { length piece.now + length bytes ≤ 67_108_864 }
-    ensures { IfOk result (λ outcome. IsOutcomeTo (with_lines setup.now (lines_of piece.now ++ lines_of bytes)) outcome) }
+    ensures outcome { IfOk result (λ outcome. IsOutcomeTo (with_lines_in form setup.now (lines_of piece.now ++ lines_of bytes)) outcome) }
+    ensures told { TellsOutcome (event_error form (lines_of piece.now ++ lines_of bytes)) error.new result }
 {
     let mut progress = match Progress::open(alloc, setup) {
         Ok(progress) => progress,
@@ -169,9 +229,10 @@ fn replay_events(
             return Err(AllocError);
         }
     };
-    match pass_all(alloc, &mut progress, piece, bytes) {
+    match pass_all(alloc, form, &mut progress, piece, bytes) {
         Ok(()) => progress.finish(alloc),
         Err(Unread::BadLine(line)) => {
+            *error = progress.error;
             drop(progress);
             Ok(ReplayOutcome::BadLine(line))
         }
@@ -185,16 +246,20 @@ fn replay_events(
 // Goes on behind the first line, by what that line says.
 fn replay_rest(
     alloc: Global,
+    form: Lines,
     first: &Result<Setup, Unread>,
     piece: &[u8],
     bytes: Pieces,
+    error: &mut Option<ReadError>,
 ) -> Result<ReplayOutcome, AllocError>
     requires { length piece.now + length bytes ≤ 67_108_864 }
-    ensures { (line : List ℕ) → GivesLines (λ s. s) first.now (numbered 1 (setup_line line))
-        → IfOk result (λ outcome. IsOutcomeTo (transcript_of (line ∷ (lines_of piece.now ++ lines_of bytes))) outcome) }
+    ensures outcome { (line : List ℕ) → GivesLines (λ s. s) first.now (numbered 1 (setup_in line))
+        → IfOk result (λ outcome. IsOutcomeTo (transcript_of_in form (line ∷ (lines_of piece.now ++ lines_of bytes))) outcome) }
+    ensures told { (line : List ℕ) → TellsError (error_or (setup_in line) None) error.old first.now
+        → TellsOutcome (line_error form (line ∷ (lines_of piece.now ++ lines_of bytes))) error.new result }
 {
     match first {
-        Ok(setup) => replay_events(alloc, setup, piece, bytes),
+        Ok(setup) => replay_events(alloc, form, setup, piece, bytes, error),
         Err(Unread::BadLine(line)) => {
             drop(bytes);
             Ok(ReplayOutcome::BadLine(*line))
@@ -206,18 +271,26 @@ fn replay_rest(
     }
 }
 
-/// Returns the outcome of replaying the bytes, which are freed as they are read.
-#[tactic(auto, unfolding(js_tool_transcript::specs::Transcript::transcript))]
-pub(crate) fn replay(alloc: Global, mut bytes: Pieces) -> Result<ReplayOutcome, AllocError>
+/// Returns the outcome of replaying the bytes, whose lines have this form. They are freed as they
+/// are read. If a line cannot be read, puts its read error into `error`; there is none if the input
+/// has no line.
+#[tactic(auto, using(crate::proofs::LinesPassed::no_bytes))]
+pub(crate) fn replay(
+    alloc: Global,
+    form: Lines,
+    mut bytes: Pieces,
+    error: &mut Option<ReadError>,
+) -> Result<ReplayOutcome, AllocError>
     requires { length bytes ≤ 67_108_864 }
-    ensures { IfOk result (λ outcome. IsOutcome bytes outcome) }
+    ensures outcome { IfOk result (λ outcome. IsOutcome (transcript_in form bytes) bytes outcome) }
+    ensures told { error.old ≡ None → TellsOutcome (line_error form (lines_of bytes)) error.new result }
 {
     let Some(piece) = next_piece(alloc, &mut bytes) else {
         return Ok(ReplayOutcome::BadLine(1));
     };
     let (line, rest) = cut_line(&piece);
-    let first = first_line(alloc, line);
-    let outcome = replay_rest(alloc, &first, rest, bytes);
+    let first = read_setup(alloc, line, error);
+    let outcome = replay_rest(alloc, form, &first, rest, bytes, error);
     drop(first);
     outcome
 }

@@ -12,7 +12,7 @@ use Rattle.js_tool_transcript.specs.Event.{event_keys, event_fields, event_of, e
 use Rattle.js_tool_transcript.specs.Members.{value_as, line_as}
 use Rattle.js_tool_event_log.specs.declared.sessions.line.Said.TheVariants.{Says}
 use Rattle.js_tool_event_log.specs.SessionLine.{said, session_line}
-use Rattle.js_tool_event_log.proofs.OtherKeys.{get_other}
+use Rattle.js_tool_transcript.proofs.OtherKeys.{get_other}
 
 by_keys : (e : Event) (d : Data) (b : Bool) → has_only event_keys d ≡ b → (if b then event_fields d else Err NotJson) ≡ Ok e → event_of d ≡ Ok e → said d ≡ Ok (Says (line.Event e))
 by_keys e d true only fields is =

@@ -3,7 +3,6 @@ mod AppliedEntries
 mod JoinedSessions
 mod LogsShown
 mod ValidNames
-mod OtherKeys
 mod YieldsPassed
 mod LinesLeft
 mod SessionsReported

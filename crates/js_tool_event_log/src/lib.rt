@@ -18,5 +18,7 @@ mod replay_entries;
 mod report;
 mod sessions;
 
-pub use js_tool::{Command, Status, command_of};
+pub use js_tool::{
+    Command, FollowOptions, Lines, ReadError, Status, ToolCommand, answer_replay, command_of, rerun,
+};
 pub use program::{run, run_plain};

@@ -90,9 +90,14 @@ pub fn run<R: Threads + Wait + Sync, S: Source, K: Sink>(
         Some(Command::Log(command)) => answer_log(alloc, command, input, output),
         Some(Command::Sessions { next }) => answer_sessions(alloc, next, input, output),
         Some(Command::Tool(command)) => js_tool::run(rt, alloc, command, input, output),
-        Some(Command::Help | Command::Version | Command::Follow | Command::Explain) | None => {
-            Status::Usage
-        }
+        Some(
+            Command::Help
+            | Command::Version
+            | Command::Follow(_)
+            | Command::Explain
+            | Command::Rerun,
+        )
+        | None => Status::Usage,
     }
 }
 
@@ -157,8 +162,13 @@ pub fn run_plain<S: Source, K: Sink>(
         Some(Command::Log(command)) => answer_log(alloc, command, input, output),
         Some(Command::Sessions { next }) => answer_sessions(alloc, next, input, output),
         Some(Command::Tool(command)) => js_tool::run_plain(alloc, command, input, output),
-        Some(Command::Help | Command::Version | Command::Follow | Command::Explain) | None => {
-            Status::Usage
-        }
+        Some(
+            Command::Help
+            | Command::Version
+            | Command::Follow(_)
+            | Command::Explain
+            | Command::Rerun,
+        )
+        | None => Status::Usage,
     }
 }

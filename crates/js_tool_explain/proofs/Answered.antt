@@ -5,7 +5,7 @@ use Rattle.js_tool_io.specs.Causes.{Rose, AppendsPrefix}
 use Rattle.js_ordered_table.specs.declared.run.ReplayError.{ReplayError}
 use Rattle.js_tool.specs.declared.status.Status.{Status}
 use Rattle.js_tool.specs.declared.status.Status.TheVariants as status
-use Rattle.js_tool.specs.Program.{WritesUnlessFault, called_for}
+use Rattle.js_tool.specs.Program.{WritesUnlessFault, called_by, called_for}
 use Rattle.js_tool.proofs.Called.{of_source, not_long, called_too_long, valid_of_source}
 use Rattle.js_tool_transcript.specs.declared.transcript.Transcript.{Transcript}
 use Rattle.js_tool_transcript.specs.declared.transcript.Unread.{Unread}
@@ -21,15 +21,15 @@ use Rattle.js_tool_explain.specs.Progress.{IsExplanation}
 -- ---- what bytes call for
 
 called_accepted : (bytes : List ℕ) (t : Transcript) → IsAccepted bytes t → called_for bytes ≡ status.Done
-unfolding called_for
+unfolding called_by
 called_accepted bytes t is = rw (not_long (length bytes) is.within, is.reads, is.accepted) refl
 
 called_refused : (bytes : List ℕ) (refusal : ReplayError) → IsRefused bytes refusal → called_for bytes ≡ status.Refused
-unfolding called_for
+unfolding called_by
 called_refused bytes refusal is = rw (not_long (length bytes) is.within, is.by.1, is.by.2) refl
 
 called_unread : (bytes : List ℕ) (line : ℕ) → FirstUnread bytes line → called_for bytes ≡ status.BadLine line
-unfolding called_for
+unfolding called_by
 called_unread bytes line is = rw (not_long (length bytes) is.within, is.by) refl
 
 -- a line that does not read is named
