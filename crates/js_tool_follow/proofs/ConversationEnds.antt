@@ -10,6 +10,7 @@ use Rattle.js_tool.specs.declared.status.Status.{Status}
 use Rattle.js_tool.specs.declared.status.Status.TheVariants as status
 use Rattle.js_tool_transcript.specs.Setup.{setup_line}
 use Rattle.js_tool_transcript.specs.Transcript.{numbered}
+use Rattle.js_tool.specs.declared.command.FollowOptions.{FollowOptions}
 use Rattle.js_tool_follow.specs.declared.answer.Listener.{Listener}
 use Rattle.js_tool_follow.specs.declared.incoming_lines.Incoming.TheVariants as incoming
 use Rattle.js_tool_follow.specs.Answer.{IsTold, IsEnding, AnswersLine, AnswersEnd}
@@ -70,11 +71,11 @@ pub wrote_twice : {E : Type 0} (a b c : Dialogue) (result : Result ℕ E) (piece
 wrote_twice a b c result piece first writes =
     written_twice a b c first (record { left = writes.left; read_faults = writes.read_faults; place = writes.place; later = writes.cause.later })
 
-pub stands_read : (from mid now : Dialogue) (lines : List (List ℕ)) (left : Option (List (List ℕ))) (listener : Listener) → HasRead mid now → Stands from mid lines left listener → Stands from now lines left listener
-stands_read from mid now lines left listener read stands = record {
+pub stands_read : (asked : FollowOptions) (from mid now : Dialogue) (lines : List (List ℕ)) (left : Option (List (List ℕ))) (listener : Listener) → HasRead mid now → Stands asked from mid lines left listener → Stands asked from now lines left listener
+stands_read asked from mid now lines left listener read stands = record {
   gone = gone_read from mid now stands.gone read;
   cut = stands.cut;
-  written = subst (λ (taken : Option (List ℕ)). Appends from.taken taken (answered lines)) (sym read.taken) stands.written;
+  written = subst (λ (taken : Option (List ℕ)). Appends from.taken taken (answered asked lines)) (sym read.taken) stands.written;
   told = stands.told;
 }
 
@@ -108,111 +109,111 @@ by_all : (known : Option (List ℕ)) (lines : List (List ℕ)) (P : List (List �
 by_all None lines P cut p = tt
 by_all (Some bytes) lines P cut p = subst P (sym (cut ∙ append-nil lines)) p
 
-going : (lines : List (List ℕ)) (listener : Listener) → IsTold lines listener → GoesOn (standing lines)
-going lines listener told = subst GoesOn (sym told.stands) tt
+going : (asked : FollowOptions) (lines : List (List ℕ)) (listener : Listener) → IsTold asked lines listener → GoesOn (standing asked lines)
+going asked lines listener told = subst GoesOn (sym told.stands) tt
 
 pub appends_same : (a b : Option (List ℕ)) → b ≡ a → Appends a b []
 appends_same a b same = subst (λ (x : Option (List ℕ)). Appends a x []) (sym same) (Appends-nil a)
 
 -- exactly the answer to the lines so far was written
-pub stops : (from now : Dialogue) (lines : List (List ℕ)) (left : Option (List (List ℕ))) → IsCut (all_lines from) lines left → GoesOn (standing lines) → Appends from.taken now.taken (answered lines)
-    → IfSome from.left (λ bytes. StopsWithin (lines_of bytes) from.taken now.taken)
-stops from now lines left cut goes written =
-    by_bytes from.left lines left (λ all. StopsWithin all from.taken now.taken) cut (λ all rest is. record { front = lines; rest = rest; cut = is; goes_on = goes; written = written })
+pub stops : (asked : FollowOptions) (from now : Dialogue) (lines : List (List ℕ)) (left : Option (List (List ℕ))) → IsCut (all_lines from) lines left → GoesOn (standing asked lines) → Appends from.taken now.taken (answered asked lines)
+    → IfSome from.left (λ bytes. StopsWithin asked (lines_of bytes) from.taken now.taken)
+stops asked from now lines left cut goes written =
+    by_bytes from.left lines left (λ all. StopsWithin asked all from.taken now.taken) cut (λ all rest is. record { front = lines; rest = rest; cut = is; goes_on = goes; written = written })
 
-pub stands_stops : (from now : Dialogue) (lines : List (List ℕ)) (left : Option (List (List ℕ))) (listener : Listener) → Stands from now lines left listener
-    → IfSome from.left (λ bytes. StopsWithin (lines_of bytes) from.taken now.taken)
-stands_stops from now lines left listener stands = stops from now lines left stands.cut (going lines listener stands.told) stands.written
+pub stands_stops : (asked : FollowOptions) (from now : Dialogue) (lines : List (List ℕ)) (left : Option (List (List ℕ))) (listener : Listener) → Stands asked from now lines left listener
+    → IfSome from.left (λ bytes. StopsWithin asked (lines_of bytes) from.taken now.taken)
+stands_stops asked from now lines left listener stands = stops asked from now lines left stands.cut (going asked lines listener stands.told) stands.written
 
 -- nothing was said yet
-pub says_nothing : (from now : Dialogue) → now.taken ≡ from.taken → IfSome from.left (λ bytes. StopsWithin (lines_of bytes) from.taken now.taken)
-says_nothing from now same = by_known from.left
+pub says_nothing : (asked : FollowOptions) (from now : Dialogue) → now.taken ≡ from.taken → IfSome from.left (λ bytes. StopsWithin asked (lines_of bytes) from.taken now.taken)
+says_nothing asked from now same = by_known from.left
   where
-    by_known : (known : Option (List ℕ)) → IfSome known (λ bytes. StopsWithin (lines_of bytes) from.taken now.taken)
+    by_known : (known : Option (List ℕ)) → IfSome known (λ bytes. StopsWithin asked (lines_of bytes) from.taken now.taken)
     by_known None = tt
     by_known (Some bytes) = record {
       front = [];
       rest = lines_of bytes;
       cut = refl;
-      goes_on = subst GoesOn (sym none_told) tt;
-      written = subst (λ (t : List ℕ). Appends from.taken now.taken t) (sym (ap said none_told)) (appends_same from.taken now.taken same);
+      goes_on = subst GoesOn (sym (none_told asked)) tt;
+      written = subst (λ (t : List ℕ). Appends from.taken now.taken t) (sym (ap (said asked) (none_told asked))) (appends_same from.taken now.taken same);
     }
 
-pub out_of_memory : (from now : Dialogue) → HasGone from now → IfSome from.left (λ bytes. StopsWithin (lines_of bytes) from.taken now.taken) → HasEnded from now status.OutOfMemory
-out_of_memory from now gone within = record { told = within; read_fault = λ is. absurd (cc); write_fault = λ is. absurd (cc); place = gone.place }
+pub out_of_memory : (asked : FollowOptions) (from now : Dialogue) → HasGone from now → IfSome from.left (λ bytes. StopsWithin asked (lines_of bytes) from.taken now.taken) → HasEnded asked from now status.OutOfMemory
+out_of_memory asked from now gone within = record { told = within; read_fault = λ is. absurd (cc); write_fault = λ is. absurd (cc); place = gone.place }
 
-pub read_fails : (from now : Dialogue) → HasGone from now → Rose from.read_faults now.read_faults → IfSome from.left (λ bytes. StopsWithin (lines_of bytes) from.taken now.taken) → HasEnded from now status.ReadFault
-read_fails from now gone rose within = record { told = within; read_fault = λ is. rose; write_fault = λ is. absurd (cc); place = gone.place }
+pub read_fails : (asked : FollowOptions) (from now : Dialogue) → HasGone from now → Rose from.read_faults now.read_faults → IfSome from.left (λ bytes. StopsWithin asked (lines_of bytes) from.taken now.taken) → HasEnded asked from now status.ReadFault
+read_fails asked from now gone rose within = record { told = within; read_fault = λ is. rose; write_fault = λ is. absurd (cc); place = gone.place }
 
-pub write_fails : (from mid now : Dialogue) (lines : List (List ℕ)) (left : Option (List (List ℕ))) (before text : List ℕ) → HasGone from mid → HasWritten mid now → IsCut (all_lines from) lines left
-    → Appends from.taken mid.taken before → answered lines ≡ before ++ text → AppendsPrefix mid.taken now.taken text → Rose mid.write_faults now.write_faults → HasEnded from now status.WriteFault
-write_fails from mid now lines left before text gone written cut appends says front rose = record {
-  told = by_bytes from.left lines left (λ all. AppendsPrefix from.taken now.taken (text_for all)) cut (λ all rest is.
-      prefix_of_all from.taken now.taken all lines rest is (subst (λ (t : List ℕ). AppendsPrefix from.taken now.taken t) (sym says) (prefix_on from.taken mid.taken now.taken before text appends front)));
+pub write_fails : (asked : FollowOptions) (from mid now : Dialogue) (lines : List (List ℕ)) (left : Option (List (List ℕ))) (before text : List ℕ) → HasGone from mid → HasWritten mid now → IsCut (all_lines from) lines left
+    → Appends from.taken mid.taken before → answered asked lines ≡ before ++ text → AppendsPrefix mid.taken now.taken text → Rose mid.write_faults now.write_faults → HasEnded asked from now status.WriteFault
+write_fails asked from mid now lines left before text gone written cut appends says front rose = record {
+  told = by_bytes from.left lines left (λ all. AppendsPrefix from.taken now.taken (text_for asked all)) cut (λ all rest is.
+      prefix_of_all asked from.taken now.taken all lines rest is (subst (λ (t : List ℕ). AppendsPrefix from.taken now.taken t) (sym says) (prefix_on from.taken mid.taken now.taken before text appends front)));
   read_fault = λ is. absurd (cc);
   write_fault = λ is. rose_since from.write_faults mid.write_faults now.write_faults gone.writes rose;
   place = written.place ∙ gone.place;
 }
 
 -- a status with which it is over by itself
-ends_with : (from now : Dialogue) (s : Status) → IsEnding s → HasGone from now → IfSome from.left (λ bytes. (status_for (lines_of bytes) ≡ s) × Appends from.taken now.taken (text_for (lines_of bytes))) → HasEnded from now s
-ends_with from now status.Done ending gone told = record { told = told; read_fault = λ is. absurd (cc); write_fault = λ is. absurd (cc); place = gone.place }
-ends_with from now status.Refused ending gone told = record { told = told; read_fault = λ is. absurd (cc); write_fault = λ is. absurd (cc); place = gone.place }
-ends_with from now (status.BadLine n) ending gone told = record { told = told; read_fault = λ is. absurd (cc); write_fault = λ is. absurd (cc); place = gone.place }
-ends_with from now status.ReadFault ending gone told = absurd ending
-ends_with from now status.WriteFault ending gone told = absurd ending
-ends_with from now status.OutOfMemory ending gone told = absurd ending
-ends_with from now status.Usage ending gone told = absurd ending
-ends_with from now status.TooLong ending gone told = absurd ending
+ends_with : (asked : FollowOptions) (from now : Dialogue) (s : Status) → IsEnding s → HasGone from now → IfSome from.left (λ bytes. (status_for asked (lines_of bytes) ≡ s) × Appends from.taken now.taken (text_for asked (lines_of bytes))) → HasEnded asked from now s
+ends_with asked from now status.Done ending gone told = record { told = told; read_fault = λ is. absurd (cc); write_fault = λ is. absurd (cc); place = gone.place }
+ends_with asked from now status.Refused ending gone told = record { told = told; read_fault = λ is. absurd (cc); write_fault = λ is. absurd (cc); place = gone.place }
+ends_with asked from now (status.BadLine n) ending gone told = record { told = told; read_fault = λ is. absurd (cc); write_fault = λ is. absurd (cc); place = gone.place }
+ends_with asked from now status.ReadFault ending gone told = absurd ending
+ends_with asked from now status.WriteFault ending gone told = absurd ending
+ends_with asked from now status.OutOfMemory ending gone told = absurd ending
+ends_with asked from now status.Usage ending gone told = absurd ending
+ends_with asked from now status.TooLong ending gone told = absurd ending
 
-pub is_over : (from now : Dialogue) (lines : List (List ℕ)) (left : Option (List (List ℕ))) (text : List ℕ) (s : Status) → HasGone from now → IsCut (all_lines from) lines left → standing lines ≡ Over text s → IsEnding s
-    → Appends from.taken now.taken text → HasEnded from now s
-is_over from now lines left text s gone cut over ending written =
-    ends_with from now s ending gone (by_bytes from.left lines left (λ all. (status_for all ≡ s) × Appends from.taken now.taken (text_for all)) cut (λ all rest is.
-    let whole : standing all ≡ Over text s = ap standing is ∙ over_with_rest lines rest text s over in
-    (ap end_of whole, subst (λ (t : List ℕ). Appends from.taken now.taken t) (sym (ap said_in_all whole)) written)))
+pub is_over : (asked : FollowOptions) (from now : Dialogue) (lines : List (List ℕ)) (left : Option (List (List ℕ))) (text : List ℕ) (s : Status) → HasGone from now → IsCut (all_lines from) lines left → standing asked lines ≡ Over text s → IsEnding s
+    → Appends from.taken now.taken text → HasEnded asked from now s
+is_over asked from now lines left text s gone cut over ending written =
+    ends_with asked from now s ending gone (by_bytes from.left lines left (λ all. (status_for asked all ≡ s) × Appends from.taken now.taken (text_for asked all)) cut (λ all rest is.
+    let whole : standing asked all ≡ Over text s = ap (standing asked) is ∙ over_with_rest asked lines rest text s over in
+    (ap end_of whole, subst (λ (t : List ℕ). Appends from.taken now.taken t) (sym (ap (said_in_all asked) whole)) written)))
 
 -- ---- an answer was written, or a front of it
 
-pub says_in : (before text : List ℕ) (lines : List (List ℕ)) (ending : Option Status) (listener : Listener) → AnswersLine before lines text ending listener → answered lines ≡ before ++ text
-says_in before text lines None listener (says, told) = says
-says_in before text lines (Some s) listener (over, ending) = ap said over
+pub says_in : (asked : FollowOptions) (before text : List ℕ) (lines : List (List ℕ)) (ending : Option Status) (listener : Listener) → AnswersLine asked before lines text ending listener → answered asked lines ≡ before ++ text
+says_in asked before text lines None listener (says, told) = says
+says_in asked before text lines (Some s) listener (over, ending) = ap (said asked) over
 
-pub replied : (from mid now : Dialogue) (lines : List (List ℕ)) (left : Option (List (List ℕ))) (before text : List ℕ) (ending result : Option Status) (listener : Listener) → HasGone from mid → HasWritten mid now
-    → IsCut (all_lines from) lines left → Appends from.taken mid.taken before → AnswersLine before lines text ending listener → Replies mid now text ending result → StandsOr from now lines left listener result
-replied from mid now lines left before text ending result listener gone written cut appends answers (inr (is, front, rose)) =
-    subst (λ (r : Option Status). StandsOr from now lines left listener r) (sym is) (write_fails from mid now lines left before text gone written cut appends (says_in before text lines ending listener answers) front rose)
-replied from mid now lines left before text ending result listener gone written cut appends answers (inl (is, whole)) =
-    subst (λ (r : Option Status). StandsOr from now lines left listener r) (sym is) (by_ending ending answers)
+pub replied : (asked : FollowOptions) (from mid now : Dialogue) (lines : List (List ℕ)) (left : Option (List (List ℕ))) (before text : List ℕ) (ending result : Option Status) (listener : Listener) → HasGone from mid → HasWritten mid now
+    → IsCut (all_lines from) lines left → Appends from.taken mid.taken before → AnswersLine asked before lines text ending listener → Replies mid now text ending result → StandsOr asked from now lines left listener result
+replied asked from mid now lines left before text ending result listener gone written cut appends answers (inr (is, front, rose)) =
+    subst (λ (r : Option Status). StandsOr asked from now lines left listener r) (sym is) (write_fails asked from mid now lines left before text gone written cut appends (says_in asked before text lines ending listener answers) front rose)
+replied asked from mid now lines left before text ending result listener gone written cut appends answers (inl (is, whole)) =
+    subst (λ (r : Option Status). StandsOr asked from now lines left listener r) (sym is) (by_ending ending answers)
   where
     all_written : Appends from.taken now.taken (before ++ text)
     all_written = appends_on from.taken mid.taken now.taken before text appends whole
 
-    by_ending : (e : Option Status) → AnswersLine before lines text e listener → StandsOr from now lines left listener e
+    by_ending : (e : Option Status) → AnswersLine asked before lines text e listener → StandsOr asked from now lines left listener e
     by_ending None (says, told) = record {
       gone = gone_written from mid now gone written;
       cut = cut;
       written = subst (λ (t : List ℕ). Appends from.taken now.taken t) (sym says) all_written;
       told = told;
     }
-    by_ending (Some s) (over, is_ending) = is_over from now lines left (before ++ text) s (gone_written from mid now gone written) cut over is_ending all_written
+    by_ending (Some s) (over, is_ending) = is_over asked from now lines left (before ++ text) s (gone_written from mid now gone written) cut over is_ending all_written
 
 -- ---- the end of the lines
 
-pub finished : (from mid now : Dialogue) (lines : List (List ℕ)) (left : Option (List (List ℕ))) (text : List ℕ) (ending : Option Status) (s : Status) (listener : Listener) → Stands from mid lines left listener → HasWritten mid now
-    → IsCut (all_lines from) lines (Some []) → AnswersEnd lines text ending → Replies mid now text ending (Some s) → HasEnded from now s
-finished from mid now lines left text None s listener stands written cut never replies = absurd never
-finished from mid now lines left text (Some e) s listener stands written cut (says, ends, done) (inl (is, whole)) =
+pub finished : (asked : FollowOptions) (from mid now : Dialogue) (lines : List (List ℕ)) (left : Option (List (List ℕ))) (text : List ℕ) (ending : Option Status) (s : Status) (listener : Listener) → Stands asked from mid lines left listener → HasWritten mid now
+    → IsCut (all_lines from) lines (Some []) → AnswersEnd asked lines text ending → Replies mid now text ending (Some s) → HasEnded asked from now s
+finished asked from mid now lines left text None s listener stands written cut never replies = absurd never
+finished asked from mid now lines left text (Some e) s listener stands written cut (says, ends, done) (inl (is, whole)) =
     let same : s ≡ e = cc in
-    subst (λ (x : Status). HasEnded from now x) (sym (same ∙ done))
-    (ends_with from now status.Done tt (gone_written from mid now stands.gone written)
-    (by_all from.left lines (λ all. (status_for all ≡ status.Done) × Appends from.taken now.taken (text_for all)) cut
-    (ends ∙ done, subst (λ (t : List ℕ). Appends from.taken now.taken t) (sym says) (appends_on from.taken mid.taken now.taken (answered lines) text stands.written whole))))
-finished from mid now lines left text (Some e) s listener stands written cut (says, ends, done) (inr (is, front, rose)) =
+    subst (λ (x : Status). HasEnded asked from now x) (sym (same ∙ done))
+    (ends_with asked from now status.Done tt (gone_written from mid now stands.gone written)
+    (by_all from.left lines (λ all. (status_for asked all ≡ status.Done) × Appends from.taken now.taken (text_for asked all)) cut
+    (ends ∙ done, subst (λ (t : List ℕ). Appends from.taken now.taken t) (sym says) (appends_on from.taken mid.taken now.taken (answered asked lines) text stands.written whole))))
+finished asked from mid now lines left text (Some e) s listener stands written cut (says, ends, done) (inr (is, front, rose)) =
     let same : s ≡ status.WriteFault = cc in
-    subst (λ (x : Status). HasEnded from now x) (sym same) (record {
-      told = by_all from.left lines (λ all. AppendsPrefix from.taken now.taken (text_for all)) cut
-          (subst (λ (t : List ℕ). AppendsPrefix from.taken now.taken t) (sym says) (prefix_on from.taken mid.taken now.taken (answered lines) text stands.written front));
+    subst (λ (x : Status). HasEnded asked from now x) (sym same) (record {
+      told = by_all from.left lines (λ all. AppendsPrefix from.taken now.taken (text_for asked all)) cut
+          (subst (λ (t : List ℕ). AppendsPrefix from.taken now.taken t) (sym says) (prefix_on from.taken mid.taken now.taken (answered asked lines) text stands.written front));
       read_fault = λ is_read. absurd (cc);
       write_fault = λ is_write. rose_since from.write_faults mid.write_faults now.write_faults stands.gone.writes rose;
       place = written.place ∙ stands.gone.place;
@@ -230,22 +231,22 @@ has_no_ending old new text ending result (inl (is, whole)) none = sym is ∙ non
 has_no_ending old new text ending result (inr (is, front, rose)) none = absurd (cc)
 
 -- no line was read
-pub read_stops : (from now : Dialogue) (s : Status) → IsReadStop s → (s ≡ status.ReadFault → Rose from.read_faults now.read_faults) → HasGone from now → IfSome from.left (λ bytes. StopsWithin (lines_of bytes) from.taken now.taken)
-    → HasEnded from now s
-read_stops from now s (inl is) rose gone within = subst (λ (x : Status). HasEnded from now x) (sym is) (read_fails from now gone (rose is) within)
-read_stops from now s (inr is) rose gone within = subst (λ (x : Status). HasEnded from now x) (sym is) (out_of_memory from now gone within)
+pub read_stops : (asked : FollowOptions) (from now : Dialogue) (s : Status) → IsReadStop s → (s ≡ status.ReadFault → Rose from.read_faults now.read_faults) → HasGone from now → IfSome from.left (λ bytes. StopsWithin asked (lines_of bytes) from.taken now.taken)
+    → HasEnded asked from now s
+read_stops asked from now s (inl is) rose gone within = subst (λ (x : Status). HasEnded asked from now x) (sym is) (read_fails asked from now gone (rose is) within)
+read_stops asked from now s (inr is) rose gone within = subst (λ (x : Status). HasEnded asked from now x) (sym is) (out_of_memory asked from now gone within)
 
 -- an input of no lines
-pub no_lines : (from now : Dialogue) → HasGone from now → now.taken ≡ from.taken → IsCut (all_lines from) [] (Some []) → HasEnded from now (status.BadLine 1)
-no_lines from now gone same cut =
-    ends_with from now (status.BadLine 1) tt gone (by_all from.left [] (λ all. (status_for all ≡ status.BadLine 1) × Appends from.taken now.taken (text_for all)) cut
-    (ap end_of none_told, subst (λ (t : List ℕ). Appends from.taken now.taken t) (sym (ap said_in_all none_told)) (appends_same from.taken now.taken same)))
+pub no_lines : (asked : FollowOptions) (from now : Dialogue) → HasGone from now → now.taken ≡ from.taken → IsCut (all_lines from) [] (Some []) → HasEnded asked from now (status.BadLine 1)
+no_lines asked from now gone same cut =
+    ends_with asked from now (status.BadLine 1) tt gone (by_all from.left [] (λ all. (status_for asked all ≡ status.BadLine 1) × Appends from.taken now.taken (text_for asked all)) cut
+    (ap end_of (none_told asked), subst (λ (t : List ℕ). Appends from.taken now.taken t) (sym (ap (said_in_all asked) (none_told asked))) (appends_same from.taken now.taken same)))
 
 -- a first line that is no setup
-pub no_setup : (from now : Dialogue) (line : List ℕ) (left : Option (List (List ℕ))) (n : ℕ) → HasGone from now → now.taken ≡ from.taken → IsCut (all_lines from) (line ∷ []) left → numbered 1 (setup_line line) ≡ Err n
-    → HasEnded from now (status.BadLine n)
-no_setup from now line left n gone same cut fails =
-    is_over from now (line ∷ []) left [] (status.BadLine n) gone cut (one_told line ∙ ap opened fails) tt (appends_same from.taken now.taken same)
+pub no_setup : (asked : FollowOptions) (from now : Dialogue) (line : List ℕ) (left : Option (List (List ℕ))) (n : ℕ) → HasGone from now → now.taken ≡ from.taken → IsCut (all_lines from) (line ∷ []) left → numbered 1 (setup_line line) ≡ Err n
+    → HasEnded asked from now (status.BadLine n)
+no_setup asked from now line left n gone same cut fails =
+    is_over asked from now (line ∷ []) left [] (status.BadLine n) gone cut (one_told asked line ∙ ap opened fails) tt (appends_same from.taken now.taken same)
 
 -- the whole text was written, which is a front of it
 pub whole_before_error : {T E : Type 0} (result : Result T E) (a b c : Option (List ℕ)) (text : List ℕ) → Appends a b text → c ≡ b → OnErr result (AppendsPrefix a c text)
@@ -254,17 +255,17 @@ whole_before_error (Err e) a b c text appends same =
     (length text, subst (λ (x : Option (List ℕ)). Appends a x (take (length text) text)) (sym same) (subst (λ (t : List ℕ). Appends a b t) (sym (take-length text)) appends))
 
 -- memory ran out behind a first line
-pub begun_stops : (from now : Dialogue) (more : Bool) (line held : List ℕ) → HasBegun from now more line held → IsOver from now status.OutOfMemory
-begun_stops from now true line held (gone, same, cut, heard) = record {
-  ended = out_of_memory from now gone (says_nothing from now same);
-  punctual = λ none. is_punctual (line ∷ []) held [] [] now.turns (heard none);
+pub begun_stops : (asked : FollowOptions) (from now : Dialogue) (more : Bool) (line held : List ℕ) → HasBegun asked from now more line held → IsOver asked from now status.OutOfMemory
+begun_stops asked from now true line held (gone, same, cut, heard) = record {
+  ended = out_of_memory asked from now gone (says_nothing asked from now same);
+  punctual = λ none. is_punctual asked (line ∷ []) held [] [] now.turns (heard none);
 }
-begun_stops from now false line held (gone, same, cut, punctual) = record { ended = out_of_memory from now gone (says_nothing from now same); punctual = punctual }
+begun_stops asked from now false line held (gone, same, cut, punctual) = record { ended = out_of_memory asked from now gone (says_nothing asked from now same); punctual = punctual }
 
 -- or it does not read
-pub begun_unread : (from now : Dialogue) (more : Bool) (line held : List ℕ) (n : ℕ) → HasBegun from now more line held → numbered 1 (setup_line line) ≡ Err n → IsOver from now (status.BadLine n)
-begun_unread from now true line held n (gone, same, cut, heard) fails = record {
-  ended = no_setup from now line (lines_left held now.left) n gone same cut fails;
-  punctual = λ none. is_punctual (line ∷ []) held [] [] now.turns (heard none);
+pub begun_unread : (asked : FollowOptions) (from now : Dialogue) (more : Bool) (line held : List ℕ) (n : ℕ) → HasBegun asked from now more line held → numbered 1 (setup_line line) ≡ Err n → IsOver asked from now (status.BadLine n)
+begun_unread asked from now true line held n (gone, same, cut, heard) fails = record {
+  ended = no_setup asked from now line (lines_left held now.left) n gone same cut fails;
+  punctual = λ none. is_punctual asked (line ∷ []) held [] [] now.turns (heard none);
 }
-begun_unread from now false line held n (gone, same, cut, punctual) fails = record { ended = no_setup from now line (Some []) n gone same cut fails; punctual = punctual }
+begun_unread asked from now false line held n (gone, same, cut, punctual) fails = record { ended = no_setup asked from now line (Some []) n gone same cut fails; punctual = punctual }

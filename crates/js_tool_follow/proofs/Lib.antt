@@ -1,3 +1,4 @@
+mod AnswerTexts
 mod LineAnswers
 mod LinesReceived
 mod ConversationEnds
@@ -7,3 +8,4 @@ mod LinesTold
 mod TurnOutcomes
 mod ValidInput
 mod Worked
+mod WakeMoments

@@ -15,8 +15,11 @@ use Rattle.js_tool_transcript.specs.Event.{event_line}
 use Rattle.js_tool_transcript.specs.TranscriptReplay.{replay_input}
 use Rattle.js_tool_transcript.specs.Setup.{setup_line}
 use Rattle.js_tool_transcript.specs.Transcript.{numbered}
+use Rattle.js_tool.specs.declared.command.FollowOptions.{FollowOptions}
 use Rattle.js_tool_follow.specs.Conversation.{AnswersLines, WritesRun}
-use Rattle.js_tool_follow.specs.Standing.{Standing, Unopened, Going, Over, text_to, passed, opened, went_on, next, after, standing, said_in_all, end_of}
+use Rattle.js_tool_follow.specs.AnswerText.{text_to}
+use Rattle.js_tool_follow.specs.Standing.{Standing, Unopened, Going, Over, passed, opened, went_on, next, after, standing, said_in_all, end_of}
+use Rattle.js_tool_follow.proofs.AnswerTexts.{plain_run}
 use Rattle.js_tool_follow.proofs.LinesTold.{is_run}
 
 -- ---- a run
@@ -37,46 +40,47 @@ unfolding NotDone
 opened_not (Ok setup) = passed_not setup [] [] (refuse (replay_input setup) setup.start [])
 opened_not (Err n) = λ is. cc
 
-went_not : (setup : Setup) (es : List Event) (reading : Result Event ℕ) → NotDone (went_on setup es reading)
+went_not : (asked : FollowOptions) (setup : Setup) (es : List Event) (reading : Result Event ℕ) → NotDone (went_on asked setup es reading)
 unfolding NotDone
-went_not setup es (Ok e) = passed_not setup (es ++ e ∷ []) (text_to setup es) (refuse (replay_input setup) setup.start (es ++ e ∷ []))
-went_not setup es (Err n) = λ is. cc
+went_not asked setup es (Ok e) = passed_not setup (es ++ e ∷ []) (text_to asked setup es) (refuse (replay_input setup) setup.start (es ++ e ∷ []))
+went_not asked setup es (Err n) = λ is. cc
 
-next_not : (s : Standing) (line : List ℕ) → NotDone s → NotDone (next s line)
+next_not : (asked : FollowOptions) (s : Standing) (line : List ℕ) → NotDone s → NotDone (next asked s line)
 unfolding NotDone
-next_not Unopened line fit = opened_not (numbered 1 (setup_line line))
-next_not (Going setup es) line fit = went_not setup es (numbered (length es + 2) (event_line line))
-next_not (Over text s) line fit = fit
+next_not asked Unopened line fit = opened_not (numbered 1 (setup_line line))
+next_not asked (Going setup es) line fit = went_not asked setup es (numbered (length es + 2) (event_line line))
+next_not asked (Over text s) line fit = fit
 
-after_not : (s : Standing) (lines : List (List ℕ)) → NotDone s → NotDone (after s lines)
-after_not s [] fit = fit
-after_not s (line ∷ lines) fit = after_not (next s line) lines (next_not s line fit)
+after_not : (asked : FollowOptions) (s : Standing) (lines : List (List ℕ)) → NotDone s → NotDone (after asked s lines)
+after_not asked s [] fit = fit
+after_not asked s (line ∷ lines) fit = after_not asked (next asked s line) lines (next_not asked s line fit)
 
-standing_not : (lines : List (List ℕ)) → NotDone (standing lines)
+standing_not : (asked : FollowOptions) (lines : List (List ℕ)) → NotDone (standing asked lines)
 unfolding standing NotDone
-standing_not lines = after_not Unopened lines tt
+standing_not asked lines = after_not asked Unopened lines tt
 
 not_done : (text : List ℕ) (s : Status) → NotDone (Over text s) → s ≡ status.Done → ⊥
 unfolding NotDone
 not_done text s fit ends = fit ends
 
 -- so what is done is the text of a run
-pub writes_run : (bytes : List ℕ) (taken after : Option (List ℕ)) → AnswersLines (lines_of bytes) taken after status.Done → WritesRun bytes taken after
-writes_run bytes taken after (ends, appends) = by_standing (standing (lines_of bytes)) refl ends appends (standing_not (lines_of bytes))
+pub writes_run : (asked : FollowOptions) (bytes : List ℕ) (taken now : Option (List ℕ)) → AnswersLines asked (lines_of bytes) taken now status.Done → WritesRun asked bytes taken now
+writes_run asked bytes taken now (ends, appends) = by_standing (standing asked (lines_of bytes)) refl ends appends (standing_not asked (lines_of bytes))
   where
-    by_standing : (s : Standing) → standing (lines_of bytes) ≡ s → end_of s ≡ status.Done → Appends taken after (said_in_all s) → NotDone s → WritesRun bytes taken after
+    by_standing : (s : Standing) → standing asked (lines_of bytes) ≡ s → end_of s ≡ status.Done → Appends taken now (said_in_all asked s) → NotDone s → WritesRun asked bytes taken now
     by_standing Unopened is ends appends fit = absurd (cc)
     by_standing (Over text s) is ends appends fit = absurd (not_done text s fit ends)
     by_standing (Going setup es) is ends appends fit =
-        let run = is_run (lines_of bytes) setup es is in
+        let run = is_run asked (lines_of bytes) setup es is in
         record {
           transcript = record { setup = setup; events = es };
           reads = run.reads;
           run = fold (replay_input setup) setup.start es;
           replays = fold_replays (replay_input setup) setup.start es (fold (replay_input setup) setup.start es) run.accepted refl;
           written = appends;
+          same = λ none. plain_run asked setup es taken now none appends;
         }
 
-pub run_told : (left taken after : Option (List ℕ)) (s : Status) → IfSome left (λ bytes. AnswersLines (lines_of bytes) taken after s) → s ≡ status.Done → IfSome left (λ bytes. WritesRun bytes taken after)
-run_told None taken after s told done = tt
-run_told (Some bytes) taken after s told done = writes_run bytes taken after (subst (λ (x : Status). AnswersLines (lines_of bytes) taken after x) done told)
+pub run_told : (asked : FollowOptions) (left taken now : Option (List ℕ)) (s : Status) → IfSome left (λ bytes. AnswersLines asked (lines_of bytes) taken now s) → s ≡ status.Done → IfSome left (λ bytes. WritesRun asked bytes taken now)
+run_told asked None taken now s told done = tt
+run_told asked (Some bytes) taken now s told done = writes_run asked bytes taken now (subst (λ (x : Status). AnswersLines asked (lines_of bytes) taken now x) done told)

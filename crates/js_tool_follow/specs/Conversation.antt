@@ -5,14 +5,17 @@ use Rattle.js_tool_io.specs.Causes.{Rose, AppendsPrefix}
 use Rattle.js_tool_io.specs.Lines.{lines_of}
 use Rattle.js_ordered_table.specs.declared.run.Run.{Run}
 use Rattle.js_ordered_table.specs.Replay.{IsReplay, IsValid}
+use Rattle.js_tool.specs.Command.{plain}
 use Rattle.js_tool.specs.declared.status.Status.{Status}
 use Rattle.js_tool.specs.declared.status.Status.TheVariants as status
 use Rattle.js_tool_transcript.specs.declared.transcript.Transcript.{Transcript}
 use Rattle.js_tool_transcript.specs.TranscriptReplay.{replay_input}
 use Rattle.js_tool_transcript.specs.Text.{run_text}
 use Rattle.js_tool_transcript.specs.Transcript.{transcript_of}
+use Rattle.js_tool.specs.declared.command.FollowOptions.{FollowOptions}
 use Rattle.js_tool_follow.specs.declared.answer.Listener.{Listener}
 use Rattle.js_tool_follow.specs.Answer.{IsTold}
+use Rattle.js_tool_follow.specs.AnswerText.{whole_text}
 use Rattle.js_tool_follow.specs.IncomingLines.{lines_left}
 use Rattle.js_tool_follow.specs.Punctuality.{Holds, TurnsSoFar, IsPunctual}
 use Rattle.js_tool_follow.specs.Standing.{Standing, Unopened, Going, Over, standing, answered, text_for, status_for}
@@ -25,23 +28,23 @@ GoesOn (Going setup es) = ⊤
 GoesOn (Over text s) = ⊥
 
 -- exactly the answer to some first lines was written, with which it is not over
-pub record StopsWithin (lines : List (List ℕ)) (taken taken_after : Option (List ℕ)) : Type 0 where
+pub record StopsWithin (asked : FollowOptions) (lines : List (List ℕ)) (taken taken_after : Option (List ℕ)) : Type 0 where
   pub front : List (List ℕ)
   pub rest : List (List ℕ)
   pub cut : lines ≡ front ++ rest
-  pub goes_on : GoesOn (standing front)
-  pub written : Appends taken taken_after (answered front)
+  pub goes_on : GoesOn (standing asked front)
+  pub written : Appends taken taken_after (answered asked front)
 
 -- what was written, by the status. What the lines call for is answered, with all its text, unless memory ran out or a count of faults rose
-abbrev pub AnswersLines : List (List ℕ) → Option (List ℕ) → Option (List ℕ) → Status → Type 0
-AnswersLines lines taken taken_after status.ReadFault = StopsWithin lines taken taken_after
-AnswersLines lines taken taken_after status.OutOfMemory = StopsWithin lines taken taken_after
-AnswersLines lines taken taken_after status.WriteFault = AppendsPrefix taken taken_after (text_for lines)
-AnswersLines lines taken taken_after s = (status_for lines ≡ s) × Appends taken taken_after (text_for lines)
+abbrev pub AnswersLines : FollowOptions → List (List ℕ) → Option (List ℕ) → Option (List ℕ) → Status → Type 0
+AnswersLines asked lines taken taken_after status.ReadFault = StopsWithin asked lines taken taken_after
+AnswersLines asked lines taken taken_after status.OutOfMemory = StopsWithin asked lines taken taken_after
+AnswersLines asked lines taken taken_after status.WriteFault = AppendsPrefix taken taken_after (text_for asked lines)
+AnswersLines asked lines taken taken_after s = (status_for asked lines ≡ s) × Appends taken taken_after (text_for asked lines)
 
 -- an input was answered, from where a dialogue stood
-pub record HasEnded (from now : Dialogue) (s : Status) : Type 0 where
-  pub told : IfSome from.left (λ bytes. AnswersLines (lines_of bytes) from.taken now.taken s)
+pub record HasEnded (asked : FollowOptions) (from now : Dialogue) (s : Status) : Type 0 where
+  pub told : IfSome from.left (λ bytes. AnswersLines asked (lines_of bytes) from.taken now.taken s)
   pub read_fault : s ≡ status.ReadFault → Rose from.read_faults now.read_faults
   pub write_fault : s ≡ status.WriteFault → Rose from.write_faults now.write_faults
   pub place : now.place ≡ from.place
@@ -65,39 +68,39 @@ abbrev pub all_lines : Dialogue → Option (List (List ℕ))
 all_lines from = option_map lines_of from.left
 
 -- Lines were told and their answer written, and these are left.
-pub record Stands (from now : Dialogue) (lines : List (List ℕ)) (left : Option (List (List ℕ))) (listener : Listener) : Type 0 where
+pub record Stands (asked : FollowOptions) (from now : Dialogue) (lines : List (List ℕ)) (left : Option (List (List ℕ))) (listener : Listener) : Type 0 where
   pub gone : HasGone from now
   pub cut : IsCut (all_lines from) lines left
-  pub written : Appends from.taken now.taken (answered lines)
-  pub told : IsTold lines listener
+  pub written : Appends from.taken now.taken (answered asked lines)
+  pub told : IsTold asked lines listener
 
 -- it goes on with these lines, or has ended
-abbrev pub StandsOr : Dialogue → Dialogue → List (List ℕ) → Option (List (List ℕ)) → Listener → Option Status → Type 0
-StandsOr from now lines left listener None = Stands from now lines left listener
-StandsOr from now lines left listener (Some s) = HasEnded from now s
+abbrev pub StandsOr : FollowOptions → Dialogue → Dialogue → List (List ℕ) → Option (List (List ℕ)) → Listener → Option Status → Type 0
+StandsOr asked from now lines left listener None = Stands asked from now lines left listener
+StandsOr asked from now lines left listener (Some s) = HasEnded asked from now s
 
 -- where a conversation stands between two lines: all is answered, and was so at each read
-pub record IsAt (from now : Dialogue) (lines : List (List ℕ)) (held : List ℕ) (listener : Listener) : Type 0 where
-  pub stands : Stands from now lines (lines_left held now.left) listener
-  pub heard : from.turns ≡ Some [] → Holds now.turns (TurnsSoFar lines held (answered lines) (answered lines))
+pub record IsAt (asked : FollowOptions) (from now : Dialogue) (lines : List (List ℕ)) (held : List ℕ) (listener : Listener) : Type 0 where
+  pub stands : Stands asked from now lines (lines_left held now.left) listener
+  pub heard : from.turns ≡ Some [] → Holds now.turns (TurnsSoFar asked lines held (answered asked lines) (answered asked lines))
 
 -- where it has ended
-pub record IsOver (from now : Dialogue) (s : Status) : Type 0 where
-  pub ended : HasEnded from now s
-  pub punctual : from.turns ≡ Some [] → Holds now.turns IsPunctual
+pub record IsOver (asked : FollowOptions) (from now : Dialogue) (s : Status) : Type 0 where
+  pub ended : HasEnded asked from now s
+  pub punctual : from.turns ≡ Some [] → Holds now.turns (IsPunctual asked)
 
 -- a turn was taken: a line more was told, or it is over
-abbrev pub TakesTurn : Dialogue → Dialogue → List (List ℕ) → List ℕ → Listener → Option Status → Type 0
-TakesTurn from now lines held listener None = (line : List ℕ) × IsAt from now (lines ++ line ∷ []) held listener
-TakesTurn from now lines held listener (Some s) = IsOver from now s
+abbrev pub TakesTurn : FollowOptions → Dialogue → Dialogue → List (List ℕ) → List ℕ → Listener → Option Status → Type 0
+TakesTurn asked from now lines held listener None = (line : List ℕ) × IsAt asked from now (lines ++ line ∷ []) held listener
+TakesTurn asked from now lines held listener (Some s) = IsOver asked from now s
 
 -- the first line was read, behind which more may come or not, and nothing said
-abbrev pub HasBegun : Dialogue → Dialogue → Bool → List ℕ → List ℕ → Type 0
-HasBegun from now true line held =
+abbrev pub HasBegun : FollowOptions → Dialogue → Dialogue → Bool → List ℕ → List ℕ → Type 0
+HasBegun asked from now true line held =
     HasGone from now × (now.taken ≡ from.taken) × IsCut (all_lines from) (line ∷ []) (lines_left held now.left)
-    × (from.turns ≡ Some [] → Holds now.turns (TurnsSoFar (line ∷ []) held [] []))
-HasBegun from now false line held =
-    HasGone from now × (now.taken ≡ from.taken) × IsCut (all_lines from) (line ∷ []) (Some []) × (from.turns ≡ Some [] → Holds now.turns IsPunctual)
+    × (from.turns ≡ Some [] → Holds now.turns (TurnsSoFar asked (line ∷ []) held [] []))
+HasBegun asked from now false line held =
+    HasGone from now × (now.taken ≡ from.taken) × IsCut (all_lines from) (line ∷ []) (Some []) × (from.turns ≡ Some [] → Holds now.turns (IsPunctual asked))
 
 -- why no line was read
 abbrev pub IsReadStop : Status → Type 0
@@ -111,13 +114,14 @@ Replies old new text ending result =
 
 -- ---- the headlines
 
--- the bytes are a transcript of any length, and the text of its run was written, and nothing else
-pub record WritesRun (bytes : List ℕ) (taken taken_after : Option (List ℕ)) : Type 0 where
+-- the bytes are a transcript of any length, and the answers to all of it were written, and nothing else; without options they are the text of its run
+pub record WritesRun (asked : FollowOptions) (bytes : List ℕ) (taken taken_after : Option (List ℕ)) : Type 0 where
   pub transcript : Transcript
   pub reads : transcript_of (lines_of bytes) ≡ Ok transcript
   pub run : Run
   pub replays : IsReplay (replay_input transcript.setup) transcript.setup.start transcript.events run
-  pub written : Appends taken taken_after (run_text run)
+  pub written : Appends taken taken_after (whole_text asked transcript.setup transcript.events)
+  pub same : asked ≡ plain → Appends taken taken_after (run_text run)
 
 -- a transcript of any length with good settings, moments that do not fall, and no last sequence
 abbrev pub IsValidInput : List ℕ → Type 0

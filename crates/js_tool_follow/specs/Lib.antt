@@ -1,6 +1,9 @@
 pub mod Answer
+pub mod AnswerText
 pub mod Conversation
+pub mod Details
 pub mod IncomingLines
 pub mod Punctuality
 pub mod Standing
 pub mod Peer
+pub mod Wakes

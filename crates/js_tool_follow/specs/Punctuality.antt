@@ -1,5 +1,6 @@
 -- That all is answered before more is read.
 use Rattle.std.specs.Prelude.{◌≡◌, ℕ, ◌==◌, List, [], ◌∷◌, ◌++◌, Option, Some, None, Result, Ok, Err, ⊤, if◌then◌else◌}
+use Rattle.js_tool.specs.declared.command.FollowOptions.{FollowOptions}
 use Rattle.js_tool_follow.specs.declared.incoming_lines.Incoming.{Incoming}
 use Rattle.js_tool_follow.specs.declared.incoming_lines.Incoming.TheVariants as incoming
 use Rattle.js_tool_follow.specs.declared.peer.Turn.{Turn}
@@ -22,15 +23,15 @@ whole_lines (b ∷ bytes) = if b == 10 then [] ∷ whole_lines bytes else onto_w
 -- ---- punctual
 
 -- what was passed on is the answer to all whole lines that were read
-abbrev pub IsCaughtUp : List Turn → Type 0
-IsCaughtUp turns = flushed turns ≡ answered (whole_lines (heard turns))
+abbrev pub IsCaughtUp : FollowOptions → List Turn → Type 0
+IsCaughtUp asked turns = flushed turns ≡ answered asked (whole_lines (heard turns))
 
 -- whenever something was read, all was answered before. The last call stands first
-abbrev pub IsPunctual : List Turn → Type 0
-IsPunctual [] = ⊤
-IsPunctual (turn.Read bytes ∷ before) = IsCaughtUp before × IsPunctual before
-IsPunctual (turn.Wrote bytes ∷ before) = IsPunctual before
-IsPunctual (turn.Flushed ∷ before) = IsPunctual before
+abbrev pub IsPunctual : FollowOptions → List Turn → Type 0
+IsPunctual asked [] = ⊤
+IsPunctual asked (turn.Read bytes ∷ before) = IsCaughtUp asked before × IsPunctual asked before
+IsPunctual asked (turn.Wrote bytes ∷ before) = IsPunctual asked before
+IsPunctual asked (turn.Flushed ∷ before) = IsPunctual asked before
 
 -- ---- on the way
 
@@ -40,15 +41,15 @@ Holds None P = ⊥
 Holds (Some turns) P = P turns
 
 -- These calls are punctual. What was read is these lines and the bytes that are held, whatever follows; this was written, and that was passed on.
-pub record TurnsSoFar (lines : List (List ℕ)) (held before passed : List ℕ) (turns : List Turn) : Type 0 where
-  pub punctual : IsPunctual turns
+pub record TurnsSoFar (asked : FollowOptions) (lines : List (List ℕ)) (held before passed : List ℕ) (turns : List Turn) : Type 0 where
+  pub punctual : IsPunctual asked turns
   pub cut : (more : List ℕ) → whole_lines (heard turns ++ more) ≡ lines ++ whole_lines (held ++ more)
   pub written : written turns ≡ before
   pub flushed : flushed turns ≡ passed
 
 -- a line more was read, or it stays punctual
-abbrev pub HearsNext : {E : Type 0} → List (List ℕ) → Result Incoming E → List ℕ → List ℕ → Option (List Turn) → Type 0
-HearsNext lines (Ok incoming.Line) line held turns = Holds turns (TurnsSoFar (lines ++ line ∷ []) held (answered lines) (answered lines))
-HearsNext lines (Ok incoming.Last) line held turns = Holds turns IsPunctual
-HearsNext lines (Ok incoming.End) line held turns = Holds turns IsPunctual
-HearsNext lines (Err stop) line held turns = Holds turns IsPunctual
+abbrev pub HearsNext : {E : Type 0} → FollowOptions → List (List ℕ) → Result Incoming E → List ℕ → List ℕ → Option (List Turn) → Type 0
+HearsNext asked lines (Ok incoming.Line) line held turns = Holds turns (TurnsSoFar asked (lines ++ line ∷ []) held (answered asked lines) (answered asked lines))
+HearsNext asked lines (Ok incoming.Last) line held turns = Holds turns (IsPunctual asked)
+HearsNext asked lines (Ok incoming.End) line held turns = Holds turns (IsPunctual asked)
+HearsNext asked lines (Err stop) line held turns = Holds turns (IsPunctual asked)

@@ -3,6 +3,8 @@
 ghost use Rattle.std.specs.Prelude.{◌≡◌, ◌++◌, ◌∷◌, [], ℕ, List, Option, Some, None, IfSome, Ok, IfOk, IfErr, IsErrOf, true};
 ghost use Rattle.js_tool_io.specs.Causes.{Rose};
 ghost use Rattle.js_ordered.specs.IncrementalReplay.{HasCome};
+ghost use Rattle.js_tool.specs.Command.{plain};
+ghost use Rattle.js_tool.specs.declared.command.FollowOptions as options;
 ghost use Rattle.js_tool.specs.Program.{IsUnlessFailed};
 ghost use Rattle.js_tool_transcript.specs.TranscriptReplay.{replay_input};
 ghost use Rattle.js_tool_transcript.specs.Setup.{setup_line};
@@ -20,7 +22,7 @@ use crate::answer::{Answer, Listener};
 use crate::incoming_lines::{Incoming, IncomingLines};
 use crate::output::write_flushed;
 use crate::peer::Peer;
-use js_tool::Status;
+use js_tool::{FollowOptions, Status};
 use js_tool_io::{Failed, Stop};
 use js_tool_transcript::{Setup, Unread, first_line};
 use std::alloc::{AllocError, Global};
@@ -28,9 +30,9 @@ use std::alloc::{AllocError, Global};
 // Writes an answer. The status where it is the last, or was not written.
 fn write_answer<P: Peer>(answer: &Answer, peer: &mut P) -> Option<Status>
     ensures replies { Replies (P.view peer.old) (P.view peer.new) answer.now.text.items answer.now.ending result }
-    ensures said { (lines : List (List ℕ)) → (held before : List ℕ) → Holds (P.view peer.old).turns (TurnsSoFar lines held before before)
-        → result ≡ None → Holds (P.view peer.new).turns (TurnsSoFar lines held (before ++ answer.now.text.items) (before ++ answer.now.text.items)) }
-    ensures punctual { Holds (P.view peer.old).turns IsPunctual → Holds (P.view peer.new).turns IsPunctual }
+    ensures said { (asked : options.FollowOptions) → (lines : List (List ℕ)) → (held before : List ℕ) → Holds (P.view peer.old).turns (TurnsSoFar asked lines held before before)
+        → result ≡ None → Holds (P.view peer.new).turns (TurnsSoFar asked lines held (before ++ answer.now.text.items) (before ++ answer.now.text.items)) }
+    ensures punctual { (asked : options.FollowOptions) → Holds (P.view peer.old).turns (IsPunctual asked) → Holds (P.view peer.new).turns (IsPunctual asked) }
     ensures writes { HasWritten (P.view peer.old) (P.view peer.new) }
 {
     match write_flushed(peer, &answer.text) {
@@ -41,18 +43,18 @@ fn write_answer<P: Peer>(answer: &Answer, peer: &mut P) -> Option<Status>
 
 // Answers the opening.
 fn answer_opening<P: Peer>(alloc: Global, listener: &Listener<'_>, peer: &mut P) -> Option<Status>
-    ensures greeted { (from : Dialogue) → (setup : setups.Setup) → (line : List ℕ) → (left : Option (List (List ℕ)))
-        → HasCome (replay_input setup) setup.start [] listener.now.replay.value → numbered 1 (setup_line line) ≡ Ok setup
+    ensures greeted { (asked : options.FollowOptions) → (from : Dialogue) → (setup : setups.Setup) → (line : List ℕ) → (left : Option (List (List ℕ)))
+        → listener.now.options ≡ asked → HasCome (replay_input setup) setup.start [] listener.now.replay.value → numbered 1 (setup_line line) ≡ Ok setup
         → HasGone from (P.view peer.old) → (P.view peer.old).taken ≡ from.taken → IsCut (all_lines from) (line ∷ []) left
-        → StandsOr from (P.view peer.new) (line ∷ []) left listener.now result }
-    ensures said { (setup : setups.Setup) → (line held : List ℕ)
-        → HasCome (replay_input setup) setup.start [] listener.now.replay.value → numbered 1 (setup_line line) ≡ Ok setup
-        → Holds (P.view peer.old).turns (TurnsSoFar (line ∷ []) held [] []) → result ≡ None
-        → Holds (P.view peer.new).turns (TurnsSoFar (line ∷ []) held (answered (line ∷ [])) (answered (line ∷ []))) }
-    ensures punctual { Holds (P.view peer.old).turns IsPunctual → Holds (P.view peer.new).turns IsPunctual }
+        → StandsOr asked from (P.view peer.new) (line ∷ []) left listener.now result }
+    ensures said { (asked : options.FollowOptions) → (setup : setups.Setup) → (line held : List ℕ)
+        → listener.now.options ≡ asked → HasCome (replay_input setup) setup.start [] listener.now.replay.value → numbered 1 (setup_line line) ≡ Ok setup
+        → Holds (P.view peer.old).turns (TurnsSoFar asked (line ∷ []) held [] []) → result ≡ None
+        → Holds (P.view peer.new).turns (TurnsSoFar asked (line ∷ []) held (answered asked (line ∷ [])) (answered asked (line ∷ []))) }
+    ensures punctual { (asked : options.FollowOptions) → Holds (P.view peer.old).turns (IsPunctual asked) → Holds (P.view peer.new).turns (IsPunctual asked) }
     ensures writes { HasWritten (P.view peer.old) (P.view peer.new) }
 {
-    match listener.answer(alloc) {
+    match listener.answer(alloc, &[]) {
         Ok(answer) => write_answer(&answer, peer),
         Err(AllocError) => Some(Status::OutOfMemory),
     }
@@ -65,14 +67,14 @@ fn answer_line<P: Peer>(
     line: &[u8],
     peer: &mut P,
 ) -> Option<Status>
-    ensures told { (from : Dialogue) → (lines : List (List ℕ)) → (before left : Option (List (List ℕ)))
-        → Stands from (P.view peer.old) lines before listener.old → IsCut (all_lines from) (lines ++ line.now ∷ []) left
-        → StandsOr from (P.view peer.new) (lines ++ line.now ∷ []) left listener.new result }
-    ensures said { (lines : List (List ℕ)) → (held : List ℕ) → IsTold lines listener.old
-        → Holds (P.view peer.old).turns (TurnsSoFar (lines ++ line.now ∷ []) held (answered lines) (answered lines)) → result ≡ None
-        → Holds (P.view peer.new).turns (TurnsSoFar (lines ++ line.now ∷ []) held (answered (lines ++ line.now ∷ [])) (answered (lines ++ line.now ∷ []))) }
+    ensures told { (asked : options.FollowOptions) → (from : Dialogue) → (lines : List (List ℕ)) → (before left : Option (List (List ℕ)))
+        → Stands asked from (P.view peer.old) lines before listener.old → IsCut (all_lines from) (lines ++ line.now ∷ []) left
+        → StandsOr asked from (P.view peer.new) (lines ++ line.now ∷ []) left listener.new result }
+    ensures said { (asked : options.FollowOptions) → (lines : List (List ℕ)) → (held : List ℕ) → IsTold asked lines listener.old
+        → Holds (P.view peer.old).turns (TurnsSoFar asked (lines ++ line.now ∷ []) held (answered asked lines) (answered asked lines)) → result ≡ None
+        → Holds (P.view peer.new).turns (TurnsSoFar asked (lines ++ line.now ∷ []) held (answered asked (lines ++ line.now ∷ [])) (answered asked (lines ++ line.now ∷ []))) }
     ensures counted { result ≡ None → HasPassedOne listener.old listener.new }
-    ensures punctual { Holds (P.view peer.old).turns IsPunctual → Holds (P.view peer.new).turns IsPunctual }
+    ensures punctual { (asked : options.FollowOptions) → Holds (P.view peer.old).turns (IsPunctual asked) → Holds (P.view peer.new).turns (IsPunctual asked) }
     ensures writes { HasWritten (P.view peer.old) (P.view peer.new) }
 {
     match listener.hear(alloc, line) {
@@ -83,10 +85,10 @@ fn answer_line<P: Peer>(
 
 // Writes the last line.
 fn answer_end<P: Peer>(alloc: Global, listener: &Listener<'_>, peer: &mut P) -> Status
-    ensures ended { (from : Dialogue) → (lines : List (List ℕ)) → (left : Option (List (List ℕ)))
-        → Stands from (P.view peer.old) lines left listener.now → IsCut (all_lines from) lines (Some [])
-        → HasEnded from (P.view peer.new) result }
-    ensures punctual { Holds (P.view peer.old).turns IsPunctual → Holds (P.view peer.new).turns IsPunctual }
+    ensures ended { (asked : options.FollowOptions) → (from : Dialogue) → (lines : List (List ℕ)) → (left : Option (List (List ℕ)))
+        → Stands asked from (P.view peer.old) lines left listener.now → IsCut (all_lines from) lines (Some [])
+        → HasEnded asked from (P.view peer.new) result }
+    ensures punctual { (asked : options.FollowOptions) → Holds (P.view peer.old).turns (IsPunctual asked) → Holds (P.view peer.new).turns (IsPunctual asked) }
 {
     match listener.end(alloc) {
         Ok(answer) => match write_answer(&answer, peer) {
@@ -101,8 +103,8 @@ fn answer_end<P: Peer>(alloc: Global, listener: &Listener<'_>, peer: &mut P) -> 
 // Reads the next line, if there is one.
 fn next<P: Peer>(alloc: Global, lines: &mut IncomingLines, peer: &mut P) -> Result<Incoming, Status>
     ensures line { IfOk result (λ next. IsNext next (lines_left lines.old.left (P.view peer.old).left) lines.new.line (lines_left lines.new.left (P.view peer.new).left)) }
-    ensures heard { (told : List (List ℕ)) → Holds (P.view peer.old).turns (TurnsSoFar told lines.old.left (answered told) (answered told))
-        → HearsNext told result lines.new.line lines.new.left (P.view peer.new).turns }
+    ensures heard { (asked : options.FollowOptions) → (told : List (List ℕ)) → Holds (P.view peer.old).turns (TurnsSoFar asked told lines.old.left (answered asked told) (answered asked told))
+        → HearsNext asked told result lines.new.line lines.new.left (P.view peer.new).turns }
     ensures fault { IsErrOf result Status.ReadFault → Rose (P.view peer.old).read_faults (P.view peer.new).read_faults }
     ensures stops { IfErr result IsReadStop }
     ensures reads { HasRead (P.view peer.old) (P.view peer.new) }
@@ -123,10 +125,10 @@ fn answer_last<P: Peer>(
     line: &[u8],
     peer: &mut P,
 ) -> Status
-    ensures ended { (from : Dialogue) → (told : List (List ℕ)) → (before : Option (List (List ℕ)))
-        → Stands from (P.view peer.old) told before listener.old → IsCut (all_lines from) (told ++ line.now ∷ []) (Some [])
-        → HasEnded from (P.view peer.new) result }
-    ensures punctual { Holds (P.view peer.old).turns IsPunctual → Holds (P.view peer.new).turns IsPunctual }
+    ensures ended { (asked : options.FollowOptions) → (from : Dialogue) → (told : List (List ℕ)) → (before : Option (List (List ℕ)))
+        → Stands asked from (P.view peer.old) told before listener.old → IsCut (all_lines from) (told ++ line.now ∷ []) (Some [])
+        → HasEnded asked from (P.view peer.new) result }
+    ensures punctual { (asked : options.FollowOptions) → Holds (P.view peer.old).turns (IsPunctual asked) → Holds (P.view peer.new).turns (IsPunctual asked) }
 {
     match answer_line(alloc, listener, line, peer) {
         Some(status) => status,
@@ -141,8 +143,8 @@ fn take_turn<P: Peer>(
     lines: &mut IncomingLines,
     peer: &mut P,
 ) -> Option<Status>
-    ensures turn { (from : Dialogue) → (told : List (List ℕ)) → IsAt from (P.view peer.old) told lines.old.left listener.old
-        → TakesTurn from (P.view peer.new) told lines.new.left listener.new result }
+    ensures turn { (asked : options.FollowOptions) → (from : Dialogue) → (told : List (List ℕ)) → IsAt asked from (P.view peer.old) told lines.old.left listener.old
+        → TakesTurn asked from (P.view peer.new) told lines.new.left listener.new result }
     ensures counted { result ≡ None → HasPassedOne listener.old listener.new }
 {
     let next = match next(alloc, lines, peer) {
@@ -163,8 +165,8 @@ fn listen<P: Peer>(
     lines: &mut IncomingLines,
     peer: &mut P,
 ) -> Status
-    ensures { (from : Dialogue) → (told : List (List ℕ)) → IsAt from (P.view peer.old) told lines.old.left listener.old
-        → IsOver from (P.view peer.new) result }
+    ensures { (asked : options.FollowOptions) → (from : Dialogue) → (told : List (List ℕ)) → IsAt asked from (P.view peer.old) told lines.old.left listener.old
+        → IsOver asked from (P.view peer.new) result }
 {
     'turns: loop {
         if let Some(status) = take_turn(alloc, listener, lines, peer) {
@@ -177,14 +179,15 @@ fn listen<P: Peer>(
 fn open<P: Peer>(
     alloc: Global,
     setup: &Setup,
+    options: FollowOptions,
     more: bool,
     lines: &mut IncomingLines,
     peer: &mut P,
 ) -> Status
     ensures { (from : Dialogue) → (line : List ℕ) → numbered 1 (setup_line line) ≡ Ok setup.now
-        → HasBegun from (P.view peer.old) more line lines.old.left → IsOver from (P.view peer.new) result }
+        → HasBegun options from (P.view peer.old) more line lines.old.left → IsOver options from (P.view peer.new) result }
 {
-    let mut listener = match Listener::open(alloc, setup) {
+    let mut listener = match Listener::open(alloc, setup, options) {
         Ok(listener) => listener,
         Err(AllocError) => return Status::OutOfMemory,
     };
@@ -211,42 +214,54 @@ fn open<P: Peer>(
 fn begin_with<P: Peer>(
     alloc: Global,
     first: &Result<Setup, Unread>,
+    options: FollowOptions,
     more: bool,
     lines: &mut IncomingLines,
     peer: &mut P,
 ) -> Status
     ensures { (from : Dialogue) → (line : List ℕ) → GivesLines (λ s. s) first.now (numbered 1 (setup_line line))
-        → HasBegun from (P.view peer.old) more line lines.old.left → IsOver from (P.view peer.new) result }
+        → HasBegun options from (P.view peer.old) more line lines.old.left → IsOver options from (P.view peer.new) result }
 {
     match first {
-        Ok(setup) => open(alloc, setup, more, lines, peer),
+        Ok(setup) => open(alloc, setup, options, more, lines, peer),
         Err(Unread::BadLine(line)) => Status::BadLine { line: *line },
         Err(Unread::OutOfMemory) => Status::OutOfMemory,
     }
 }
 
 // Hears the first line, which was read, and those behind it.
-fn begin<P: Peer>(alloc: Global, more: bool, lines: &mut IncomingLines, peer: &mut P) -> Status
-    ensures { (from : Dialogue) → HasBegun from (P.view peer.old) more lines.old.line lines.old.left → IsOver from (P.view peer.new) result }
+fn begin<P: Peer>(
+    alloc: Global,
+    options: FollowOptions,
+    more: bool,
+    lines: &mut IncomingLines,
+    peer: &mut P,
+) -> Status
+    ensures { (from : Dialogue) → HasBegun options from (P.view peer.old) more lines.old.line lines.old.left → IsOver options from (P.view peer.new) result }
 {
     let first = first_line(alloc, lines.line());
-    let status = begin_with(alloc, &first, more, lines, peer);
+    let status = begin_with(alloc, &first, options, more, lines, peer);
     drop(first);
     status
 }
 
 // Hears all lines.
-fn hear_all<P: Peer>(alloc: Global, lines: &mut IncomingLines, peer: &mut P) -> Status
+fn hear_all<P: Peer>(
+    alloc: Global,
+    options: FollowOptions,
+    lines: &mut IncomingLines,
+    peer: &mut P,
+) -> Status
     requires { lines.old.left ≡ [] }
-    ensures { IsOver (P.view peer.old) (P.view peer.new) result }
+    ensures { IsOver options (P.view peer.old) (P.view peer.new) result }
 {
     let first = match next(alloc, lines, peer) {
         Ok(first) => first,
         Err(status) => return status,
     };
     match first {
-        Incoming::Line => begin(alloc, true, lines, peer),
-        Incoming::Last => begin(alloc, false, lines, peer),
+        Incoming::Line => begin(alloc, options, true, lines, peer),
+        Incoming::Last => begin(alloc, options, false, lines, peer),
         Incoming::End => Status::BadLine { line: 1 },
     }
 }
@@ -263,14 +278,37 @@ fn hear_all<P: Peer>(alloc: Global, lines: &mut IncomingLines, peer: &mut P) -> 
 pub fn converse<P: Peer>(alloc: Global, peer: &mut P) -> Status
     // What the lines call for is answered, with all its text, unless memory ran out or a count of faults rose; then the text is that
     // of some first lines.
-    ensures lines { IfSome (P.view peer.old).left (λ bytes. AnswersLines (lines_of bytes) (P.view peer.old).taken (P.view peer.new).taken result) }
+    ensures lines { IfSome (P.view peer.old).left (λ bytes. AnswersLines plain (lines_of bytes) (P.view peer.old).taken (P.view peer.new).taken result) }
     // The text of the whole run was written, which leaves no gap where the server was honest.
-    ensures done { result ≡ Status.Done → IfSome (P.view peer.old).left (λ bytes. WritesRun bytes (P.view peer.old).taken (P.view peer.new).taken) }
+    ensures done { result ≡ Status.Done → IfSome (P.view peer.old).left (λ bytes. WritesRun plain bytes (P.view peer.old).taken (P.view peer.new).taken) }
     ensures valid { IfSome (P.view peer.old).left (λ bytes. IsValidInput bytes → IsUnlessFailed result Status.Done) }
     ensures read_fault { result ≡ Status.ReadFault → Rose (P.view peer.old).read_faults (P.view peer.new).read_faults }
     ensures write_fault { result ≡ Status.WriteFault → Rose (P.view peer.old).write_faults (P.view peer.new).write_faults }
     // All was answered before more was read.
-    ensures punctual { (P.view peer.old).turns ≡ Some [] → Holds (P.view peer.new).turns IsPunctual }
+    ensures punctual { (P.view peer.old).turns ≡ Some [] → Holds (P.view peer.new).turns (IsPunctual plain) }
+    // The ends that it was lent are still those.
+    ensures place { (P.view peer.new).place ≡ (P.view peer.old).place }
+{
+    let options = FollowOptions {
+        details: false,
+        wakes: false,
+    };
+    converse_with(alloc, options, peer)
+}
+
+/// Does what [`converse`] does, and writes more where the options ask for it: behind the text of
+/// each step the details of the messages that it hands out, and then when the consumer wakes.
+pub fn converse_with<P: Peer>(alloc: Global, options: FollowOptions, peer: &mut P) -> Status
+    // What the lines call for is answered, with all its text, unless memory ran out or a count of faults rose; then the text is that
+    // of some first lines.
+    ensures lines { IfSome (P.view peer.old).left (λ bytes. AnswersLines options (lines_of bytes) (P.view peer.old).taken (P.view peer.new).taken result) }
+    // All answers were written; without options they are the text of the whole run, which leaves no gap where the server was honest.
+    ensures done { result ≡ Status.Done → IfSome (P.view peer.old).left (λ bytes. WritesRun options bytes (P.view peer.old).taken (P.view peer.new).taken) }
+    ensures valid { IfSome (P.view peer.old).left (λ bytes. IsValidInput bytes → IsUnlessFailed result Status.Done) }
+    ensures read_fault { result ≡ Status.ReadFault → Rose (P.view peer.old).read_faults (P.view peer.new).read_faults }
+    ensures write_fault { result ≡ Status.WriteFault → Rose (P.view peer.old).write_faults (P.view peer.new).write_faults }
+    // All was answered before more was read.
+    ensures punctual { (P.view peer.old).turns ≡ Some [] → Holds (P.view peer.new).turns (IsPunctual options) }
     // The ends that it was lent are still those.
     ensures place { (P.view peer.new).place ≡ (P.view peer.old).place }
 {
@@ -278,5 +316,5 @@ pub fn converse<P: Peer>(alloc: Global, peer: &mut P) -> Status
         Ok(lines) => lines,
         Err(AllocError) => return Status::OutOfMemory,
     };
-    hear_all(alloc, &mut lines, peer)
+    hear_all(alloc, options, &mut lines, peer)
 }

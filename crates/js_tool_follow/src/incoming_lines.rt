@@ -3,6 +3,7 @@
 ghost use Rattle.std.specs.Prelude.{◌≡◌, ◌<◌, ◌≤◌, ◌+◌, ◌++◌, [], ℕ, List, length, take, drop, nat_lt, if◌then◌else◌, MatchOption, IfOk, IsErrOf};
 ghost use Rattle.std.specs.Io.KnownBytes.{Consumes, IsAtEnd};
 ghost use Rattle.js_tool_io.specs.Causes.{Rose};
+ghost use Rattle.js_tool.specs.declared.command.FollowOptions.{FollowOptions};
 ghost use Rattle.js_tool_follow.specs.IncomingLines.{HasNoFeed, IsFirstFeed, IsNext, lines_left};
 ghost use Rattle.js_tool_follow.specs.Punctuality.{Holds, TurnsSoFar, IsPunctual, HearsNext};
 ghost use Rattle.js_tool_follow.specs.Standing.{answered};
@@ -81,8 +82,9 @@ impl IncomingLines {
         ensures grown { IfOk result (λ count. (bytes : List ℕ) × (self.new.left ≡ self.old.left ++ bytes) × (length bytes ≡ count)
             × Consumes (P.view peer.old).left (P.view peer.new).left bytes × TakesRead (P.view peer.old).turns (P.view peer.new).turns bytes) }
         ensures at_end { IfOk result (λ count. count ≡ 0 → IsAtEnd (P.view peer.new).left) }
-        ensures punctual { (lines : List (List ℕ)) → HasNoFeed self.old.left (length self.old.left)
-            → Holds (P.view peer.old).turns (TurnsSoFar lines self.old.left (answered lines) (answered lines)) → Holds (P.view peer.new).turns IsPunctual }
+        ensures punctual { (asked : FollowOptions) → (lines : List (List ℕ)) → HasNoFeed self.old.left (length self.old.left)
+            → Holds (P.view peer.old).turns (TurnsSoFar asked lines self.old.left (answered asked lines) (answered asked lines))
+            → Holds (P.view peer.new).turns (IsPunctual asked) }
         ensures fault { IsErrOf result Stop.Fault → Rose (P.view peer.old).read_faults (P.view peer.new).read_faults }
         ensures not_long { IsErrOf result Stop.TooLong → ⊥ }
         ensures reads { HasRead (P.view peer.old) (P.view peer.new) }
@@ -144,8 +146,9 @@ impl IncomingLines {
     /// line takes as much memory as it is long.
     pub(crate) fn read<P: Peer>(&mut self, alloc: Global, peer: &mut P) -> Result<Incoming, Stop>
         ensures line { IfOk result (λ next. IsNext next (lines_left self.old.left (P.view peer.old).left) self.new.line (lines_left self.new.left (P.view peer.new).left)) }
-        ensures heard { (lines : List (List ℕ)) → Holds (P.view peer.old).turns (TurnsSoFar lines self.old.left (answered lines) (answered lines))
-            → HearsNext lines result self.new.line self.new.left (P.view peer.new).turns }
+        ensures heard { (asked : FollowOptions) → (lines : List (List ℕ))
+            → Holds (P.view peer.old).turns (TurnsSoFar asked lines self.old.left (answered asked lines) (answered asked lines))
+            → HearsNext asked lines result self.new.line self.new.left (P.view peer.new).turns }
         ensures fault { IsErrOf result Stop.Fault → Rose (P.view peer.old).read_faults (P.view peer.new).read_faults }
         ensures not_long { IsErrOf result Stop.TooLong → ⊥ }
         ensures reads { HasRead (P.view peer.old) (P.view peer.new) }

@@ -4,12 +4,13 @@
 ghost use Rattle.std.specs.Prelude.{◌≡◌, IfSome};
 ghost use Rattle.js_tool_io.specs.Causes.{Rose};
 ghost use Rattle.js_tool_io.specs.Lines.{lines_of};
+ghost use Rattle.js_tool.specs.Command.{plain};
 ghost use Rattle.js_tool.specs.Program.{IsUnlessFailed};
 ghost use Rattle.js_tool_follow.specs.Conversation.{AnswersLines, IsValidInput, WritesRun};
 
-use crate::conversation::converse;
+use crate::conversation::{converse, converse_with};
 use crate::peer::Peer;
-use js_tool::Status;
+use js_tool::{FollowOptions, Status};
 use js_tool_io::{Failed, Sink, Source};
 use std::alloc::Global;
 
@@ -65,13 +66,34 @@ impl<S: Source, K: Sink> Peer for Ends<'_, S, K> {
 pub fn follow<S: Source, K: Sink>(alloc: Global, input: &mut S, output: &mut K) -> Status
     // What the lines call for is answered, with all its text, unless memory ran out or a count of faults rose; then the text is that
     // of some first lines.
-    ensures lines { IfSome (S.left input.old) (λ bytes. AnswersLines (lines_of bytes) (K.taken output.old) (K.taken output.new) result) }
+    ensures lines { IfSome (S.left input.old) (λ bytes. AnswersLines plain (lines_of bytes) (K.taken output.old) (K.taken output.new) result) }
     // The text of the whole run was written, which leaves no gap where the server was honest.
-    ensures done { result ≡ Status.Done → IfSome (S.left input.old) (λ bytes. WritesRun bytes (K.taken output.old) (K.taken output.new)) }
+    ensures done { result ≡ Status.Done → IfSome (S.left input.old) (λ bytes. WritesRun plain bytes (K.taken output.old) (K.taken output.new)) }
     ensures valid { IfSome (S.left input.old) (λ bytes. IsValidInput bytes → IsUnlessFailed result Status.Done) }
     ensures read_fault { result ≡ Status.ReadFault → Rose (S.faults input.old) (S.faults input.new) }
     ensures write_fault { result ≡ Status.WriteFault → Rose (K.faults output.old) (K.faults output.new) }
 {
     let mut ends = Ends::new(input, output);
     converse(alloc, &mut ends)
+}
+
+/// Does what [`follow`] does, and writes more where the options ask for it, as [`converse_with`]
+/// does with a peer.
+pub fn follow_with<S: Source, K: Sink>(
+    alloc: Global,
+    options: FollowOptions,
+    input: &mut S,
+    output: &mut K,
+) -> Status
+    // What the lines call for is answered, with all its text, unless memory ran out or a count of faults rose; then the text is that
+    // of some first lines.
+    ensures lines { IfSome (S.left input.old) (λ bytes. AnswersLines options (lines_of bytes) (K.taken output.old) (K.taken output.new) result) }
+    // All answers were written; without options they are the text of the whole run, which leaves no gap where the server was honest.
+    ensures done { result ≡ Status.Done → IfSome (S.left input.old) (λ bytes. WritesRun options bytes (K.taken output.old) (K.taken output.new)) }
+    ensures valid { IfSome (S.left input.old) (λ bytes. IsValidInput bytes → IsUnlessFailed result Status.Done) }
+    ensures read_fault { result ≡ Status.ReadFault → Rose (S.faults input.old) (S.faults input.new) }
+    ensures write_fault { result ≡ Status.WriteFault → Rose (K.faults output.old) (K.faults output.new) }
+{
+    let mut ends = Ends::new(input, output);
+    converse_with(alloc, options, &mut ends)
 }

@@ -2,11 +2,12 @@
 
 use crate::ordered::{info, received};
 use crate::tables::says;
-use js_base::{Message, Next, OutOfMemory, Text};
+use js_base::{Next, OutOfMemory, Text};
 use js_call::ApiScope;
 use js_call_consumers::Consumer;
 use js_json::pull::OrderedConfig;
 use js_link::{InboxId, MemoryLink};
+use js_message::Message;
 use js_readers::ordered::pull::Ordered;
 use js_readers::ordered::{OrderedError, OrderedPullCalls, Rising, RisingError};
 use std::alloc::Global;

@@ -1,8 +1,9 @@
 //! Lines that don't read, and words that no stored command line has.
 
-use crate::steps::{NO_FAULTS, Told, told};
+use crate::steps::{NO_FAULTS, Told, sink, source, told};
 use crate::tables::same;
-use js_tool_event_log::{Status, run};
+use js_json_members::{Key, ReadError};
+use js_tool_event_log::{Lines, Status, answer_replay, run};
 use js_tool_io::{MemorySink, MemorySource, Sink, Source};
 use std::alloc::{AllocError, Global};
 use std::sync::Wait;
@@ -57,6 +58,51 @@ fn the_first_bad_line_is_named(rt: HostRuntime) {
     for &event in SECOND {
         let found = stops(&rt, rt.alloc(), SETUP, event);
         same(&rt, event, found, Ok((Status::BadLine { line: 2 }, true)));
+    }
+}
+
+// Why lines after the setup don't read.
+const CAUSES: &[(&str, ReadError)] = &[
+    ("\n", ReadError::NotJson),
+    ("{}", ReadError::Missing { key: Key::At }),
+    ("{\"at\":null}", ReadError::WrongKind { key: Key::At }),
+    ("{\"at\":1.5}", ReadError::Float),
+    ("{\"at\":1,\"later\":2}", ReadError::NotJson),
+    (
+        "{\"at\":1,\"link\":\"open\",\"watcher\":\"ended\"}",
+        ReadError::WrongKind { key: Key::Watcher },
+    ),
+    (
+        "{\"at\":1,\"arrival\":{}}",
+        ReadError::Missing { key: Key::Inbox },
+    ),
+    (
+        "{\"at\":1}\n{\"at\":2,\"arrival\":{\"inbox\":0,\"status\":65536}}\n{}",
+        ReadError::OutOfRange { key: Key::Status },
+    ),
+];
+
+// Why the replay of a setup and further lines stops.
+fn cause(alloc: Global, setup: &str, event: &str) -> Result<Option<ReadError>, AllocError> {
+    let mut input = source(alloc, joined(alloc, setup, event)?, NO_FAULTS)?;
+    let mut output = sink(alloc, NO_FAULTS)?;
+    let mut error = None;
+    let _ = answer_replay(alloc, Lines::Plain, &mut input, &mut output, &mut error);
+    Ok(error)
+}
+
+#[test]
+fn a_bad_line_has_its_cause(rt: HostRuntime) {
+    let found = cause(rt.alloc(), "", "{}");
+    same(
+        &rt,
+        "setup",
+        found,
+        Ok(Some(ReadError::Missing { key: Key::Mode })),
+    );
+    for &(event, wanted) in CAUSES {
+        let found = cause(rt.alloc(), SETUP, event);
+        same(&rt, event, found, Ok(Some(wanted)));
     }
 }
 

@@ -1,9 +1,11 @@
 //! `wilfjodi`: JetStream consumers replayed from transcripts and from numbers, tables and mirrors of their logs, sessions with bookmarks, acknowledgement subjects and publish windows, on a command line.
 #![tactic(auto)]
 
-use js_tool_event_log::{Command, Status, command_of, run};
+use js_tool_event_log::{
+    Command, FollowOptions, Lines, Status, ToolCommand, answer_replay, command_of, rerun, run,
+};
 use js_tool_explain::explain;
-use js_tool_follow::follow;
+use js_tool_follow::follow_with;
 use js_tool_io::{ReadSource, WriteSink};
 use std::process::ExitCode;
 use std::{env, io};
@@ -14,7 +16,11 @@ const HELP: &str = "\
 wilfjodi: JetStream consumers, replayed
 
   wilfjodi replay         reads a transcript from standard input, and writes the text of its run to standard output
-  wilfjodi follow         reads the same line by line, however long, and writes the text of each step before it reads on
+  wilfjodi follow [--details] [--wakes]
+                          reads the same line by line, however long, and writes the text of each step before it reads on;
+                          with --details also the time, the pending messages and the headers of what was handed out, and
+                          with --wakes when the consumer wakes though nothing comes
+  wilfjodi rerun          does what replay does, and reads a recording's extended lines too
   wilfjodi explain        reads a transcript, and writes in plain English what the consumer did and why, one sentence a line
   wilfjodi project FILTER [SEQUENCE]
                           reads a transcript that has a configured start, and writes the last entry of each subject that
@@ -40,7 +46,7 @@ Exit status, whose name stands on standard error where it is not 0:
   0 Done         all was read and written
   1 ReadFault    standard input failed
   2 Usage        the words are no command, or a number is out of its limits
-  3 BadLine n    line n of the input is the first that does not read
+  3 BadLine n    line n of the input is the first that does not read; of replay a second line says why
   4 WriteFault   standard output failed
   5 OutOfMemory
   6 Refused      the replay or a session is refused, or the subject is none, and the one line that was written says why
@@ -48,19 +54,28 @@ Exit status, whose name stands on standard error where it is not 0:
 ";
 
 fn main(rt: HostRuntime) -> ExitCode {
+    let mut unread = None;
     let status = match words(&rt) {
         Ok(words) => match command_of(&words) {
             Some(Command::Help) => tell(&rt, HELP),
             Some(Command::Version) => tell(&rt, VERSION),
-            Some(Command::Follow) => {
+            Some(Command::Follow(options)) => answer_follow(&rt, options),
+            Some(Command::Explain) => answer_explain(&rt),
+            Some(Command::Tool(ToolCommand::Replay)) => {
                 let mut input = ReadSource::new(rt.reader());
                 let mut output = WriteSink::new(io::writer(&rt));
-                follow(rt.alloc(), &mut input, &mut output)
+                answer_replay(
+                    rt.alloc(),
+                    Lines::Plain,
+                    &mut input,
+                    &mut output,
+                    &mut unread,
+                )
             }
-            Some(Command::Explain) => {
+            Some(Command::Rerun) => {
                 let mut input = ReadSource::new(rt.reader());
                 let mut output = WriteSink::new(io::writer(&rt));
-                explain(rt.alloc(), &mut input, &mut output)
+                rerun(rt.alloc(), &mut input, &mut output, &mut unread)
             }
             _ => {
                 let mut input = ReadSource::new(rt.reader());
@@ -74,7 +89,23 @@ fn main(rt: HostRuntime) -> ExitCode {
     if status != Status::Done {
         let _ = eprintln!(rt; "{status}");
     }
+    // The status says which line of `replay` or `rerun` does not read, and this says why.
+    if let Some(error) = unread {
+        let _ = eprintln!(rt; "{error}");
+    }
     ExitCode::from(status.exit_code())
+}
+
+fn answer_follow(rt: &HostRuntime, options: FollowOptions) -> Status {
+    let mut input = ReadSource::new(rt.reader());
+    let mut output = WriteSink::new(io::writer(rt));
+    follow_with(rt.alloc(), options, &mut input, &mut output)
+}
+
+fn answer_explain(rt: &HostRuntime) -> Status {
+    let mut input = ReadSource::new(rt.reader());
+    let mut output = WriteSink::new(io::writer(rt));
+    explain(rt.alloc(), &mut input, &mut output)
 }
 
 // The words after the program's name.

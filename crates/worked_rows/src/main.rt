@@ -3,7 +3,7 @@
 //! goes to standard output, which the gate compares with the stored text.
 #![tactic(auto)]
 
-use js_tool_event_log::{Status, run};
+use js_tool_event_log::{Status, rerun, run};
 use js_tool_explain::explain;
 use js_tool_io::{PlainSource, WriteSink};
 use std::alloc::{AllocError, Global};
@@ -47,6 +47,9 @@ fn answered<R: Threads + Wait + Sync, W: Write>(
     let mut input = PlainSource::new(bytes);
     if line == "explain" {
         return Ok(explain(alloc, &mut input, output));
+    }
+    if line == "rerun" {
+        return Ok(rerun(alloc, &mut input, output, &mut None));
     }
     Ok(run(rt, alloc, &words, &mut input, output))
 }

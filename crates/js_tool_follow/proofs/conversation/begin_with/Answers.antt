@@ -9,7 +9,7 @@ returns-in-Ok g c = λ from line reads begun.
 
 pub returns-in-Err-BadLine : goal.returns-in-Err-BadLine
 returns-in-Err-BadLine g c = λ from line reads begun.
-    begun_unread from (g.P.Peer.view c.args.peer.now) c.args.more line c.args.lines.now.left _ begun (search rules)
+    begun_unread c.args.options from (g.P.Peer.view c.args.peer.now) c.args.more line c.args.lines.now.left _ begun (search rules)
 
 pub returns-in-Err-OutOfMemory : goal.returns-in-Err-OutOfMemory
-returns-in-Err-OutOfMemory g c = λ from line reads begun. begun_stops from (g.P.Peer.view c.args.peer.now) c.args.more line c.args.lines.now.left begun
+returns-in-Err-OutOfMemory g c = λ from line reads begun. begun_stops c.args.options from (g.P.Peer.view c.args.peer.now) c.args.more line c.args.lines.now.left begun

@@ -11,9 +11,9 @@ returns-in-Some-clause-line g c =
     next_cut c.args.self.now.left c.reads.self.left c.cut.new.self.line c.cut.new.self.left (g.P.Peer.view c.args.peer.now).left (g.P.Peer.view c.reads.peer).left c.in-Some.end c.reads.invariant.kept c.in-Some.ensures c.cut.ensures.line c.cut.ensures.left
 
 pub returns-in-Some-clause-heard : goal.returns-in-Some-clause-heard
-returns-in-Some-clause-heard g c = λ lines has.
-    cut_on lines c.reads.self.left c.cut.new.self.line c.cut.new.self.left (answered lines) (answered lines) c.in-Some.end (g.P.Peer.view c.reads.peer).turns c.in-Some.ensures c.cut.ensures.line c.cut.ensures.left
-    (c.reads.invariant.heard lines has)
+returns-in-Some-clause-heard g c = λ asked lines has.
+    cut_on asked lines c.reads.self.left c.cut.new.self.line c.cut.new.self.left (answered asked lines) (answered asked lines) c.in-Some.end (g.P.Peer.view c.reads.peer).turns c.in-Some.ensures c.cut.ensures.line c.cut.ensures.left
+    (c.reads.invariant.heard asked lines has)
 
 pub returns-then-branch-eq0-clause-line : goal.returns-then-branch-eq0-clause-line
 returns-then-branch-eq0-clause-line g c =
@@ -29,9 +29,9 @@ returns-then-branch-eq0-clause-line g c =
     c.cut_last.ensures.line c.cut_last.ensures.some
 
 pub returns-then-branch-eq0-clause-heard : goal.returns-then-branch-eq0-clause-heard
-returns-then-branch-eq0-clause-heard g c = λ lines has.
-    heard_last Stop lines c.cut_last.new.self.line c.cut_last.new.self.left (g.P.Peer.view c.fill.new.peer).turns c.cut_last.result (nat_lt 0 (length c.fill.new.self.left)) c.cut_last.ensures.some
-    (c.in_ok-fill.ensures.punctual lines c.in_default.ensures (c.reads.invariant.heard lines has))
+returns-then-branch-eq0-clause-heard g c = λ asked lines has.
+    heard_last asked Stop lines c.cut_last.new.self.line c.cut_last.new.self.left (g.P.Peer.view c.fill.new.peer).turns c.cut_last.result (nat_lt 0 (length c.fill.new.self.left)) c.cut_last.ensures.some
+    (c.in_ok-fill.ensures.punctual asked lines c.in_default.ensures (c.reads.invariant.heard asked lines has))
 
 pub reads-preserved : goal.reads-preserved
 reads-preserved g c =
@@ -42,7 +42,7 @@ reads-preserved g c =
       kept = keeps_more c.args.self.now.left held more bytes (g.P.Peer.view c.args.peer.now).left (g.P.Peer.view c.reads.peer).left (g.P.Peer.view c.fill.new.peer).left c.reads.invariant.kept is consumes;
       within = held_more held c.left-searched.result.now bytes more c.left-searched.ensures is;
       searched = searched_all held c.left-searched.result.now bytes more c.in_default.ensures c.left-searched.ensures is;
-      heard = λ lines has. read_on lines held bytes more (g.P.Peer.view c.reads.peer).turns (g.P.Peer.view c.fill.new.peer).turns call c.in_default.ensures is (c.reads.invariant.heard lines has);
+      heard = λ asked lines has. read_on asked lines held bytes more (g.P.Peer.view c.reads.peer).turns (g.P.Peer.view c.fill.new.peer).turns call c.in_default.ensures is (c.reads.invariant.heard asked lines has);
       reads = read_twice (g.P.Peer.view c.args.peer.now) (g.P.Peer.view c.reads.peer) (g.P.Peer.view c.fill.new.peer) c.reads.invariant.reads c.in_ok-fill.ensures.reads;
     }
 
