@@ -1,5 +1,5 @@
 -- Acts after acts.
-use Rattle.std.proofs.Common.{◌≡◌, ℕ, Bool, ◌+◌, ◌-◌, ◌<◌, ◌^◌, ◌∙◌, List, [], ◌∷◌, ◌++◌, length, Option, Some, None, true, refl, sym, ap, subst, append_assoc, append-nil, arith}
+use Rattle.std.proofs.Common.{◌≡◌, ℕ, ◌+◌, ◌-◌, ◌<◌, ◌^◌, ◌∙◌, List, [], ◌∷◌, ◌++◌, length, Option, Some, None, true, refl, sym, ap, subst, append_assoc, append-nil, arith}
 use Rattle.std.specs.Prelude.{IfSome, is_some, false, max}
 use Rattle.js_base.specs.Error.{kind_of, source_of}
 use Rattle.js_base.specs.declared.error.Error.{Error}
@@ -18,11 +18,12 @@ use Rattle.js_ordered_table.specs.declared.run.Output.{Output}
 use Rattle.js_ordered_table.specs.declared.run.Output.TheVariants as out
 use Rattle.js_ordered_recorder.specs.Acts.{Act, AreSilent, Does, DoesAll, IsSilent, LiesNothing, Passes, Rests, Stops, TakenBy, Takes, Works, WorksNext, WorksOff, World, Writes, WritesDown, events_of, outputs_of, phase_of, queue}
 use Rattle.js_ordered_recorder.specs.Recorder.{EndsAs, Goes, HandsOver, HandsError, HandsMessage, IsEmpty, IsEnded, IsQuiet, TurnsTo, WorksTo, Yields}
-use Rattle.js_ordered_recorder.specs.Sending.{HasMessage, worked_as}
+use Rattle.js_ordered_recorder.specs.Sending.{HasMessage, left_by, worked_as}
 use Rattle.js_ordered_recorder.specs.Writing.{WritesAll}
 use Rattle.js_ordered_recorder.specs.Writing as writing
 use Rattle.js_ordered_recorder.proofs.Written.{writes_one}
 use Rattle.js_ordered_recorder.specs.declared.recorder.Recorder.{Recorder}
+use Rattle.js_ordered_recorder.specs.declared.recording.RecordingFault.{RecordingFault}
 use Rattle.js_ordered_recorder.specs.declared.output_delivery.Worked.{Worked}
 use Rattle.js_ordered_recorder.specs.declared.output_delivery.Worked.TheVariants as worked
 use Rattle.js_ordered_recorder.specs.declared.recorder.Ending.{Ending}
@@ -182,8 +183,8 @@ works_rest done a b next =
     let works : WorksOff next.0 a b = next.1 in
     subst P (sym works.kept) (record { taken = works.rests.taken; event = works.rests.event })
 
-pub works_whole : (done : Worked) (a b : World) → WorksNext (Some done) a b → b.recorder.whole ≡ a.recorder.whole
-works_whole done a b next = let works : WorksOff next.0 a b = next.1 in ap (λ (r : Recorder). r.whole) works.kept
+pub works_fault : (done : Worked) (a b : World) → WorksNext (Some done) a b → b.recorder.fault ≡ a.recorder.fault
+works_fault done a b next = let works : WorksOff next.0 a b = next.1 in ap (λ (r : Recorder). r.fault) works.kept
 
 pub works_count : (done : Worked) (a b : World) → WorksNext (Some done) a b → b.recorder.replay.value.count ≡ a.recorder.replay.value.count
 works_count done a b next = let works : WorksOff next.0 a b = next.1 in ap (λ (r : Recorder). r.replay.value.count) works.kept
@@ -205,21 +206,21 @@ works_fewer done a b next =
 -- ---- an event
 
 -- what was taken is written, and nothing else is done
-pub writes_taken : {R : Type 0} (writes : R → Event → Bool → R → Type 0) (now : ℕ) (e : Event) (a b : World) (before after : R) → WritesDown now e a b → writing.Writes writes a.recorder.whole e b.recorder.whole before after
-    → (es : List Event) × Goes now a es [] b × WritesAll writes a.recorder.whole es b.recorder.whole before after
+pub writes_taken : {R : Type 0} (writes : R → Event → Option RecordingFault → R → Type 0) (now : ℕ) (e : Event) (a b : World) (before after : R) → WritesDown now e a b → writing.Writes writes a.recorder.fault e b.recorder.fault before after
+    → (es : List Event) × Goes now a es [] b × WritesAll writes a.recorder.fault es b.recorder.fault before after
 writes_taken writes now e a b before after step wrote =
-    (e ∷ [], goes_one now (Writes e) a b tt step, writes_one writes e a.recorder.whole b.recorder.whole before after wrote)
+    (e ∷ [], goes_one now (Writes e) a b tt step, writes_one writes e a.recorder.fault b.recorder.fault before after wrote)
 
-pub writes_nothing : {R : Type 0} (writes : R → Event → Bool → R → Type 0) (now : ℕ) (a b : World) (before after : R) → b ≡ a → after ≡ before
-    → (es : List Event) × Goes now a es [] b × WritesAll writes a.recorder.whole es b.recorder.whole before after
-writes_nothing writes now a b before after same unchanged = ([], goes_none now a b same, (unchanged, ap (λ (w : World). w.recorder.whole) same))
+pub writes_nothing : {R : Type 0} (writes : R → Event → Option RecordingFault → R → Type 0) (now : ℕ) (a b : World) (before after : R) → b ≡ a → after ≡ before
+    → (es : List Event) × Goes now a es [] b × WritesAll writes a.recorder.fault es b.recorder.fault before after
+writes_nothing writes now a b before after same unchanged = ([], goes_none now a b same, (unchanged, ap (λ (w : World). w.recorder.fault) same))
 
 -- and then it is passed
-pub writes_then : {R : Type 0} (writes : R → Event → Bool → R → Type 0) (now : ℕ) (a b c : World) (before after : R)
-    → (es : List Event) × Goes now a es [] b × WritesAll writes a.recorder.whole es b.recorder.whole before after → Goes now b [] [] c → c.recorder.whole ≡ b.recorder.whole
-    → (es : List Event) × Goes now a es [] c × WritesAll writes a.recorder.whole es c.recorder.whole before after
+pub writes_then : {R : Type 0} (writes : R → Event → Option RecordingFault → R → Type 0) (now : ℕ) (a b c : World) (before after : R)
+    → (es : List Event) × Goes now a es [] b × WritesAll writes a.recorder.fault es b.recorder.fault before after → Goes now b [] [] c → c.recorder.fault ≡ b.recorder.fault
+    → (es : List Event) × Goes now a es [] c × WritesAll writes a.recorder.fault es c.recorder.fault before after
 writes_then writes now a b c before after first next same =
-    let P : Bool → Type 0 = λ w. WritesAll writes a.recorder.whole first.0 w before after in
+    let P : Option RecordingFault → Type 0 = λ w. WritesAll writes a.recorder.fault first.0 w before after in
     (first.0, goes_then now a b c first.0 [] first.1 next, subst P (sym same) first.2)
 
 -- ---- the steps of the code
@@ -230,26 +231,26 @@ event at what = record { at = at; what = what }
 same_event : (at at_too : ℕ) (what what_too : EventKind) → at ≡ at_too → what ≡ what_too → event at what ≡ event at_too what_too
 same_event at at_too what what_too same_at same_what = ap (λ (n : ℕ). event n what) same_at ∙ ap (λ (k : EventKind). event at_too k) same_what
 
-abbrev written : Recorder → Event → Bool → Recorder
-written r e w = record r { whole = w; taken = None; event = Some e; message = message_at r.taken; moment = e.at }
+abbrev written : Recorder → Event → Option RecordingFault → Recorder
+written r e w = record r { fault = w; taken = None; event = Some e; message = message_at r.taken; moment = e.at }
 
-pub writes_step : {R : Type 0} (writes : R → Event → Bool → R → Type 0) (now : ℕ) (r new : Recorder) (one : Taken) (at : ℕ) (what : EventKind) (w : Bool) (v : LinkView) (before after : R)
-    → r.taken ≡ Some one → at ≡ max now r.moment → what ≡ event_kind one → new ≡ record r { whole = w; taken = None; event = Some (record { at = at; what = what }); message = message_at r.taken; moment = at }
-    → writing.Writes writes r.whole (record { at = at; what = what }) w before after
-    → (es : List Event) × Goes now (record { recorder = r; link = v }) es [] (record { recorder = new; link = v }) × WritesAll writes r.whole es new.whole before after
+pub writes_step : {R : Type 0} (writes : R → Event → Option RecordingFault → R → Type 0) (now : ℕ) (r new : Recorder) (one : Taken) (at : ℕ) (what : EventKind) (w : Option RecordingFault) (v : LinkView) (before after : R)
+    → r.taken ≡ Some one → at ≡ max now r.moment → what ≡ event_kind one → new ≡ record r { fault = w; taken = None; event = Some (record { at = at; what = what }); message = message_at r.taken; moment = at }
+    → writing.Writes writes r.fault (record { at = at; what = what }) w before after
+    → (es : List Event) × Goes now (record { recorder = r; link = v }) es [] (record { recorder = new; link = v }) × WritesAll writes r.fault es new.fault before after
 writes_step writes now r new one at what w v before after brought is_at is_what is wrote =
     let e : Event = record { at = at; what = what } in
-    let whole : new.whole ≡ w = ap (λ (x : Recorder). x.whole) is in
-    let P : Bool → Type 0 = λ x. writing.Writes writes r.whole e x before after in
+    let same_fault : new.fault ≡ w = ap (λ (x : Recorder). x.fault) is in
+    let P : Option RecordingFault → Type 0 = λ x. writing.Writes writes r.fault e x before after in
     writes_taken writes now e (record { recorder = r; link = v }) (record { recorder = new; link = v }) before after
     (record {
       one = one;
       brought = brought;
       is = same_event at (max now r.moment) what (event_kind one) is_at is_what;
-      kept = is ∙ ap (λ (x : Bool). written r e x) (sym whole);
+      kept = is ∙ ap (λ (x : Option RecordingFault). written r e x) (sym same_fault);
       link = refl;
     })
-    (subst P (sym whole) wrote)
+    (subst P (sym same_fault) wrote)
 
 abbrev pub world : Recorder → LinkView → World
 world r v = record { recorder = r; link = v }
@@ -264,17 +265,17 @@ quiet_turn now r v w nothing rests empty alive =
     )
 
 -- one thing is taken, and then its event is written and passed
-pub turn_on : {R : Type 0} (writes : R → Event → Bool → R → Type 0) (now : ℕ) (r mid new : Recorder) (one : Taken) (v w : LinkView) (before after : R)
+pub turn_on : {R : Type 0} (writes : R → Event → Option RecordingFault → R → Type 0) (now : ℕ) (r mid new : Recorder) (one : Taken) (v w : LinkView) (before after : R)
     → TakenBy now r (Some one) v w → Rests r → queue r ≡ [] → is_over (phase_of r) ≡ false → mid ≡ record r { taken = Some one }
-    → ((u : LinkView) → (es : List Event) × Goes now (record { recorder = mid; link = u }) es [] (record { recorder = new; link = u }) × WritesAll writes mid.whole es new.whole before after)
-    → (es : List Event) × Goes now (record { recorder = r; link = v }) es [] (record { recorder = new; link = w }) × WritesAll writes r.whole es new.whole before after
+    → ((u : LinkView) → (es : List Event) × Goes now (record { recorder = mid; link = u }) es [] (record { recorder = new; link = u }) × WritesAll writes mid.fault es new.fault before after)
+    → (es : List Event) × Goes now (record { recorder = r; link = v }) es [] (record { recorder = new; link = w }) × WritesAll writes r.fault es new.fault before after
 turn_on writes now r mid new one v w before after given rests empty alive is next =
-    let rest : (es : List Event) × Goes now (record { recorder = mid; link = w }) es [] (record { recorder = new; link = w }) × WritesAll writes mid.whole es new.whole before after = next w in
-    let P : Bool → Type 0 = λ x. WritesAll writes x rest.0 new.whole before after in (
+    let rest : (es : List Event) × Goes now (record { recorder = mid; link = w }) es [] (record { recorder = new; link = w }) × WritesAll writes mid.fault es new.fault before after = next w in
+    let P : Option RecordingFault → Type 0 = λ x. WritesAll writes x rest.0 new.fault before after in (
       rest.0,
       goes_on now (world r v) (world mid w) (world new w) [] rest.0 [] []
           (goes_one now (Takes one) (world r v) (world mid w) tt (record { rests = rests; empty = empty; alive = alive; given = given; kept = is })) rest.1,
-      subst P (ap (λ (x : Recorder). x.whole) is) rest.2,
+      subst P (ap (λ (x : Recorder). x.fault) is) rest.2,
     )
 
 pub as_next : (done other : Option Worked) (a b : World) → done ≡ other → WorksNext done a b → WorksNext other a b
@@ -314,8 +315,8 @@ hands_answer now end r v message left a es os is gone there ends =
     }
 
 pub tells_answer : (now : ℕ) (end : Ending) (kind : ItemKind) (r : Recorder) (v : LinkView) (e : Error OrderedErrorKind) (left : Option Message) (a : World) (es : List Event) (os : List Output) → end ≡ ending.Tells kind
-    → kind_of e ≡ error_kind kind → source_of e ≡ source_by (error_kind kind) r.message
+    → kind_of e ≡ error_kind kind → source_of e ≡ source_by (error_kind kind) r.message → left ≡ left_by kind r.message
     → EndsAs now end a es os (record { recorder = r; link = v }) → HandsError now e a es os (record { recorder = record r { message = left }; link = v })
-tells_answer now end kind r v e left a es os is tells source ends =
+tells_answer now end kind r v e left a es os is tells source gone ends =
     let P : Ending → Type 0 = λ x. EndsAs now x a es os (world r v) in
-    record { kind = kind; between = world r v; hands = subst P is ends; tells = tells; source = source; kept = refl }
+    record { kind = kind; between = world r v; hands = subst P is ends; tells = tells; source = source; left = gone; kept = refl }

@@ -1,3 +1,9 @@
 mod Written
 mod Standing
 mod Going
+mod OwnArrival
+mod OwnEvents
+mod Delivery
+mod HandedOut
+mod GaplessFront
+mod Life

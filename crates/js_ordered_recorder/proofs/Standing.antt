@@ -30,7 +30,7 @@ joined_on [] step = append-nil step.outputs
 joined_on (first ∷ steps) step = ap (λ (more : List Output). first.outputs ++ more) (joined_on steps step) ∙ sym (append_assoc first.outputs (joined steps) step.outputs)
 
 -- an event puts out what its turn does, behind the rest
-outputs_on : (g : ReplayInput) (start : ℕ) (es : List Event) (e : Event) → all_outputs (fold g start (es ++ e ∷ [])) ≡ all_outputs (fold g start es) ++ (last g start (es ++ e ∷ [])).outputs
+pub outputs_on : (g : ReplayInput) (start : ℕ) (es : List Event) (e : Event) → all_outputs (fold g start (es ++ e ∷ [])) ≡ all_outputs (fold g start es) ++ (last g start (es ++ e ∷ [])).outputs
 outputs_on g start es e =
     let turn : Step = step_of (last g start (es ++ e ∷ [])) in
     ap (λ (steps : List Step). (fold g start (es ++ e ∷ [])).opening.outputs ++ joined steps) (steps_on g start es e)
@@ -39,7 +39,7 @@ outputs_on g start es e =
     ∙ sym (append_assoc (fold g start es).opening.outputs (joined (fold g start es).steps) turn.outputs)
 
 -- the first of what is left
-drop_first : (os : List Output) (n : ℕ) (o : Output) → slice_get os n ≡ Some o → drop n os ≡ o ∷ drop (n + 1) os
+pub drop_first : (os : List Output) (n : ℕ) (o : Output) → slice_get os n ≡ Some o → drop n os ≡ o ∷ drop (n + 1) os
 drop_first os n o here = drop_more os n o (slice_get_within os n o here) ∙ ap (λ (x : Output). x ∷ drop (n + 1) os) (get_or_from_slice_get os n o o here)
 
 -- ---- optional values
@@ -54,7 +54,7 @@ where_ever : (P : Type 0) (o : Option Taken) → P → OnSome o P
 where_ever P None holds = tt
 where_ever P (Some x) holds = holds
 
-some_none : {P : Type 0} (e : Event) → Some e ≡ None → P
+pub some_none : {P : Type 0} (e : Event) → Some e ≡ None → P
 some_none e same = cc
 
 -- where an event is half passed nothing is taken
@@ -141,7 +141,7 @@ works_come g start es done o a b step at =
 
 -- ---- acts in order
 
-at_same : (g : ReplayInput) (start : ℕ) (es fs : List Event) (done more : List Output) (r : Recorder) → es ≡ fs → done ≡ more → IsAt g start es done r → IsAt g start fs more r
+pub at_same : (g : ReplayInput) (start : ℕ) (es fs : List Event) (done more : List Output) (r : Recorder) → es ≡ fs → done ≡ more → IsAt g start es done r → IsAt g start fs more r
 at_same g start es fs done more r same_events same_outputs at =
     let P : List Event → Type 0 = λ x. IsAt g start x done r in
     let Q : List Output → Type 0 = λ x. IsAt g start fs x r in

@@ -48,7 +48,8 @@ pub data Act : Type 0 where
 
 -- ---- Takes
 
--- the caller has said it of the link; or the connection has changed; or the awaited answer has come, or is gone; or it is the first message of the inbox; or a timer is due
+-- the caller has said it of the link; or the connection has changed; or the awaited answer has
+-- come, or is gone; or it is the first message of the inbox; or a timer is due
 abbrev pub Gives : ℕ → Taken → Recorder → LinkView → LinkView → Type 0
 Gives now one r old new =
     ((new ≡ old) × (link_in r.link_up r.replay.value.state.link_up ≡ Some one))
@@ -76,7 +77,7 @@ pub record WritesDown (now : ℕ) (e : Event) (a b : World) : Type 0 where
   pub one : Taken
   pub brought : a.recorder.taken ≡ Some one
   pub is : e ≡ event_of now a.recorder.moment one
-  pub kept : b.recorder ≡ record a.recorder { taken = None; event = Some e; message = message_at a.recorder.taken; moment = e.at; whole = b.recorder.whole }
+  pub kept : b.recorder ≡ record a.recorder { taken = None; event = Some e; message = message_at a.recorder.taken; moment = e.at; fault = b.recorder.fault }
   pub link : b.link ≡ a.link
 
 -- ---- Passes and Stops

@@ -4,3 +4,4 @@ pub mod Sending
 pub mod LinkInput
 pub mod Acts
 pub mod Recorder
+pub mod Life

@@ -8,10 +8,12 @@ use Rattle.js_base.specs.declared.turn.Next.TheVariants as next
 use Rattle.js_link.specs.LinkView.{LinkView}
 use Rattle.js_ordered_recorder.specs.Acts.{Act, AreSilent, DoesAll, LiesNothing, Rests, WorksOff, World, events_of, outputs_of, phase_of, queue}
 use Rattle.js_ordered_recorder.specs.LinkInput.{link_in}
+use Rattle.js_ordered_recorder.specs.Sending.{left_by}
 use Rattle.js_ordered_recorder.specs.Writing.{WritesAll}
 use Rattle.js_ordered_recorder.specs.declared.recorder.Ending.{Ending}
 use Rattle.js_ordered_recorder.specs.declared.recorder.Ending.TheVariants as ending
 use Rattle.js_ordered_recorder.specs.declared.recorder.Recorder.{Recorder}
+use Rattle.js_ordered_recorder.specs.declared.recording.RecordingFault.{RecordingFault}
 use Rattle.js_ordered.specs.IncrementalReplay.{HasCome, IsWithin}
 use Rattle.js_ordered.specs.declared.incremental_replay.IncrementalReplay.{IncrementalReplay}
 use Rattle.js_ordered_stream.specs.Ordered.{error_kind, source_by}
@@ -37,7 +39,8 @@ abbrev pub Stands : ReplayInput → ℕ → List Event → Option Event → Incr
 Stands g start es None c = HasCome g start es c
 Stands g start es (Some e) c = IsWithin g start es e c
 
--- these events were written, and these outputs worked off: with those that are left they are what the fold over the events puts out, in order
+-- these events were written, and these outputs worked off: with those that are left they are what
+-- the fold over the events puts out, in order
 pub record IsAt (g : ReplayInput) (start : ℕ) (es : List Event) (worked : List Output) (r : Recorder) : Type 0 where
   pub passed : List Event
   pub written : es ≡ passed ++ half_passed r.event
@@ -48,7 +51,8 @@ pub record IsAt (g : ReplayInput) (start : ℕ) (es : List Event) (worked : List
 
 -- ---- what polls do
 
--- acts at which nothing is for the user, with the events that were written and the outputs that were worked off
+-- acts at which nothing is for the user, with the events that were written and the outputs that
+-- were worked off
 pub record Goes (now : ℕ) (a : World) (es : List Event) (worked : List Output) (b : World) : Type 0 where
   pub acts : List Act
   pub does : DoesAll now acts a b
@@ -129,6 +133,7 @@ pub record HandsError (now : ℕ) (e : Error OrderedErrorKind) (a : World) (es :
   pub hands : HandsOver now (out.Item kind) a es worked between
   pub tells : kind_of e ≡ error_kind kind
   pub source : source_of e ≡ source_by (error_kind kind) between.recorder.message
+  pub left : b.recorder.message ≡ left_by kind between.recorder.message
   pub kept : b ≡ record between { recorder = record between.recorder { message = b.recorder.message } }
 
 -- what a poll answers
@@ -140,11 +145,11 @@ Answers now next.End a es worked b = Goes now a es worked b × IsEnded b
 Answers now next.OutOfMemory a es worked b = Goes now a es worked b
 
 -- a poll: what it answers, which events it has written, and where the recorder stands then
-pub record Polls {R : Type 0} (writes : R → Event → Bool → R → Type 0) (now : ℕ) (answer : Next (Result Message (Error OrderedErrorKind))) (a b : World) (before after : R) : Type 0 where
+pub record Polls {R : Type 0} (writes : R → Event → Option RecordingFault → R → Type 0) (now : ℕ) (answer : Next (Result Message (Error OrderedErrorKind))) (a b : World) (before after : R) : Type 0 where
   pub es : List Event
   pub worked : List Output
   pub answers : Answers now answer a es worked b
-  pub wrote : WritesAll writes a.recorder.whole es b.recorder.whole before after
+  pub wrote : WritesAll writes a.recorder.fault es b.recorder.fault before after
   pub stands : (g : ReplayInput) → (start : ℕ) → (earlier : List Event) → (done : List Output) → IsAt g start earlier done a.recorder
       → IsAt g start (earlier ++ es) (done ++ worked) b.recorder
 

@@ -1,5 +1,5 @@
 -- How what a recorder sends goes to its link.
-use Rattle.std.specs.Prelude.{◌≡◌, ℕ, ◌+◌, min, Bool, true, false, List, Option, Some, None, is_some, ⊤}
+use Rattle.std.specs.Prelude.{◌≡◌, refl, ℕ, ◌+◌, min, Bool, true, false, List, [], ◌∷◌, Option, Some, None, is_some, ⊤, length}
 use Rattle.js_base.specs.declared.message.Message.{Message}
 use Rattle.js_link.specs.Calls as calls
 use Rattle.js_link.specs.LinkView.{LinkView}
@@ -9,6 +9,8 @@ use Rattle.js_ordered_recorder.specs.declared.sends.Asked.{Asked}
 use Rattle.js_ordered_recorder.specs.declared.sends.Sends.{Sends}
 use Rattle.js_ordered_recorder.specs.declared.output_delivery.Worked.{Worked}
 use Rattle.js_ordered_recorder.specs.declared.output_delivery.Worked.TheVariants as worked
+use Rattle.js_ordered_table.specs.declared.run.ItemKind.{ItemKind}
+use Rattle.js_ordered_table.specs.declared.run.ItemKind.TheVariants as item
 use Rattle.js_ordered_table.specs.declared.run.Output.{Output}
 use Rattle.js_ordered_table.specs.declared.run.Output.TheVariants as out
 
@@ -59,10 +61,19 @@ pub record Moves (number : ℕ) (subject : List ℕ) (old new : Sends) (before a
 
 -- ---- an output
 
--- the message of a yield: the one that was taken from the link in this turn; where it was handed out already, one of the yield's subject and payload
-abbrev pub IsMessageOf : List ℕ → List ℕ → Option Message → Option Message → Type 0
-IsMessageOf subject payload (Some kept) after = after ≡ Some kept
-IsMessageOf subject payload None after = (message : Message) × (after ≡ Some message) × (message.subject ≡ subject) × (message.payload ≡ payload)
+-- a message of which only the subject and the payload are known
+abbrev pub bare_message : List ℕ → List ℕ → Message
+bare_message subject payload = record { subject = subject; reply = None; payload = payload; headers = None; status = None; description = None; length = length payload }
+
+-- the message of a yield: the one that was taken from the link for this turn, whole; no life comes
+-- to a yield where there is none
+abbrev pub yielded : List ℕ → List ℕ → Option Message → Option Message
+yielded subject payload None = Some (bare_message subject payload)
+yielded subject payload (Some kept) = Some kept
+
+-- worked: the message that was taken is handed out with its reply subject
+worked_whole : yielded (97 ∷ []) (98 ∷ []) (Some (record (bare_message (97 ∷ []) (98 ∷ [])) { reply = Some (99 ∷ []) })) ≡ Some (record (bare_message (97 ∷ []) (98 ∷ [])) { reply = Some (99 ∷ []) })
+worked_whole = refl
 
 -- what stands at the link, and the message that was taken last
 pub record Outgoing : Type 0 where
@@ -76,9 +87,14 @@ GoesTo (out.Request number subject payload) old new = Asks number subject payloa
 GoesTo (out.Publish subject reply payload) old new = Publishes subject reply payload old.sends new.sends old.link new.link × (new.message ≡ old.message)
 GoesTo (out.Subscribe inbox subject) old new = Moves inbox subject old.sends new.sends old.link new.link × (new.message ≡ old.message)
 GoesTo (out.Yield stream_sequence consumer_sequence subject payload) old new =
-    (new.sends ≡ old.sends) × (new.link ≡ old.link) × IsMessageOf subject payload old.message new.message
+    (new.sends ≡ old.sends) × (new.link ≡ old.link) × (new.message ≡ yielded subject payload old.message)
 GoesTo (out.Item kind) old new = new ≡ old
 GoesTo (out.Recreate recreation_count start) old new = new ≡ old
+
+-- the message that is left after an error: that of a limit gives its text
+abbrev pub left_by : ItemKind → Option Message → Option Message
+left_by item.RequestLimitExceeded kept = None
+left_by kind kept = kept
 
 -- what an output has for the user
 abbrev pub worked_as : Output → Worked

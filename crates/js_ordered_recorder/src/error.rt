@@ -2,6 +2,7 @@
 ghost use Rattle.std.specs.Prelude.{◌≡◌, None};
 ghost use Rattle.js_base.specs.Error.{kind_of, source_of};
 ghost use Rattle.js_ordered_stream.specs.Ordered.{error_kind, source_by};
+ghost use Rattle.js_ordered_recorder.specs.Sending.{left_by};
 
 use js_base::{Error, Message, Source};
 use js_ordered_stream::{OrderedError, OrderedErrorKind};
@@ -38,6 +39,7 @@ fn limit_error(message: Option<Message>) -> OrderedError
 pub(crate) fn error_of(kind: ItemKind, message: &mut Option<Message>) -> OrderedError
     ensures tells { kind_of result ≡ error_kind kind }
     ensures source { source_of result ≡ source_by (error_kind kind) message.old }
+    ensures left { message.new ≡ left_by kind message.old }
 {
     match kind {
         ItemKind::RequestLimitExceeded => limit_error(message.take()),

@@ -1,5 +1,6 @@
 //! The flight recorder: an ordered consumer over any link, by pull or by push, that writes down
-//! everything that it meets, as events of a transcript that `wilfjodi replay` reads.
+//! everything that it meets, as events of a transcript that `wilfjodi rerun` reads, and
+//! `wilfjodi replay` too if every payload is a text of its message's length.
 //!
 //! A [`Recorder`] runs on the replay's own driver (`IncrementalReplay`), so what it does is the
 //! replay of what it wrote. It takes one thing at a time from its link, makes the event of it,
@@ -9,6 +10,7 @@
 
 mod error;
 mod event_list;
+mod laws;
 mod lines;
 mod link_event;
 mod link_input;
@@ -18,6 +20,7 @@ mod recording;
 mod sends;
 
 pub use event_list::EventList;
+pub use laws::lives_follow_their_recordings;
 pub use lines::{LineRecording, RecentLines};
 pub use recorder::Recorder;
 pub use recording::{Recording, RecordingFault};

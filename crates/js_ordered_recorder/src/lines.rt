@@ -1,27 +1,22 @@
 //! Recordings of the events' lines, as a transcript has them: all, or the last.
-ghost use Rattle.std.specs.Prelude.{◌≡◌, [], false, IfErr, IfOk, OnOk};
-ghost use Rattle.js_tool_transcript.specs.EventText.{event_text, is_recordable as is_recordable_in};
+ghost use Rattle.std.specs.Prelude.{◌≡◌, [], IfErr, IfOk};
 ghost use Rattle.circular_buffer.specs.Buffer.{buffer};
-ghost use Rattle.js_ordered_recorder.specs.Lines.{AddsLine, KeepsLine, ReadsBack};
+ghost use Rattle.js_ordered_recorder.specs.Lines.{AddsLine, IsLine, KeepsLine};
 
 use crate::recording::{Recording, RecordingFault};
 use circular_buffer::HeapCircularBuffer;
 use js_base::OutOfMemory;
 use js_ordered_table::Event;
-use js_tool_transcript::{is_recordable, push_event};
+use js_tool_transcript::push_extended_event;
 use std::alloc::{AllocError, Global};
 
-// The line of an event, where it reads back as the event.
+// The line of an event. Each event has one.
 fn line_of(alloc: Global, event: &Event) -> Result<Vec<u8>, RecordingFault>
-    ensures line { IfOk result (λ line. line.items ≡ event_text event.now) }
-    ensures reads { OnOk result (ReadsBack event.now) }
-    ensures refused { IfErr result (λ fault. fault ≡ RecordingFault.Failed → is_recordable_in event.now ≡ false) }
+    ensures line { IfOk result (λ line. IsLine line.items event.now) }
+    ensures fault { IfErr result (λ fault. fault ≡ RecordingFault.OutOfMemory) }
 {
-    if !is_recordable(event) {
-        return Err(RecordingFault::Failed);
-    }
     let mut line = Vec::new(alloc);
-    match push_event(&mut line, event) {
+    match push_extended_event(alloc, &mut line, event) {
         Ok(()) => Ok(line),
         Err(AllocError) => Err(RecordingFault::OutOfMemory),
     }
@@ -29,9 +24,10 @@ fn line_of(alloc: Global, event: &Event) -> Result<Vec<u8>, RecordingFault>
 
 /// A recording of the line of each event, from the first to the last.
 ///
-/// An event whose line would not read back as the event is refused as `Failed`. So each line reads
-/// back. The first line of a transcript, which says the settings, is not part of it: write that
-/// yourself before the lines.
+/// Each event has a line, which reads back as the event: that of a transcript if it says the event,
+/// and otherwise an extended line, which `rerun` reads and `replay` refuses. So a recording without
+/// such events is part of a transcript. The first line of a transcript, which says the settings, is
+/// not part of it: write that yourself before the lines.
 ///
 /// It grows with each event. To keep a bounded number of lines, use [`RecentLines`].
 #[derive(Drop)]
@@ -71,8 +67,8 @@ impl Recording for LineRecording {
 
 /// A recording of the lines of the last events. If it is full, the oldest line goes.
 ///
-/// An event whose line would not read back as the event is refused as `Failed`. A replay needs the
-/// events from the first on, so use it to look at what came last.
+/// The lines are those of [`LineRecording`]. A replay needs the events from the first on, so use it
+/// to look at what came last.
 #[derive(Drop)]
 pub struct RecentLines {
     lines: HeapCircularBuffer<Vec<u8>>,

@@ -1,6 +1,6 @@
 //! How an output is worked off: it is sent, or it is for the user.
 ghost use Rattle.std.specs.Prelude.{◌≡◌, IfOk, OnErr, OnOk, is_some, true};
-ghost use Rattle.js_ordered_recorder.specs.Sending.{GoesTo, HasMessage, IsMessageOf, worked_as};
+ghost use Rattle.js_ordered_recorder.specs.Sending.{GoesTo, HasMessage, bare_message as bare_message_in, worked_as, yielded};
 
 use crate::sends::Sends;
 use bytes::Bytes;
@@ -18,10 +18,9 @@ pub(crate) enum Worked {
     Error(ItemKind),
 }
 
-// A message of which no more is known.
-fn plain_message(subject: Subject, payload: Bytes) -> Message
-    ensures subject { result.subject ≡ subject }
-    ensures payload { result.payload ≡ payload }
+// A message of which only the subject and the payload are known.
+fn bare_message(subject: Subject, payload: Bytes) -> Message
+    ensures { result ≡ bare_message_in subject payload }
 {
     let length = payload.len() as u64;
     Message {
@@ -42,7 +41,7 @@ fn keep_message(
     subject: &Subject,
     payload: &Bytes,
 ) -> Result<(), OutOfMemory>
-    ensures kept { OnOk result (IsMessageOf subject.now payload.now message.old message.new) }
+    ensures kept { OnOk result (message.new ≡ yielded subject.now payload.now message.old) }
     ensures some { OnOk result (is_some message.new ≡ true) }
     ensures stays { OnErr result (message.new ≡ message.old) }
 {
@@ -50,7 +49,7 @@ fn keep_message(
         Some(_) => Ok(()),
         None => {
             let (subject, payload) = both(subject.try_clone(), payload.try_clone())?;
-            replace_with(message, Some(plain_message(subject, payload)));
+            replace_with(message, Some(bare_message(subject, payload)));
             Ok(())
         }
     }

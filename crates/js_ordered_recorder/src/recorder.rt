@@ -7,6 +7,7 @@ ghost use Rattle.js_ordered_table.specs.declared.run.Output as outputs;
 ghost use Rattle.js_ordered_table.specs.Fold.{is_over as has_ended};
 ghost use Rattle.js_ordered_recorder.specs.Acts.{Rests, TakenBy, WorksNext, World, phase_of, queue};
 ghost use Rattle.js_ordered_recorder.specs.Recorder.{Answers, EndsAs, IsAt, Polls, TurnsTo, WorksTo, has_rest, has_work};
+ghost use Rattle.js_ordered_recorder.specs.Life.{IsNew};
 ghost use Rattle.js_ordered_recorder.specs.Sending.{ClosesAt, HasMessage};
 ghost use Rattle.js_ordered_recorder.specs.Writing.{WritesAll};
 ghost use Rattle.js_tool_transcript.specs.TranscriptReplay.{replay_input};
@@ -15,7 +16,7 @@ use crate::error::error_of;
 use crate::link_event::Taken;
 use crate::link_input::{later, take_answer, take_arrival, take_change, take_link, take_tick};
 use crate::output_delivery::{Worked, work_off};
-use crate::recording::Recording;
+use crate::recording::{Recording, RecordingFault};
 use crate::sends::Sends;
 use js_base::{Message, Moment, Next, OutOfMemory, replace_with};
 use js_link::{InboxId, Link};
@@ -66,13 +67,14 @@ pub struct Recorder<'a> {
     message: Option<Message>,
     // How many of the last turn's outputs are worked off.
     worked: usize,
-    whole: bool,
+    // Why the recording stopped, if it did.
+    fault: Option<RecordingFault>,
 }
 
 impl<'a> Recorder<'a> {
     /// Opens a recorder for an ordered consumer. `setup` is what `first_line` reads from the first
-    /// line of the recording, which you write yourself before any event. `inbox` is the link's inbox
-    /// to which the first consumer's messages come.
+    /// line of the recording, which you write yourself before any event. `inbox` is the link's
+    /// inbox to which the first consumer's messages come.
     ///
     /// # Errors
     ///
@@ -83,7 +85,8 @@ impl<'a> Recorder<'a> {
         inbox: InboxId,
     ) -> Result<Recorder<'a>, OutOfMemory>
         ensures stands { IfOk result (λ recorder. IsAt (replay_input setup.now) setup.now.start [] [] recorder) }
-        ensures whole { IfOk result (λ recorder. recorder.whole ≡ true) }
+        ensures whole { IfOk result (λ recorder. recorder.fault ≡ None) }
+        ensures new { IfOk result (λ recorder. IsNew (replay_input setup.now) setup.now.start recorder) }
     {
         let replay = IncrementalReplay::open(
             alloc,
@@ -107,15 +110,16 @@ impl<'a> Recorder<'a> {
             event: None,
             message: None,
             worked: 0,
-            whole: true,
+            fault: None,
         })
     }
 
-    /// Returns whether every event so far was written.
-    pub fn is_whole(&self) -> bool
-        ensures { result ≡ self.now.whole }
+    /// Returns why the recording stopped: what its first write that failed returned. Returns `None`
+    /// if every event so far was written. The consumer goes on either way.
+    pub fn fault(&self) -> Option<RecordingFault>
+        ensures { result ≡ self.now.fault }
     {
-        self.whole
+        self.fault
     }
 
     /// Returns how many sends have failed, other than requests. They count as lost on the way.
@@ -177,7 +181,8 @@ impl<'a> Recorder<'a> {
 
     // ---- what is put out
 
-    // Works off the first output that is left, if there is one. After want of memory nothing is done of it.
+    // Works off the first output that is left, if there is one. After want of memory nothing is
+    // done of it.
     fn work_next<L: Link>(
         &mut self,
         alloc: Global,
@@ -201,7 +206,7 @@ impl<'a> Recorder<'a> {
     fn work_all<L: Link>(&mut self, alloc: Global, link: &mut L) -> Option<Ending>
         requires { Rests self.old }
         ensures works { (now : ℕ) → (worked : List outputs.Output) × WorksTo now result (record { recorder = self.old; link = L.view link.old }) [] worked (record { recorder = self.new; link = L.view link.new }) }
-        ensures whole { self.new.whole ≡ self.old.whole }
+        ensures fault { self.new.fault ≡ self.old.fault }
         ensures count { self.new.replay.value.count ≡ self.old.replay.value.count }
     {
         'outputs: loop {
@@ -253,7 +258,7 @@ impl<'a> Recorder<'a> {
         requires rests { Rests self.old }
         requires empty { queue self.old ≡ [] }
         requires alive { has_ended (phase_of self.old) ≡ false }
-        ensures { (es : List events.Event) × TurnsTo now result (record { recorder = self.old; link = L.view link.old }) es [] (record { recorder = self.new; link = L.view link.new }) × WritesAll R.writes self.old.whole es self.new.whole recording.old recording.new }
+        ensures { (es : List events.Event) × TurnsTo now result (record { recorder = self.old; link = L.view link.old }) es [] (record { recorder = self.new; link = L.view link.new }) × WritesAll R.writes self.old.fault es self.new.fault recording.old recording.new }
     {
         match self.take(link, now) {
             None => Some(Ending::Quiet),
@@ -277,7 +282,7 @@ impl<'a> Recorder<'a> {
         now: Moment,
     ) -> Option<Ending>
         requires { Rests self.old }
-        ensures { (es : List events.Event) × (worked : List outputs.Output) × TurnsTo now result (record { recorder = self.old; link = L.view link.old }) es worked (record { recorder = self.new; link = L.view link.new }) × WritesAll R.writes self.old.whole es self.new.whole recording.old recording.new }
+        ensures { (es : List events.Event) × (worked : List outputs.Output) × TurnsTo now result (record { recorder = self.old; link = L.view link.old }) es worked (record { recorder = self.new; link = L.view link.new }) × WritesAll R.writes self.old.fault es self.new.fault recording.old recording.new }
     {
         match self.work_all(alloc, link) {
             Some(ending) => Some(ending),
@@ -290,7 +295,8 @@ impl<'a> Recorder<'a> {
         }
     }
 
-    // Goes on, event after event, until something ends the poll. It ends, since the events are counted in a `u64`.
+    // Goes on, event after event, until something ends the poll. It ends, since the events are
+    // counted in a `u64`.
     fn run<L: Link, R: Recording>(
         &mut self,
         alloc: Global,
@@ -298,7 +304,7 @@ impl<'a> Recorder<'a> {
         recording: &mut R,
         now: Moment,
     ) -> Ending
-        ensures { (es : List events.Event) × (worked : List outputs.Output) × EndsAs now result (record { recorder = self.old; link = L.view link.old }) es worked (record { recorder = self.new; link = L.view link.new }) × WritesAll R.writes self.old.whole es self.new.whole recording.old recording.new }
+        ensures { (es : List events.Event) × (worked : List outputs.Output) × EndsAs now result (record { recorder = self.old; link = L.view link.old }) es worked (record { recorder = self.new; link = L.view link.new }) × WritesAll R.writes self.old.fault es self.new.fault recording.old recording.new }
     {
         match self.resume(alloc, recording, now) {
             Ok(()) => {}
@@ -317,7 +323,7 @@ impl<'a> Recorder<'a> {
         requires { ending ≡ Ending.Hands → is_some self.old.message ≡ true }
         ensures answers { (now : ℕ) → (v : LinkView) → (a : World) → (es : List events.Event) → (worked : List outputs.Output) → EndsAs now ending a es worked (record { recorder = self.old; link = v })
             → Answers now result a es worked (record { recorder = self.new; link = v }) }
-        ensures whole { self.new.whole ≡ self.old.whole }
+        ensures fault { self.new.fault ≡ self.old.fault }
     {
         match ending {
             Ending::Hands => match self.message.take() {

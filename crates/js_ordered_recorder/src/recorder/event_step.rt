@@ -33,7 +33,7 @@ impl<'a> Recorder<'a> {
         recording: &mut R,
         now: Moment,
     ) -> Result<(), OutOfMemory>
-        ensures goes { OnOk result ((v : LinkView) → (es : List events.Event) × Goes now (record { recorder = self.old; link = v }) es [] (record { recorder = self.new; link = v }) × WritesAll R.writes self.old.whole es self.new.whole recording.old recording.new) }
+        ensures goes { OnOk result ((v : LinkView) → (es : List events.Event) × Goes now (record { recorder = self.old; link = v }) es [] (record { recorder = self.new; link = v }) × WritesAll R.writes self.old.fault es self.new.fault recording.old recording.new) }
         ensures taken { OnOk result (self.new.taken ≡ None) }
         ensures brought { is_some self.old.taken ≡ true → OnOk result (is_some self.new.event ≡ true) }
         ensures replay { self.new.replay ≡ self.old.replay }
@@ -47,7 +47,7 @@ impl<'a> Recorder<'a> {
             at: later(now, self.moment),
             what: taken.kind(alloc)?,
         };
-        self.whole = write_event(alloc, recording, self.whole, &event);
+        self.fault = write_event(alloc, recording, self.fault, &event);
         self.begin_event(event);
         Ok(())
     }
@@ -57,7 +57,7 @@ impl<'a> Recorder<'a> {
         ensures goes { (now : ℕ) → (v : LinkView) → Goes now (record { recorder = self.old; link = v }) [] [] (record { recorder = self.new; link = v }) }
         ensures event { OnOk result (self.new.event ≡ None) }
         ensures taken { self.new.taken ≡ self.old.taken }
-        ensures whole { self.new.whole ≡ self.old.whole }
+        ensures fault { self.new.fault ≡ self.old.fault }
         ensures counted { is_some self.old.event ≡ true → OnOk result (IsCounted self.old self.new) }
     {
         let Some(event) = &self.event else {
@@ -78,7 +78,7 @@ impl<'a> Recorder<'a> {
         recording: &mut R,
         now: Moment,
     ) -> Result<(), OutOfMemory>
-        ensures goes { (v : LinkView) → (es : List events.Event) × Goes now (record { recorder = self.old; link = v }) es [] (record { recorder = self.new; link = v }) × WritesAll R.writes self.old.whole es self.new.whole recording.old recording.new }
+        ensures goes { (v : LinkView) → (es : List events.Event) × Goes now (record { recorder = self.old; link = v }) es [] (record { recorder = self.new; link = v }) × WritesAll R.writes self.old.fault es self.new.fault recording.old recording.new }
         ensures rests { OnOk result (Rests self.new) }
         ensures counted { is_some self.old.taken ≡ true → OnOk result (IsCounted self.old self.new) }
     {

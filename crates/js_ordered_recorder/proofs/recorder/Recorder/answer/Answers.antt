@@ -8,4 +8,4 @@ returns-in-Some-clause-answers c = λ now v a es worked ends.
 
 pub returns-in-Tells-clause-answers : goal.returns-in-Tells-clause-answers
 returns-in-Tells-clause-answers c = λ now v a es worked ends.
-    tells_answer now c.args.ending c.in-Tells.kind c.args.self.now v c.error_of.result c.error_of.new.message a es worked c.in-Tells.is c.error_of.ensures.tells c.error_of.ensures.source ends
+    tells_answer now c.args.ending c.in-Tells.kind c.args.self.now v c.error_of.result c.error_of.new.message a es worked c.in-Tells.is c.error_of.ensures.tells c.error_of.ensures.source c.error_of.ensures.left ends

@@ -1,4 +1,5 @@
-use Rattle.std.proofs.Common.{Bool, sym, subst}
+use Rattle.std.proofs.Common.{Option, sym, subst}
+use Rattle.js_ordered_recorder.specs.declared.recording.RecordingFault.{RecordingFault}
 use Rattle.js_ordered_recorder.specs.Acts.{World}
 use Rattle.js_ordered_recorder.specs.Writing.{WritesAll}
 use Rattle.js_ordered_recorder.proofs.Going.{world}
@@ -16,6 +17,6 @@ returns g c =
       es = ran.0;
       worked = ran.1;
       answers = answers;
-      wrote = subst (λ (w : Bool). WritesAll g.R.Recording.writes c.args.self.now.whole ran.0 w c.args.recording.now c.run-ending.new.recording) (sym c.answer.ensures.whole) ran.3;
+      wrote = subst (λ (w : Option RecordingFault). WritesAll g.R.Recording.writes c.args.self.now.fault ran.0 w c.args.recording.now c.run-ending.new.recording) (sym c.answer.ensures.fault) ran.3;
       stands = answers_come c.args.now c.answer.result a b ran.0 ran.1 answers;
     }

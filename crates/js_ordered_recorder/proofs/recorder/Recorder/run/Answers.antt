@@ -25,7 +25,7 @@ returns-in-Some g c =
       so.0 ++ turned.0,
       so.1 ++ turned.1,
       ends_on c.args.now c.in-Some.ending a b d so.0 turned.0 so.1 turned.1 so.2 turned.2,
-      writes_on g.R.Recording.writes so.0 turned.0 c.args.self.now.whole c.turns.self.whole c.turn.new.self.whole c.args.recording.now c.turns.recording c.turn.new.recording so.3 turned.3,
+      writes_on g.R.Recording.writes so.0 turned.0 c.args.self.now.fault c.turns.self.fault c.turn.new.self.fault c.args.recording.now c.turns.recording c.turn.new.recording so.3 turned.3,
     )
 
 pub turns-preserved : goal.turns-preserved
@@ -41,7 +41,7 @@ turns-preserved g c =
         so.0 ++ turned.0,
         so.1 ++ turned.1,
         goes_on c.args.now a b d so.0 turned.0 so.1 turned.1 so.2 turned.2.0,
-        writes_on g.R.Recording.writes so.0 turned.0 c.args.self.now.whole c.turns.self.whole c.turn.new.self.whole c.args.recording.now c.turns.recording c.turn.new.recording so.3 turned.3,
+        writes_on g.R.Recording.writes so.0 turned.0 c.args.self.now.fault c.turns.self.fault c.turn.new.self.fault c.args.recording.now c.turns.recording c.turn.new.recording so.3 turned.3,
       );
       rests = turned.2.1;
     }

@@ -12,7 +12,7 @@ invariant-turns g l =
     let view = g.L.Link.view in
     record {
       so : (es : List Event) × (worked : List Output) × Goes l.now (record { recorder = l.fn.self; link = view l.fn.link }) es worked (record { recorder = l.self; link = view l.link })
-          × WritesAll g.R.Recording.writes l.fn.self.whole es l.self.whole l.fn.recording l.recording;
+          × WritesAll g.R.Recording.writes l.fn.self.fault es l.self.fault l.fn.recording l.recording;
       rests : Rests l.self;
     }
 

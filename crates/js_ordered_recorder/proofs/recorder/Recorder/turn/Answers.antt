@@ -1,4 +1,5 @@
-use Rattle.std.proofs.Common.{◌≡◌, ◌++◌, [], Bool, true, refl, subst}
+use Rattle.std.proofs.Common.{◌≡◌, ◌++◌, [], Option, true, refl, subst}
+use Rattle.js_ordered_recorder.specs.declared.recording.RecordingFault.{RecordingFault}
 use Rattle.js_ordered_table.specs.Fold.{is_over}
 use Rattle.js_ordered_recorder.specs.Acts.{World, phase_of}
 use Rattle.js_ordered_recorder.specs.Writing.{WritesAll}
@@ -8,7 +9,7 @@ use Rattle.js_ordered_recorder.proofs.recorder.Recorder.turn.Goals as goal
 pub returns-in-Some : goal.returns-in-Some
 returns-in-Some g c =
     let done = c.in-Some.ensures.works c.args.now in
-    ([], done.0, done.1, (refl, c.in-Some.ensures.whole))
+    ([], done.0, done.1, (refl, c.in-Some.ensures.fault))
 
 pub returns-then-is_over : goal.returns-then-is_over
 returns-then-is_over g c =
@@ -17,7 +18,7 @@ returns-then-is_over g c =
     let b : World = world c.work_all.new.self (view c.work_all.new.link) in
     let over : is_over (phase_of c.work_all.new.self) ≡ true = cc in
     let done = c.in-None.ensures.works c.args.now in
-    ([], done.0, over_turn c.args.now a b done.0 done.1 over, (refl, c.in-None.ensures.whole))
+    ([], done.0, over_turn c.args.now a b done.0 done.1 over, (refl, c.in-None.ensures.fault))
 
 pub take_turn-requires-clause-rests : goal.take_turn-requires-clause-rests
 take_turn-requires-clause-rests g c = (c.in-None.ensures.works c.args.now).1.1.rests
@@ -36,5 +37,5 @@ returns-else-is_over g c =
       turned.0,
       done.0 ++ [],
       turns_on c.args.now c.take_turn.result a b d turned.0 done.0 done.1.0 c.in-None.ensures.count turned.1,
-      subst (λ (w : Bool). WritesAll g.R.Recording.writes w turned.0 c.take_turn.new.self.whole c.args.recording.now c.take_turn.new.recording) c.in-None.ensures.whole turned.2,
+      subst (λ (w : Option RecordingFault). WritesAll g.R.Recording.writes w turned.0 c.take_turn.new.self.fault c.args.recording.now c.take_turn.new.recording) c.in-None.ensures.fault turned.2,
     )

@@ -10,7 +10,7 @@ invariant-outputs g l =
     record {
       so : (now : ℕ) → WorkedSo now (record { recorder = l.fn.self; link = view l.fn.link }) (record { recorder = l.self; link = view l.link });
       rests : Rests l.self;
-      whole : l.self.whole ≡ l.fn.self.whole;
+      fault : l.self.fault ≡ l.fn.self.fault;
       count : l.self.replay.value.count ≡ l.fn.self.replay.value.count;
     }
 
