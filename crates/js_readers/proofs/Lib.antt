@@ -4,5 +4,7 @@ pub mod DefaultLimits
 mod PushPolls
 mod GivenKinds
 mod KeptInboxes
-mod UntimedPolls
 pub mod RisingSequences
+pub mod KeptConnections
+mod KeptReads
+pub mod IdlePolls

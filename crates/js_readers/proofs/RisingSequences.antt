@@ -3,11 +3,11 @@ use Rattle.std.proofs.Common.{◌≡◌, ◌<◌, ◌+◌, ℕ, zero, suc, Bool,
 use Rattle.std.specs.Prelude.{IfSome, slice_index, if◌then◌else◌, ⊤}
 use Rattle.std.proofs.lemmas.Bool.{ltb-true}
 use Rattle.std.specs.List.Sorted.{IsStrictlyIncreasing}
-use Rattle.js_base.specs.declared.message.Message.{Message}
 use Rattle.js_base.specs.declared.turn.Next.{Next}
 use Rattle.js_base.specs.declared.turn.Next.TheVariants as next
 use Rattle.js_link.specs.LinkView.{LinkView}
 use Rattle.js_message.specs.AckSubject.{Place, readable_as}
+use Rattle.js_message.specs.declared.message.Message.{Message}
 use Rattle.js_readers.specs.declared.ordered.breach.Breach.{Breach}
 use Rattle.js_readers.specs.declared.ordered.breach.RisingError.{RisingError}
 use Rattle.js_readers.specs.declared.ordered.breach.RisingError.TheVariants as error
@@ -40,14 +40,14 @@ above_in : (last : Option ℕ) (place : Option Place) → breach_in last place �
 above_in last None none = tt
 above_in last (Some place) none = (above_at last place.sequence none, tt)
 
-above_handed : (E : Type 0) (last : Option ℕ) (message : Message) (b : Option Breach) → breach_in last (readable_as message.reply) ≡ b
+above_handed : (E : Type 0) (last : Option ℕ) (message : Message) (b : Option Breach) → breach_in last (readable_as message.message.reply) ≡ b
     → Rises last (sequence_told {E = E} (handed_on b message))
-above_handed E last message None is = above_in last (readable_as message.reply) is
+above_handed E last message None is = above_in last (readable_as message.message.reply) is
 above_handed E last message (Some breach) is = tt
 
 -- what is handed on is above the last one
 above_told : {E : Type 0} (last : Option ℕ) (answer : Next (Result Message E)) → Rises last (sequence_told (told_of last answer))
-above_told {E = E} last (next.Item (Ok message)) = above_handed E last message (breach_in last (readable_as message.reply)) refl
+above_told {E = E} last (next.Item (Ok message)) = above_handed E last message (breach_in last (readable_as message.message.reply)) refl
 above_told last (next.Item (Err e)) = tt
 above_told last next.Pending = tt
 above_told last next.End = tt
@@ -58,7 +58,7 @@ joined_at last None rest first later = later
 joined_at last (Some place) rest first later = (first.0, later)
 
 joined : {E : Type 0} (last : Option ℕ) (told : Told E) (rest : List ℕ) → Rises last (sequence_told told) → Rises (last_after last told) rest → Rises last (sequence_told told ++ rest)
-joined last (next.Item (Ok message)) rest first later = joined_at last (readable_as message.reply) rest first later
+joined last (next.Item (Ok message)) rest first later = joined_at last (readable_as message.message.reply) rest first later
 joined last (next.Item (Err e)) rest first later = later
 joined last next.Pending rest first later = later
 joined last next.End rest first later = later

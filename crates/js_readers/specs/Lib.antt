@@ -16,3 +16,5 @@ pub mod OrderedOpening
 pub mod OrderedPolls
 pub mod OrderedConsumers
 pub mod Rising
+pub mod Subscription
+pub mod Subscriptions

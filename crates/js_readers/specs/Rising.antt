@@ -1,12 +1,12 @@
 -- A reader that hands out rising stream sequences, or ends.
-use Rattle.std.specs.Prelude.{◌≡◌, ◌<◌, ℕ, Bool, nat_lt, if◌then◌else◌, List, [], ◌∷◌, ◌++◌, codes, Option, Some, None, IfSome, Result, Ok, Err, ⊤, refl}
+use Rattle.std.specs.Prelude.{◌≡◌, ◌<◌, ℕ, Bool, false, nat_lt, if◌then◌else◌, List, [], ◌∷◌, ◌++◌, codes, Option, Some, None, IfSome, Result, Ok, Err, ⊤, refl}
 use Rattle.std.specs.Fmt.{decimal, digits}
 use Rattle.std.specs.List.Sorted.{IsStrictlyIncreasing}
-use Rattle.js_base.specs.declared.message.Message.{Message}
 use Rattle.js_base.specs.declared.turn.Next.{Next}
 use Rattle.js_base.specs.declared.turn.Next.TheVariants as next
 use Rattle.js_link.specs.LinkView.{LinkView}
 use Rattle.js_message.specs.AckSubject.{Place, readable_as}
+use Rattle.js_message.specs.declared.message.Message.{Message}
 use Rattle.js_readers.specs.declared.ordered.breach.Breach.{Breach}
 use Rattle.js_readers.specs.declared.ordered.breach.RisingError.{RisingError}
 use Rattle.js_readers.specs.declared.ordered.breach.RisingError.TheVariants as error
@@ -46,7 +46,7 @@ handed_on (Some breach) message = next.Item (Err (error.Breach breach))
 
 -- what the reader below answers is handed on as it is, but for a message that is a breach
 abbrev pub told_of : {E : Type 0} → Option ℕ → Next (Result Message E) → Told E
-told_of last (next.Item (Ok message)) = handed_on (breach_in last (readable_as message.reply)) message
+told_of last (next.Item (Ok message)) = handed_on (breach_in last (readable_as message.message.reply)) message
 told_of last (next.Item (Err e)) = next.Item (Err (error.Reader e))
 told_of last next.Pending = next.Pending
 told_of last next.End = next.End
@@ -59,7 +59,7 @@ last_at last (Some place) = Some place.sequence
 
 -- the last sequence that was handed out, after an answer
 abbrev pub last_after : {E : Type 0} → Option ℕ → Told E → Option ℕ
-last_after last (next.Item (Ok message)) = last_at last (readable_as message.reply)
+last_after last (next.Item (Ok message)) = last_at last (readable_as message.message.reply)
 last_after last told = last
 
 -- the breach that an answer tells
@@ -105,13 +105,21 @@ PollsRising polls now old new before after told = PollsUnless old.breach polls n
 
 -- a message that tells its place stands above the last one that was handed out, where there is one
 abbrev pub IsAbove : {E : Type 0} → Option ℕ → Told E → Type 0
-IsAbove (Some last) (next.Item (Ok message)) = IfSome (readable_as message.reply) (λ place. last < place.sequence)
+IsAbove (Some last) (next.Item (Ok message)) = IfSome (readable_as message.message.reply) (λ place. last < place.sequence)
 IsAbove last told = ⊤
 
 -- when it has something to do by itself: never after a breach, else when the reader below has
-abbrev pub WakesRising : {R : Type 0} → (R → Option ℕ → Type 0) → Option Breach → R → Option ℕ → Type 0
-WakesRising wakes None reader moment = wakes reader moment
-WakesRising wakes (Some breach) reader moment = moment ≡ None
+abbrev pub due_unless : Option Breach → Bool → Bool
+due_unless None due = due
+due_unless (Some breach) due = false
+
+abbrev pub rising_due : {R : Type 0} → (ℕ → R → Bool) → ℕ → Rising R → Bool
+rising_due due now o = due_unless o.breach (due now o.reader)
+
+-- there was no breach, and nothing has come for the reader below
+pub record IsRisingQuiet {R : Type 0} (quiet : R → LinkView → Type 0) (o : Rising R) (v : LinkView) : Type 0 where
+  pub none : o.breach ≡ None
+  pub below : quiet o.reader v
 
 -- ---- all polls
 
@@ -122,7 +130,7 @@ sequence_at (Some place) = place.sequence ∷ []
 
 -- the sequence of the message that an answer hands out, where it tells one
 abbrev pub sequence_told : {E : Type 0} → Told E → List ℕ
-sequence_told (next.Item (Ok message)) = sequence_at (readable_as message.reply)
+sequence_told (next.Item (Ok message)) = sequence_at (readable_as message.message.reply)
 sequence_told told = []
 
 -- the sequences of the messages that are handed out, in order

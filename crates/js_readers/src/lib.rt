@@ -9,6 +9,9 @@
 //! - [`ordered`] has `messages` of ordered consumers, built on the streams of js_ordered_stream: it
 //!   returns messages in order and without a gap.
 //!
+//! Each reader is a [`Subscription`]: one trait to poll, to find the reader that a message came for,
+//! to sleep until something is to be done, and to close. Code over it reads any of them.
+//!
 //! Messages can be acknowledged, and tell their place in the stream. `inbox` of a reader returns
 //! the inbox that it reads, so a program with many readers finds the one that a message came for.
 //! `close` ends a reader and closes its inbox. Dropping a reader leaves its inbox open.
@@ -18,3 +21,6 @@ mod ack_timeout;
 pub mod ordered;
 pub mod pull;
 pub mod push;
+mod subscription;
+
+pub use subscription::Subscription;

@@ -16,6 +16,7 @@ mod sequence;
 mod settings;
 mod stream;
 mod stream_step;
+mod subscriptions;
 
 pub use batch::{Batch, batches_keep_their_number, ended_batches_stay_ended};
 pub use batch_item::BatchItemError;

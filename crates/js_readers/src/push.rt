@@ -7,6 +7,7 @@ mod calls;
 mod error;
 mod messages;
 mod row;
+mod subscription;
 
 pub use crate::pull::{StreamError, StreamErrorKind};
 pub use calls::PushCalls;

@@ -1,94 +1,88 @@
-//! The readers of ordered consumers, by pull and by push, as ordered readers.
-ghost use Rattle.std.specs.Prelude.{◌≡◌};
-ghost use Rattle.js_ordered_stream.specs.Inbox.{ClosesInbox, inbox_of};
+//! The readers of ordered consumers, by pull and by push, as subscriptions.
+ghost use Rattle.js_ordered_stream.specs.Inbox.{inbox_of};
 ghost use Rattle.js_ordered_stream.specs.Opening.{input_of_pull, input_of_push, position_of_pull, position_of_push};
-ghost use Rattle.js_readers.specs.Stream.{untimed as untimed_in};
-ghost use Rattle.js_readers.specs.OrderedConsumers.{PollsOrdered, WakesOrdered};
+ghost use Rattle.js_ordered_stream.specs.Ordered.{something_due};
+ghost use Rattle.js_readers.specs.OrderedConsumers.{IsOrderedQuiet, PollsOrdered};
 
 use crate::ordered::reader::OrderedReader;
 use crate::ordered::{pull, push};
-use js_base::{Message, Moment, Next};
+use crate::subscription::Subscription;
+use js_base::{Moment, Next};
 use js_link::{InboxId, Link};
+use js_message::Message;
 use js_ordered_stream::OrderedError;
 use std::alloc::Global;
 
-// What a consumer answers, without how long the acknowledgement of its message would wait.
-fn untimed(
-    answer: Next<Result<js_message::Message, OrderedError>>,
-) -> Next<Result<Message, OrderedError>>
-    ensures { result ≡ untimed_in answer }
-{
-    match answer {
-        Next::Item(Ok(given)) => Next::Item(Ok(given.message)),
-        Next::Item(Err(error)) => Next::Item(Err(error)),
-        Next::Pending => Next::Pending,
-        Next::End => Next::End,
-        Next::OutOfMemory => Next::OutOfMemory,
-    }
-}
+impl Subscription for pull::Ordered {
+    type Item = Message;
 
-impl OrderedReader for pull::Ordered {
     type Error = OrderedError;
 
-    ghost polls = { λ now old new before after result. PollsOrdered now (input_of_pull old.reader) (input_of_pull new.reader) (position_of_pull old.reader) (position_of_pull new.reader) before after result };
+    ghost polls = { λ now old new before after result. PollsOrdered now old.timeout new.timeout (input_of_pull old.reader) (input_of_pull new.reader) (position_of_pull old.reader) (position_of_pull new.reader) before after result };
 
-    ghost wakes = { λ o moment. WakesOrdered (input_of_pull o.reader) (position_of_pull o.reader) moment };
+    ghost due = { λ now o. something_due now (position_of_pull o.reader) };
+
+    ghost quiet = { λ o view. IsOrderedQuiet (input_of_pull o.reader) (position_of_pull o.reader) view };
 
     ghost opened = { λ o. inbox_of (position_of_pull o.reader).consumer.phase };
 
-    ghost closes = { λ o before after. ClosesInbox (inbox_of (position_of_pull o.reader).consumer.phase) before after };
-
-    fn read_next<L: Link>(
+    fn poll_next<L: Link>(
         &mut self,
         alloc: Global,
         link: &mut L,
         now: Moment,
     ) -> Next<Result<Message, OrderedError>> {
-        untimed(self.poll_next(alloc, link, now))
+        self.poll_next(alloc, link, now)
     }
 
-    fn wakes_next(&self) -> Option<Moment> {
-        self.wakes_at()
-    }
-
-    fn open_inbox(&self) -> Option<InboxId> {
+    fn inbox(&self) -> Option<InboxId> {
         self.inbox()
     }
 
-    fn close_reader<L: Link>(self, link: &mut L) {
+    fn wakes_at(&self) -> Option<Moment> {
+        self.wakes_at()
+    }
+
+    fn close<L: Link>(self, link: &mut L) {
         self.close(link);
     }
 }
 
-impl OrderedReader for push::Ordered {
+impl OrderedReader for pull::Ordered {}
+
+impl Subscription for push::Ordered {
+    type Item = Message;
+
     type Error = OrderedError;
 
-    ghost polls = { λ now old new before after result. PollsOrdered now (input_of_push old.reader) (input_of_push new.reader) (position_of_push old.reader) (position_of_push new.reader) before after result };
+    ghost polls = { λ now old new before after result. PollsOrdered now old.timeout new.timeout (input_of_push old.reader) (input_of_push new.reader) (position_of_push old.reader) (position_of_push new.reader) before after result };
 
-    ghost wakes = { λ o moment. WakesOrdered (input_of_push o.reader) (position_of_push o.reader) moment };
+    ghost due = { λ now o. something_due now (position_of_push o.reader) };
+
+    ghost quiet = { λ o view. IsOrderedQuiet (input_of_push o.reader) (position_of_push o.reader) view };
 
     ghost opened = { λ o. inbox_of (position_of_push o.reader).consumer.phase };
 
-    ghost closes = { λ o before after. ClosesInbox (inbox_of (position_of_push o.reader).consumer.phase) before after };
-
-    fn read_next<L: Link>(
+    fn poll_next<L: Link>(
         &mut self,
         alloc: Global,
         link: &mut L,
         now: Moment,
     ) -> Next<Result<Message, OrderedError>> {
-        untimed(self.poll_next(alloc, link, now))
+        self.poll_next(alloc, link, now)
     }
 
-    fn wakes_next(&self) -> Option<Moment> {
-        self.wakes_at()
-    }
-
-    fn open_inbox(&self) -> Option<InboxId> {
+    fn inbox(&self) -> Option<InboxId> {
         self.inbox()
     }
 
-    fn close_reader<L: Link>(self, link: &mut L) {
+    fn wakes_at(&self) -> Option<Moment> {
+        self.wakes_at()
+    }
+
+    fn close<L: Link>(self, link: &mut L) {
         self.close(link);
     }
 }
+
+impl OrderedReader for push::Ordered {}

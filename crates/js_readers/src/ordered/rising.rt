@@ -1,12 +1,17 @@
 //! An ordered reader that never goes back without a word.
-ghost use Rattle.std.specs.Prelude.{◌≡◌, None, Some, option_map};
+ghost use Rattle.std.specs.Prelude.{◌≡◌, ◌<◌, ◌^◌, ℕ, None, Some, option_map};
+ghost use Rattle.js_base.specs.Clock.{has_come};
 ghost use Rattle.js_message.specs.AckSubject.{readable_as};
-ghost use Rattle.js_readers.specs.Rising.{IsAbove, IsRisingFrom, PollsReader, PollsRising, WakesRising, breach_at, breach_in, breach_told, handed_on, last_after, sequence_at};
+ghost use Rattle.js_ordered_stream.specs.Inbox.{ClosesInbox};
+ghost use Rattle.js_readers.specs.Rising.{IsAbove, IsRisingFrom, IsRisingQuiet, PollsReader, PollsRising, breach_at, breach_in, breach_told, handed_on, last_after, rising_due, sequence_at, told_of};
+ghost use Rattle.js_readers.specs.Subscription.{IdlesIfQuiet, KeepsConnection};
 
 use crate::ordered::breach::{Breach, RisingError};
 use crate::ordered::reader::OrderedReader;
-use js_base::{Message, Moment, Next};
+use crate::subscription::Subscription;
+use js_base::{Moment, Next};
 use js_link::{InboxId, Link};
+use js_message::Message;
 use js_ordered_table::place_of;
 use std::alloc::Global;
 
@@ -45,9 +50,9 @@ fn breach_at(last: Option<u64>, came: u64) -> Option<Breach>
 
 // The stream sequence of a message, where it tells one.
 fn sequence_of(message: &Message) -> Option<u64>
-    ensures { option_map (λ place. place.sequence) (readable_as message.now.reply) ≡ result }
+    ensures { option_map (λ place. place.sequence) (readable_as message.now.message.reply) ≡ result }
 {
-    match place_of(message) {
+    match place_of(&message.message) {
         None => None,
         Some(place) => Some(place.sequence),
     }
@@ -81,6 +86,8 @@ impl<R: OrderedReader> Rising<R> {
     ) -> Next<Result<Message, RisingError<R::Error>>>
         ensures polls { PollsRising R.polls now self.old self.new (L.view link.old) (L.view link.new) result }
         ensures above { IsAbove self.old.last result }
+        ensures keeps { KeepsConnection (L.view link.old) (L.view link.new) }
+        ensures idles { IdlesIfQuiet (rising_due R.due) (IsRisingQuiet R.quiet) now self.old self.new (L.view link.old) (L.view link.new) result }
     {
         match self.breach {
             Some(_) => Next::End,
@@ -98,8 +105,26 @@ impl<R: OrderedReader> Rising<R> {
         requires { self.old.breach ≡ None }
         ensures polls { PollsReader R.polls now self.old self.new (L.view link.old) (L.view link.new) result }
         ensures above { IsAbove self.old.last result }
+        ensures keeps { KeepsConnection (L.view link.old) (L.view link.new) }
+        ensures idles { IdlesIfQuiet (rising_due R.due) (IsRisingQuiet R.quiet) now self.old self.new (L.view link.old) (L.view link.new) result }
     {
-        match self.reader.read_next(alloc, link, now) {
+        let answer = self.reader.poll_next(alloc, link, now);
+        self.tell(answer)
+    }
+
+    // Tells what the reader below answered.
+    fn tell(
+        &mut self,
+        answer: Next<Result<Message, R::Error>>,
+    ) -> Next<Result<Message, RisingError<R::Error>>>
+        requires { self.old.breach ≡ None }
+        ensures told { result ≡ told_of self.old.last answer }
+        ensures reader { self.new.reader ≡ self.old.reader }
+        ensures last { self.new.last ≡ last_after self.old.last result }
+        ensures breach { self.new.breach ≡ breach_told result }
+        ensures above { IsAbove self.old.last result }
+    {
+        match answer {
             Next::Item(Ok(message)) => self.hand_on(message),
             Next::Item(Err(error)) => Next::Item(Err(RisingError::Reader(error))),
             Next::Pending => Next::Pending,
@@ -111,7 +136,7 @@ impl<R: OrderedReader> Rising<R> {
     // Hands a message on, or its breach in its place.
     fn hand_on(&mut self, message: Message) -> Next<Result<Message, RisingError<R::Error>>>
         requires { self.old.breach ≡ None }
-        ensures told { result ≡ handed_on (breach_in self.old.last (readable_as message.reply)) message }
+        ensures told { result ≡ handed_on (breach_in self.old.last (readable_as message.message.reply)) message }
         ensures reader { self.new.reader ≡ self.old.reader }
         ensures last { self.new.last ≡ last_after self.old.last result }
         ensures breach { self.new.breach ≡ breach_told result }
@@ -150,11 +175,11 @@ impl<R: OrderedReader> Rising<R> {
     /// Returns the first moment at which the reader below has something to do by itself. `None` if
     /// there is no such moment, and after a breach.
     pub fn wakes_at(&self) -> Option<Moment>
-        ensures { WakesRising R.wakes self.now.breach self.now.reader result }
+        ensures { (now : ℕ) → now < 2 ^ 64 → has_come result now ≡ rising_due R.due now self.now }
     {
         match self.breach {
             Some(_) => None,
-            None => self.reader.wakes_next(),
+            None => self.reader.wakes_at(),
         }
     }
 
@@ -162,34 +187,36 @@ impl<R: OrderedReader> Rising<R> {
     pub fn inbox(&self) -> Option<InboxId>
         ensures { result ≡ R.opened self.now.reader }
     {
-        self.reader.open_inbox()
+        self.reader.inbox()
     }
 
     /// Closes the reader below and its inbox.
     pub fn close<L: Link>(self, link: &mut L)
-        ensures { R.closes self.reader (L.view link.old) (L.view link.new) }
+        ensures { ClosesInbox (R.opened self.reader) (L.view link.old) (L.view link.new) }
     {
         let Rising {
             reader,
             last: _,
             breach: _,
         } = self;
-        reader.close_reader(link);
+        reader.close(link);
     }
 }
 
-impl<R: OrderedReader> OrderedReader for Rising<R> {
+impl<R: OrderedReader> Subscription for Rising<R> {
+    type Item = Message;
+
     type Error = RisingError<R::Error>;
 
     ghost polls = { λ now old new before after result. PollsRising R.polls now old new before after result };
 
-    ghost wakes = { λ o moment. WakesRising R.wakes o.breach o.reader moment };
+    ghost due = { λ now o. rising_due R.due now o };
+
+    ghost quiet = { λ o view. IsRisingQuiet R.quiet o view };
 
     ghost opened = { λ o. R.opened o.reader };
 
-    ghost closes = { λ o before after. R.closes o.reader before after };
-
-    fn read_next<L: Link>(
+    fn poll_next<L: Link>(
         &mut self,
         alloc: Global,
         link: &mut L,
@@ -198,15 +225,17 @@ impl<R: OrderedReader> OrderedReader for Rising<R> {
         self.poll_next(alloc, link, now)
     }
 
-    fn wakes_next(&self) -> Option<Moment> {
-        self.wakes_at()
-    }
-
-    fn open_inbox(&self) -> Option<InboxId> {
+    fn inbox(&self) -> Option<InboxId> {
         self.inbox()
     }
 
-    fn close_reader<L: Link>(self, link: &mut L) {
+    fn wakes_at(&self) -> Option<Moment> {
+        self.wakes_at()
+    }
+
+    fn close<L: Link>(self, link: &mut L) {
         self.close(link);
     }
 }
+
+impl<R: OrderedReader> OrderedReader for Rising<R> {}

@@ -1,0 +1,13 @@
+use Rattle.js_readers.proofs.IdlePolls.{batch_idles}
+use Rattle.js_readers.proofs.KeptReads.{keeps_batch_poll}
+use Rattle.js_readers.proofs.pull.subscriptions.BatchSubscription.poll_next.Goals as goal
+
+pub returns-clause-keeps : goal.returns-clause-keeps
+returns-clause-keeps g c =
+    let view = g.L.Link.view in
+    keeps_batch_poll c.args.now c.args.self.now c.poll_next.new.self c.poll_next.result (view c.args.link.now) (view c.poll_next.new.link) c.poll_next.ensures.polls
+
+pub returns-clause-idles : goal.returns-clause-idles
+returns-clause-idles g c =
+    let view = g.L.Link.view in
+    batch_idles c.args.now c.args.self.now c.poll_next.new.self (view c.args.link.now) (view c.poll_next.new.link) c.poll_next.result c.poll_next.ensures.sleeps

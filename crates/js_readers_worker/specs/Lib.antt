@@ -1,0 +1,3 @@
+pub mod WorkerError
+pub mod Worker
+pub mod WorkerRuns
