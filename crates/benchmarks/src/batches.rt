@@ -8,7 +8,7 @@ use std::alloc::Global;
 use std::test::Fail;
 
 /// How many messages are delivered at once.
-const BATCH: u64 = 500;
+pub const BATCH: u64 = 500;
 
 /// Has a reader read so many messages, and prints how many it yields.
 pub fn read<R: Reads>(

@@ -6,6 +6,7 @@
 //! | `publish MESSAGES AT_ONCE` | MESSAGES are published over an `OutboxLink`, AT_ONCE of them pushed at once | how many were stored, and how many were in flight at most |
 //! | `pull MESSAGES`, `push MESSAGES` | an ordered consumer of that kind reads MESSAGES, of which none is lost | how many it yields |
 //! | `deliver MESSAGES` | MESSAGES are delivered to inboxes that nobody reads | how many these are |
+//! | `table CHANGES KEYS` | a live table reads CHANGES from an ordered push consumer, each of the next of KEYS keys | how many it tells, and how many entries it keeps |
 //! | `lose SEEDS` | for each number below SEEDS, a pull and a push consumer read a log each from a server that loses things | how many of each kind yield theirs whole |
 //!
 //! `pull`, `push` and `deliver` count in whole batches of 500. A word that is no number counts as 0. Any other line ends the program with an error that names it.
@@ -13,12 +14,13 @@
 
 mod batches;
 mod lossy;
+mod lossy_server;
 mod parse;
 mod publish;
 mod reader;
 mod requests;
 mod round;
-mod server;
+mod table;
 mod texts;
 
 use js_ordered_stream::{pull, push};
@@ -70,6 +72,7 @@ fn run(rt: &(impl Print + AllocGlobal + Wait), line: &str, words: &[&str]) -> Re
         ["pull", messages] => batches::read::<pull::Ordered>(rt, Kind::Pull, number(messages)),
         ["push", messages] => batches::read::<push::Ordered>(rt, Kind::Push, number(messages)),
         ["deliver", messages] => batches::deliver_alone(rt, number(messages)),
+        ["table", changes, keys] => table::run(rt, number(changes), number(keys)),
         ["lose", seeds] => lossy::lose(rt, number(seeds)),
         _ => Err(Fail::new(format_args!("no benchmark: {line}"))),
     }

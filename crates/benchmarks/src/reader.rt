@@ -107,7 +107,7 @@ impl Reads for push::Ordered {
 }
 
 /// What the server tells of the first consumer, which may ask for so many messages by one request.
-fn told(alloc: Global, kind: Kind, max_batch: i64) -> Result<Info, OutOfMemory> {
+pub fn told(alloc: Global, kind: Kind, max_batch: i64) -> Result<Info, OutOfMemory> {
     let mut first = first_info(alloc, kind)?;
     if kind == Kind::Pull {
         first.config.max_batch = max_batch;

@@ -1,7 +1,7 @@
 //! What the server reads of what a reader sends.
 
+use crate::lossy_server::Consumer;
 use crate::reader::Kind;
-use crate::server::Consumer;
 use crate::texts::{info_text, plain};
 use bytes::Bytes;
 use js_base::{Message, OutOfMemory};

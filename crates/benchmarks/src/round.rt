@@ -1,7 +1,7 @@
 //! One reading of the log.
 
+use crate::lossy_server::Server;
 use crate::reader::{Kind, Reads, open};
-use crate::server::Server;
 use js_base::{Message, Moment, Next, OutOfMemory};
 use js_link::MemoryLink;
 use js_ordered_table::place_of;

@@ -84,6 +84,34 @@ pub fn entry(alloc: Global, sequence: u64, number: u64) -> Result<Message, OutOf
     message(alloc, "0123456789abcdef", Some(reply))
 }
 
+fn key_subject(alloc: Global, key: u64) -> Result<Subject, OutOfMemory> {
+    let subject = format!(in alloc; "$KV.config.{key}")?;
+    Ok(Subject::from(subject))
+}
+
+/// A value of a key of the bucket `config`, with this sequence in the bucket's stream and as many messages of its consumer before it.
+pub fn change(alloc: Global, key: u64, sequence: u64) -> Result<Message, OutOfMemory> {
+    let payload = "0123456789abcdef";
+    let (subject, reply, bytes) = all_3(
+        key_subject(alloc, key),
+        reply(alloc, sequence, sequence),
+        payload_bytes(alloc, payload),
+    )?;
+    Ok(Message {
+        subject,
+        reply: Some(reply),
+        payload: bytes,
+        headers: None,
+        status: None,
+        description: None,
+        length: payload.len() as u64,
+    })
+}
+
+fn payload_bytes(alloc: Global, payload: &str) -> Result<Bytes, OutOfMemory> {
+    Ok(Bytes::copy_from_slice(alloc, payload.as_bytes())?)
+}
+
 /// Has a message say a status.
 fn say(message: &mut Message, code: StatusCode, description: Text, headers: HeaderMap) {
     message.status = Some(code);

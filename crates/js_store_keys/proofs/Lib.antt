@@ -1,2 +1,1 @@
 pub mod AnswerSteps
-pub mod DirectReads

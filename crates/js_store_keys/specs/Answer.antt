@@ -1,5 +1,5 @@
 -- What the server's answer says of the last message of a key.
-use Rattle.std.specs.Prelude.{ℕ, ℤ, ◌≡◌, ◌==◌, ⊤, Bool, true, false, if◌then◌else◌, List, [], ◌∷◌, length, codes, Option, Some, None, option_map, Result, Ok, Err}
+use Rattle.std.specs.Prelude.{ℕ, ℤ, ◌≡◌, ◌==◌, ⊤, Bool, true, false, if◌then◌else◌, List, [], ◌∷◌, length, codes, Option, Some, None, IsSome, option_map, Result, Ok, Err, refl}
 use Rattle.std.specs.Option.{option_and_then, ok_or}
 use Rattle.std.specs.Result.{result_ok}
 use Rattle.base64.specs.Engines.{standard}
@@ -19,8 +19,6 @@ use Rattle.js_link_wire.specs.Headers.{read_block}
 use Rattle.js_link_wire.specs.declared.headers.HeaderBlock.{HeaderBlock}
 use Rattle.js_link_wire.specs.declared.headers.HeadersDamage.{HeadersDamage}
 use Rattle.js_message.specs.StreamMessage.{MessageFields, fields_in}
-use Rattle.js_message.specs.declared.stream_message.StreamMessageErrorKind.{StreamMessageErrorKind}
-use Rattle.js_message.specs.declared.stream_message.StreamMessageErrorKind.TheVariants as kinds
 use Rattle.js_store_keys.specs.declared.entry.Entry.{Entry}
 use Rattle.js_store_keys.specs.declared.get_error.GetError.{GetError}
 use Rattle.js_store_keys.specs.declared.get_error.GetError.TheVariants.{Refused, Unreadable, OutOfMemory}
@@ -35,12 +33,16 @@ get_error_text (Refused code err_code) = codes "refused by the server"
 get_error_text Unreadable = codes "unreadable answer"
 get_error_text OutOfMemory = codes "out of memory"
 
--- what is answered is what the definition says, unless memory ran out
+-- what is answered is what the definition says; memory may run out only where something needs it
+abbrev pub AnswersWhere : {A : Type 0} → Type 0 → Result A GetError → Result A GetError → Type 0
+AnswersWhere needs told (Ok value) = told ≡ Ok value
+AnswersWhere needs told (Err Unreadable) = told ≡ Err Unreadable
+AnswersWhere needs told (Err (Refused code err_code)) = told ≡ Err (Refused code err_code)
+AnswersWhere needs told (Err OutOfMemory) = needs
+
+-- the same where memory is needed in any case
 abbrev pub Answers : {A : Type 0} → Result A GetError → Result A GetError → Type 0
-Answers told (Ok value) = told ≡ Ok value
-Answers told (Err Unreadable) = told ≡ Err Unreadable
-Answers told (Err (Refused code err_code)) = told ≡ Err (Refused code err_code)
-Answers told (Err OutOfMemory) = ⊤
+Answers told result = AnswersWhere ⊤ told result
 
 -- the same, of an answer that is seen by a view
 abbrev pub AnswersAs : {A B : Type 0} → (A → B) → Result B GetError → Result A GetError → Type 0
@@ -58,12 +60,7 @@ and_then (Err error) next = Err error
 abbrev pub readable : {A : Type 0} → Option A → Result A GetError
 readable value = ok_or value Unreadable
 
--- what is told where the headers of a message could not be read, or a JSON value
-abbrev pub unread_message : StreamMessageErrorKind → GetError
-unread_message kinds.MissingHeader = Unreadable
-unread_message kinds.ParseError = Unreadable
-unread_message kinds.OutOfMemory = OutOfMemory
-
+-- what is told where a JSON value could not be read
 abbrev pub unread_value : ReadError → GetError
 unread_value (faults.Missing key) = Unreadable
 unread_value (faults.WrongKind key) = Unreadable
@@ -96,15 +93,22 @@ value_in bucket key stored = if is_put stored.operation then Ok (Some (entry_of 
 abbrev pub by_status : StatusCode → Result (Option Entry) GetError
 by_status status = if status.0 == 404 then Ok None else Err (Refused status.0 0)
 
--- a message of a stream says in its headers where it stands
-abbrev pub by_fields : {F : Type 0} → List Header → List ℕ → Result MessageFields F → Result Stored GetError
-by_fields headers payload (Ok fields) = Ok (record { value = payload; revision = fields.sequence; operation = operation_in headers; created = fields.time })
-by_fields headers payload (Err fault) = Err Unreadable
+-- where a message stands: its sequence, and when the stream stored it
+abbrev pub by_fields : {F : Type 0} → Result MessageFields F → Option (ℕ × ℤ)
+by_fields (Ok fields) = Some (fields.sequence, fields.time)
+by_fields (Err fault) = None
+
+-- a message of a stream says it in its headers
+abbrev pub place_in : List Header → Option (ℕ × ℤ)
+place_in headers = by_fields (fields_in headers)
+
+abbrev pub stored_with : List Header → List ℕ → ℕ × ℤ → Stored
+stored_with headers payload place = record { value = payload; revision = place.0; operation = operation_in headers; created = place.1 }
 
 -- without headers it is none
-abbrev pub direct_stored : Option (List Header) → List ℕ → Result Stored GetError
-direct_stored None payload = Err Unreadable
-direct_stored (Some headers) payload = by_fields headers payload (fields_in headers)
+abbrev pub direct_stored : Option (List Header) → List ℕ → Option Stored
+direct_stored None payload = None
+direct_stored (Some headers) payload = option_map (stored_with headers payload) (place_in headers)
 
 -- a status, or else a message
 abbrev pub status_or : Option StatusCode → Result (Option Entry) GetError → Result (Option Entry) GetError
@@ -113,25 +117,34 @@ status_or None told = told
 
 -- what the answer to a direct get says
 abbrev pub direct_answer : List ℕ → List ℕ → Message → Result (Option Entry) GetError
-direct_answer bucket key message = status_or message.status (and_then (direct_stored message.headers message.payload) (value_in bucket key))
+direct_answer bucket key message = status_or message.status (and_then (readable (direct_stored message.headers message.payload)) (value_in bucket key))
 
 -- ---- an answer in JSON
 
+-- what kind of error the API's error is, and which; its description does not matter
+abbrev pub numbers_of : Result Error ReadError → Option (ℕ × ℕ)
+numbers_of (Ok error) = Some (error.code, error.err_code.0)
+numbers_of (Err fault) = None
+
 -- the error 10037 tells that there is no message, and any other one refuses
-abbrev pub by_fields_of_error : Result Error ReadError → Result (Option Entry) GetError
-by_fields_of_error (Ok error) = if error.err_code.0 == 10037 then Ok None else Err (Refused error.code error.err_code.0)
-by_fields_of_error (Err fault) = Err Unreadable
+abbrev pub by_numbers : Option (ℕ × ℕ) → Result (Option Entry) GetError
+by_numbers None = Err Unreadable
+by_numbers (Some numbers) = if numbers.1 == 10037 then Ok None else Err (Refused numbers.0 numbers.1)
 
 abbrev pub by_error : Data → Result (Option Entry) GetError
-by_error error = by_fields_of_error (error_fields error)
+by_error error = by_numbers (numbers_of (error_fields error))
 
 -- the sequence of the message
-abbrev pub revision_at : Data → Result ℕ GetError
-revision_at message = readable (option_and_then as_u64 (option_and_then as_number (get (codes "seq") message)))
+abbrev pub revision_at : Data → Option ℕ
+revision_at message = option_and_then as_u64 (option_and_then as_number (get (codes "seq") message))
 
 -- when the stream stored it
-abbrev pub created_at : Data → Result ℤ GetError
-created_at message = readable (option_map (λ time. time.nanosecond) (option_and_then instant_of (option_and_then as_str (get (codes "time") message))))
+abbrev pub created_at : Data → Option ℤ
+created_at message = option_map (λ time. time.nanosecond) (option_and_then instant_of (option_and_then as_str (get (codes "time") message)))
+
+-- where it stands
+abbrev pub place_at : Data → Option (ℕ × ℤ)
+place_at message = option_and_then (λ revision. option_map (λ created. (revision, created)) (created_at message)) (revision_at message)
 
 -- the bytes that a text in base 64 stands for
 abbrev pub decoded : List ℕ → Result (List ℕ) GetError
@@ -157,16 +170,22 @@ in_block block = if length block == 0 then Ok Put else by_block (read_block bloc
 abbrev pub operation_at : Data → Result Operation GetError
 operation_at message = and_then (bytes_at (codes "hdrs") message) in_block
 
+-- what it does to its key, and its value
+abbrev pub contents_at : Data → Result (Operation × List ℕ) GetError
+contents_at message = and_then (operation_at message) (λ operation. and_then (bytes_at (codes "data") message) (λ value. Ok (operation, value)))
+
 -- the message that the answer has
-abbrev pub stream_stored : Data → Result Stored GetError
-stream_stored message =
-    and_then (revision_at message) (λ revision. and_then (created_at message) (λ created. and_then (operation_at message) (λ operation.
-    and_then (bytes_at (codes "data") message) (λ value. Ok (record { value = value; revision = revision; operation = operation; created = created })))))
+abbrev pub stored_of : ℕ × ℤ → Operation × List ℕ → Stored
+stored_of place contents = record { value = contents.1; revision = place.0; operation = contents.0; created = place.1 }
+
+-- the entry of the message at a place, where there is one
+abbrev pub at_place : List ℕ → List ℕ → Data → ℕ × ℤ → Result (Option Entry) GetError
+at_place bucket key message place = and_then (contents_at message) (λ contents. value_in bucket key (stored_of place contents))
 
 -- the entry of the message, where there is one
 abbrev pub by_message : List ℕ → List ℕ → Option Data → Result (Option Entry) GetError
 by_message bucket key None = Err Unreadable
-by_message bucket key (Some message) = and_then (stream_stored message) (value_in bucket key)
+by_message bucket key (Some message) = and_then (readable (place_at message)) (at_place bucket key message)
 
 -- an error, or else a message
 abbrev pub error_or : Option Data → Result (Option Entry) GetError → Result (Option Entry) GetError
@@ -185,9 +204,48 @@ by_json bucket key (Err fault) = Err Unreadable
 abbrev pub stream_answer : List ℕ → List ℕ → List ℕ → Result (Option Entry) GetError
 stream_answer bucket key payload = by_json bucket key (value_of payload)
 
+-- ---- where memory is needed
+
+-- for an entry, and not for a refusal or for a key that has no value
+abbrev pub NeedsEntry : Result (Option Entry) GetError → Type 0
+NeedsEntry (Ok (Some entry)) = ⊤
+NeedsEntry (Ok None) = ⊥
+NeedsEntry (Err error) = ⊥
+
+-- for the bytes of a message in JSON, which stand in base 64: not where it does not say where it stands, nor where there is an error in its place
+abbrev pub NeedsBytes : Option Data → Option Data → Type 0
+NeedsBytes (Some error) message = ⊥
+NeedsBytes None message = IsSome (option_and_then place_at message)
+
 -- ---- both
 
 -- what an answer says, to a direct get or to a request of the API
 abbrev pub answer : List ℕ → Bool → List ℕ → Message → Result (Option Entry) GetError
 answer bucket true key message = direct_answer bucket key message
 answer bucket false key message = stream_answer bucket key message.payload
+
+-- where memory is needed to tell it: for each answer in JSON, and of the others for an entry
+abbrev pub NeedsMemory : List ℕ → Bool → List ℕ → Message → Type 0
+NeedsMemory bucket true key message = NeedsEntry (direct_answer bucket key message)
+NeedsMemory bucket false key message = ⊤
+
+-- ---- worked answers
+
+-- an answer with this status
+abbrev pub with_status : ℕ → Message
+with_status status = record {
+  subject = codes "_INBOX.t1.1";
+  reply = None;
+  payload = [];
+  headers = None;
+  status = Some (record { 0 = status });
+  description = None;
+  length = 0;
+}
+
+-- a key without a message, and a server that has no time: neither needs memory
+no_message : (direct_answer (codes "config") (codes "mode") (with_status 404) ≡ Ok None) × (NeedsMemory (codes "config") true (codes "mode") (with_status 404) → ⊥)
+no_message = (refl, λ needs. needs)
+
+times_out : (direct_answer (codes "config") (codes "mode") (with_status 408) ≡ Err (Refused 408 0)) × (NeedsMemory (codes "config") true (codes "mode") (with_status 408) → ⊥)
+times_out = (refl, λ needs. needs)

@@ -1,5 +1,5 @@
 //! The answer to a request for the last message of a key, as an entry.
-ghost use Rattle.js_store_keys.specs.Answer.{Answers, answer as answer_in};
+ghost use Rattle.js_store_keys.specs.Answer.{AnswersWhere, NeedsMemory, answer as answer_in};
 
 use crate::direct_answer::direct_answer;
 use crate::entry::Entry;
@@ -20,7 +20,8 @@ use std::alloc::Global;
 ///
 /// Fails with `Refused` if the server refused the request for another reason, and with
 /// `Unreadable` if the answer is neither a message of a stream nor a refusal. Otherwise fails only
-/// with `OutOfMemory`. The answer is then lost; send the request again.
+/// with `OutOfMemory`: of the answer to a direct get only for an entry, and of an answer in JSON for
+/// any. The answer is then lost; send the request again.
 pub fn read_answer(
     alloc: Global,
     places: &KeyPlaces,
@@ -28,7 +29,7 @@ pub fn read_answer(
     key: &str,
     message: Message,
 ) -> Result<Option<Entry>, GetError>
-    ensures { Answers (answer_in places.now.bucket reads.now.allow_direct key.now message) result }
+    ensures { AnswersWhere (NeedsMemory places.now.bucket reads.now.allow_direct key.now message) (answer_in places.now.bucket reads.now.allow_direct key.now message) result }
 {
     if reads.allow_direct {
         return direct_answer(alloc, places, key, message);

@@ -1,14 +1,16 @@
 //! The answer to a direct get: the message itself, with headers that say where it stands.
-ghost use Rattle.std.specs.Prelude.{◌≡◌};
-ghost use Rattle.js_store_keys.specs.Answer.{Answers, by_status as by_status_in, direct_answer as direct_answer_in, direct_stored as direct_stored_in, unread_message};
+ghost use Rattle.std.specs.Prelude.{◌≡◌, option_map};
+ghost use Rattle.js_message.specs.StreamMessage.{time_of};
+ghost use Rattle.js_store_keys.specs.Answer.{AnswersWhere, NeedsEntry, by_status as by_status_in, direct_answer as direct_answer_in, direct_stored as direct_stored_in, place_in as place_in_headers};
 
 use crate::entry::Entry;
 use crate::get_error::GetError;
 use crate::key_places::KeyPlaces;
 use crate::operation::operation_of;
 use crate::stored_message::{Stored, value_of};
-use js_base::{Message, StatusCode};
-use js_message::{StreamMessage, StreamMessageErrorKind};
+use jiff::Timestamp;
+use js_base::{HeaderMap, Message, StatusCode};
+use js_message::read_u64;
 use std::alloc::Global;
 
 // What a status says in place of a message.
@@ -25,65 +27,71 @@ fn by_status(status: StatusCode) -> Result<Option<Entry>, GetError>
     }
 }
 
-// What is told where the headers could not be read.
-fn unread(kind: StreamMessageErrorKind) -> GetError
-    ensures { result ≡ unread_message kind }
+fn read_time(text: &str) -> Option<Timestamp>
+    ensures { option_map (λ time. time.nanosecond) result ≡ time_of text.now }
 {
-    match kind {
-        StreamMessageErrorKind::OutOfMemory => GetError::OutOfMemory,
-        StreamMessageErrorKind::MissingHeader | StreamMessageErrorKind::ParseError => {
-            GetError::Unreadable
-        }
-    }
+    text.parse::<Timestamp>().ok()
+}
+
+// Where the message of these headers stands: its sequence, and when the stream stored it, in nanoseconds since 1970.
+// `StreamMessage` of js_message reads the same headers, but copies the subject and the name of a missing header.
+fn place_in(headers: &HeaderMap) -> Option<(u64, i128)>
+    ensures { result ≡ place_in_headers headers.now }
+{
+    let revision = read_u64(headers.get_last("Nats-Sequence")?)?;
+    let created = read_time(headers.get_last("Nats-Time-Stamp")?)?;
+    headers.get_last("Nats-Subject")?;
+    Some((revision, created.as_nanosecond()))
 }
 
 // The message that came, by its headers.
-#[tactic(auto, using(crate::proofs::DirectReads::direct_refused, crate::proofs::DirectReads::direct_read))]
-fn direct_stored(alloc: Global, message: Message) -> Result<Stored, GetError>
-    ensures { Answers (direct_stored_in message.headers message.payload) result }
+fn direct_stored(message: Message) -> Option<Stored>
+    ensures { result ≡ direct_stored_in message.headers message.payload }
 {
-    match StreamMessage::try_from_message(alloc, message) {
-        Ok(message) => {
-            let StreamMessage {
-                subject,
-                sequence,
-                headers,
-                payload,
-                time,
-            } = message;
-            let operation = operation_of(Some(&headers));
-            drop((subject, headers));
-            Ok(Stored {
-                value: payload,
-                revision: sequence,
-                operation,
-                created: time.as_nanosecond(),
-            })
-        }
-        Err(error) => {
-            let kind = *error.kind();
-            drop(error);
-            Err(unread(kind))
-        }
-    }
+    let Message {
+        subject,
+        reply,
+        payload,
+        headers,
+        description,
+        ..
+    } = message;
+    drop((subject, reply, description));
+    let Some(headers) = headers else {
+        drop(payload);
+        return None;
+    };
+    let place = place_in(&headers);
+    let operation = operation_of(Some(&headers));
+    drop(headers);
+    let Some((revision, created)) = place else {
+        drop(payload);
+        return None;
+    };
+    Some(Stored {
+        value: payload,
+        revision,
+        operation,
+        created,
+    })
 }
 
-/// Reads the answer to a direct get.
-#[tactic(auto, using(crate::proofs::AnswerSteps::answers_same, crate::proofs::AnswerSteps::answers_err, crate::proofs::AnswerSteps::answers_next))]
+/// Reads the answer to a direct get. Memory may run out only for an entry.
+#[tactic(auto, using(crate::proofs::AnswerSteps::status_answers, crate::proofs::AnswerSteps::stored_answers))]
 pub(crate) fn direct_answer(
     alloc: Global,
     places: &KeyPlaces,
     key: &str,
     message: Message,
 ) -> Result<Option<Entry>, GetError>
-    ensures { Answers (direct_answer_in places.now.bucket key.now message) result }
+    ensures { AnswersWhere (NeedsEntry (direct_answer_in places.now.bucket key.now message)) (direct_answer_in places.now.bucket key.now message) result }
 {
     if let Some(status) = message.status {
         drop(message);
         return by_status(status);
     }
-    match direct_stored(alloc, message) {
-        Ok(stored) => value_of(alloc, places, key, stored),
-        Err(error) => Err(error),
+    match direct_stored(message) {
+        Some(stored) => value_of(alloc, places, key, stored),
+        None => Err(GetError::Unreadable),
     }
 }

@@ -1,6 +1,6 @@
 //! The last message of a key, as an answer of the server has it.
 ghost use Rattle.std.specs.Prelude.{◌≡◌, true, None, IfOk};
-ghost use Rattle.js_store_keys.specs.Answer.{Answers, entry_of as entry_of_stored, value_in};
+ghost use Rattle.js_store_keys.specs.Answer.{AnswersWhere, NeedsEntry, entry_of as entry_of_stored, value_in};
 ghost use Rattle.js_store_keys.specs.Operation.{is_put as is_put_by};
 
 use crate::entry::Entry;
@@ -63,13 +63,14 @@ fn entry_of(
 }
 
 // The entry of a message, unless it is a deletion.
+#[tactic(auto, using(crate::proofs::AnswerSteps::put_needs_entry))]
 pub(crate) fn value_of(
     alloc: Global,
     places: &KeyPlaces,
     key: &str,
     stored: Stored,
 ) -> Result<Option<Entry>, GetError>
-    ensures { Answers (value_in places.now.bucket key.now stored) result }
+    ensures { AnswersWhere (NeedsEntry (value_in places.now.bucket key.now stored)) (value_in places.now.bucket key.now stored) result }
 {
     if !is_put(stored.operation) {
         drop(stored);

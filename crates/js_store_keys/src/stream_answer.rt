@@ -1,7 +1,14 @@
 //! The answer of the API that has the message in JSON, its bytes in base 64.
-ghost use Rattle.std.specs.Prelude.{◌≡◌, codes, option_map, Ok};
+ghost use Rattle.std.specs.Prelude.{◌≡◌, codes, option_map, Ok, None};
+ghost use Rattle.std.specs.Option.{is_some};
+ghost use Rattle.std.specs.Result.{result_ok};
+ghost use Rattle.serde_json.specs.Find.{get};
 ghost use Rattle.serde_json.specs.View.{view};
-ghost use Rattle.js_store_keys.specs.Answer.{Answers, AnswersAs, unread_value, by_error as by_error_in, by_message as by_message_in, by_value as by_value_in, stream_answer as stream_answer_in, stream_stored as stream_stored_in, operation_at as operation_at_in, in_block, bytes_at as bytes_at_in, decoded as decoded_in, revision_at as revision_at_in, created_at as created_at_in};
+ghost use Rattle.js_codes.specs.Errors.{error_fields};
+ghost use Rattle.js_codes.specs.ErrorCode.{error_code, no_code};
+ghost use Rattle.js_json_members.specs.Member.{required, defaulted, optional, natural, text};
+ghost use Rattle.js_json_members.specs.declared.key.Key.TheVariants as key;
+ghost use Rattle.js_store_keys.specs.Answer.{Answers, AnswersAs, AnswersWhere, NeedsBytes, unread_value, by_error as by_error_in, numbers_of, at_place as at_place_in, by_message as by_message_in, by_value as by_value_in, stream_answer as stream_answer_in, contents_at as contents_at_in, operation_at as operation_at_in, in_block, bytes_at as bytes_at_in, decoded as decoded_in, place_at as place_at_in, revision_at as revision_at_in, created_at as created_at_in};
 
 use crate::entry::Entry;
 use crate::get_error::GetError;
@@ -12,8 +19,7 @@ use base64::DecodeAllocError;
 use base64::engine::general_purpose::STANDARD;
 use bytes::Bytes;
 use js_codes::ErrorCode;
-use js_codes::errors::Error;
-use js_json_members::{FromValue, ReadError, instant_of};
+use js_json_members::{ReadError, instant_of};
 use js_link_wire::{HeadersError, read_headers};
 use serde_json::Value;
 use std::alloc::Global;
@@ -32,51 +38,83 @@ fn unread(fault: ReadError) -> GetError
     }
 }
 
-// What the API's error says of the key.
-#[tactic(auto, using(crate::proofs::AnswerSteps::answers_fault))]
-fn by_error(alloc: Global, error: &Value) -> Result<Option<Entry>, GetError>
-    ensures { Answers (by_error_in (view error.now)) result }
+// What kind of error it is.
+#[tactic(auto, unfolding(js_json_members::specs::Member::required, js_json_members::specs::Member::natural))]
+fn code_in(error: &Value) -> Option<u64>
+    ensures { result ≡ result_ok (required natural key.Code (view error.now)) }
 {
-    match Error::from_fields(alloc, error) {
-        Ok(error) => {
-            let (code, number) = (error.code(), error.error_code());
-            drop(error);
-            if number == ErrorCode::NO_MESSAGE_FOUND {
-                Ok(None)
-            } else {
-                Err(GetError::Refused {
-                    code,
-                    err_code: number.0,
-                })
-            }
-        }
-        Err(fault) => Err(unread(fault)),
+    error.get("code")?.as_u64()
+}
+
+// Which error it is, 0 where that is not told.
+#[tactic(auto, unfolding(js_json_members::specs::Member::defaulted, js_json_members::specs::Member::natural, js_codes::specs::ErrorCode::error_code))]
+fn number_in(error: &Value) -> Option<u64>
+    ensures { result ≡ option_map (λ number. number.0) (result_ok (defaulted error_code key.ErrCode no_code (view error.now))) }
+{
+    match error.get("err_code") {
+        None => Some(0),
+        Some(number) => number.as_u64(),
     }
 }
 
-fn revision_at(message: &Value) -> Result<u64, GetError>
+// Whether its description, if there is one, is a text. It is not copied.
+#[tactic(auto, unfolding(js_json_members::specs::Member::optional, js_json_members::specs::Member::text))]
+fn has_text(error: &Value) -> bool
+    ensures { result ≡ is_some (result_ok (optional text key.Description (view error.now))) }
+{
+    match error.get("description") {
+        None => true,
+        Some(description) => description.is_null() || description.is_string(),
+    }
+}
+
+#[tactic(auto, unfolding(js_codes::specs::Errors::error_fields))]
+fn numbers_in(error: &Value) -> Option<(u64, u64)>
+    ensures { result ≡ numbers_of (error_fields (view error.now)) }
+{
+    let code = code_in(error)?;
+    let number = number_in(error)?;
+    if has_text(error) {
+        Some((code, number))
+    } else {
+        None
+    }
+}
+
+// What the API's error says of the key.
+fn by_error(error: &Value) -> Result<Option<Entry>, GetError>
+    ensures { result ≡ by_error_in (view error.now) }
+{
+    let Some((code, err_code)) = numbers_in(error) else {
+        return Err(GetError::Unreadable);
+    };
+    if ErrorCode(err_code) == ErrorCode::NO_MESSAGE_FOUND {
+        Ok(None)
+    } else {
+        Err(GetError::Refused { code, err_code })
+    }
+}
+
+fn revision_at(message: &Value) -> Option<u64>
     ensures { result ≡ revision_at_in (view message.now) }
 {
-    match message.get("seq") {
-        None => Err(GetError::Unreadable),
-        Some(value) => value.as_u64().ok_or(GetError::Unreadable),
-    }
+    message.get("seq")?.as_u64()
 }
 
 // When the stream stored the message, in nanoseconds since 1970.
-fn created_at(message: &Value) -> Result<i128, GetError>
+fn created_at(message: &Value) -> Option<i128>
     ensures { result ≡ created_at_in (view message.now) }
 {
-    let Some(value) = message.get("time") else {
-        return Err(GetError::Unreadable);
-    };
-    let Some(text) = value.as_str() else {
-        return Err(GetError::Unreadable);
-    };
-    match instant_of(text) {
-        None => Err(GetError::Unreadable),
-        Some(time) => Ok(time.as_nanosecond()),
-    }
+    let time = instant_of(message.get("time")?.as_str()?)?;
+    Some(time.as_nanosecond())
+}
+
+fn place_at(message: &Value) -> Option<(u64, i128)>
+    ensures { result ≡ place_at_in (view message.now) }
+{
+    let revision = revision_at(message)?;
+    let created = created_at(message)?;
+    Some((revision, created))
 }
 
 // The bytes that a text in base 64 stands for.
@@ -153,57 +191,71 @@ fn value_at(alloc: Global, message: &Value) -> Result<Bytes, GetError>
     }
 }
 
-// The message that came, by its members.
+// What the message does to its key, and its value.
 #[tactic(auto, using(crate::proofs::AnswerSteps::answers_same, crate::proofs::AnswerSteps::answers_err, crate::proofs::AnswerSteps::answers_next))]
-fn stream_stored(alloc: Global, message: &Value) -> Result<Stored, GetError>
-    ensures { Answers (stream_stored_in (view message.now)) result }
+fn contents_at(alloc: Global, message: &Value) -> Result<(Operation, Bytes), GetError>
+    ensures { Answers (contents_at_in (view message.now)) result }
 {
-    let revision = revision_at(message)?;
-    let created = created_at(message)?;
     let operation = operation_at(alloc, message)?;
     let value = value_at(alloc, message)?;
-    Ok(Stored {
-        value,
-        revision,
-        operation,
-        created,
-    })
+    Ok((operation, value))
 }
 
-#[tactic(auto, using(crate::proofs::AnswerSteps::answers_err, crate::proofs::AnswerSteps::answers_next))]
+#[tactic(auto, using(crate::proofs::AnswerSteps::answers_err, crate::proofs::AnswerSteps::answers_next, crate::proofs::AnswerSteps::answers_where))]
+fn at_place(
+    alloc: Global,
+    places: &KeyPlaces,
+    key: &str,
+    message: &Value,
+    place: (u64, i128),
+) -> Result<Option<Entry>, GetError>
+    ensures { Answers (at_place_in places.now.bucket key.now (view message.now) place) result }
+{
+    let (operation, value) = contents_at(alloc, message)?;
+    let stored = Stored {
+        value,
+        revision: place.0,
+        operation,
+        created: place.1,
+    };
+    value_of(alloc, places, key, stored)
+}
+
+#[tactic(auto, using(crate::proofs::AnswerSteps::placed_answers))]
 fn by_message(
     alloc: Global,
     places: &KeyPlaces,
     key: &str,
     message: Option<&Value>,
 ) -> Result<Option<Entry>, GetError>
-    ensures { Answers (by_message_in places.now.bucket key.now (option_map (λ value. view value.now) message.entry)) result }
+    ensures { AnswersWhere (NeedsBytes None (option_map (λ value. view value.now) message.entry)) (by_message_in places.now.bucket key.now (option_map (λ value. view value.now) message.entry)) result }
 {
     let Some(message) = message else {
         return Err(GetError::Unreadable);
     };
-    match stream_stored(alloc, message) {
-        Ok(stored) => value_of(alloc, places, key, stored),
-        Err(error) => Err(error),
+    match place_at(message) {
+        Some(place) => at_place(alloc, places, key, message, place),
+        None => Err(GetError::Unreadable),
     }
 }
 
+// An error is told without any memory.
 fn by_value(
     alloc: Global,
     places: &KeyPlaces,
     key: &str,
     answer: &Value,
 ) -> Result<Option<Entry>, GetError>
-    ensures { Answers (by_value_in places.now.bucket key.now (view answer.now)) result }
+    ensures { AnswersWhere (NeedsBytes (get (codes "error") (view answer.now)) (get (codes "message") (view answer.now))) (by_value_in places.now.bucket key.now (view answer.now)) result }
 {
     match answer.get("error") {
-        Some(error) => by_error(alloc, error),
+        Some(error) => by_error(error),
         None => by_message(alloc, places, key, answer.get("message")),
     }
 }
 
 /// Reads the answer of the API to a request for the last message by subject.
-#[tactic(auto, using(crate::proofs::AnswerSteps::answers_fault))]
+#[tactic(auto, using(crate::proofs::AnswerSteps::answers_fault, crate::proofs::AnswerSteps::answers_where))]
 pub(crate) fn stream_answer(
     alloc: Global,
     places: &KeyPlaces,

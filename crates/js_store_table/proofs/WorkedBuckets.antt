@@ -1,5 +1,5 @@
 -- The worked logs have the histories that are said.
-use Rattle.std.proofs.Common.{◌≡◌, ℕ, zero, suc, ◌<◌, ◌≤◌, [], ◌∷◌, Contains, ◌⊎◌, inl, inr, refl, arith}
+use Rattle.std.proofs.Common.{◌≡◌, ℕ, zero, suc, ◌<◌, [], ◌∷◌, Contains, inl, inr, refl, arith}
 use Rattle.js_store_table.specs.BucketLog.{AreOvertaken, KeepsTable, IsOvertaken, HasPurge}
 use Rattle.js_store_table.specs.WorkedLogs.{first_removed, three_changes, last_two, two_changes, last_one, put, HasItsRows, LacksAnEntry}
 use Rattle.js_store_table.proofs.KeptChanges.{same_history}
@@ -8,7 +8,7 @@ removed_one : (q : ℕ) → Contains (1 ∷ []) q → 1 ≡ q
 removed_one q (zero, inside, is) = is
 removed_one q (suc k, inside, is) = absurd (omega (arith, inside))
 
-stays : {B : Type 0} (q : ℕ) → 1 < q → Contains (1 ∷ []) q → B
+pub stays : {B : Type 0} (q : ℕ) → 1 < q → Contains (1 ∷ []) q → B
 stays q above gone = let is : 1 ≡ q = removed_one q gone in absurd (omega (arith, is, above))
 
 overtaken : AreOvertaken 2 first_removed three_changes
@@ -25,7 +25,7 @@ has_its_rows = record {
   keys = refl;
 }
 
-no_purge : HasPurge last_one → ⊥
+pub no_purge : HasPurge last_one → ⊥
 no_purge (inl is) = cc
 no_purge (inr more) = more
 

@@ -1,7 +1,9 @@
 pub mod BucketLog
 pub mod Entry
 pub mod History
+pub mod Removals
 pub mod Resume
 pub mod TableRows
 pub mod Table
+pub mod WorkedLimits
 pub mod WorkedLogs

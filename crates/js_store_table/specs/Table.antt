@@ -1,9 +1,10 @@
 -- What the polls of a table answer.
-use Rattle.std.specs.Prelude.{ℕ, ◌≡◌, List, [], ◌∷◌, codes, Option, Some, None, Result, Ok, Err}
+use Rattle.std.specs.Prelude.{ℕ, ◌≡◌, Bool, true, List, [], ◌∷◌, codes, Option, Some, None, IsSome, Result, Ok, Err}
 use Rattle.js_base.specs.declared.message.Message.{Message}
 use Rattle.js_base.specs.declared.turn.Next.{Next}
 use Rattle.js_base.specs.declared.turn.Next.TheVariants as next
 use Rattle.js_link.specs.LinkView.{LinkView}
+use Rattle.js_message.specs.declared.message.Message as delivered
 use Rattle.js_store_keys.specs.declared.entry.Entry.{Entry}
 use Rattle.js_store_table.specs.declared.table_rows.BucketKeys.{BucketKeys}
 use Rattle.js_store_table.specs.declared.table_rows.Progress.{Progress}
@@ -38,18 +39,18 @@ progress_after progress next.Pending = progress
 progress_after progress next.End = progress
 progress_after progress next.OutOfMemory = progress
 
--- a message is told as the entry that it is, or as none; or there is no memory for it, and it is kept
+-- a message is told as the entry that it is, or as none; or there is no memory for its entry, and it is kept
 abbrev pub TellsMessage : {E : Type 0} → BucketKeys → Message → Option Message → Told E → Type 0
 TellsMessage bucket message kept (next.Item (Ok entry)) = (told_by bucket.name bucket.prefix message ≡ Some entry) × (kept ≡ None)
 TellsMessage bucket message kept (next.Item (Err (Reader error))) = ⊥
 TellsMessage bucket message kept (next.Item (Err NoEntry)) = (told_by bucket.name bucket.prefix message ≡ None) × (kept ≡ None)
 TellsMessage bucket message kept next.Pending = ⊥
 TellsMessage bucket message kept next.End = ⊥
-TellsMessage bucket message kept next.OutOfMemory = kept ≡ Some message
+TellsMessage bucket message kept next.OutOfMemory = IsSome (told_by bucket.name bucket.prefix message) × (kept ≡ Some message)
 
 -- what the reader answered is told: a message as above, and else as it is
-abbrev pub TellsAnswer : {E : Type 0} → BucketKeys → Next (Result Message E) → Option Message → Told E → Type 0
-TellsAnswer bucket (next.Item (Ok message)) kept told = TellsMessage bucket message kept told
+abbrev pub TellsAnswer : {E : Type 0} → BucketKeys → Next (Result delivered.Message E) → Option Message → Told E → Type 0
+TellsAnswer bucket (next.Item (Ok message)) kept told = TellsMessage bucket message.message kept told
 TellsAnswer bucket (next.Item (Err error)) kept told = (told ≡ next.Item (Err (Reader error))) × (kept ≡ None)
 TellsAnswer bucket next.Pending kept told = (told ≡ next.Pending) × (kept ≡ None)
 TellsAnswer bucket next.End kept told = (told ≡ next.End) × (kept ≡ None)
@@ -57,12 +58,12 @@ TellsAnswer bucket next.OutOfMemory kept told = (told ≡ next.OutOfMemory) × (
 
 -- what a poll of a reader does
 abbrev pub ReaderPolls : Type 0 → Type 0 → Type 1
-ReaderPolls R E = ℕ → R → R → LinkView → LinkView → Next (Result Message E) → Type 0
+ReaderPolls R E = ℕ → R → R → LinkView → LinkView → Next (Result delivered.Message E) → Type 0
 
 -- the reader was polled, and what it answered is told
 abbrev pub ReadsNext : {R E : Type 0} → ReaderPolls R E → ℕ → Table R → Table R → LinkView → LinkView → Told E → Type 0
 ReadsNext {E = E} polls now old new before after told =
-    (answer : Next (Result Message E)) × polls now old.reader new.reader before after answer × TellsAnswer old.rows.bucket answer new.unread told
+    (answer : Next (Result delivered.Message E)) × polls now old.reader new.reader before after answer × TellsAnswer old.rows.bucket answer new.unread told
 
 -- a message that was kept is told, and nothing else is looked at; without one the reader is polled
 abbrev pub PollsKept : {R E : Type 0} → Option Message → ReaderPolls R E → ℕ → Table R → Table R → LinkView → LinkView → Told E → Type 0
@@ -75,6 +76,9 @@ abbrev pub PollsTable : {R E : Type 0} → ReaderPolls R E → ℕ → Table R �
 PollsTable polls now old new before after told = PollsKept old.unread polls now old new before after told
 
 -- when a table has something to do by itself: at once where a message is kept, else when its reader has
-abbrev pub WakesAt : {R : Type 0} → (R → Option ℕ → Type 0) → Option Message → R → Option ℕ → Type 0
-WakesAt wakes (Some message) reader moment = moment ≡ Some 0
-WakesAt wakes None reader moment = wakes reader moment
+abbrev pub due_with : Option Message → Bool → Bool
+due_with (Some message) below = true
+due_with None below = below
+
+abbrev pub table_due : {R : Type 0} → (ℕ → R → Bool) → ℕ → Table R → Bool
+table_due due now t = due_with t.unread (due now t.reader)

@@ -1,11 +1,11 @@
 -- The rows of a table by key, and what they are after a list of changes.
-use Rattle.std.specs.Prelude.{ℕ, ◌≡◌, ◌+◌, ◌-◌, cond, if◌then◌else◌, List, [], ◌∷◌, ◌++◌, map, Option, Some, None, Result, Ok, Err, String, string_bytes}
+use Rattle.std.specs.Prelude.{ℕ, ◌≡◌, ◌+◌, ◌-◌, cond, if◌then◌else◌, List, [], ◌∷◌, ◌++◌, length, map, Option, Some, None, Result, Ok, Err, String, string_bytes}
 use Rattle.std.specs.Str.{bytes_eq}
 use Rattle.std.specs.Ordering.{nat_cmp}
 use Rattle.std.specs.Cmp.Lexicographic.{slice_cmp}
 use Rattle.std.specs.BTreeMap.{BTreeMap, get_by_text, keys}
 use Rattle.std.specs.BTreeSet.{insert_key}
-use Rattle.std.specs.List.{filter_map}
+use Rattle.std.specs.List.{filter_map, sum_by}
 use Rattle.std.specs.declared.alloc.Global.{Global}
 use Rattle.js_store_keys.specs.declared.key_places.KeyPlaces.{KeyPlaces}
 use Rattle.js_store_keys.specs.declared.entry.Entry.{Entry}
@@ -53,6 +53,13 @@ pub record IsSame (old new : KeyRows) : Type 0 where
 -- how many entries of a key are kept at most
 abbrev pub most : ℕ → ℕ
 most history = (history - 1) + 1
+
+-- how many entries some rows keep, of all keys together
+abbrev pub count_of : List (String Global × List Entry) → ℕ
+count_of rows = sum_by (λ (row : String Global × List Entry). length row.1) rows
+
+abbrev pub kept_count : KeyRows → ℕ
+kept_count rows = count_of rows.entries
 
 -- ---- a bucket
 

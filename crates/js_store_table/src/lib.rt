@@ -18,7 +18,7 @@ mod table_rows;
 
 pub use js_readers::ordered::OrderedReader;
 pub use js_store_keys::Entry;
-pub use laws::{rows_are_those_of_the_log, worked_logs};
+pub use laws::{limits_keep_the_last, rows_are_those_of_the_log, worked_limits, worked_logs};
 pub use table::Table;
 pub use table_error::TableError;
 pub use table_rows::Rows;

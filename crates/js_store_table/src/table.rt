@@ -1,8 +1,10 @@
 //! A live table of the keys of a bucket.
-ghost use Rattle.std.specs.Prelude.{◌≡◌, None};
+ghost use Rattle.std.specs.Prelude.{◌≡◌, ◌<◌, ◌^◌, ℕ, None};
+ghost use Rattle.js_base.specs.Clock.{has_come};
+ghost use Rattle.js_ordered_stream.specs.Inbox.{ClosesInbox};
 ghost use Rattle.js_store_table.specs.Resume.{GoesOn, resumed};
 ghost use Rattle.js_store_table.specs.TableRows.{Follows};
-ghost use Rattle.js_store_table.specs.Table.{PollsTable, ReadsNext, TellsMessage, WakesAt, progress_after, told_of};
+ghost use Rattle.js_store_table.specs.Table.{PollsTable, ReadsNext, TellsMessage, progress_after, table_due, told_of};
 
 use crate::message_entry::Untold;
 use crate::table_error::TableError;
@@ -67,7 +69,7 @@ impl<R: OrderedReader> Table<R> {
     }
 
     /// Returns the next change, or the next error of the reader, by one poll of the reader
-    /// (`OrderedReader::read_next`).
+    /// (`Subscription::poll_next`).
     ///
     /// Each message that the reader hands out is returned as one entry and added to the rows. A
     /// message that is not one of the bucket's is returned as `NoEntry`. If memory runs out for a
@@ -103,8 +105,8 @@ impl<R: OrderedReader> Table<R> {
         ensures table { Follows self.old.rows.bucket.history self.old.rows.rows self.new.rows.rows (told_of result) }
         ensures progress { self.new.rows.progress ≡ progress_after self.old.rows.progress result }
     {
-        match self.reader.read_next(alloc, link, now) {
-            Next::Item(Ok(message)) => self.tell(alloc, message),
+        match self.reader.poll_next(alloc, link, now) {
+            Next::Item(Ok(message)) => self.tell(alloc, message.message),
             Next::Item(Err(error)) => Next::Item(Err(TableError::Reader(error))),
             Next::Pending => Next::Pending,
             Next::End => Next::End,
@@ -140,11 +142,11 @@ impl<R: OrderedReader> Table<R> {
     /// Returns the first moment at which the table has something to do by itself: immediately if it
     /// keeps a message for which memory ran out, otherwise when its reader has something to do.
     pub fn wakes_at(&self) -> Option<Moment>
-        ensures { WakesAt R.wakes self.now.unread self.now.reader result }
+        ensures { (now : ℕ) → now < 2 ^ 64 → has_come result now ≡ table_due R.due now self.now }
     {
         match &self.unread {
             Some(_) => Some(0),
-            None => self.reader.wakes_next(),
+            None => self.reader.wakes_at(),
         }
     }
 
@@ -152,7 +154,7 @@ impl<R: OrderedReader> Table<R> {
     pub fn inbox(&self) -> Option<InboxId>
         ensures { result ≡ R.opened self.now.reader }
     {
-        self.reader.open_inbox()
+        self.reader.inbox()
     }
 
     /// Closes the table and the inbox of its reader, and returns the rows. Keep them to go on later
@@ -162,7 +164,7 @@ impl<R: OrderedReader> Table<R> {
     /// that starts at `next_sequence` reads it again.
     pub fn into_rows<L: Link>(self, link: &mut L) -> Rows
         ensures rows { result ≡ self.rows }
-        ensures closes { R.closes self.reader (L.view link.old) (L.view link.new) }
+        ensures closes { ClosesInbox (R.opened self.reader) (L.view link.old) (L.view link.new) }
     {
         let Table {
             reader,
@@ -170,13 +172,13 @@ impl<R: OrderedReader> Table<R> {
             unread,
         } = self;
         drop(unread);
-        reader.close_reader(link);
+        reader.close(link);
         rows
     }
 
     /// Closes the table and the inbox of its reader.
     pub fn close<L: Link>(self, link: &mut L)
-        ensures { R.closes self.reader (L.view link.old) (L.view link.new) }
+        ensures { ClosesInbox (R.opened self.reader) (L.view link.old) (L.view link.new) }
     {
         let Table {
             reader,
@@ -185,6 +187,6 @@ impl<R: OrderedReader> Table<R> {
         } = self;
         drop(rows);
         drop(unread);
-        reader.close_reader(link);
+        reader.close(link);
     }
 }

@@ -1,12 +1,12 @@
 //! The rows of a table, with their bucket and how far they have come.
-ghost use Rattle.std.specs.Prelude.{◌≡◌, ◌==◌, ◌≤◌, ◌<◌, ◌+◌, ◌^◌, ◌++◌, [], IfOk, OnOk, List, length};
+ghost use Rattle.std.specs.Prelude.{◌≡◌, ◌==◌, ◌≤◌, ◌<◌, ◌+◌, ◌*◌, ◌^◌, ◌++◌, [], IfOk, OnOk, List, length};
 ghost use Rattle.std.specs.Option.{option_copied};
 ghost use Rattle.std.specs.List.{cons_option};
 ghost use Rattle.js_store_keys.specs.declared.entry.Entry.{Entry};
 ghost use Rattle.js_store_table.specs.Entry.{Tells, told_by};
-ghost use Rattle.js_store_table.specs.History.{history_of, is_shown as is_shown_key, keys_matching, valued as valued_entry, value_of};
+ghost use Rattle.js_store_table.specs.History.{history_of, is_shown as is_shown_key, keys_matching, keys_of, valued as valued_entry, value_of};
 ghost use Rattle.js_store_table.specs.Resume.{resumed as resumed_with};
-ghost use Rattle.js_store_table.specs.TableRows.{Follows, IsTable, at_first, keys_in, most, progress_by, shown_by, told_in};
+ghost use Rattle.js_store_table.specs.TableRows.{Follows, IsTable, at_first, kept_count, keys_in, most, progress_by, shown_by, told_in};
 
 use crate::key_history::KeyHistory;
 use crate::key_rows::{KeyRows, note};
@@ -170,6 +170,20 @@ impl Rows {
             add_shown(alloc, &mut keys, filter, key.as_str(), row)?;
         }
         Ok(keys)
+    }
+
+    /// Returns how many entries the rows keep, of all keys together. That is at most the history of
+    /// the bucket times the number of keys that were changed, deleted ones included: overtaken
+    /// entries are dropped. Allocates nothing.
+    pub fn entry_count(&self) -> usize
+        ensures count { kept_count self.now.rows < 2 ^ 64 → result ≡ kept_count self.now.rows }
+        ensures bounded { (changes : List Entry) → IsTable self.now.bucket.history self.now.rows changes → result ≤ length (keys_of changes) * most self.now.bucket.history }
+    {
+        let mut count: usize = 0;
+        for (_, row) in self.rows.iter() {
+            count = count.saturating_add(row.entries().len());
+        }
+        count
     }
 
     /// Returns the revision of the last entry that was returned, which is its sequence in the
