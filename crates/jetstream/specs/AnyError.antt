@@ -20,6 +20,8 @@ use Rattle.js_pull.specs.Texts as pull
 use Rattle.js_readers.specs.BatchItem.{item_text}
 use Rattle.js_readers.specs.PullError as opening
 use Rattle.js_readers.specs.PushError as push
+use Rattle.js_readers_worker.specs.declared.error.WorkerError.{WorkerError}
+use Rattle.js_readers_worker.specs.declared.error.WorkerError.TheVariants as worker
 use Rattle.js_store.specs.Error as store
 use Rattle.jetstream.specs.declared.any_error.AnyError.{AnyError}
 use Rattle.jetstream.specs.declared.any_error.AnyError.TheVariants as any
@@ -68,3 +70,8 @@ any_text (any.Own text) = Some text
 -- the program's own error with this text, or memory ran out
 abbrev pub IsOwn : List ℕ → AnyError → Type 0
 IsOwn text error = (error ≡ any.Own text) ⊎ (error ≡ any.OutOfMemory)
+
+-- a worker's error: one of its subscription, or of an acknowledgement
+abbrev pub of_worker : {E : Type 0} → (E → AnyError) → WorkerError E → AnyError
+of_worker told (worker.Subscription error) = told error
+of_worker told (worker.Ack error) = any.Ack error

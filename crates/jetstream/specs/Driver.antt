@@ -1,5 +1,5 @@
 -- A call that is polled in its place.
-use Rattle.std.specs.Prelude.{◌≡◌, ℕ, Option, Some, None, ⊤}
+use Rattle.std.specs.Prelude.{◌≡◌, ℕ, Option, Some, None, Result, ⊤}
 use Rattle.js_base.specs.declared.turn.Next.{Next}
 use Rattle.js_base.specs.declared.turn.Next.TheVariants as next
 use Rattle.js_base.specs.declared.turn.Turn.{Turn}
@@ -7,6 +7,9 @@ use Rattle.js_base.specs.declared.turn.Turn.TheVariants as turn
 use Rattle.js_call.specs.Wakes.{IsLeftAlone, IsSent}
 use Rattle.js_call.specs.declared.open_request.OpenRequest.{OpenRequest}
 use Rattle.js_link.specs.LinkView.{LinkView}
+use Rattle.js_message.specs.Wakes.{IsStageLeftAlone}
+use Rattle.js_message.specs.declared.acker.AckError.{AckError}
+use Rattle.js_message.specs.declared.double_ack.DoubleAck.{DoubleAck}
 
 -- what stands in the place after a poll of this call that answers so
 abbrev pub Leaves : {S A : Type 0} → (S → ℕ → Turn S A → LinkView → LinkView → Type 0) → S → Option S → ℕ → Next A → LinkView → LinkView → Type 0
@@ -35,3 +38,9 @@ SleepsInPlace waits_for (Some call) after now result old new =
 abbrev pub PendsInPlace : {S A : Type 0} → (S → Option OpenRequest) → Option S → Next A → Type 0
 PendsInPlace waits_for (Some call) next.Pending = IsSent (waits_for call)
 PendsInPlace waits_for place result = ⊤
+
+-- a double ack that stands in a place and is left alone is pending there, and neither it nor the link is changed
+abbrev pub AckSleepsInPlace : Option DoubleAck → Option DoubleAck → ℕ → Next (Result (Unit {0}) AckError) → LinkView → LinkView → Type 0
+AckSleepsInPlace None after now result old new = ⊤
+AckSleepsInPlace (Some call) after now result old new =
+    IsStageLeftAlone call.outgoing call.stage now old → (result ≡ next.Pending) × (after ≡ Some call) × (new ≡ old)

@@ -61,11 +61,11 @@
 //! it.
 //!
 //! **What a poll takes.** You poll a call with the allocator, the link and the moment. `poll` takes
-//! the state and returns it; [`drive`] does that in place. A poll that publishes
-//! ([`publish::Sending`], [`publish::PublishAckFuture`]) also takes the runtime and the context,
-//! whose permits other threads may share. A reader or a list has `poll_next`, which returns a
-//! [`Next`]: a [`consumer::pull::Stream`] and a [`consumer::push::Messages`] return one message or
-//! one error per poll.
+//! the state and returns it; [`drive`] does that in place, and [`drive_ack`] for a double ack. A
+//! poll that publishes ([`publish::Sending`], [`publish::PublishAckFuture`]) also takes the runtime
+//! and the context, whose permits other threads may share. A reader or a list has `poll_next`,
+//! which returns a [`Next`]: a [`consumer::pull::Stream`] and a [`consumer::push::Messages`] return
+//! one message or one error per poll.
 //!
 //! **When to poll again.** After `Pending` you may sleep until `wakes_at` ([`State::wakes_at`]), or
 //! until the answer to `request` has come or the request is gone ([`State::request`]). Polling a
@@ -82,6 +82,10 @@
 //! messages, and [`consumer::push::PushCalls`] for those that deliver to a subject. To read a
 //! stream in order, without gaps, use [`consumer::pull::OrderedPullCalls`] or
 //! [`consumer::push::OrderedPushCalls`]; these readers recreate their consumer when it is lost.
+//!
+//! Every reader is a [`consumer::Subscription`]: generic code polls, finds, leaves alone and closes
+//! any of them. To work off a queue, give a reader to a [`consumer::Worker`]: it takes one message
+//! at a time, extends its ack wait while you work, and acknowledges it once.
 //!
 //! **Acknowledging.** `info` of a [`Message`] tells its place in the stream. `ack` says that you
 //! have processed it; `ack_with` says something else, such as `AckKind::Nak(Some(delay))`. Both
@@ -125,6 +129,7 @@
 #![tactic(auto)]
 
 pub mod account;
+mod ack_driver;
 mod any_error;
 pub mod connection;
 pub mod consumer;
@@ -142,6 +147,7 @@ pub mod response;
 pub mod stream;
 pub mod time;
 
+pub use ack_driver::drive_ack;
 pub use any_error::AnyError;
 pub use bytes::Bytes;
 pub use driver::drive;

@@ -9,5 +9,6 @@ pub use js_store_keys::{
     get, is_valid_key, operation_of, purge, put, read_answer, refusal_of, update,
 };
 pub use js_store_table::{
-    Entry, OrderedReader, Rows, Table, TableError, rows_are_those_of_the_log, worked_logs,
+    Entry, OrderedReader, Rows, Table, TableError, limits_keep_the_last, rows_are_those_of_the_log,
+    worked_limits, worked_logs,
 };

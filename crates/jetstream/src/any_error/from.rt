@@ -1,5 +1,6 @@
 //! How each error becomes an `AnyError`.
 ghost use Rattle.std.specs.Prelude.{◌≡◌};
+ghost use Rattle.jetstream.specs.AnyError.{of_worker};
 ghost use Rattle.jetstream.specs.declared.any_error.AnyError.TheVariants as any;
 
 use crate::any_error::AnyError;
@@ -16,6 +17,7 @@ use js_link_connection::ConnectionError;
 use js_message::{AckError, InfoError, MessageInfoError, StreamMessageError};
 use js_readers::ordered::OrderedError;
 use js_readers::pull::{BatchError, BatchItemError, BatchRequestError, MessagesError, StreamError};
+use js_readers_worker::WorkerError;
 use js_store::{CreateKeyValueError, KeyValueError, ObjectStoreError, UpdateKeyValueError};
 use std::io;
 
@@ -272,5 +274,27 @@ impl From<ReadError> for AnyError {
 
     fn from(error: ReadError) -> AnyError {
         AnyError::Read(error)
+    }
+}
+
+impl From<WorkerError<MessagesError>> for AnyError {
+    ghost from_gives = { λ error told. told ≡ of_worker any.Messages error };
+
+    fn from(error: WorkerError<MessagesError>) -> AnyError {
+        match error {
+            WorkerError::Subscription(error) => AnyError::Messages(error),
+            WorkerError::Ack(error) => AnyError::Ack(error),
+        }
+    }
+}
+
+impl From<WorkerError<js_readers::push::MessagesError>> for AnyError {
+    ghost from_gives = { λ error told. told ≡ of_worker any.PushMessages error };
+
+    fn from(error: WorkerError<js_readers::push::MessagesError>) -> AnyError {
+        match error {
+            WorkerError::Subscription(error) => AnyError::PushMessages(error),
+            WorkerError::Ack(error) => AnyError::Ack(error),
+        }
     }
 }
