@@ -3,7 +3,7 @@ ghost use Rattle.std.specs.Prelude.{◌≡◌, ◌<◌, ◌^◌, ℕ, IfOk};
 ghost use Rattle.std.specs.Option.{option_copied};
 ghost use Rattle.js_message.specs.Acknowledgement.{ack_body, unsent, opened, waiting, PollsOf, OpensAndSends, FailsToOpen, SendsAck, FindsNone, Looks};
 ghost use Rattle.js_base.specs.Clock.{has_come};
-ghost use Rattle.js_message.specs.Wakes.{Sleeps, times_out};
+ghost use Rattle.js_message.specs.Wakes.{Sleeps, WaitsIn, awaited_inbox, times_out};
 
 use crate::ack_kind::AckKind;
 use crate::acker::AckError;
@@ -95,6 +95,21 @@ impl DoubleAck {
             Stage::Unsent => outgoing.open(alloc, link, now),
             Stage::Opened(inbox, subject) => outgoing.send(alloc, link, now, inbox, subject),
             Stage::Waiting(inbox, since) => outgoing.look(link, now, inbox, since),
+        }
+    }
+
+    /// Returns the inbox in which its answer comes. Returns `None` if you should poll at once,
+    /// because it was not sent or has no reply subject.
+    ///
+    /// Until that inbox has a message, the inbox is closed, or `wakes_at` has come, polling changes
+    /// nothing.
+    pub fn inbox(&self) -> Option<InboxId>
+        ensures value { result ≡ awaited_inbox self.now }
+        ensures waits { WaitsIn result self.now }
+    {
+        match (&self.outgoing, &self.stage) {
+            (Some(_), Stage::Waiting(inbox, _)) => Some(*inbox),
+            _ => None,
         }
     }
 

@@ -1,5 +1,6 @@
 //! Messages as a consumer delivers them: their place in the stream, and their acknowledgement.
 ghost use Rattle.std.specs.Prelude.{◌≡◌, [], IfOk};
+ghost use Rattle.std.specs.Option.{option_copied};
 ghost use Rattle.js_message.specs.Acknowledgement.{Acks, ack_body, unsent};
 
 use crate::ack_kind::AckKind;
@@ -8,7 +9,8 @@ use crate::acker::{AckError, Acker, acknowledge, acknowledge_with};
 use crate::double_ack::{DoubleAck, double_acknowledge};
 use crate::info::Info;
 use crate::info_error::InfoError;
-use js_base::{Nanos, OutOfMemory};
+use bytes::Bytes;
+use js_base::{HeaderMap, Nanos, OutOfMemory};
 use js_link::Link;
 use std::alloc::Global;
 use std::{error, fmt};
@@ -67,6 +69,27 @@ impl Message {
             Ok(info) => Ok(info),
             Err(error) => Err(MessageInfoError::Unreadable(error)),
         }
+    }
+
+    /// Returns the subject to which the message was published.
+    pub fn subject(&self) -> &str
+        ensures { result.now ≡ self.now.message.subject }
+    {
+        self.message.subject.as_str()
+    }
+
+    /// Returns what was published, which may be empty.
+    pub fn payload(&self) -> &Bytes
+        ensures { result.now ≡ self.now.message.payload }
+    {
+        &self.message.payload
+    }
+
+    /// Returns the headers, or `None` if the message has none.
+    pub fn headers(&self) -> Option<&HeaderMap>
+        ensures { option_copied result ≡ self.now.message.headers }
+    {
+        self.message.headers.as_ref()
     }
 
     /// Splits it into the message without its reply subject, and an `Acker` that acknowledges it.
