@@ -20,6 +20,8 @@ pub use js_json::consumer::{
     SequenceInfo,
 };
 pub use js_readers::Subscription;
-pub use js_readers::ordered::{Activity, Breach, Health, OrderedReader, Rising, RisingError};
+pub use js_readers::ordered::{
+    Activity, Breach, Health, OrderedReader, Resilience, Rising, RisingError,
+};
 pub use js_readers::pull::{StreamError, StreamErrorKind};
 pub use js_readers_worker::{Worker, WorkerError};

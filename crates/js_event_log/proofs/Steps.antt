@@ -19,7 +19,7 @@ use Rattle.js_ordered_table.specs.declared.consumer.Phase.TheVariants.{Pulls}
 use Rattle.js_ordered_table.specs.declared.event.EventKind.TheVariants as what
 use Rattle.js_ordered_table.specs.declared.row.Row.TheVariants.{Event, Read}
 use Rattle.js_ordered_table.specs.OrderedCore.{after_yield, new_core}
-use Rattle.js_ordered_table.specs.Texts.{configured_start, inbox_subject, source_of}
+use Rattle.js_ordered_table.specs.Texts.{configured_start, inbox_subject, pull_source}
 use Rattle.js_ordered_table.specs.declared.replay_state.ReplayState.{ReplayState}
 use Rattle.js_ordered_table.specs.Consumer.{Matter}
 use Rattle.js_ordered_table.specs.Arrivals.{read_row}
@@ -190,10 +190,10 @@ module _ (settings : Settings) (config : OrderedConfig) (first : Info) where
 
   -- ---- the opening
 
-  pub opened : (start : ℕ) (left : List Entry) → Leads left (IsOn (source_of replay_input 0 0 (inbox_subject replay_input 0) first) (record { core = new_core (configured_start replay_input.setup); name = first.name; missed = false; limited = false; connection = Connected }) 0 1) left (opening replay_input start)
+  pub opened : (start : ℕ) (left : List Entry) → Leads left (IsOn (pull_source replay_input 0 0 (inbox_subject replay_input 0) first) (record { core = new_core (configured_start replay_input.setup); name = first.name; missed = false; limited = false; connection = Connected }) 0 1) left (opening replay_input start)
   unfolding opening
   opened start left =
-      let source : PullSource = source_of replay_input 0 0 (inbox_subject replay_input 0) first in
+      let source : PullSource = pull_source replay_input 0 0 (inbox_subject replay_input 0) first in
       let c : Progress = record { core = new_core (configured_start replay_input.setup); name = first.name; missed = false; limited = false; connection = Connected } in
       leads_then left left left (IsOn source c 0 1) (IsOn source c 0 1)
       (pass_to replay_input start tick 2 (Read read.Threshold) (state_at (Pulls (reader source new)) c 0 1))

@@ -18,6 +18,7 @@ use Rattle.js_ordered_table.specs.declared.run.Output.TheVariants as out
 use Rattle.js_ordered_table.specs.Gapless.{Entry, yields, all_outputs}
 use Rattle.js_ordered_table.specs.Refusal.{bad_field}
 use Rattle.js_ordered_table.specs.Replay.{IsAnswer}
+use Rattle.js_pull.specs.Resilience.{none}
 
 -- an entry as a run hands it out
 abbrev pub handed : base.Entry → Entry
@@ -59,6 +60,7 @@ default_settings = record {
   context_timeout = None;
   request_timeout = Some 10_000_000_000;
   retries = 4_294_967_295;
+  resilience = none;
 }
 
 -- a pull consumer that starts at a sequence and asks for nothing else, of which the server told this

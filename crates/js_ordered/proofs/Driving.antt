@@ -16,7 +16,8 @@ use Rattle.js_ordered_table.specs.declared.transitions.task.RowOutput.TheVariant
 use Rattle.js_ordered.specs.Driven.{Leads, Passes, PassesTo, numbered, heard_first, left_rows, row_count}
 use Rattle.js_ordered.specs.Giving.{IsInbox, IsNumber, Sends, Subscribes}
 use Rattle.js_ordered_table.specs.Tasks.{IsHeard, StepsTo, answered_rows, create_outputs, heard_outputs, heard_row, heard_rows, next_rows, opening_to, requested, requesting, rows_of, subscribed, told_outputs}
-use Rattle.js_pull.specs.Reader.{info_of_reply}
+use Rattle.js_pull.specs.Reader.{info_reply}
+use Rattle.js_pull.specs.declared.replies.InfoReply.{InfoReply}
 use Rattle.js_ordered_table.specs.declared.consumer.Consumer.{Consumer}
 use Rattle.js_ordered_table.specs.declared.consumer.ReplayInput.{ReplayInput}
 use Rattle.js_ordered_table.specs.declared.consumer.Phase.{Phase}
@@ -29,11 +30,11 @@ use Rattle.js_ordered_table.specs.declared.setup.OrderedSetup.{OrderedSetup}
 use Rattle.js_ordered_table.specs.declared.setup.OrderedSetup.TheVariants.{Pull, Push}
 use Rattle.js_ordered.specs.declared.event_context.EventContext.{EventContext}
 use Rattle.js_ordered_table.specs.declared.replay_state.ReplayState.{ReplayState}
-use Rattle.js_ordered_table.specs.Fold.{Ran, after, and_then, is_over, is_request, is_subscribe, pass_each, passing, stays}
+use Rattle.js_ordered_table.specs.Fold.{Ran, after, and_then, is_over, is_request, is_subscribe, pass_each, passing}
 use Rattle.js_ordered_table.specs.Invariant.{IsPull, IsPush}
 use Rattle.js_ordered_table.specs.Passes.{at, from, heard, hearings, holding, listens_to, ran}
-use Rattle.js_ordered_table.specs.Arrivals.{armed, beat_answer, push_kind, told}
-use Rattle.js_ordered_table.specs.Recreation.{answered, create_row, start_row, succeed_pull, succeed_push, succeed_row}
+use Rattle.js_ordered_table.specs.Arrivals.{armed, beat_answer, beat_subject, push_kind, told}
+use Rattle.js_ordered_table.specs.Recreation.{answered_row, create_row, start_row, succeed_pull, succeed_push, succeed_row}
 use Rattle.js_ordered_table.specs.Consumer.{Matter, Passed, silent_row, at_phase}
 use Rattle.js_ordered_table.specs.Texts.{inbox_subject}
 use Rattle.js_ordered_table.specs.Table.{event_row, pass, row_at}
@@ -113,23 +114,23 @@ beat_inbox up None = refl
 beat_inbox true (Some reply) = refl
 beat_inbox false (Some reply) = refl
 
-heard_request : (up : Bool) (message : Message) (heard : Heard) → count_by is_request (heard_outputs up message heard) ≡ 0
-heard_request up message (hears.Yields place) = refl
-heard_request up message hears.Unreadable = refl
-heard_request up message hears.Gap = refl
-heard_request up message (hears.Beat last) = beat_request up message.reply
-heard_request up message hears.OtherStatus = refl
+heard_request : (stalled up : Bool) (message : Message) (heard : Heard) → count_by is_request (heard_outputs stalled up message heard) ≡ 0
+heard_request stalled up message (hears.Yields place) = refl
+heard_request stalled up message hears.Unreadable = refl
+heard_request stalled up message hears.Gap = refl
+heard_request stalled up message (hears.Beat last) = beat_request up (beat_subject stalled message)
+heard_request stalled up message hears.OtherStatus = refl
 
-heard_inbox : (up : Bool) (message : Message) (heard : Heard) → count_by is_subscribe (heard_outputs up message heard) ≡ 0
-heard_inbox up message (hears.Yields place) = refl
-heard_inbox up message hears.Unreadable = refl
-heard_inbox up message hears.Gap = refl
-heard_inbox up message (hears.Beat last) = beat_inbox up message.reply
-heard_inbox up message hears.OtherStatus = refl
+heard_inbox : (stalled up : Bool) (message : Message) (heard : Heard) → count_by is_subscribe (heard_outputs stalled up message heard) ≡ 0
+heard_inbox stalled up message (hears.Yields place) = refl
+heard_inbox stalled up message hears.Unreadable = refl
+heard_inbox stalled up message hears.Gap = refl
+heard_inbox stalled up message (hears.Beat last) = beat_inbox up (beat_subject stalled message)
+heard_inbox stalled up message hears.OtherStatus = refl
 
-pub heard_unnumbered : (w : ReplayState) (d : Consumer) (up : Bool) (message : Message) (heard : Heard)
-    → record w { consumer = d } ≡ record (numbered (heard_outputs up message heard) w) { consumer = d }
-heard_unnumbered w d up message heard = unnumbered w d (heard_outputs up message heard) (heard_request up message heard) (heard_inbox up message heard)
+pub heard_unnumbered : (w : ReplayState) (d : Consumer) (stalled up : Bool) (message : Message) (heard : Heard)
+    → record w { consumer = d } ≡ record (numbered (heard_outputs stalled up message heard) w) { consumer = d }
+heard_unnumbered w d stalled up message heard = unnumbered w d (heard_outputs stalled up message heard) (heard_request stalled up message heard) (heard_inbox stalled up message heard)
 
 -- ---- a send
 
@@ -308,27 +309,37 @@ told_here g now m one phase w u told earlier later d rest is steps put to =
     (leads_told g now m one phase w u told earlier later d rest steps put to)
 
 -- an answer that was read
-pub reply_read : (g : ReplayInput) (now : ℕ) (m : Matter) (reply : Option (Option Message)) (r : Recreation) (w u : ReplayState) (info : Option Info) (outputs : List Output) (d : Consumer) (rest : NextTasks)
-    → option_map info_of_reply reply ≡ Some info
-    → StepsTo m (silent_row (at_phase (Recreates r) w.consumer) (answered g.setup info ∷ [])) [] d rest → u ≡ record w { consumer = d }
-    → Passes g now m (answered_rows reply) (at (Recreates r) w) outputs (next_rows m rest) u outputs
-reply_read g now m None r w u info outputs d rest is steps to = cc
-reply_read g now m (Some reply) r w u info outputs d rest is steps to =
-    let told : info_of_reply reply ≡ info = cc in
-    leads_quietly g now m (row.Answered reply) (Recreates r) w u outputs d rest
-    (subst (λ (i : Option Info). StepsTo m (silent_row (at_phase (Recreates r) w.consumer) (answered g.setup i ∷ [])) [] d rest) (sym told) steps) to
+pub reply_read : (g : ReplayInput) (now : ℕ) (m : Matter) (reply : Option Message) (r : Recreation) (w u : ReplayState) (said : InfoReply) (told : RowOutput) (earlier later : List Output) (d : Consumer) (rest : NextTasks)
+    → said ≡ info_reply reply
+    → StepsTo m (answered_row g said (at_phase (Recreates r) w.consumer)) (told_outputs told) d rest
+    → later ≡ earlier ++ told_outputs told → u ≡ record w { consumer = d }
+    → Passes g now m (row.Answered reply ∷ []) (at (Recreates r) w) earlier (next_rows m rest) u later
+reply_read g now m reply r w u said told earlier later d rest is steps put to =
+    leads_told g now m (row.Answered reply) (Recreates r) w u told earlier later d rest
+    (subst (λ (x : InfoReply). StepsTo m (answered_row g x (at_phase (Recreates r) w.consumer)) (told_outputs told) d rest) is steps) put to
 
--- a message that was heard
+-- where it came
+pub reply_came : (g : ReplayInput) (now : ℕ) (m : Matter) (reply : Option (Option Message)) (w u : ReplayState) (said : InfoReply) (earlier later : List Output) (rest : List Row)
+    → Some said ≡ option_map info_reply reply
+    → ((message : Option Message) → said ≡ info_reply message → Passes g now m (row.Answered message ∷ []) w earlier rest u later)
+    → Passes g now m (answered_rows reply) w earlier rest u later
+reply_came g now m None w u said earlier later rest is passes = cc
+reply_came g now m (Some message) w u said earlier later rest is passes =
+    let told : said ≡ info_reply message = cc in
+    passes message told
+
+-- a message that was heard, where stalled consumers are answered by the option
 pub hears_on : (g : ReplayInput) (now : ℕ) (m : Matter) (inbox : ℕ) (message : Message) (heard : Heard) (w u : ReplayState) (earlier later : List Output) (d : Consumer) (rest : NextTasks)
     → listens_to inbox w.consumer.phase ≡ true → IsHeard w.consumer.core.consumer_sequence message heard
-    → StepsTo m (heard_row (passing g now w) message heard (at_phase (Pushes inbox (armed now)) w.consumer)) (heard_outputs w.link_up message heard) d rest
-    → later ≡ earlier ++ heard_outputs w.link_up message heard → u ≡ record w { consumer = d }
+    → StepsTo m (heard_row g.settings.resilience.answers_stalled (passing g now w) message heard (at_phase (Pushes inbox (armed now)) w.consumer)) (heard_outputs g.settings.resilience.answers_stalled w.link_up message heard) d rest
+    → later ≡ earlier ++ heard_outputs g.settings.resilience.answers_stalled w.link_up message heard → u ≡ record w { consumer = d }
     → Passes g now m (row.Hear (record { inbox = inbox; message = message }) ∷ []) w earlier (next_rows m rest) u later
 hears_on g now m inbox message heard w u earlier later d rest here is steps put to =
-    leads_by g now m (row.Hear (record { inbox = inbox; message = message })) w u (heard_row (passing g now w) message heard (at_phase (Pushes inbox (armed now)) w.consumer)) (heard_outputs w.link_up message heard) earlier later d rest
+    let stalled : Bool = g.settings.resilience.answers_stalled in
+    leads_by g now m (row.Hear (record { inbox = inbox; message = message })) w u (heard_row stalled (passing g now w) message heard (at_phase (Pushes inbox (armed now)) w.consumer)) (heard_outputs stalled w.link_up message heard) earlier later d rest
     (hears_here g (passing g now w) m inbox message w.consumer.phase w.consumer here
-    ∙ hears_as (passing g now w) message (push_kind message) heard (at_phase (Pushes inbox (armed now)) w.consumer) is)
-    steps put (to ∙ heard_unnumbered w d w.link_up message heard)
+    ∙ hears_as stalled (passing g now w) message (push_kind message) heard (at_phase (Pushes inbox (armed now)) w.consumer) is)
+    steps put (to ∙ heard_unnumbered w d stalled w.link_up message heard)
 
 pub heard_elsewhere : (g : ReplayInput) (now : ℕ) (m : Matter) (inbox : ℕ) (message : Message) (w : ReplayState) (outputs : List Output) → listens_to inbox w.consumer.phase ≡ false
     → Passes g now m (row.Hear (record { inbox = inbox; message = message }) ∷ []) w outputs [] w outputs

@@ -103,19 +103,19 @@ leads_inquired g now m failures r s w u number requests_sent' earlier later step
 -- a message of the stream was heard
 pub leads_heard : (g : ReplayInput) (now : ℕ) (m : Matter) (message : Message) (heard_is : Heard) (r s : Reader) (w u : ReplayState) (earlier later : List Output) (d : Consumer) (rest : NextTasks)
     → message_on r.source.inbox m.arrival ≡ Some message → pull_kind message ≡ pulls.Delivered → IsHeardFrom w.consumer.core.consumer_sequence message heard_is → s ≡ pull.lowered 1 message.length (heard now message r)
-    → StepsTo m (with_sent [] (row.Read read.Threshold ∷ []) (heard_row (passing g now w) message heard_is (record (at_phase (Pulls s) w.consumer) { missed = false }))) (heard_outputs w.link_up message heard_is) d rest
-    → later ≡ earlier ++ heard_outputs w.link_up message heard_is → u ≡ record w { consumer = d }
+    → StepsTo m (with_sent [] (row.Read read.Threshold ∷ []) (heard_row false (passing g now w) message heard_is (record (at_phase (Pulls s) w.consumer) { missed = false }))) (heard_outputs false w.link_up message heard_is) d rest
+    → later ≡ earlier ++ heard_outputs false w.link_up message heard_is → u ≡ record w { consumer = d }
     → Passes g now m (row.Read read.CheckArrival ∷ []) (at (Pulls r) w) earlier (next_rows m rest) u later
 leads_heard g now m message heard_is r s w u earlier later d rest arrives kind is reader steps put to =
     let p : RowInput = passing g now w in
     let c : Consumer = at_phase (Pulls r) w.consumer in
     let after : Consumer = record (at_phase (Pulls (pull.lowered 1 message.length (heard now message r))) w.consumer) { missed = false } in
-    leads_at g now m (row.Read read.CheckArrival) (Pulls r) w u p (heard_outputs w.link_up message heard_is) earlier later d rest refl
-    (subst (λ (o : Option Message). StepsTo m (read_row (pull.check_arrival p o r) c) (heard_outputs w.link_up message heard_is) d rest) (sym arrives)
-    (subst (λ (k : Kind). StepsTo m (read_row (pull.hear message k (heard now message r)) c) (heard_outputs w.link_up message heard_is) d rest) (sym kind)
-    (subst (λ (passed : Passed). StepsTo m (with_sent [] (row.Read read.Threshold ∷ []) passed) (heard_outputs w.link_up message heard_is) d rest) (sym (from_stream p message heard_is after is))
-    (subst (λ (x : Reader). StepsTo m (with_sent [] (row.Read read.Threshold ∷ []) (heard_row p message heard_is (record (at_phase (Pulls x) w.consumer) { missed = false }))) (heard_outputs w.link_up message heard_is) d rest) reader steps))))
-    put (to ∙ heard_unnumbered w d w.link_up message heard_is)
+    leads_at g now m (row.Read read.CheckArrival) (Pulls r) w u p (heard_outputs false w.link_up message heard_is) earlier later d rest refl
+    (subst (λ (o : Option Message). StepsTo m (read_row (pull.check_arrival p o r) c) (heard_outputs false w.link_up message heard_is) d rest) (sym arrives)
+    (subst (λ (k : Kind). StepsTo m (read_row (pull.hear message k (heard now message r)) c) (heard_outputs false w.link_up message heard_is) d rest) (sym kind)
+    (subst (λ (passed : Passed). StepsTo m (with_sent [] (row.Read read.Threshold ∷ []) passed) (heard_outputs false w.link_up message heard_is) d rest) (sym (from_stream false p message heard_is after is))
+    (subst (λ (x : Reader). StepsTo m (with_sent [] (row.Read read.Threshold ∷ []) (heard_row false p message heard_is (record (at_phase (Pulls x) w.consumer) { missed = false }))) (heard_outputs false w.link_up message heard_is) d rest) reader steps))))
+    put (to ∙ heard_unnumbered w d false w.link_up message heard_is)
 
 -- what is told of another arrival needs no message
 tells_alone : (message : Message) (k : Kind) (r : Reader) (reply : Option Message) (s : Reader) (step : Read) → k ≢ pulls.Delivered → ReadsTo reply (Some message) (pull.hear message k r) s step → ReadsTo reply None (pull.hear message k r) s step

@@ -120,6 +120,7 @@ fn event(
 
 // What was held is heard, the first of it.
 fn hear_held(
+    alloc: Global,
     context: &EventContext<'_>,
     state: &mut ReplayState,
     held: &Held,
@@ -133,11 +134,12 @@ fn hear_held(
     if place >= messages.len() {
         return Ok(NextTasks::Nothing);
     }
-    push_rows::hear(context, state, held.inbox, &messages[place], outputs)
+    push_rows::hear(alloc, context, state, held.inbox, &messages[place], outputs)
 }
 
 // What the event brings on an inbox is heard.
 fn hear_brought(
+    alloc: Global,
     context: &EventContext<'_>,
     state: &mut ReplayState,
     inbox: u64,
@@ -148,7 +150,7 @@ fn hear_brought(
 {
     match context.message_on(inbox) {
         None => Ok(NextTasks::Nothing),
-        Some(message) => push_rows::hear(context, state, inbox, message, outputs),
+        Some(message) => push_rows::hear(alloc, context, state, inbox, message, outputs),
     }
 }
 
@@ -188,8 +190,8 @@ fn pass(
         | Task::Fail => pass_try(alloc, context, state, task, outputs),
         Task::Hold => hold(context, state, outputs),
         Task::CheckArrival => Ok(push_rows::look(context, state)),
-        Task::Hear { inbox } => hear_brought(context, state, *inbox, outputs),
-        Task::HearHeld(held) => hear_held(context, state, held, outputs),
+        Task::Hear { inbox } => hear_brought(alloc, context, state, *inbox, outputs),
+        Task::HearHeld(held) => hear_held(alloc, context, state, held, outputs),
         Task::CheckSilence => Ok(push_rows::look_at_silence(context, state, outputs)),
         Task::Arm => {
             push_rows::arm(context, state);

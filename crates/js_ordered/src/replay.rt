@@ -11,6 +11,7 @@ use crate::event_context::EventContext;
 use crate::task_stack::TaskStack;
 use js_base::{Items, Moment, OutOfMemory, State, TryClone};
 use js_json::consumer::Info;
+use js_ordered_table::pull_source::pull_source;
 use js_ordered_table::transitions::event::is_over;
 use js_ordered_table::transitions::push::listen;
 use js_ordered_table::transitions::{NextTasks, Task};
@@ -28,7 +29,7 @@ fn first_reader(alloc: Global, context: &ConsumerContext<'_>) -> Result<Reader, 
     ensures { IfOk result (λ reader. reader ≡ first_reader_of (input_of context.now)) }
 {
     let subject = texts::inbox_subject(alloc, context, 0)?;
-    Ok(Reader::new(texts::source_of(context, 0, 0, subject, context.first)?))
+    Ok(Reader::new(pull_source(context, 0, 0, subject, context.first)?))
 }
 
 // Nothing was asked or yielded yet, and no inbox is read.
@@ -43,6 +44,7 @@ fn first_state(context: &ConsumerContext<'_>) -> Result<ReplayState, OutOfMemory
             name,
             missed: false,
             limited: false,
+            stream_missing: false,
             connection: State::Connected,
         },
         link_up: true,

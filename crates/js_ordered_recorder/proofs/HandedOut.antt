@@ -297,6 +297,7 @@ less_item es message item.PushBasedConsumer rest leaves = less_other es message 
 less_item es message item.Pull rest leaves = less_other es message (out.Item item.Pull) rest refl (λ b own. own) leaves
 less_item es message item.Recreate rest leaves = less_other es message (out.Item item.Recreate) rest refl (λ b own. own) leaves
 less_item es message item.Other rest leaves = less_other es message (out.Item item.Other) rest refl (λ b own. own) leaves
+less_item es message item.StreamNotFound rest leaves = less_other es message (out.Item item.StreamNotFound) rest refl (λ b own. own) leaves
 
 same_item : (es : List Event) (message : Option Message) (kind : ItemKind) (rest : List Output) → LeavesOne es message (out.Item kind ∷ rest) → LeavesOne es message rest
 same_item es message item.RequestLimitExceeded rest leaves = inl (less_limit es message rest leaves)
@@ -305,6 +306,7 @@ same_item es message item.PushBasedConsumer rest leaves = less_other es message 
 same_item es message item.Pull rest leaves = less_other es message (out.Item item.Pull) rest refl (λ b own. own) leaves
 same_item es message item.Recreate rest leaves = less_other es message (out.Item item.Recreate) rest refl (λ b own. own) leaves
 same_item es message item.Other rest leaves = less_other es message (out.Item item.Other) rest refl (λ b own. own) leaves
+same_item es message item.StreamNotFound rest leaves = less_other es message (out.Item item.StreamNotFound) rest refl (λ b own. own) leaves
 
 goes_leave : (es : List Event) (o : Output) (rest : List Output) (a b : Outgoing) → GoesTo o a b → LeavesOne es a.message (o ∷ rest) → LeavesOne es b.message rest
 goes_leave es (out.Yield sequence number subject payload) rest a b goes leaves = inl (less_yield es a.message sequence number subject payload rest leaves)

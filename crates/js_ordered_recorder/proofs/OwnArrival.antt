@@ -50,6 +50,8 @@ use Rattle.js_pull.specs.declared.reader.ReaderOutput.{ReaderOutput as PullTold}
 use Rattle.js_pull.specs.declared.reader.ReaderOutput.TheVariants as tells
 use Rattle.js_pull.specs.declared.reader.Row.{Row as PullRow}
 use Rattle.js_pull.specs.declared.reader.Row.TheVariants as read
+use Rattle.js_pull.specs.declared.replies.InfoReply.{InfoReply}
+use Rattle.js_pull.specs.declared.replies.InfoReply.TheVariants as says
 
 -- ---- what is said of a row
 
@@ -148,6 +150,7 @@ uses_append (out.Item item.PushBasedConsumer ∷ xs) ys = uses_append xs ys
 uses_append (out.Item item.Pull ∷ xs) ys = uses_append xs ys
 uses_append (out.Item item.Recreate ∷ xs) ys = uses_append xs ys
 uses_append (out.Item item.Other ∷ xs) ys = uses_append xs ys
+uses_append (out.Item item.StreamNotFound ∷ xs) ys = uses_append xs ys
 uses_append (out.Recreate recreation_count start ∷ xs) ys = uses_append xs ys
 uses_append (out.Request number subject payload ∷ xs) ys = uses_append xs ys
 uses_append (out.Publish subject reply payload ∷ xs) ys = uses_append xs ys
@@ -278,9 +281,11 @@ arrival_fits : (p : RowInput) (arrival : Option Message) (r : PullReader) → Re
 arrival_fits p None r = record { hands = tt; few = omega arith }
 arrival_fits p (Some message) r = hear_fits message (pull_kind message) (pull.with_pin message (pull.with_silence p.now r))
 
-answer_fits : (arrival : Option Message) (failures : ℕ) (info : Option Info) (r : PullReader) → ReadFits 0 arrival (pull.answered failures info r)
-answer_fits arrival failures None r = record { hands = tt; few = omega arith }
-answer_fits arrival failures (Some info) r = record { hands = tt; few = omega arith }
+answer_fits : (arrival : Option Message) (failures : ℕ) (reply : InfoReply) (r : PullReader) → ReadFits 0 arrival (pull.answered failures reply r)
+answer_fits arrival failures (says.Info info) r = record { hands = tt; few = omega arith }
+answer_fits arrival failures (says.Error code) r =
+    if_each (ReadFits 0 arrival) (r.source.resilience.recreates_when_gone && pull.is_gone code) _ _ (λ _. record { hands = tt; few = omega arith }) (λ _. record { hands = tt; few = omega arith })
+answer_fits arrival failures says.Nothing r = record { hands = tt; few = omega arith }
 
 abbrev Light : List PullRow → Type 0
 Light rows = weights (map Read rows) ≤ 0
@@ -318,11 +323,16 @@ reader_fits p answer arrival (read.Inquire failures) r = if_each (ReadFits 0 arr
 reader_fits p answer arrival (read.FailInfoRequest failures) r =
     if_each (ReadFits 0 arrival) (nat_lt (failures + 1) 6) _ _ (λ _. record { hands = tt; few = omega arith }) (λ _. record { hands = tt; few = omega arith })
 reader_fits p answer arrival read.CheckInfoRequest r = inquiry_fits p answer arrival r.inquiry r
-reader_fits p answer arrival (read.Answered reply failures) r = answer_fits arrival failures (pull.info_of_reply reply) r
+reader_fits p answer arrival (read.Answered reply failures) r = answer_fits arrival failures (pull.info_reply reply) r
 reader_fits p answer arrival read.CheckExpiry r = light 0 arrival r [] _ (if_each Light (is_any_due r.expiry p.now) _ _ (λ _. omega arith) (λ _. omega arith))
 reader_fits p answer arrival read.CheckArrival r = arrival_fits p arrival r
 reader_fits p answer arrival read.CheckSilence r =
-    if_each (ReadFits 0 arrival) (is_any_due r.heartbeat_timer p.now) _ _ (λ _. record { hands = tt; few = omega arith }) (λ _. record { hands = tt; few = omega arith })
+    if_each (ReadFits 0 arrival) (is_any_due r.heartbeat_timer p.now) _ _
+    (λ _. record {
+      hands = tt;
+      few = let light = if_each Light (r.source.resilience.asks_at_first_heartbeat && not (pull.is_asking r.inquiry)) (read.Inquire 0 ∷ []) [] (λ _. omega arith) (λ _. omega arith) in omega arith;
+    })
+    (λ _. record { hands = tt; few = omega arith })
 
 -- ---- the arrival of an inbox
 

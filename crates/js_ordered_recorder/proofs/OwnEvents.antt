@@ -13,11 +13,11 @@ use Rattle.js_link.specs.declared.sent.Sent.{Sent}
 use Rattle.js_link.specs.declared.sent.Sent.TheVariants as goes
 use Rattle.js_message.specs.AckSubject.{Place, readable_as}
 use Rattle.js_ordered_table.proofs.Rewritten.{if_both, if_each}
-use Rattle.js_ordered_table.specs.Arrivals.{beat_answer, beat_rows, hear_kind, in_place_of, message_row, push_kind, read_row, armed, told, with_sent}
+use Rattle.js_ordered_table.specs.Arrivals.{beat_answer, beat_rows, hear_kind, in_place_of, message_row, push_kind, read_row, armed, told, with_sent, beat_subject}
 use Rattle.js_ordered_table.specs.Consumer.{Becomes, Change, Matter, Passed, Unchanged, WatcherEnds, at_phase, output_of}
 use Rattle.js_ordered_table.specs.Fold.{Ran, after, event, first_phase, first_state, link_after, matter_of, opening, opening_rows, pass_all, pass_each, pass_to, passing, rank, tick}
 use Rattle.js_ordered_table.specs.declared.event.Event as events
-use Rattle.js_ordered_table.specs.Recreation.{answered, create_row, created, held_in, hold_row, message_on, has_subject, recreation_rows, stage_rows, succeed_push, succeed_row}
+use Rattle.js_ordered_table.specs.Recreation.{answered, create_row, created, held_in, hold_row, message_on, has_subject, recreation_rows, stage_rows, succeed_push, succeed_row, answered_row, missing_after, missing_outputs}
 use Rattle.js_ordered_table.specs.Table.{changed, event_change, event_row, go_on, is_connected, pass, push_rows, row_at, watcher_ended}
 use Rattle.js_ordered_table.specs.declared.consumer.Consumer.{Consumer}
 use Rattle.js_ordered_table.specs.declared.consumer.Opened.{Opened}
@@ -51,6 +51,7 @@ use Rattle.js_pull.specs.declared.reader.ReaderOutput.{ReaderOutput as PullTold}
 use Rattle.js_pull.specs.declared.reader.ReaderOutput.TheVariants as tells
 use Rattle.js_pull.specs.declared.reader.Row.{Row as PullRow}
 use Rattle.js_pull.specs.declared.reader.Row.TheVariants as read
+use Rattle.js_pull.specs.declared.replies.InfoReply.{InfoReply}
 use Rattle.js_ordered_recorder.proofs.OwnArrival.{AreOwn, Fits, Follows, HoldsNone, NoneHeld, Ready, RowsFit, answered_fit, arrived, message_fits, none_fit, on_inbox, own_append, row_reads, silent_fits, stage_fit, uses, uses_append, weight, weights}
 
 -- ---- a consumer's rows
@@ -69,11 +70,11 @@ gap_fit : (m : Matter) (last : Option ℕ) (n : ℕ) → RowsFit m (beat_rows la
 gap_fit m None n = none_fit m
 gap_fit m (Some last) n = if_each (RowsFit m) (last == n) _ _ (λ _. none_fit m) (λ _. ((tt, tt), omega arith))
 
-hear_fits : (p : RowInput) (m : Matter) (message : Message) (k : PushKind) (c : Consumer) → arrived m ≡ Some message → HoldsNone c.phase → Fits m 1 (hear_kind p message k c)
-hear_fits p m message Delivered c is held = message_fits m message (readable_as message.reply) c is refl held
-hear_fits p m message OtherStatus c is held = silent_fits m 1 c [] held (none_fit m)
-hear_fits p m message Bad c is held = record { own = tt; held = held; rows = tt; few = omega arith }
-hear_fits p m message (Beat last) c is held = beat_fits m p.up message.reply c (beat_rows last c.core.consumer_sequence) held (gap_fit m last c.core.consumer_sequence)
+hear_fits : (stalled : Bool) (p : RowInput) (m : Matter) (message : Message) (k : PushKind) (c : Consumer) → arrived m ≡ Some message → HoldsNone c.phase → Fits m 1 (hear_kind stalled p message k c)
+hear_fits stalled p m message Delivered c is held = message_fits m message (readable_as message.reply) c is refl held
+hear_fits stalled p m message OtherStatus c is held = silent_fits m 1 c [] held (none_fit m)
+hear_fits stalled p m message Bad c is held = record { own = tt; held = held; rows = tt; few = omega arith }
+hear_fits stalled p m message (Beat last) c is held = beat_fits m p.up (beat_subject stalled message) c (beat_rows last c.core.consumer_sequence) held (gap_fit m last c.core.consumer_sequence)
 
 await_fit : (m : Matter) (opened : Option Opened) → m.arrival ≡ None → RowsFit m (recreation_rows opened)
 await_fit m None nothing = ((tt, tt), omega arith)
@@ -141,6 +142,17 @@ succeed_fits (Pull setup) g p m info r c none held =
     if_each (Fits m 0) p.up _ _ (λ _. record { own = tt; held = tt; rows = (tt, (tt, tt)); few = omega arith }) (λ _. record { own = tt; held = held; rows = (tt, tt); few = omega arith })
 succeed_fits (Push setup) g p m info r c none held = push_fits p m r.opened c none held
 
+-- an answer to a create may be told, in an item that uses nothing
+missing_fits : (m : Matter) (missing was_missing : Bool) → AreOwn (arrived m) (missing_outputs missing was_missing) × (uses (missing_outputs missing was_missing) ≤ 0)
+missing_fits m missing was_missing =
+    if_each (λ (outputs : List Output). AreOwn (arrived m) outputs × (uses outputs ≤ 0)) (missing && not was_missing) _ _ (λ _. (tt, omega arith)) (λ _. (tt, omega arith))
+
+answered_fits : (g : ReplayInput) (m : Matter) (reply : InfoReply) (c : Consumer) → HoldsNone c.phase → Fits m 0 (answered_row g reply c)
+answered_fits g m reply c held =
+    let fit = answered_fit m g.setup (pull.info_in reply) in
+    let told = missing_fits m (missing_after g.settings.resilience.tells_missing_stream reply c.stream_missing) c.stream_missing in
+    record { own = told.0; held = held; rows = fit.0; few = let light = fit.1 in let none = told.1 in omega arith }
+
 -- each row but an event's first
 row_fits : (g : ReplayInput) (p : RowInput) (m : Matter) (row : Row) (phase : Phase) (c : Consumer) → Follows m row → HoldsNone phase → HoldsNone c.phase → Fits m (weight row) (row_at g p m row phase c)
 row_fits g p m Event phase c follows none held = absurd follows
@@ -152,14 +164,14 @@ row_fits g p m Create (Recreates r) c follows none held = create_fits g.setup p 
 row_fits g p m Ask (Recreates r) c follows none held =
     if_each (Fits m 0) p.up _ _ (λ _. record { own = tt; held = none; rows = tt; few = omega arith }) (λ _. record { own = tt; held = held; rows = (tt, tt); few = omega arith })
 row_fits g p m Await (Recreates r) c follows none held = silent_fits m 0 c (stage_rows g p m r.stage) held (stage_fit g p m r.stage)
-row_fits g p m (Answered reply) (Recreates r) c follows none held = silent_fits m 0 c (answered g.setup (pull.info_of_reply reply) ∷ []) held (answered_fit m g.setup (pull.info_of_reply reply))
+row_fits g p m (Answered reply) (Recreates r) c follows none held = answered_fits g m (pull.info_reply reply) c held
 row_fits g p m Hold (Recreates r) c follows none held = record { own = tt; held = held_none r.opened m.arrival follows none; rows = tt; few = omega arith }
 row_fits g p m (Succeed info) (Recreates r) c follows none held = succeed_fits g.setup g p m info r c none held
 row_fits g p m Fail (Recreates r) c follows none held =
     if_each (Fits m 0) (nat_lt g.settings.retries (r.failures + 1)) _ _ (λ _. record { own = tt; held = tt; rows = tt; few = omega arith }) (λ _. record { own = tt; held = tt; rows = tt; few = omega arith })
 row_fits g p m CheckArrival (Pushes inbox heartbeat_timer) c follows none held = check_fits m inbox c (message_on inbox m.arrival) held (on_inbox inbox m.arrival)
 row_fits g p m (Hear arrival) (Pushes inbox heartbeat_timer) c follows none held =
-    if_both (Fits m 1) (arrival.inbox == inbox) _ _ (hear_fits p m arrival.message (push_kind arrival.message) (at_phase (Pushes inbox (armed p.now)) c) follows tt) (silent_fits m 1 c [] held (none_fit m))
+    if_both (Fits m 1) (arrival.inbox == inbox) _ _ (hear_fits g.settings.resilience.answers_stalled p m arrival.message (push_kind arrival.message) (at_phase (Pushes inbox (armed p.now)) c) follows tt) (silent_fits m 1 c [] held (none_fit m))
 row_fits g p m CheckSilence (Pushes inbox heartbeat_timer) c follows none held =
     if_each (Fits m 0) (is_due heartbeat_timer p.now) _ _ (λ _. record { own = tt; held = held; rows = (tt, tt); few = omega arith }) (λ _. record { own = tt; held = held; rows = tt; few = omega arith })
 row_fits g p m Arm (Pushes inbox heartbeat_timer) c follows none held = record { own = tt; held = tt; rows = tt; few = omega arith }

@@ -19,6 +19,7 @@ fn error_kind_of(kind: ItemKind) -> OrderedErrorKind
         ItemKind::Pull => OrderedErrorKind::Pull,
         ItemKind::Recreate => OrderedErrorKind::Recreate,
         ItemKind::Other => OrderedErrorKind::Other,
+        ItemKind::StreamNotFound => OrderedErrorKind::StreamNotFound,
     }
 }
 
@@ -47,6 +48,7 @@ pub(crate) fn error_of(kind: ItemKind, message: &mut Option<Message>) -> Ordered
         | ItemKind::PushBasedConsumer
         | ItemKind::Pull
         | ItemKind::Recreate
-        | ItemKind::Other => Error::new(error_kind_of(kind)),
+        | ItemKind::Other
+        | ItemKind::StreamNotFound => Error::new(error_kind_of(kind)),
     }
 }

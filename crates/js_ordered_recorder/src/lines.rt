@@ -27,7 +27,9 @@ fn line_of(alloc: Global, event: &Event) -> Result<Vec<u8>, RecordingFault>
 /// Each event has a line, which reads back as the event: that of a transcript if it says the event,
 /// and otherwise an extended line, which `rerun` reads and `replay` refuses. So a recording without
 /// such events is part of a transcript. The first line of a transcript, which says the settings, is
-/// not part of it: write that yourself before the lines.
+/// not part of it: write that yourself before the lines. If the reader has options,
+/// [`push_resilience`](js_tool_transcript::push_resilience) writes what that line says of them, and
+/// `rerun` reads it.
 ///
 /// It grows with each event. To keep a bounded number of lines, use [`RecentLines`].
 #[derive(Drop)]

@@ -72,9 +72,9 @@ pub struct Recorder<'a> {
 }
 
 impl<'a> Recorder<'a> {
-    /// Opens a recorder for an ordered consumer. `setup` is what `first_line` reads from the first
-    /// line of the recording, which you write yourself before any event. `inbox` is the link's
-    /// inbox to which the first consumer's messages come.
+    /// Opens a recorder for an ordered consumer. `setup` is what `first_line`, or for a reader with
+    /// options `first_line_in`, reads from the first line of the recording, which you write yourself
+    /// before any event. `inbox` is the link's inbox to which the first consumer's messages come.
     ///
     /// # Errors
     ///

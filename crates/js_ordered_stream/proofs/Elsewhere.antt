@@ -29,7 +29,7 @@ use Rattle.js_ordered_table.specs.declared.consumer.Recreation.{Recreation}
 use Rattle.js_ordered_table.specs.declared.row.Arrival.{Arrival}
 use Rattle.js_ordered_table.specs.declared.row.Row.{Row}
 use Rattle.js_ordered_table.specs.declared.row.Row.TheVariants as row
-use Rattle.js_ordered_table.specs.Arrivals.{push_kind}
+use Rattle.js_ordered_table.specs.Arrivals.{beat_subject, push_kind}
 use Rattle.js_ordered_table.specs.Consumer.{Passed, at_phase, silent_row}
 use Rattle.js_ordered_table.specs.Fold.{is_over}
 use Rattle.js_ordered_table.specs.Passes.{listens_to}
@@ -136,7 +136,7 @@ pub arms_nowhere : (g : ReplayInput) (now : ℕ) (c : Consumer) (done : Stepped)
 arms_nowhere g now c done v deaf to = idle_row g now row.Arm c done v (arms_none g now c.phase c deaf) refl to
 
 unheard_wish : (g : ReplayInput) (arrival : Arrival) (phase : Phase) → listens_to arrival.inbox phase ≡ false → poll_wish_at g (row.Hear arrival) phase ≡ Nothing
-unheard_wish g arrival (Pushes current timer) deaf = ap (λ (b : Bool). if b then beat_wish (push_kind arrival.message) arrival.message.reply else Nothing) deaf
+unheard_wish g arrival (Pushes current timer) deaf = ap (λ (b : Bool). if b then beat_wish (push_kind arrival.message) (beat_subject g.settings.resilience.answers_stalled arrival.message) else Nothing) deaf
 unheard_wish g arrival (Pulls reader) deaf = refl
 unheard_wish g arrival (Recreates r) deaf = refl
 unheard_wish g arrival Idle deaf = refl

@@ -1,5 +1,5 @@
 -- What a row leaves in a poll: nothing is held, no reader is pinned, and one row at most follows it, or two of which the second one waits.
-use Rattle.std.proofs.Common.{◌≡◌, ℕ, ◌+◌, ◌<◌, ◌≤◌, Bool, true, false, List, [], ◌∷◌, ◌++◌, drop, map, append-nil, Option, Some, None, refl, sym, ap, ◌∙◌, subst, arith}
+use Rattle.std.proofs.Common.{◌≡◌, ℕ, ◌+◌, ◌<◌, Bool, true, false, List, [], ◌∷◌, ◌++◌, drop, map, append-nil, Option, Some, None, refl, sym, ap, ◌∙◌, subst, arith}
 use Rattle.std.specs.Prelude.{⊤, ◌&&◌, ◌||◌, ◌==◌, is_some, nat_lt, not, Ok}
 use Rattle.std.specs.List.{AllByRecursion}
 use Rattle.std.proofs.lemmas.Bool.{ltb-true, lt-ltb}
@@ -28,12 +28,14 @@ use Rattle.js_pull.specs.declared.reader.ReaderOutput.{ReaderOutput as PullTold}
 use Rattle.js_pull.specs.declared.reader.ReaderOutput.TheVariants as tells
 use Rattle.js_pull.specs.declared.reader.Row.{Row as PullRow}
 use Rattle.js_pull.specs.declared.reader.Row.TheVariants as read
+use Rattle.js_pull.specs.declared.replies.InfoReply.{InfoReply}
+use Rattle.js_pull.specs.declared.replies.InfoReply.TheVariants as says
 use Rattle.js_ordered_table.specs.Arrivals.{armed, beat_rows, hear_kind, hear_row, in_place_of, message_row, push_kind, read_row, silence_row, told}
 use Rattle.js_ordered_table.specs.Consumer.{Matter, Change, Unchanged, Becomes, WatcherEnds, Passed, at_phase, silent_row}
 use Rattle.js_ordered_table.specs.Fold.{rank}
 use Rattle.js_ordered_table.specs.Passes.{hearings}
 use Rattle.js_ordered_table.specs.Poll.{poll_wish_at}
-use Rattle.js_ordered_table.specs.Recreation.{answered, ask_row, create_row, created, fail_row, has_subject, held_in, message_on, recreation_rows, stage_rows, start_row, succeed_push, succeed_row, try_row}
+use Rattle.js_ordered_table.specs.Recreation.{answered, ask_row, create_row, created, fail_row, has_subject, held_in, message_on, recreation_rows, stage_rows, start_row, succeed_push, succeed_row, try_row, answered_row}
 use Rattle.js_ordered_table.specs.Table.{changed, event_change, event_row, go_on, is_connected, push_rows, row_at, watcher_ended}
 use Rattle.js_ordered_table.specs.Tasks.{next_rows, rows_of}
 use Rattle.js_ordered_table.specs.Walk.{first_row, later_rows}
@@ -188,9 +190,10 @@ arrival_single : (p : RowInput) (arrival : Option Message) (r : PullReader) → 
 arrival_single p None r = refl
 arrival_single p (Some message) r = hear_single message (pull_kind message) (pull.with_pin message (pull.with_silence p.now r))
 
-answered_single : (failures : ℕ) (info : Option Info) (r : PullReader) → Single (pull.answered failures info r)
-answered_single failures None r = refl
-answered_single failures (Some info) r = refl
+answered_single : (failures : ℕ) (reply : InfoReply) (r : PullReader) → Single (pull.answered failures reply r)
+answered_single failures (says.Info info) r = refl
+answered_single failures (says.Error code) r = if_each Single (r.source.resilience.recreates_when_gone && pull.is_gone code) _ _ (λ _. refl) (λ _. refl)
+answered_single failures says.Nothing r = refl
 
 asked_single : (p : RowInput) (timeout : Option Timer) (failures : ℕ) (reply : Option (Option Message)) (r : PullReader) → Single (pull.check_asked p timeout failures reply r)
 asked_single p timeout failures (Some reply) r = refl
@@ -210,10 +213,12 @@ row_single p answer arrival read.Arm r begun = refl
 row_single p answer arrival (read.Inquire failures) r begun = if_each Single p.up _ _ (λ _. refl) (λ _. refl)
 row_single p answer arrival (read.FailInfoRequest failures) r begun = if_each Single (nat_lt (failures + 1) 6) _ _ (λ _. refl) (λ _. refl)
 row_single p answer arrival read.CheckInfoRequest r begun = inquiry_single p answer r.inquiry r
-row_single p answer arrival (read.Answered reply failures) r begun = answered_single failures (pull.info_of_reply reply) r
+row_single p answer arrival (read.Answered reply failures) r begun = answered_single failures (pull.info_reply reply) r
 row_single p answer arrival read.CheckExpiry r begun = if_each AreSingle (is_any_due r.expiry p.now) _ _ (λ _. refl) (λ _. refl)
 row_single p answer arrival read.CheckArrival r begun = arrival_single p arrival r
-row_single p answer arrival read.CheckSilence r begun = if_each Single (is_any_due r.heartbeat_timer p.now) _ _ (λ _. refl) (λ _. refl)
+row_single p answer arrival read.CheckSilence r begun =
+    if_each Single (is_any_due r.heartbeat_timer p.now) _ _
+    (λ _. if_each AreSingle (r.source.resilience.asks_at_first_heartbeat && not (pull.is_asking r.inquiry)) _ _ (λ _. refl) (λ _. refl)) (λ _. refl)
 
 reads_deaf : (rows : List PullRow) → AreDeaf (map Read rows)
 reads_deaf [] = tt
@@ -270,15 +275,15 @@ beat_deaf : (last : Option ℕ) (consumer_sequence : ℕ) → AreDeaf (beat_rows
 beat_deaf None consumer_sequence = tt
 beat_deaf (Some last) consumer_sequence = if_each AreDeaf (last == consumer_sequence) _ _ (λ _. tt) (λ _. (tt, tt))
 
-kind_calm : (setup : OrderedSetup) (p : RowInput) (message : Message) (kind : PushKind) (c : Consumer) → is_plain setup c.phase ≡ true → Calm setup (hear_kind p message kind c)
-kind_calm setup p message Delivered c k = message_calm setup (readable_as message.reply) message c k
-kind_calm setup p message (Beat last) c k = record { plain = k; one = beat_one last c.core.consumer_sequence; deaf = beat_deaf last c.core.consumer_sequence }
-kind_calm setup p message Bad c k = record { plain = k; one = refl; deaf = tt }
-kind_calm setup p message OtherStatus c k = record { plain = k; one = refl; deaf = tt }
+kind_calm : (setup : OrderedSetup) (stalled : Bool) (p : RowInput) (message : Message) (kind : PushKind) (c : Consumer) → is_plain setup c.phase ≡ true → Calm setup (hear_kind stalled p message kind c)
+kind_calm setup stalled p message Delivered c k = message_calm setup (readable_as message.reply) message c k
+kind_calm setup stalled p message (Beat last) c k = record { plain = k; one = beat_one last c.core.consumer_sequence; deaf = beat_deaf last c.core.consumer_sequence }
+kind_calm setup stalled p message Bad c k = record { plain = k; one = refl; deaf = tt }
+kind_calm setup stalled p message OtherStatus c k = record { plain = k; one = refl; deaf = tt }
 
-hears_calm : (setup : OrderedSetup) (p : RowInput) (arrival : Arrival) (inbox : ℕ) (c : Consumer) → is_plain setup c.phase ≡ true → Calm setup (hear_row p arrival inbox c)
-hears_calm setup p arrival inbox c k =
-    if_each (Calm setup) (arrival.inbox == inbox) _ _ (λ _. kind_calm setup p arrival.message (push_kind arrival.message) (at_phase (Pushes inbox (armed p.now)) c) refl) (λ _. record { plain = k; one = refl; deaf = tt })
+hears_calm : (setup : OrderedSetup) (stalled : Bool) (p : RowInput) (arrival : Arrival) (inbox : ℕ) (c : Consumer) → is_plain setup c.phase ≡ true → Calm setup (hear_row stalled p arrival inbox c)
+hears_calm setup stalled p arrival inbox c k =
+    if_each (Calm setup) (arrival.inbox == inbox) _ _ (λ _. kind_calm setup stalled p arrival.message (push_kind arrival.message) (at_phase (Pushes inbox (armed p.now)) c) refl) (λ _. record { plain = k; one = refl; deaf = tt })
 
 silence_calm : (setup : OrderedSetup) (p : RowInput) (timer : Timer) (c : Consumer) → is_plain setup c.phase ≡ true → Calm setup (silence_row p timer c)
 silence_calm setup p timer c k = if_each (Calm setup) (is_due timer p.now) _ _ (λ _. record { plain = k; one = refl; deaf = (tt, tt) }) (λ _. record { plain = k; one = refl; deaf = tt })
@@ -327,6 +332,9 @@ stage_deaf g p m (Waiting wait) = if_each AreDeaf (is_due wait p.now) _ _ (λ _.
 answered_deaf : (setup : OrderedSetup) (info : Option Info) → HearsNothing (answered setup info)
 answered_deaf setup None = tt
 answered_deaf setup (Some info) = if_each HearsNothing (has_subject setup info) (Succeed info) Fail (λ _. tt) (λ _. tt)
+
+answered_calm : (g : ReplayInput) (reply : InfoReply) (c : Consumer) → is_plain g.setup c.phase ≡ true → Calm g.setup (answered_row g reply c)
+answered_calm g reply c k = record { plain = k; one = refl; deaf = (answered_deaf g.setup (pull.info_in reply), tt) }
 
 fail_calm : (g : ReplayInput) (p : RowInput) (r : Recreation) (c : Consumer) → Calm g.setup (fail_row g p r c)
 fail_calm g p r c = if_each (Calm g.setup) (nat_lt g.settings.retries (r.failures + 1)) _ _ (λ _. record { plain = refl; one = refl; deaf = tt }) (λ _. record { plain = refl; one = refl; deaf = tt })
@@ -426,7 +434,7 @@ row_leaves g p m Create (Recreates r) c unheld at k = leaves_one g.setup Create 
 row_leaves g p m Ask (Recreates r) c unheld at k = leaves_one g.setup Ask (ask_row g p r c) (ask_calm g p r c at k)
 row_leaves g p m Await (Recreates r) c unheld at k = leaves_one g.setup Await (silent_row c (stage_rows g p m r.stage)) (record { plain = k; one = stage_one g p m r.stage; deaf = stage_deaf g p m r.stage })
 row_leaves g p m (Answered reply) (Recreates r) c unheld at k =
-    leaves_one g.setup (Answered reply) (silent_row c (answered g.setup (pull.info_of_reply reply) ∷ [])) (record { plain = k; one = refl; deaf = (answered_deaf g.setup (pull.info_of_reply reply), tt) })
+    leaves_one g.setup (Answered reply) (answered_row g (pull.info_reply reply) c) (answered_calm g (pull.info_reply reply) c k)
 row_leaves g p m Hold (Recreates r) c unheld at k =
     leaves_one g.setup Hold (silent_row (at_phase (Recreates (record r { opened = held_in m.arrival r.opened })) c) []) (record { plain = held_bare g.setup m.arrival r.opened unheld at; one = refl; deaf = tt })
 row_leaves g p m (Succeed info) (Recreates r) c unheld at k = succeed_leaves g.setup g p info r c at k
@@ -434,7 +442,7 @@ row_leaves g p m Fail (Recreates r) c unheld at k = leaves_one g.setup Fail (fai
 row_leaves g p m CheckArrival (Pushes inbox heartbeat_timer) c unheld at k =
     let one : is_one (push_rows inbox (message_on inbox m.arrival)) ≡ true = looks_one inbox (message_on inbox m.arrival) in
     record { plain = k; turn = one_turn g.setup (push_rows inbox (message_on inbox m.arrival)) one; one = λ _. one; deaf = tt }
-row_leaves g p m (Hear arrival) (Pushes inbox heartbeat_timer) c unheld at k = leaves_one g.setup (Hear arrival) (hear_row p arrival inbox c) (hears_calm g.setup p arrival inbox c k)
+row_leaves g p m (Hear arrival) (Pushes inbox heartbeat_timer) c unheld at k = leaves_one g.setup (Hear arrival) (hear_row g.settings.resilience.answers_stalled p arrival inbox c) (hears_calm g.setup g.settings.resilience.answers_stalled p arrival inbox c k)
 row_leaves g p m CheckSilence (Pushes inbox heartbeat_timer) c unheld at k = leaves_one g.setup CheckSilence (silence_row p heartbeat_timer c) (silence_calm g.setup p heartbeat_timer c k)
 row_leaves g p m Arm (Pushes inbox heartbeat_timer) c unheld at k = leaves_one g.setup Arm (silent_row (at_phase (Pushes inbox (armed p.now)) c) []) (record { plain = refl; one = refl; deaf = tt })
 row_leaves g p m (Read row) (Pulls reader) c unheld at k = read_leaves g.setup p m row reader c at
@@ -473,25 +481,61 @@ waits_one setup row Hold e = hold_one setup row e
 waits_one setup row (Read later) e = early_one setup row (wait_read setup row later e)
 waits_one setup row later e = absurd (false_true e)
 
--- a row of a lower rank may be next too
-pub early_high : (row : Row) → is_early row ≡ true → rank row ≤ 4
-early_high (Read row) e = by_read row e
-  where
-    by_read : (row : PullRow) → is_early (Read row) ≡ true → rank (Read row) ≤ 4
-    by_read read.CheckInfoRequest e = omega arith
-    by_read row e = let less : rank (Read row) < 4 = ltb-true (rank (Read row)) 4 e in omega (arith, less)
-early_high row e = let less : rank row < 4 = ltb-true (rank row) 4 e in omega (arith, less)
+-- rows behind each of which a row of a reader may wait
+abbrev pub AreEarly : List Row → Type 0
+AreEarly rows = AllByRecursion (λ row. is_early row ≡ true) rows
 
-early_low : (row : Row) → rank row < 4 → is_early row ≡ true
+early_low : (row : Row) → rank row < 5 → is_early row ≡ true
 early_low (Read row) low = by_read row low
   where
-    by_read : (row : PullRow) → rank (Read row) < 4 → is_early (Read row) ≡ true
+    by_read : (row : PullRow) → rank (Read row) < 5 → is_early (Read row) ≡ true
     by_read read.CheckInfoRequest low = refl
-    by_read row low = lt-ltb (rank (Read row)) 4 low
-early_low row low = lt-ltb (rank row) 4 low
+    by_read (read.Answered reply failures) low = refl
+    by_read row low = lt-ltb (rank (Read row)) 5 low
+early_low row low = lt-ltb (rank row) 5 low
 
-early_below : (row lower : Row) → rank lower < rank row → is_early row ≡ true → is_early lower ≡ true
-early_below row lower below e = let high : rank row ≤ 4 = early_high row e in early_low lower (omega (arith, below, high))
+below_early : (n : ℕ) (rows : List Row) → n < 5 → AreBelow n rows → AreEarly rows
+below_early n [] low below = tt
+below_early n (row ∷ rows) low below = (early_low row (let lower = below.0 in omega (arith, low, lower)), below_early n rows low below.1)
+
+asked_early : (p : RowInput) (timeout : Option Timer) (failures : ℕ) (reply : Option (Option Message)) (r : PullReader) (c : Consumer) → AreEarly (read_row (pull.check_asked p timeout failures reply r) c).next
+asked_early p timeout failures (Some reply) r c = (refl, tt)
+asked_early p timeout failures None r c =
+    if_each (λ (rows : List PullRow). AreEarly (read_row (pull.silent_row r rows) c).next) (is_any_due timeout p.now) _ _ (λ _. (refl, tt)) (λ _. tt)
+
+inquiry_early : (p : RowInput) (answer : Option pull.Answer) (inquiry : InfoRequest) (r : PullReader) (c : Consumer) → AreEarly (read_row (pull.check_inquiry p answer inquiry r) c).next
+inquiry_early p answer inquiries.NoInfoRequest r c = tt
+inquiry_early p answer (inquiries.Asked request timeout failures) r c = asked_early p timeout failures (pull.reply_to request answer) r c
+inquiry_early p answer (inquiries.Resting wait failures) r c =
+    if_each (λ (rows : List PullRow). AreEarly (read_row (pull.silent_row r rows) c).next) (is_due wait p.now) _ _ (λ _. (refl, tt)) (λ _. tt)
+
+-- an answer that ends the reader begins a recreation
+answered_early : (failures : ℕ) (reply : InfoReply) (r : PullReader) (c : Consumer) → AreEarly (read_row (pull.answered failures reply r) c).next
+answered_early failures (says.Info info) r c = (refl, tt)
+answered_early failures (says.Error code) r c =
+    if_each (λ (passed : pull.Passed). AreEarly (read_row passed c).next) (r.source.resilience.recreates_when_gone && pull.is_gone code) _ _ (λ _. (refl, tt)) (λ _. (refl, tt))
+answered_early failures says.Nothing r c = (refl, tt)
+
+checked_early : (g : ReplayInput) (p : RowInput) (m : Matter) (phase : Phase) (c : Consumer) → AreEarly (row_at g p m (Read read.CheckInfoRequest) phase c).next
+checked_early g p m (Pulls reader) c = inquiry_early p m.answer reader.inquiry reader c
+checked_early g p m phase c = tt
+
+replied_early : (g : ReplayInput) (p : RowInput) (m : Matter) (reply : Option Message) (failures : ℕ) (phase : Phase) (c : Consumer) → AreEarly (row_at g p m (Read (read.Answered reply failures)) phase c).next
+replied_early g p m reply failures (Pulls reader) c = answered_early failures (pull.info_reply reply) reader c
+replied_early g p m reply failures phase c = tt
+
+low_early : (g : ReplayInput) (p : RowInput) (m : Matter) (row : Row) (phase : Phase) (c : Consumer) → nat_lt (rank row) 5 ≡ true → AreEarly (row_at g p m row phase c).next
+low_early g p m row phase c e = below_early (rank row) (row_at g p m row phase c).next (ltb-true (rank row) 5 e) (row_falls g p m row phase c)
+
+-- what follows such a row is such a row
+pub row_early : (g : ReplayInput) (p : RowInput) (m : Matter) (row : Row) (phase : Phase) (c : Consumer) → is_early row ≡ true → AreEarly (row_at g p m row phase c).next
+row_early g p m (Read row) phase c e = by_read row e
+  where
+    by_read : (row : PullRow) → is_early (Read row) ≡ true → AreEarly (row_at g p m (Read row) phase c).next
+    by_read read.CheckInfoRequest e = checked_early g p m phase c
+    by_read (read.Answered reply failures) e = replied_early g p m reply failures phase c
+    by_read row e = low_early g p m (Read row) phase c e
+row_early g p m row phase c e = low_early g p m row phase c e
 
 hold_below : (setup : OrderedSetup) (row lower : Row) → rank lower < rank row → may_wait setup row Hold ≡ true → may_wait setup lower Hold ≡ true
 hold_below setup row lower below e =
@@ -499,28 +543,28 @@ hold_below setup row lower below e =
     let lowest : nat_lt (rank lower) 9 ≡ true = lt-ltb (rank lower) 9 (omega (arith, below, less)) in
     ap (λ (b : Bool). b && nat_lt (rank lower) 9) (and_left (is_push setup) (nat_lt (rank row) 9) e) ∙ lowest
 
-read_below : (setup : OrderedSetup) (row lower : Row) (later : PullRow) → rank lower < rank row → may_wait setup row (Read later) ≡ true → may_wait setup lower (Read later) ≡ true
-read_below setup row lower read.Arm below e = early_below row lower below e
-read_below setup row lower read.CheckArrival below e = early_below row lower below e
-read_below setup row lower later below e = absurd (false_true e)
+read_below : (setup : OrderedSetup) (row lower : Row) (later : PullRow) → (is_early row ≡ true → is_early lower ≡ true) → may_wait setup row (Read later) ≡ true → may_wait setup lower (Read later) ≡ true
+read_below setup row lower read.Arm early e = early e
+read_below setup row lower read.CheckArrival early e = early e
+read_below setup row lower later early e = absurd (false_true e)
 
-waits_below : (setup : OrderedSetup) (row lower later : Row) → rank lower < rank row → may_wait setup row later ≡ true → may_wait setup lower later ≡ true
-waits_below setup row lower Hold below e = hold_below setup row lower below e
-waits_below setup row lower (Read later) below e = read_below setup row lower later below e
-waits_below setup row lower later below e = absurd (false_true e)
+waits_below : (setup : OrderedSetup) (row lower later : Row) → rank lower < rank row → (is_early row ≡ true → is_early lower ≡ true) → may_wait setup row later ≡ true → may_wait setup lower later ≡ true
+waits_below setup row lower Hold below early e = hold_below setup row lower below e
+waits_below setup row lower (Read later) below early e = read_below setup row lower later early e
+waits_below setup row lower later below early e = absurd (false_true e)
 
 -- what follows the next row stands before what is left
 pub turn_after : (setup : OrderedSetup) (todo : List Row) (passed : Passed) → is_turn setup todo ≡ true → Leaves setup (first_row todo) passed → AreBelow (rank (first_row todo)) passed.next
-    → is_turn setup (passed.next ++ later_rows todo) ≡ true
-turn_after setup [] passed turn leaves below = ap (is_turn setup) (append-nil passed.next) ∙ leaves.turn
-turn_after setup (row ∷ []) passed turn leaves below = ap (is_turn setup) (append-nil passed.next) ∙ leaves.turn
-turn_after setup (row ∷ later ∷ []) passed turn leaves below = by_next passed.next (leaves.one (waits_one setup row later turn)) below
+    → (is_early (first_row todo) ≡ true → AreEarly passed.next) → is_turn setup (passed.next ++ later_rows todo) ≡ true
+turn_after setup [] passed turn leaves below early = ap (is_turn setup) (append-nil passed.next) ∙ leaves.turn
+turn_after setup (row ∷ []) passed turn leaves below early = ap (is_turn setup) (append-nil passed.next) ∙ leaves.turn
+turn_after setup (row ∷ later ∷ []) passed turn leaves below early = by_next passed.next (leaves.one (waits_one setup row later turn)) below early
   where
-    by_next : (rows : List Row) → is_one rows ≡ true → AreBelow (rank row) rows → is_turn setup (rows ++ later ∷ []) ≡ true
-    by_next [] one below = refl
-    by_next (lower ∷ []) one below = waits_below setup row lower later below.0 turn
-    by_next (lower ∷ second ∷ rows) one below = absurd (false_true one)
-turn_after setup (row ∷ later ∷ third ∷ rows) passed turn leaves below = absurd (false_true turn)
+    by_next : (rows : List Row) → is_one rows ≡ true → AreBelow (rank row) rows → (is_early row ≡ true → AreEarly rows) → is_turn setup (rows ++ later ∷ []) ≡ true
+    by_next [] one below early = refl
+    by_next (lower ∷ []) one below early = waits_below setup row lower later below.0 (λ e. (early e).0) turn
+    by_next (lower ∷ second ∷ rows) one below early = absurd (false_true one)
+turn_after setup (row ∷ later ∷ third ∷ rows) passed turn leaves below early = absurd (false_true turn)
 
 -- ---- nothing is held
 
@@ -567,7 +611,8 @@ settles g now left c d v u kept done steady (row, first_is, later_is, (met, meet
     let leaves : Leaves g.setup row passed = row_leaves g p m row c.phase c (poll_unheld g row c.phase met m refl) steady.plain steady.plain in
     let below : AreBelow (rank row) passed.next = row_falls g p m row c.phase c in
     let turn : is_turn g.setup (passed.next ++ later_rows (left_rows left)) ≡ true =
-    turn_after g.setup (left_rows left) passed steady.turn (subst (λ (one : Row). Leaves g.setup one passed) (sym first_is) leaves) (subst (λ (one : Row). AreBelow (rank one) passed.next) (sym first_is) below) in
+    turn_after g.setup (left_rows left) passed steady.turn (subst (λ (one : Row). Leaves g.setup one passed) (sym first_is) leaves) (subst (λ (one : Row). AreBelow (rank one) passed.next) (sym first_is) below)
+    (λ e. row_early g p m row c.phase c (ap is_early (sym first_is) ∙ e)) in
     record {
       plain = ap (λ (x : Consumer). is_plain g.setup x.phase) steps.consumer ∙ leaves.plain;
       turn = ap (λ (rows : List Row). is_turn g.setup (rows ++ later_of left.todo)) steps.next ∙ ap (λ (rows : List Row). is_turn g.setup (passed.next ++ rows)) (sym later_is) ∙ turn;

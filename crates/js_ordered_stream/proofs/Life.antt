@@ -14,7 +14,7 @@ use Rattle.js_pull.specs.declared.reader.Reader.{Reader as PullReader}
 use Rattle.js_pull.specs.declared.reader.Row.{Row as PullRow}
 use Rattle.js_pull.specs.declared.reader.Row.TheVariants as read
 use Rattle.js_ordered_stream.specs.Life.{AreServedPolls, IsServedWalk, asks_inbox, opens_inbox, place_after, place_past, serving}
-use Rattle.js_ordered_table.specs.Arrivals.{push_kind}
+use Rattle.js_ordered_table.specs.Arrivals.{beat_subject, push_kind}
 use Rattle.js_ordered_table.specs.Consumer.{Matter, Passed, at_phase}
 use Rattle.js_ordered_table.specs.Gapless.{Entry, IsGapless, IsHonestArrival, Server, yields}
 use Rattle.js_ordered_table.specs.Invariant.{Extends, IsFirst, IsHonestMatter, IsHonestRow, IsKept, IsKeptAt, IsKeptIn, Joins, OpensAsAsked}
@@ -43,7 +43,7 @@ use Rattle.js_ordered_table.specs.declared.run.Output.TheVariants as out
 use Rattle.js_ordered_table.specs.declared.setup.OrderedSetup.{OrderedSetup}
 use Rattle.js_ordered_table.specs.declared.setup.OrderedSetup.TheVariants.{Pull, Push}
 use Rattle.js_ordered_stream.specs.Polled.{is_plain, is_turn}
-use Rattle.js_ordered_stream.proofs.FollowingRows.{AreDeaf, HearsNothing, Leaves, poll_unheld, row_leaves, turn_after}
+use Rattle.js_ordered_stream.proofs.FollowingRows.{AreDeaf, HearsNothing, Leaves, poll_unheld, row_early, row_leaves, turn_after}
 use Rattle.js_ordered_table.proofs.Ranks.{row_falls}
 use Rattle.js_ordered_table.proofs.Chains.{extends_append, extends_gapless}
 use Rattle.js_ordered_table.proofs.Rewritten.{all_append}
@@ -149,8 +149,9 @@ opens_anew g s t p m (Succeed info) (Recreates r) c opens k = record {
 opens_anew g s t p m Fail (Recreates r) c opens k = absurd (never (asks_inbox (opened_dropped r.opened)) p.up (dropped_opened r.opened) opens)
 opens_anew g s t p m CheckArrival (Pushes inbox heartbeat_timer) c opens k = absurd (never false p.up refl opens)
 opens_anew g s t p m (Hear arrival) (Pushes inbox heartbeat_timer) c opens k =
-    absurd (never (asks_inbox (if arrival.inbox == inbox then beat_wish (push_kind arrival.message) arrival.message.reply else Nothing)) p.up
-    (heard_none (arrival.inbox == inbox) (push_kind arrival.message) arrival.message.reply) opens)
+    let asked = beat_subject g.settings.resilience.answers_stalled arrival.message in
+    absurd (never (asks_inbox (if arrival.inbox == inbox then beat_wish (push_kind arrival.message) asked else Nothing)) p.up
+    (heard_none (arrival.inbox == inbox) (push_kind arrival.message) asked) opens)
 opens_anew g s t p m (Read row) (Pulls reader) c opens k = absurd (never (asks_inbox (pull.wish row reader)) p.up (read_none row reader) opens)
 opens_anew g s t p m _ phase c opens k = absurd (never false p.up refl opens)
 
@@ -232,7 +233,8 @@ passed_served g s place now stride met at is plain turn honest keeps =
       at = record {
         kept = record { consumer = keeps.kept; todo = all_append (IsHonestRow g.setup (serving s place)) passed.next (later_rows at.todo) keeps.rows honest };
         plain = leaves.plain;
-        turn = turn_after g.setup at.todo passed turn leaves (row_falls g stride.passing stride.matter (first_row at.todo) at.consumer.phase at.consumer);
+        turn = turn_after g.setup at.todo passed turn leaves (row_falls g stride.passing stride.matter (first_row at.todo) at.consumer.phase at.consumer)
+            (row_early g stride.passing stride.matter (first_row at.todo) at.consumer.phase at.consumer);
       };
       extends = extends_same g.setup s place at.consumer.core.stream_sequence passed.consumer.core.stream_sequence passed.outputs keeps.extends;
     }

@@ -1,6 +1,6 @@
 -- A row that was passed over a link is the row of the table at what it met.
 use Rattle.std.proofs.Common.{◌≡◌, ℕ, Bool, true, false, List, [], ◌∷◌, ◌++◌, drop, map, Option, Some, None, refl, sym, ap, ◌∙◌, subst}
-use Rattle.std.specs.Prelude.{◌&&◌, codes, is_some, option_map, Result, Ok, Err, IfOk, if◌then◌else◌}
+use Rattle.std.specs.Prelude.{◌&&◌, codes, is_some, option_map, Ok, if◌then◌else◌}
 use Rattle.js_base.specs.declared.message.Message.{Message}
 use Rattle.js_json.specs.declared.consumer.info.Info.{Info}
 use Rattle.js_json.specs.declared.pull.OrderedConfig as pull_config
@@ -27,7 +27,8 @@ use Rattle.js_ordered_stream.specs.declared.rows.RowItem.TheVariants as hands
 use Rattle.js_ordered_stream.specs.declared.rows.Stepped.{Stepped}
 use Rattle.js_ordered_stream.specs.Rows.{IfAlone, IfLook, PassesRow, PassesRows, answer_in, arming, arrival_in, handed_list, has_message, hold_none, inbox_in, is_something, message_in, met_row, read_by, replied, seen_by, seen_met}
 use Rattle.js_ordered_stream.specs.Polled.{is_bare, is_none_held, is_push}
-use Rattle.js_pull.specs.Reader.{Answer, info_of_reply, reply_to}
+use Rattle.js_pull.specs.Reader.{Answer, info_reply, reply_to}
+use Rattle.js_pull.specs.declared.replies.InfoReply.{InfoReply}
 use Rattle.js_ordered_table.specs.declared.answer.Change.{Change as CodeChange}
 use Rattle.js_ordered_table.specs.declared.consumer.Consumer.{Consumer}
 use Rattle.js_ordered_table.specs.declared.consumer.Opened.{Opened}
@@ -46,7 +47,7 @@ use Rattle.js_ordered_table.specs.declared.setup.OrderedSetup.TheVariants.{Pull,
 use Rattle.js_ordered_table.specs.Fold.{is_over}
 use Rattle.js_ordered_table.specs.Invariant.{IsPull, IsPush}
 use Rattle.js_ordered_table.specs.Passes.{change_shown, hearings}
-use Rattle.js_ordered_table.specs.Recreation.{answered, ask_row, create_row, fail_row, held_in, stage_rows, start_row, succeed_pull, succeed_push, succeed_row, try_row}
+use Rattle.js_ordered_table.specs.Recreation.{answered_row, ask_row, create_row, fail_row, held_in, stage_rows, start_row, succeed_pull, succeed_push, succeed_row, try_row}
 use Rattle.js_ordered_table.specs.Consumer.{Change, Matter, Passed, at_phase, silent_row}
 use Rattle.js_ordered_table.specs.Texts.{create_body, create_subject, delete_subject}
 use Rattle.js_ordered_table.specs.Table.{event_row, row_at}
@@ -265,19 +266,20 @@ await_passes g now r c d met request replied_is rest seen done v u meets there n
       },
     )
 
--- the answer to a create was read
-pub answered_passes : (g : ReplayInput) (now : ℕ) (r : Recreation) (c d : Consumer) (request : ℕ) (a : Option Answer) (info : Option Info) (rest : NextTasks) (done : Stepped) (v : LinkView)
-    → option_map info_of_reply (reply_to request a) ≡ Some info
-    → StepsTo (read_by None None) (silent_row (at_phase (Recreates r) c) (answered g.setup info ∷ [])) [] d rest → done ≡ done_by hands.Nothing rest
+-- the answer to a create was read, of which the user may be told
+pub answered_passes : (g : ReplayInput) (now : ℕ) (r : Recreation) (c d : Consumer) (request : ℕ) (a : Option Answer) (said : InfoReply) (told : RowOutput) (rest : NextTasks) (done : Stepped) (v : LinkView)
+    → option_map info_reply (reply_to request a) ≡ Some said
+    → StepsTo (read_by None None) (answered_row g said (at_phase (Recreates r) c)) (told_outputs told) d rest
+    → handed_list done.handed None ≡ handed (told_outputs told) → done ≡ record done { looked = false; next = rest }
     → PassesRows g now (rows_of (read_by a None) (task.Answered request)) (at_phase (Recreates r) c) d v v sight.Nothing (Ok done)
-answered_passes g now r c d request a info rest done v reads steps to = by_reply (reply_to request a) reads
+answered_passes g now r c d request a said told rest done v reads steps hands to = by_reply (reply_to request a) reads
   where
-    by_reply : (reply : Option (Option Message)) → option_map info_of_reply reply ≡ Some info → IfAlone (answered_rows reply) (λ (one : Row). PassesRow g now one (at_phase (Recreates r) c) d v v sight.Nothing (Ok done))
+    by_reply : (reply : Option (Option Message)) → option_map info_reply reply ≡ Some said → IfAlone (answered_rows reply) (λ (one : Row). PassesRow g now one (at_phase (Recreates r) c) d v v sight.Nothing (Ok done))
     by_reply None e = cc
     by_reply (Some message) e =
-        let same : info_of_reply message ≡ info = cc in
-        row_passes g now (row.Answered message) (at_phase (Recreates r) c) d Unasked (silent_row (at_phase (Recreates r) c) (answered g.setup info ∷ [])) [] hands.Nothing rest done v v refl (record { message = refl; is_open = refl }) refl
-        (ap (λ (o : Option Info). silent_row (at_phase (Recreates r) c) (answered g.setup o ∷ [])) same) steps refl tt to
+        let same : info_reply message ≡ said = cc in
+        row_tells g now (row.Answered message) (at_phase (Recreates r) c) d Unasked (answered_row g said (at_phase (Recreates r) c)) told rest done v v refl (record { message = refl; is_open = refl }) refl
+        (ap (λ (x : InfoReply). answered_row g x (at_phase (Recreates r) c)) same) steps hands tt to
 
 -- pull reads its next inbox
 pub succeed_passes : (g : ReplayInput) (now : ℕ) (info : Info) (r : Recreation) (c d : Consumer) (met : Met) (inbox : Option Inbox) (rest : NextTasks) (done : Stepped) (v u : LinkView) → IsPull g.setup
@@ -389,9 +391,3 @@ event_passes g now c d met change told rest done v u going meets shown steps han
 
 pub meets_as : (w x : Wish) (met : Met) (v u : LinkView) → w ≡ x → Meets w met v u → Meets x met v u
 meets_as w x met v u is meets = subst (λ (y : Wish). Meets y met v u) is meets
-
--- what a reply tells is the same in a box
-pub told_boxed : {E : Type 0} (reply read : Option Message) (found told : Result (Option Info) E) → read ≡ reply → IfOk found (λ info. info ≡ info_of_reply read)
-    → IfOk told (λ info. found ≡ Ok info) → IfOk told (λ info. info ≡ info_of_reply reply)
-told_boxed reply read found (Err e) is tells same = tt
-told_boxed reply read found (Ok info) is tells same = subst (λ r. IfOk r (λ x. x ≡ info_of_reply read)) same tells ∙ ap info_of_reply is

@@ -36,7 +36,7 @@ use Rattle.js_ordered_table.specs.declared.kind.PushKind.TheVariants as kind
 use Rattle.js_ordered_table.specs.declared.row.Arrival.{Arrival}
 use Rattle.js_ordered_table.specs.declared.row.Row.TheVariants as row
 use Rattle.js_ordered_table.specs.Passes.{listens_to}
-use Rattle.js_ordered_table.specs.Arrivals.{armed, beat_answer, push_kind, silence_row}
+use Rattle.js_ordered_table.specs.Arrivals.{armed, beat_answer, beat_subject, push_kind, silence_row}
 use Rattle.js_ordered_table.specs.Recreation.{message_on}
 use Rattle.js_ordered_table.specs.Consumer.{Matter, Passed, at_phase, silent_row}
 use Rattle.js_ordered_table.specs.Table.{push_rows}
@@ -141,18 +141,18 @@ asks_as number message (kind.Beat last) heard (Some reply) is = ap (λ (h : Hear
 asks_as number message kind.Bad heard reply is = ap (λ (h : Heard). asked_by h reply) is
 asks_as number message kind.OtherStatus heard reply is = ap (λ (h : Heard). asked_by h reply) is
 
-pub asks_nothing : (number : ℕ) (message : Message) (heard known : Heard) → heard ≡ known → asked_by known message.reply ≡ Nothing → IsHeard number message heard → Nothing ≡ beat_wish (push_kind message) message.reply
-asks_nothing number message heard known is none heard_is = sym none ∙ ap (λ (h : Heard). asked_by h message.reply) (sym is) ∙ asks_as number message (push_kind message) heard message.reply heard_is
+pub asks_nothing : (number : ℕ) (message : Message) (asked : Option (List ℕ)) (heard known : Heard) → heard ≡ known → asked_by known asked ≡ Nothing → IsHeard number message heard → Nothing ≡ beat_wish (push_kind message) asked
+asks_nothing number message asked heard known is none heard_is = sym none ∙ ap (λ (h : Heard). asked_by h asked) (sym is) ∙ asks_as number message (push_kind message) heard asked heard_is
 
-pub asks_answer : (number : ℕ) (message : Message) (heard : Heard) (last : Option ℕ) (reply subject payload : List ℕ) → heard ≡ hears.Beat last → message.reply ≡ Some reply → subject ≡ reply → payload ≡ [] → IsHeard number message heard
-    → Publishes subject None payload ≡ beat_wish (push_kind message) message.reply
-asks_answer number message heard last reply subject payload is replies same empty heard_is =
+pub asks_answer : (number : ℕ) (message : Message) (asked : Option (List ℕ)) (heard : Heard) (last : Option ℕ) (reply subject payload : List ℕ) → heard ≡ hears.Beat last → asked ≡ Some reply → subject ≡ reply → payload ≡ [] → IsHeard number message heard
+    → Publishes subject None payload ≡ beat_wish (push_kind message) asked
+asks_answer number message asked heard last reply subject payload is replies same empty heard_is =
     ap (λ (s : List ℕ). Publishes s None payload) same ∙ ap (λ (p : List ℕ). Publishes reply None p) empty ∙ ap (λ (o : Option (List ℕ)). asked_by (hears.Beat last) o) (sym replies)
-    ∙ ap (λ (h : Heard). asked_by h message.reply) (sym is) ∙ asks_as number message (push_kind message) heard message.reply heard_is
+    ∙ ap (λ (h : Heard). asked_by h asked) (sym is) ∙ asks_as number message (push_kind message) heard asked heard_is
 
-pub asks_no_reply : (number : ℕ) (message : Message) (heard : Heard) (last : Option ℕ) → heard ≡ hears.Beat last → message.reply ≡ None → IsHeard number message heard → Nothing ≡ beat_wish (push_kind message) message.reply
-asks_no_reply number message heard last is none heard_is =
-    asks_nothing number message heard (hears.Beat last) is (ap (λ (o : Option (List ℕ)). asked_by (hears.Beat last) o) none) heard_is
+pub asks_no_reply : (number : ℕ) (message : Message) (asked : Option (List ℕ)) (heard : Heard) (last : Option ℕ) → heard ≡ hears.Beat last → asked ≡ None → IsHeard number message heard → Nothing ≡ beat_wish (push_kind message) asked
+asks_no_reply number message asked heard last is none heard_is =
+    asks_nothing number message asked heard (hears.Beat last) is (ap (λ (o : Option (List ℕ)). asked_by (hears.Beat last) o) none) heard_is
 
 beat_other : (k : PushKind) (reply : Option (List ℕ)) → IsOther (beat_wish k reply)
 beat_other (kind.Beat last) (Some reply) = tt
@@ -168,15 +168,24 @@ none_answered up None = refl
 none_answered true (Some reply) = refl
 none_answered false (Some reply) = refl
 
-heard_shown : (number : ℕ) (message : Message) (up : Bool) (k : PushKind) (heard : Heard) → IsHeardAs number message k heard → handed (heard_outputs up message heard) ≡ handed_list (handed_by_heard heard) (Some message)
-heard_shown number message up kind.Delivered heard is = sym (yields_handed number message up heard (handed_by_heard heard) is refl)
-heard_shown number message up (kind.Beat last) heard is =
-    subst (λ (h : Heard). handed (heard_outputs up message h) ≡ handed_list (handed_by_heard h) (Some message)) (sym is) (none_answered up message.reply)
-heard_shown number message up kind.Bad heard is = subst (λ (h : Heard). handed (heard_outputs up message h) ≡ handed_list (handed_by_heard h) (Some message)) (sym is) refl
-heard_shown number message up kind.OtherStatus heard is = subst (λ (h : Heard). handed (heard_outputs up message h) ≡ handed_list (handed_by_heard h) (Some message)) (sym is) refl
+heard_shown : (number : ℕ) (message : Message) (stalled up : Bool) (k : PushKind) (heard : Heard) → IsHeardAs number message k heard
+    → handed (heard_outputs stalled up message heard) ≡ handed_list (handed_by_heard heard) (Some message)
+heard_shown number message stalled up kind.Delivered heard is = sym (yields_handed number message stalled up heard (handed_by_heard heard) is refl)
+heard_shown number message stalled up (kind.Beat last) heard is =
+    subst (λ (h : Heard). handed (heard_outputs stalled up message h) ≡ handed_list (handed_by_heard h) (Some message)) (sym is) (none_answered up (beat_subject stalled message))
+heard_shown number message stalled up kind.Bad heard is = subst (λ (h : Heard). handed (heard_outputs stalled up message h) ≡ handed_list (handed_by_heard h) (Some message)) (sym is) refl
+heard_shown number message stalled up kind.OtherStatus heard is = subst (λ (h : Heard). handed (heard_outputs stalled up message h) ≡ handed_list (handed_by_heard h) (Some message)) (sym is) refl
 
-hear_wish : (g : ReplayInput) (arrival : Arrival) (phase : Phase) → listens_to arrival.inbox phase ≡ true → poll_wish_at g (row.Hear arrival) phase ≡ beat_wish (push_kind arrival.message) arrival.message.reply
-hear_wish g arrival (Pushes current timer) here = ap (λ (b : Bool). if b then beat_wish (push_kind arrival.message) arrival.message.reply else Nothing) here
+-- a reader with this input answers stalled consumers
+abbrev answers_stalled : ReplayInput → Bool
+answers_stalled g = g.settings.resilience.answers_stalled
+
+-- what an arrival asks for there
+abbrev beat_asked : ReplayInput → Message → Wish
+beat_asked g message = beat_wish (push_kind message) (beat_subject (answers_stalled g) message)
+
+hear_wish : (g : ReplayInput) (arrival : Arrival) (phase : Phase) → listens_to arrival.inbox phase ≡ true → poll_wish_at g (row.Hear arrival) phase ≡ beat_asked g arrival.message
+hear_wish g arrival (Pushes current timer) here = ap (λ (b : Bool). if b then beat_asked g arrival.message else Nothing) here
 hear_wish g arrival (Pulls reader) here = absurd (let h = here in cc)
 hear_wish g arrival (Recreates r) here = absurd (let h = here in cc)
 hear_wish g arrival Idle here = absurd (let h = here in cc)
@@ -188,25 +197,26 @@ now_met now met = ap (λ (p : Sends). p.now) (sym (moment_met now met))
 
 pub hear_passes : (g : ReplayInput) (now : ℕ) (arrival : Arrival) (heard : Heard) (c d : Consumer) (hand : RowItem) (rest : NextTasks) (v u : LinkView) → listens_to arrival.inbox c.phase ≡ true
     → IsHeard c.core.consumer_sequence arrival.message heard
-    → ((m : Matter) (p : Sends) (message : Message) → StepsTo m (heard_row p message heard (at_phase (Pushes arrival.inbox (armed now)) c)) (heard_outputs p.up message heard) d rest)
-    → hand ≡ handed_by_heard heard → AnswersBeat arrival.message v u
+    → ((m : Matter) (p : Sends) (message : Message) → StepsTo m (heard_row (answers_stalled g) p message heard (at_phase (Pushes arrival.inbox (armed now)) c)) (heard_outputs (answers_stalled g) p.up message heard) d rest)
+    → hand ≡ handed_by_heard heard → AnswersBeat (answers_stalled g) arrival.message v u
     → PassesRow g now (row.Hear arrival) c d v u (sight.Message None arrival.message) (Ok (record { handed = hand; looked = true; next = rest }))
 hear_passes g now arrival heard c d hand rest v u here is steps hands (met, meets) =
     let message : Message = arrival.message in
-    let w : Wish = beat_wish (push_kind message) message.reply in
+    let stalled : Bool = answers_stalled g in
+    let w : Wish = beat_asked g message in
     let p : Sends = row_input now met in
     let m : Matter = matter_of (poll_wish_at g (row.Hear arrival) c.phase) met in
     let s = steps (read_by None None) p message in
-    let same : met_row g now (row.Hear arrival) met c ≡ heard_row p message heard (at_phase (Pushes arrival.inbox (armed now)) c) =
+    let same : met_row g now (row.Hear arrival) met c ≡ heard_row stalled p message heard (at_phase (Pushes arrival.inbox (armed now)) c) =
     hears_here g p m arrival.inbox message c.phase c here
-    ∙ hears_as p message (push_kind message) heard (at_phase (Pushes arrival.inbox (armed p.now)) c) is
-    ∙ ap (λ (n : ℕ). heard_row p message heard (at_phase (Pushes arrival.inbox (armed n)) c)) (now_met now met) in (
+    ∙ hears_as stalled p message (push_kind message) heard (at_phase (Pushes arrival.inbox (armed p.now)) c) is
+    ∙ ap (λ (n : ℕ). heard_row stalled p message heard (at_phase (Pushes arrival.inbox (armed n)) c)) (now_met now met) in (
       met,
       subst (λ (x : Wish). Meets x met v u) (sym (hear_wish g arrival c.phase here)) meets,
-      (untaken w met v u (beat_other (push_kind message) message.reply) meets).is_open,
+      (untaken w met v u (beat_other (push_kind message) (beat_subject stalled message)) meets).is_open,
       record {
         consumer = s.consumer ∙ ap (λ (x : Passed). x.consumer) (sym same);
-        shown = ap (λ (x : Passed). handed x.outputs) same ∙ ap handed s.outputs ∙ heard_shown c.core.consumer_sequence message p.up (push_kind message) heard is
+        shown = ap (λ (x : Passed). handed x.outputs) same ∙ ap handed s.outputs ∙ heard_shown c.core.consumer_sequence message stalled p.up (push_kind message) heard is
             ∙ ap (λ (h : RowItem). handed_list h (Some message)) (sym hands);
         next = s.next ∙ ap (λ (x : Passed). x.next) (sym same);
         looked = refl;
@@ -218,9 +228,10 @@ hear_passes g now arrival heard c d hand rest v u here is steps hands (met, meet
     )
 
 -- a message of the stream is not answered
-pub unanswered : (number : ℕ) (message : Message) (heard known : Heard) (v : LinkView) → heard ≡ known → asked_by known message.reply ≡ Nothing → IsHeard number message heard → AnswersBeat message v v
-unanswered number message heard known v is none heard_is =
-    (Unasked, subst (λ (w : Wish). Meets w Unasked v v) (asks_nothing number message heard known is none heard_is) refl)
+pub unanswered : (number : ℕ) (message : Message) (stalled : Bool) (heard known : Heard) (v : LinkView) → heard ≡ known → asked_by known (beat_subject stalled message) ≡ Nothing → IsHeard number message heard
+    → AnswersBeat stalled message v v
+unanswered number message stalled heard known v is none heard_is =
+    (Unasked, subst (λ (w : Wish). Meets w Unasked v v) (asks_nothing number message (beat_subject stalled message) heard known is none heard_is) refl)
 
 -- what was taken is heard
 pub heard_alone : (g : ReplayInput) (now inbox : ℕ) (seen kept : Seen) (unheard : Option ℕ) (message : Message) (c d : Consumer) (result : Result Stepped Stop) (v u : LinkView) → seen ≡ sight.Message unheard message

@@ -29,7 +29,7 @@ use Rattle.js_pull.specs.declared.reader.Reader.{Reader}
 use Rattle.js_pull.specs.declared.reader.ReaderOutput.{ReaderOutput}
 use Rattle.js_pull.specs.declared.reader.ReaderOutput.TheVariants as telling
 use Rattle.js_pull.specs.declared.reader.Row.{Row as PullRow}
-use Rattle.js_pull.specs.declared.reader.Reason.{Reason}
+use Rattle.js_pull.specs.declared.replies.Finding.{Finding}
 use Rattle.js_pull.specs.declared.rows.Due.{Due}
 use Rattle.js_pull.specs.declared.rows.Notice.{Notice}
 use Rattle.js_pull.specs.declared.rows.PassedRow.{PassedRow as Read}
@@ -48,13 +48,13 @@ use Rattle.js_ordered_stream.proofs.RowMet.{arrives, if_error, looked_as, none_s
 
 -- ---- what is handed out of a message
 
-pub yields_handed : (number : ℕ) (message : Message) (up : Bool) (heard : Heard) (hand : RowItem) → IsHeardFrom number message heard → hand ≡ handed_by_heard heard → handed_list hand (Some message) ≡ handed (heard_outputs up message heard)
-yields_handed number message up (hears.Yields place) hand is to =
+pub yields_handed : (number : ℕ) (message : Message) (stalled up : Bool) (heard : Heard) (hand : RowItem) → IsHeardFrom number message heard → hand ≡ handed_by_heard heard → handed_list hand (Some message) ≡ handed (heard_outputs stalled up message heard)
+yields_handed number message stalled up (hears.Yields place) hand is to =
     ap (λ (h : RowItem). handed_list h (Some message)) to ∙ ap (λ (o : Option Place). yielded o message ∷ []) is.0
-yields_handed number message up hears.Unreadable hand is to = ap (λ (h : RowItem). handed_list h (Some message)) to
-yields_handed number message up hears.Gap hand is to = ap (λ (h : RowItem). handed_list h (Some message)) to
-yields_handed number message up (hears.Beat last) hand is to = absurd is
-yields_handed number message up hears.OtherStatus hand is to = absurd is
+yields_handed number message stalled up hears.Unreadable hand is to = ap (λ (h : RowItem). handed_list h (Some message)) to
+yields_handed number message stalled up hears.Gap hand is to = ap (λ (h : RowItem). handed_list h (Some message)) to
+yields_handed number message stalled up (hears.Beat last) hand is to = absurd is
+yields_handed number message stalled up hears.OtherStatus hand is to = absurd is
 
 -- ---- what the consumer makes of it
 
@@ -74,12 +74,12 @@ takes_told m tells silent rows message c d said taken is steps hands = record {
 }
 
 pub takes_handed : (m : Matter) (p : Sends) (rows : List Row) (message : Message) (heard : Heard) (c d : Consumer) (taken : ReaderStep) → IsHeardFrom c.core.consumer_sequence message heard
-    → StepsTo m (with_sent [] rows (heard_row p message heard (record c { missed = false }))) (heard_outputs p.up message heard) d taken.next
-    → handed_list taken.handed (Some message) ≡ handed (heard_outputs p.up message heard)
+    → StepsTo m (with_sent [] rows (heard_row false p message heard (record c { missed = false }))) (heard_outputs false p.up message heard) d taken.next
+    → handed_list taken.handed (Some message) ≡ handed (heard_outputs false p.up message heard)
     → TakesIn m (telling.Hands message) rows (Some message) c d taken
 takes_handed m p rows message heard c d taken is steps hands = record {
-  outputs = heard_outputs p.up message heard;
-  steps = subst (λ (x : Passed). StepsTo m (with_sent [] rows x) (heard_outputs p.up message heard) d taken.next) (sym (from_stream p message heard (record c { missed = false }) is)) steps;
+  outputs = heard_outputs false p.up message heard;
+  steps = subst (λ (x : Passed). StepsTo m (with_sent [] rows x) (heard_outputs false p.up message heard) d taken.next) (sym (from_stream false p message heard (record c { missed = false }) is)) steps;
   shown = hands;
 }
 
@@ -130,6 +130,6 @@ read_passes g now one r s c d met step taken seen done v u meets is_open steps t
 
 -- ---- what a row needs and meets
 
-pub informed_as : {E : Type 0} (one : Due) (a b : Option Message) (told : Result (Option Reason) E) → a ≡ b → IfOk told (λ reason. IsInformed (row_of a one) reason)
-    → IfOk told (λ reason. IsInformed (row_of b one) reason)
-informed_as one a b told is holds = subst (λ (m : Option Message). IfOk told (λ reason. IsInformed (row_of m one) reason)) is holds
+pub informed_as : {E : Type 0} (one : Due) (a b : Option Message) (told : Result Finding E) → a ≡ b → IfOk told (λ finding. IsInformed (row_of a one) finding)
+    → IfOk told (λ finding. IsInformed (row_of b one) finding)
+informed_as one a b told is holds = subst (λ (m : Option Message). IfOk told (λ finding. IsInformed (row_of m one) finding)) is holds

@@ -498,6 +498,7 @@ error_tells item.PushBasedConsumer = refl
 error_tells item.Pull = refl
 error_tells item.Recreate = refl
 error_tells item.Other = refl
+error_tells item.StreamNotFound = refl
 
 -- it is of a kind that is given
 pub error_given : (kind : ItemKind) → is_given (error_kind kind) ≡ true
@@ -507,6 +508,7 @@ error_given item.PushBasedConsumer = refl
 error_given item.Pull = refl
 error_given item.Recreate = refl
 error_given item.Other = refl
+error_given item.StreamNotFound = refl
 
 -- an error of the table
 poll_errs : (g : ReplayInput) (now : ℕ) (quiet : Bool) (met : Met) (old at new : Position) (v u w : LinkView) (kind : ItemKind) (kept : Option Message) (e : Error OrderedErrorKind) → kind_of e ≡ error_kind kind

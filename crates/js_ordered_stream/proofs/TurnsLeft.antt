@@ -27,11 +27,11 @@ use Rattle.js_pull.specs.declared.reader.ReaderOutput.TheVariants as tells
 use Rattle.js_pull.specs.declared.reader.Row.{Row as PullRow}
 use Rattle.js_pull.specs.declared.reader.Row.TheVariants as read
 use Rattle.js_message.specs.AckSubject.{Place, readable_as}
-use Rattle.js_ordered_table.specs.Arrivals.{armed, hear_kind, hear_row, message_row, push_kind, read_row, silence_row, told}
+use Rattle.js_ordered_table.specs.Arrivals.{armed, hear_kind, hear_row, message_row, push_kind, read_row, silence_row, told, beat_subject}
 use Rattle.js_ordered_table.specs.Consumer.{Matter, Change, Unchanged, Becomes, WatcherEnds, Passed, at_phase, silent_row}
 use Rattle.js_ordered_table.specs.Fold.{rank}
 use Rattle.js_ordered_table.specs.Poll.{has_started, is_reading, poll_wish_at}
-use Rattle.js_ordered_table.specs.Recreation.{answered, ask_row, create_row, fail_row, held_in, message_on, stage_rows, start_row, succeed_push, succeed_row, try_row}
+use Rattle.js_ordered_table.specs.Recreation.{ask_row, create_row, fail_row, held_in, message_on, stage_rows, start_row, succeed_push, succeed_row, try_row, answered_row}
 use Rattle.js_ordered_table.specs.Table.{changed, event_change, event_row, go_on, is_connected, push_rows, row_at, watcher_ended}
 use Rattle.js_ordered_table.specs.Wishes.{awaited, beat_wish, create_wish, matter_of, opened_dropped, succeed_wish}
 use Rattle.js_ordered_table.specs.declared.consumer.Consumer.{Consumer}
@@ -52,7 +52,7 @@ use Rattle.js_ordered_table.specs.declared.setup.OrderedSetup.TheVariants.{Pull,
 use Rattle.js_ordered_table.proofs.Ranks.{AreBelow}
 use Rattle.js_ordered_table.proofs.Rewritten.{if_both, if_each}
 use Rattle.js_ordered_table.proofs.RowInvariant.{row_read}
-use Rattle.js_ordered_stream.specs.Polled.{is_bare, is_none_held, is_plain, is_push}
+use Rattle.js_ordered_stream.specs.Polled.{is_bare, is_early, is_none_held, is_plain, is_push}
 use Rattle.js_ordered_stream.proofs.FollowingRows.{AreDeaf}
 use Rattle.js_ordered_stream.proofs.PassedRows.{and_right, none_held}
 use Rattle.js_ordered_stream.proofs.RowMet.{IsOther, opened_other, untaken}
@@ -237,7 +237,7 @@ event_other g Exhausted = tt
 pub record Effect (v u : LinkView) (met : Met) (row : Row) (before : Phase) (passed : Passed) : Type 0 where
   pub fewer : turns_left u passed.consumer.phase + 2 * taken met + number (has_started before passed.consumer.phase) ≤ turns_left v before
   pub taker : is_some (message_of met) ≡ true → rank row ≡ 6
-  pub starter : has_started before passed.consumer.phase ≡ true → (rank row ≡ 6) × AreBelow 4 passed.next
+  pub starter : has_started before passed.consumer.phase ≡ true → (rank row ≡ 6) × AreBelow 4 passed.next × (is_early row ≡ false)
 
 -- where it takes none, and starts none
 stays_effect : (wish : Wish) (met : Met) (v u : LinkView) (row : Row) (before : Phase) (passed : Passed) → IsOther wish → Meets wish met v u → Stays v before passed.consumer.phase → Effect v u met row before passed
@@ -271,20 +271,22 @@ beat_other Delivered reply = tt
 beat_other Bad reply = tt
 beat_other OtherStatus reply = tt
 
-kind_stays : (v : LinkView) (p : RowInput) (message : Message) (kind : PushKind) (c : Consumer) → turns_left v (hear_kind p message kind c).consumer.phase ≤ turns_left v c.phase
-kind_stays v p message Delivered c = message_lower v (readable_as message.reply) message c
-kind_stays v p message (Beat last) c = omega arith
-kind_stays v p message Bad c = omega arith
-kind_stays v p message OtherStatus c = omega arith
+kind_stays : (v : LinkView) (stalled : Bool) (p : RowInput) (message : Message) (kind : PushKind) (c : Consumer) → turns_left v (hear_kind stalled p message kind c).consumer.phase ≤ turns_left v c.phase
+kind_stays v stalled p message Delivered c = message_lower v (readable_as message.reply) message c
+kind_stays v stalled p message (Beat last) c = omega arith
+kind_stays v stalled p message Bad c = omega arith
+kind_stays v stalled p message OtherStatus c = omega arith
 
 hear_effect : (g : ReplayInput) (now inbox : ℕ) (timer : Timer) (arrival : Arrival) (met : Met) (v u : LinkView) (c : Consumer) → c.phase ≡ Pushes inbox timer → Meets (poll_wish_at g (Hear arrival) (Pushes inbox timer)) met v u
-    → Effect v u met (Hear arrival) (Pushes inbox timer) (hear_row (row_input now met) arrival inbox c)
+    → Effect v u met (Hear arrival) (Pushes inbox timer) (hear_row g.settings.resilience.answers_stalled (row_input now met) arrival inbox c)
 hear_effect g now inbox timer arrival met v u c is m =
-    stays_effect (poll_wish_at g (Hear arrival) (Pushes inbox timer)) met v u (Hear arrival) (Pushes inbox timer) (hear_row (row_input now met) arrival inbox c)
-    (if_each IsOther (arrival.inbox == inbox) (beat_wish (push_kind arrival.message) arrival.message.reply) Nothing (λ _. beat_other (push_kind arrival.message) arrival.message.reply) (λ _. tt))
+    let stalled : Bool = g.settings.resilience.answers_stalled in
+    let asked : Option (List ℕ) = beat_subject stalled arrival.message in
+    stays_effect (poll_wish_at g (Hear arrival) (Pushes inbox timer)) met v u (Hear arrival) (Pushes inbox timer) (hear_row stalled (row_input now met) arrival inbox c)
+    (if_each IsOther (arrival.inbox == inbox) (beat_wish (push_kind arrival.message) asked) Nothing (λ _. beat_other (push_kind arrival.message) asked) (λ _. tt))
     m
     (if_each (λ (passed : Passed). Stays v (Pushes inbox timer) passed.consumer.phase) (arrival.inbox == inbox) _ _
-    (λ _. record { lower = kind_stays v (row_input now met) arrival.message (push_kind arrival.message) (at_phase (Pushes inbox (armed (row_input now met).now)) c); unstarted = refl })
+    (λ _. record { lower = kind_stays v stalled (row_input now met) arrival.message (push_kind arrival.message) (at_phase (Pushes inbox (armed (row_input now met).now)) c); unstarted = refl })
     (λ _. stays_same v (Pushes inbox timer) c.phase is))
 
 inquiry_other : (inquiry : InfoRequest) → IsOther (pull.awaited inquiry)
@@ -332,14 +334,14 @@ listens_effect setup p info r (Some opened) met v u c same is bare m =
     record {
       fewer = omega (arith, zero_taken, had, falls);
       taker = λ e. absurd (false_true (ap (λ (o : Option Message). is_some o) (sym none) ∙ e));
-      starter = λ e. (refl, subst (λ (held : List Message). AreBelow 4 (map (λ (message : Message). Hear (record { inbox = opened.inbox; message = message })) held ++ Arm ∷ [])) empty (omega arith, tt));
+      starter = λ e. (refl, subst (λ (held : List Message). AreBelow 4 (map (λ (message : Message). Hear (record { inbox = opened.inbox; message = message })) held ++ Arm ∷ [])) empty (omega arith, tt), refl);
     }
 
 succeed_effect : (g : ReplayInput) (setup : OrderedSetup) (now : ℕ) (info : Info) (r : Recreation) (met : Met) (v u : LinkView) (c : Consumer) → c.phase ≡ Recreates r → is_bare setup r.opened ≡ true → Meets (succeed_wish setup) met v u
     → Effect v u met (Succeed info) (Recreates r) (succeed_row setup g (row_input now met) info r c)
 succeed_effect g (Pull setup) now info r (Opened inbox subject) v u c is bare m =
     let none = opened_none inbox subject v u m in
-    record { fewer = omega (arith, none); taker = λ e. absurd (false_true e); starter = λ e. (refl, (omega arith, (omega arith, tt))) }
+    record { fewer = omega (arith, none); taker = λ e. absurd (false_true e); starter = λ e. (refl, (omega arith, (omega arith, tt)), refl) }
 succeed_effect g (Pull setup) now info r Refused v u c is bare m = stays_effect OpensInbox Refused v u (Succeed info) (Recreates r) (silent_row c (Fail ∷ [])) tt m (stays_same v (Recreates r) c.phase is)
 succeed_effect g (Pull setup) now info r met v u c is bare m = absurd m
 succeed_effect g (Push setup) now info r met v u c is bare m = listens_effect (Push setup) (row_input now met) info r r.opened met v u c refl is bare m
@@ -390,7 +392,7 @@ row_effect g now Ask (Recreates r) c met v u other is plain m =
 row_effect g now Await (Recreates r) c met v u other is plain m =
     stays_effect (awaited r.stage) met v u Await (Recreates r) (silent_row c (stage_rows g (row_input now met) (matter_of (awaited r.stage) met) r.stage)) (awaited_other r.stage) m (stays_same v (Recreates r) c.phase is)
 row_effect g now (Answered reply) (Recreates r) c met v u other is plain m =
-    stays_effect Nothing met v u (Answered reply) (Recreates r) (silent_row c (answered g.setup (pull.info_of_reply reply) ∷ [])) tt m (stays_same v (Recreates r) c.phase is)
+    stays_effect Nothing met v u (Answered reply) (Recreates r) (answered_row g (pull.info_reply reply) c) tt m (stays_same v (Recreates r) c.phase is)
 row_effect g now Hold (Recreates r) c met v u other is plain m =
     stays_effect Nothing met v u Hold (Recreates r) (silent_row (at_phase (Recreates (record r { opened = held_in None r.opened })) c) []) tt m (hold_stays v r r.opened refl)
 row_effect g now (Succeed info) (Recreates r) c met v u other is plain m = succeed_effect g g.setup now info r met v u c is plain m
@@ -410,6 +412,10 @@ row_effect g now row phase c met v u other is plain m = stays_effect Nothing met
 
 pub start_turns : (u : LinkView) (g : ReplayInput) (c : Consumer) → turns_left u (start_row g c).consumer.phase ≤ 1
 start_turns u g c = if_each (λ (passed : Passed). turns_left u passed.consumer.phase ≤ 1) (c.core.stream_sequence == pull.u64_max) _ _ (λ _. omega arith) (λ _. omega arith)
+
+-- no reader reads then
+pub start_reads : (g : ReplayInput) (c : Consumer) → is_reading (start_row g c).consumer.phase ≡ false
+start_reads g c = if_each (λ (passed : Passed). is_reading passed.consumer.phase ≡ false) (c.core.stream_sequence == pull.u64_max) _ _ (λ _. refl) (λ _. refl)
 
 -- without a message push's look is followed by no row that hears one
 pub look_deaf : (g : ReplayInput) (p : RowInput) (met : Met) (phase : Phase) (c : Consumer) → message_of met ≡ None → AreDeaf (row_at g p (matter_of (poll_wish_at g CheckArrival phase) met) CheckArrival phase c).next

@@ -21,7 +21,7 @@ use Rattle.js_ordered_table.specs.declared.row.Row.TheVariants.{Arm, Read}
 use Rattle.js_ordered_table.specs.declared.setup.OrderedSetup.TheVariants.{Pull, Push}
 use Rattle.js_ordered_table.specs.declared.setup.Settings.{Settings}
 use Rattle.js_ordered_table.specs.Arrivals.{armed}
-use Rattle.js_ordered_table.specs.Texts.{configured_start, source_of}
+use Rattle.js_ordered_table.specs.Texts.{configured_start, pull_source}
 use Rattle.js_ordered_table.specs.Walk.{Position}
 
 -- ---- pull
@@ -36,7 +36,7 @@ position_of_pull o = position_of o.polled.ordered
 
 -- a consumer whose reader reads this inbox, and has read nothing yet
 abbrev pub reads_first : ReplayInput → ℕ → List ℕ → Consumer
-reads_first g inbox subject = first_at (configured_start g.setup) g.first.name (Pulls (new_reader (source_of g 0 inbox subject g.first)))
+reads_first g inbox subject = first_at (configured_start g.setup) g.first.name (Pulls (new_reader (pull_source g 0 inbox subject g.first)))
 
 -- before its opening is passed
 abbrev pub opened_at : ReplayInput → ℕ → List ℕ → Position

@@ -57,6 +57,7 @@ error_kind item.PushBasedConsumer = error.PushBasedConsumer
 error_kind item.Pull = error.Pull
 error_kind item.Recreate = error.Recreate
 error_kind item.Other = error.Other
+error_kind item.StreamNotFound = error.StreamNotFound
 
 -- what it comes from: a limit is told with the server's description, where it sent one
 abbrev pub source_by : OrderedErrorKind → Option Message → Option Source
@@ -71,6 +72,7 @@ kind_text error.Other = codes "error"
 kind_text error.Recreate = codes "consumer recreation failed"
 kind_text error.RequestLimitExceeded = codes "pull request exceeded consumer limits"
 kind_text error.PushBasedConsumer = codes "cannot use with push consumer"
+kind_text error.StreamNotFound = codes "stream not found"
 kind_text error.SequenceEnd = codes "sequence end"
 kind_text error.ConsumerDeleted = codes "consumer deleted"
 kind_text error.NoResponders = codes "no responders"
@@ -91,6 +93,7 @@ told_of error.Other = Tells item.Other
 told_of error.Recreate = Tells item.Recreate
 told_of error.RequestLimitExceeded = Tells item.RequestLimitExceeded
 told_of error.PushBasedConsumer = Tells item.PushBasedConsumer
+told_of error.StreamNotFound = Tells item.StreamNotFound
 told_of error.SequenceEnd = HandsEnd
 told_of error.ConsumerDeleted = Tells item.Other
 told_of error.NoResponders = Tells item.Other
@@ -207,6 +210,7 @@ first_at configured name phase = record {
   name = name;
   missed = false;
   limited = false;
+  stream_missing = false;
   connection = Connected;
 }
 

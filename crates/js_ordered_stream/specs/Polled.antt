@@ -38,10 +38,11 @@ is_plain setup phase = true
 
 -- ---- the rows that are left to it
 
--- a row from which no recreation starts
+-- a row behind which a row of a reader may wait, though it may have begun a recreation
 abbrev pub is_early : Row → Bool
 is_early (Read read.CheckInfoRequest) = true
-is_early row = nat_lt (rank row) 4
+is_early (Read (read.Answered reply failures)) = true
+is_early row = nat_lt (rank row) 5
 
 -- this row may be next while another one waits
 abbrev pub may_wait : OrderedSetup → Row → Row → Bool

@@ -50,7 +50,8 @@ use Rattle.js_ordered_table.specs.declared.row.Row.TheVariants.{CheckArrival, He
 use Rattle.js_ordered_table.specs.declared.run.ItemKind.TheVariants as item
 use Rattle.js_ordered_table.specs.declared.run.Output.{Output}
 use Rattle.js_ordered_table.specs.declared.run.Output.TheVariants as out
-use Rattle.js_ordered_table.specs.Arrivals.{push_kind, told, with_sent}
+use Rattle.js_ordered_table.specs.Arrivals.{beat_subject, push_kind, told, with_sent}
+use Rattle.js_pull.specs.declared.replies.Finding.TheVariants as finds
 use Rattle.js_ordered_table.specs.Consumer.{Matter, Passed, Unchanged}
 use Rattle.js_ordered_table.specs.Table.{pass, push_rows}
 use Rattle.js_ordered_table.specs.Poll.{poll_wish_at, yielded}
@@ -291,7 +292,7 @@ pub record IsReadMet (read : ReadMet) (one : PullRow) (r : Reader) (before after
 
 -- a reader's row asks its link for nothing, and is told nothing
 abbrev pub AsksNothing : Due → Bool → Type 0
-AsksNothing due true = (reply : Option Message) → (r : Reader) → (pull.wish (row_of reply due) r ≡ Nothing) × IsInformed (row_of reply due) None
+AsksNothing due true = (reply : Option Message) → (r : Reader) → (pull.wish (row_of reply due) r ≡ Nothing) × IsInformed (row_of reply due) finds.Nothing
 AsksNothing due false = ⊤
 
 abbrev pub MeetsReader : Result ReadMet Stop → PullRow → Reader → LinkView → LinkView → Type 0
@@ -319,9 +320,9 @@ LooksInto (Ok done) inbox kept before after = (met : Met) × Meets (Reads inbox)
 LooksInto (Err stop.Closed) inbox kept before after = Meets (Reads inbox) Shut before after
 LooksInto (Err stop.OutOfMemory) inbox kept before after = after ≡ before
 
--- a beat was answered, where it asks for that
-abbrev pub AnswersBeat : Message → LinkView → LinkView → Type 0
-AnswersBeat message before after = (met : Met) × Meets (beat_wish (push_kind message) message.reply) met before after
+-- a beat was answered, where it asks for that; stalled consumers are answered or not
+abbrev pub AnswersBeat : Bool → Message → LinkView → LinkView → Type 0
+AnswersBeat stalled message before after = (met : Met) × Meets (beat_wish (push_kind message) (beat_subject stalled message)) met before after
 
 -- where push has opened an inbox, its heartbeat is armed next
 abbrev pub arming : Option Held → NextTasks

@@ -1,45 +1,20 @@
 //! What the answer to a create says, as a recreation reads it.
-ghost use Rattle.std.specs.Prelude.{◌≡◌, IfOk, Ok, Some, is_some, option_map, true};
+ghost use Rattle.std.specs.Prelude.{◌≡◌, IfOk, Some, is_some, option_map, true};
 ghost use Rattle.js_ordered_stream.specs.Rows.{answer_in};
-ghost use Rattle.js_pull.specs.Reader.{info_of_reply as info_in, reply_to};
+ghost use Rattle.js_pull.specs.Reader.{info_reply as info_said, reply_to};
 
 use crate::remaining_rows::Seen;
-use js_base::{Boxed, Message, OutOfMemory};
-use js_json::consumer::Info;
-use js_pull::info_of_reply;
+use js_base::OutOfMemory;
+use js_pull::{InfoReply, info_reply};
 use std::alloc::Global;
 
-// What was found is put into a box, since it is large.
-fn boxed<T: Drop>(
-    alloc: Global,
-    found: Result<Option<T>, OutOfMemory>,
-) -> Result<Option<Boxed<T>>, OutOfMemory>
-    ensures { IfOk result (λ boxed. found ≡ Ok boxed) }
-{
-    match found? {
-        None => Ok(None),
-        Some(value) => Ok(Some(Boxed::new(alloc, value)?)),
-    }
-}
-
-// What a reply tells, in a box.
-fn told_by(alloc: Global, message: &Option<Message>) -> Result<Option<Boxed<Info>>, OutOfMemory>
-    ensures { IfOk result (λ info. info ≡ info_in message.now) }
-{
-    boxed(alloc, info_of_reply(alloc, message.as_ref()))
-}
-
-// What the answer to a create tells, which was met.
-pub(crate) fn info_met(
-    alloc: Global,
-    request: u64,
-    seen: &Seen,
-) -> Result<Option<Boxed<Info>>, OutOfMemory>
+// What the answer to a create says, which was met.
+pub(crate) fn reply_met(alloc: Global, request: u64, seen: &Seen) -> Result<InfoReply, OutOfMemory>
     requires { is_some (reply_to request (answer_in seen.now)) ≡ true }
-    ensures { IfOk result (λ info. option_map info_in (reply_to request (answer_in seen.now)) ≡ Some info) }
+    ensures { IfOk result (λ said. option_map info_said (reply_to request (answer_in seen.now)) ≡ Some said) }
 {
     match seen {
-        Seen::Reply(reply) => told_by(alloc, &reply.message),
+        Seen::Reply(reply) => info_reply(alloc, reply.message.as_ref()),
         Seen::Nothing => unreachable!(),
         Seen::Message { .. } => unreachable!(),
     }

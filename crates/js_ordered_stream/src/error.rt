@@ -25,6 +25,10 @@ pub enum OrderedErrorKind {
     RequestLimitExceeded,
     /// The consumer is a push consumer. The stream has ended.
     PushBasedConsumer,
+    /// The server has no stream of this name: it said so of the last create request. The stream of
+    /// messages goes on trying, and reports this once until a create request is answered in another
+    /// way. It comes only if `tells_missing_stream` is on.
+    StreamNotFound,
     /// The consumer would have to be recreated after the last possible sequence. The stream has
     /// ended.
     SequenceEnd,
@@ -47,6 +51,7 @@ impl fmt::Display for OrderedErrorKind {
             OrderedErrorKind::Recreate => "consumer recreation failed",
             OrderedErrorKind::RequestLimitExceeded => "pull request exceeded consumer limits",
             OrderedErrorKind::PushBasedConsumer => "cannot use with push consumer",
+            OrderedErrorKind::StreamNotFound => "stream not found",
             OrderedErrorKind::SequenceEnd => "sequence end",
             OrderedErrorKind::ConsumerDeleted => "consumer deleted",
             OrderedErrorKind::NoResponders => "no responders",
@@ -71,6 +76,7 @@ fn kind_of_item(kind: ItemKind) -> OrderedErrorKind
         ItemKind::Pull => OrderedErrorKind::Pull,
         ItemKind::Recreate => OrderedErrorKind::Recreate,
         ItemKind::Other => OrderedErrorKind::Other,
+        ItemKind::StreamNotFound => OrderedErrorKind::StreamNotFound,
     }
 }
 

@@ -129,6 +129,7 @@ pub(crate) fn first_consumer(start: Option<u64>, name: Text, phase: Phase) -> Co
         name,
         missed: false,
         limited: false,
+        stream_missing: false,
         connection: State::Connected,
     }
 }
@@ -293,7 +294,8 @@ impl Ordered {
             | ItemKind::PushBasedConsumer
             | ItemKind::Pull
             | ItemKind::Recreate
-            | ItemKind::Other => error_of(kind),
+            | ItemKind::Other
+            | ItemKind::StreamNotFound => error_of(kind),
         }
     }
 

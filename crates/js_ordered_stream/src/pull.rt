@@ -6,7 +6,7 @@ ghost use Rattle.js_ordered_stream.specs.Opening.{IsGaplessPull, OpensConsumer, 
 ghost use Rattle.js_ordered_stream.specs.Ordered.{IsGivenKind, PollsWithSource, SleepsUntil, poll_answer, something_due};
 ghost use Rattle.js_base.specs.Clock.{has_come};
 ghost use Rattle.js_pull.specs.Reader.{new_reader};
-ghost use Rattle.js_ordered_table.specs.Texts.{source_of};
+ghost use Rattle.js_ordered_table.specs.Texts.{pull_source};
 ghost use Rattle.js_ordered_table.specs.Poll.{IsPoll};
 ghost use Rattle.js_ordered_table.specs.Timers.{SleepsIfLeftAlone};
 
@@ -18,9 +18,8 @@ use js_base::{Message, Moment, Next, OutOfMemory, Subject, TryClone, replace_wit
 use js_json::consumer::Info;
 use js_json::pull::OrderedConfig;
 use js_link::{InboxId, Link, LinkError};
-use js_ordered_table::{
-    Consumer, ConsumerContext, OrderedSetup, Phase, ReplayInput, Settings, texts,
-};
+use js_ordered_table::pull_source::pull_source_without_inbox;
+use js_ordered_table::{Consumer, ConsumerContext, OrderedSetup, Phase, ReplayInput, Settings};
 use js_pull::{PullSource, Reader};
 use std::alloc::Global;
 
@@ -34,7 +33,7 @@ pub struct Ordered {
 
 // Whom the reader of the first consumer asks, but for its inbox.
 fn first_source(alloc: Global, given: &ReplayInput) -> Result<PullSource, OutOfMemory>
-    ensures { IfOk result (λ source. source ≡ source_of given.now 0 0 [] given.now.first) }
+    ensures { IfOk result (λ source. source ≡ pull_source given.now 0 0 [] given.now.first) }
 {
     let context = ConsumerContext {
         settings: &given.settings,
@@ -42,7 +41,7 @@ fn first_source(alloc: Global, given: &ReplayInput) -> Result<PullSource, OutOfM
         first: &given.first,
         moment: 0,
     };
-    texts::source_without_inbox(alloc, &context, 0, &given.first)
+    pull_source_without_inbox(alloc, &context, 0, &given.first)
 }
 
 // A reader that reads this inbox, and has read nothing yet.

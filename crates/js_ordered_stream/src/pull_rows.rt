@@ -22,7 +22,7 @@ use js_ordered_table::transitions::pull::{take_message, take_notice};
 use js_ordered_table::transitions::push::heard_from;
 use js_ordered_table::transitions::{Heard, NextTasks, PassedTask};
 use js_ordered_table::{Consumer, ConsumerContext, ItemKind, Phase};
-use js_pull::{Due, Notice, PassedRow as Read, Reader, Reason, Spare, informed_of};
+use js_pull::{Due, Finding, Notice, PassedRow as Read, Reader, Spare, informed_of};
 use std::alloc::Global;
 
 // ---- what a row meets
@@ -31,12 +31,12 @@ use std::alloc::Global;
 #[derive(Drop)]
 pub(crate) struct ReadMet {
     pub met: Met,
-    pub informed: Option<Reason>,
+    pub informed: Finding,
 }
 
 // What a row is told that reads no answer.
-fn untold(alloc: Global, due: Due) -> Result<Option<Reason>, OutOfMemory>
-    ensures { IfOk result (λ reason. IsInformed (row_of None due) reason) }
+fn untold(alloc: Global, due: Due) -> Result<Finding, OutOfMemory>
+    ensures { IfOk result (λ finding. IsInformed (row_of None due) finding) }
 {
     let reply = None;
     let told = informed_of(alloc, due, &reply);
@@ -45,8 +45,8 @@ fn untold(alloc: Global, due: Due) -> Result<Option<Reason>, OutOfMemory>
 }
 
 // What the reply tells to the row that reads it.
-fn told_by(alloc: Global, due: Due, seen: &Seen) -> Result<Option<Reason>, OutOfMemory>
-    ensures { IfOk result (λ reason. IsInformed (row_of (brought (answer_in seen.now)) due) reason) }
+fn told_by(alloc: Global, due: Due, seen: &Seen) -> Result<Finding, OutOfMemory>
+    ensures { IfOk result (λ finding. IsInformed (row_of (brought (answer_in seen.now)) due) finding) }
 {
     match seen {
         Seen::Reply(reply) => informed_of(alloc, due, &reply.message),
@@ -163,7 +163,7 @@ fn alone(reader: &mut Reader, now: Moment, due: Due) -> Read
         Due::CheckExpiry => reader.pass_check_expiry(now),
         _ => {
             let spare = Spare {
-                informed: None,
+                informed: Finding::Nothing,
                 pin: None,
             };
             reader.pass(now, due, spare, &Met::Unasked)

@@ -4,7 +4,7 @@ ghost use Rattle.js_link.specs.LinkView.{LinkView};
 ghost use Rattle.js_ordered_table.specs.Tasks.{IsHeard, heard_rows};
 ghost use Rattle.js_ordered_stream.specs.Rows.{AnswersBeat, LooksInto, PassesRow, PassesRows, arrival_in, seen_after};
 ghost use Rattle.js_ordered_table.specs.Passes.{input_of, listens_to};
-ghost use Rattle.js_ordered_table.specs.Arrivals.{push_kind as kind_of};
+ghost use Rattle.js_ordered_table.specs.Arrivals.{beat_subject as subject_of, push_kind as kind_of};
 ghost use Rattle.js_ordered_table.specs.Recreation.{message_on};
 ghost use Rattle.js_ordered_table.specs.declared.row.Row.TheVariants as row;
 ghost use Rattle.js_ordered_table.specs.Wishes as wishes;
@@ -13,11 +13,11 @@ use crate::pull_rows::handed_heard;
 use crate::remaining_rows::Seen;
 use crate::rows::{RowItem, Stepped, Stop, ask_for, followed_by, passed_over, stepped_by};
 use bytes::Bytes;
-use js_base::{Message, OutOfMemory, TryClone, replace_with};
+use js_base::{Message, OutOfMemory, Subject, replace_with};
 use js_link::{InboxId, Link, Taken, Wish};
 use js_ordered_table::transitions::push::{heard_as, listen, pass_hear, pass_silence};
 use js_ordered_table::transitions::{Heard, NextTasks, Task};
-use js_ordered_table::{Consumer, ConsumerContext, Phase};
+use js_ordered_table::{Consumer, ConsumerContext, Phase, beat_subject};
 use std::alloc::Global;
 
 // ---- what is looked for
@@ -109,14 +109,19 @@ fn empty() -> Bytes
     Bytes::from_static(b"")
 }
 
-// What an arrival asks for: a beat that wants an answer gets an empty one.
-fn answer_wish(heard: Heard, message: &Message) -> Result<Wish, OutOfMemory>
-    ensures { (number : ℕ) → IsHeard number message.now heard → IfOk result (λ wish. wish ≡ wishes.beat_wish (kind_of message.now) message.now.reply) }
+// What an arrival asks for: a beat that wants an answer gets an empty one. Stalled consumers are answered or not.
+fn answer_wish(
+    alloc: Global,
+    stalled: bool,
+    heard: Heard,
+    message: &Message,
+) -> Result<Wish, OutOfMemory>
+    ensures { (number : ℕ) → IsHeard number message.now heard → IfOk result (λ wish. wish ≡ wishes.beat_wish (kind_of message.now) (subject_of stalled message.now)) }
 {
     match heard {
-        Heard::Beat(_) => match &message.reply {
-            Some(reply) => Ok(Wish::Publishes {
-                subject: reply.try_clone()?,
+        Heard::Beat(_) => match beat_subject(stalled, message) {
+            Some(subject) => Ok(Wish::Publishes {
+                subject: Subject::new(alloc, subject)?,
                 reply: None,
                 payload: empty(),
             }),
@@ -133,10 +138,11 @@ fn answer_wish(heard: Heard, message: &Message) -> Result<Wish, OutOfMemory>
 fn answer<L: Link>(
     alloc: Global,
     link: &mut L,
+    stalled: bool,
     number: u64,
     message: &Message,
 ) -> Result<Heard, OutOfMemory>
-    ensures heard { IfOk result (λ heard. IsHeard number message.now heard × AnswersBeat message.now (L.view link.old) (L.view link.new)) }
+    ensures heard { IfOk result (λ heard. IsHeard number message.now heard × AnswersBeat stalled message.now (L.view link.old) (L.view link.new)) }
     ensures refused { OnErr result (L.view link.new ≡ L.view link.old) }
 {
     let heard = heard_as(number, message);
@@ -144,7 +150,7 @@ fn answer<L: Link>(
     if let Heard::Yields(_) = heard {
         return Ok(heard);
     }
-    let wish = answer_wish(heard, message)?;
+    let wish = answer_wish(alloc, stalled, heard, message)?;
     let met = ask_for(alloc, link, wish)?;
     drop(met);
     Ok(heard)
@@ -168,7 +174,14 @@ fn hear_message<L: Link>(
             next: NextTasks::Nothing,
         });
     }
-    let heard = answer(alloc, link, consumer.core.consumer_sequence, message)?;
+    let stalled = context.settings.resilience.answers_stalled;
+    let heard = answer(
+        alloc,
+        link,
+        stalled,
+        consumer.core.consumer_sequence,
+        message,
+    )?;
     Ok(Stepped {
         handed: handed_heard(heard),
         looked: true,

@@ -14,7 +14,7 @@ ghost use Rattle.js_ordered_table.specs.Texts as texts_of;
 ghost use Rattle.js_ordered_table.specs.declared.row.Row.TheVariants as row;
 ghost use Rattle.js_ordered_table.specs.Wishes as wishes;
 
-use crate::answer::info_met;
+use crate::answer::reply_met;
 use crate::remaining_rows::{Seen, seen_of};
 use crate::rows::{RowItem, Stepped, Stop, ask_for, followed_by, passed_over, stepped_by};
 use crate::success::{inbox_met, succeed};
@@ -317,12 +317,12 @@ fn answered(
     requires { is_some (reply_to request (answer_in seen.now)) ≡ true }
     ensures { (v : LinkView) → PassesRows (input_of context.now) context.now.moment (rows_of (read_in seen.now) (Task.Answered request)) (record consumer.old { phase = Phase.Recreates recreation }) consumer.new v v Seen.Nothing result }
 {
-    match info_met(alloc, request, seen) {
+    match reply_met(alloc, request, seen) {
         Err(OutOfMemory) => {
             keep_open(consumer, recreation);
             Err(Stop::OutOfMemory)
         }
-        Ok(info) => Ok(followed_by(pass_answered(context, consumer, recreation, info))),
+        Ok(reply) => Ok(stepped_by(pass_answered(context, consumer, recreation, reply))),
     }
 }
 

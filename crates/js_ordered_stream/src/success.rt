@@ -18,9 +18,10 @@ use crate::rows::{Stepped, Stop, ask_for, followed_by};
 use js_base::OutOfMemory;
 use js_json::consumer::Info;
 use js_link::{Link, Met, Wish};
+use js_ordered_table::pull_source::pull_source_without_inbox;
 use js_ordered_table::transitions::recreation::{pass_succeed_pull, pass_succeed_push};
 use js_ordered_table::transitions::{Held, Inbox, NextTasks, Task};
-use js_ordered_table::{Consumer, ConsumerContext, OrderedSetup, Recreation, texts};
+use js_ordered_table::{Consumer, ConsumerContext, OrderedSetup, Recreation};
 use js_pull::PullSource;
 use std::alloc::Global;
 
@@ -55,11 +56,11 @@ fn reading_for<L: Link>(
     recreation_count: u64,
     info: &Info,
 ) -> Result<Reading, OutOfMemory>
-    ensures source { IfOk result (λ reading. reading.source ≡ texts_of.source_of (input_of context.now) recreation_count 0 [] info.now) }
+    ensures source { IfOk result (λ reading. reading.source ≡ texts_of.pull_source (input_of context.now) recreation_count 0 [] info.now) }
     ensures met { IfOk result (λ reading. Meets OpensInbox reading.met (L.view link.old) (L.view link.new)) }
     ensures refused { OnErr result (L.view link.new ≡ L.view link.old) }
 {
-    let source = texts::source_without_inbox(alloc, context, recreation_count, info)?;
+    let source = pull_source_without_inbox(alloc, context, recreation_count, info)?;
     match ask_for(alloc, link, Wish::OpensInbox) {
         Err(OutOfMemory) => {
             drop(source);

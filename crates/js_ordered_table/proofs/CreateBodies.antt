@@ -1,16 +1,15 @@
 -- A create request can be written: only an instant may have no text, and what an ordered consumer asks for names none.
-use Rattle.std.proofs.Common.{◌≡◌, ℕ, Bool, true, false, List, [], ◌∷◌, ◌++◌, Option, Some, None, Result, Ok, Err, refl}
+use Rattle.std.proofs.Common.{◌≡◌, ℕ, Bool, List, [], ◌∷◌, ◌++◌, Option, Some, None, Result, Ok, Err, refl}
 use Rattle.std.specs.Prelude.{IsOk, not}
 use Rattle.std.specs.List.{AllByRecursion}
 use Rattle.jiff.specs.Types.{Timestamp}
 use Rattle.serde_json.specs.Data.{Data, Members, no_members, put, string}
-use Rattle.serde_json.specs.View.{items_of}
 use Rattle.js_json_members.specs.declared.key.Key.{Key}
 use Rattle.js_json_members.specs.declared.key.Key.TheVariants as key
 use Rattle.js_json_members.specs.declared.error.ReadError.{ReadError}
 use Rattle.js_json_members.specs.declared.error.ReadError.TheVariants as fault
 use Rattle.js_json_members.specs.Member.{◌>>=◌, Fails}
-use Rattle.js_json_members.specs.Rows.{Writes, Row, put_some, with_row, with_rows, object_of, some, always, unless, where_some, text_data, natural_data, integer_data, truth_data, percent_data, instant_data, all_data, list_data, entries_data, by_name_data, is_empty, is_zero, is_zero_integer, text_of}
+use Rattle.js_json_members.specs.Rows.{Writes, Row, with_row, with_rows, object_of, some, always, unless, where_some, text_data, natural_data, integer_data, truth_data, percent_data, instant_data, all_data, list_data, entries_data, by_name_data, is_empty, is_zero, is_zero_integer, text_of}
 use Rattle.js_json.specs.declared.consumer.config.Config.{Config}
 use Rattle.js_json.specs.declared.consumer.create_request.Action.TheVariants as action
 use Rattle.js_json.specs.declared.consumer.deliver_policy.DeliverPolicy.{DeliverPolicy}

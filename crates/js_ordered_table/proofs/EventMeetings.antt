@@ -9,7 +9,6 @@ use Rattle.js_base.specs.declared.message.State.TheVariants.{Pending, Connected,
 use Rattle.js_json.specs.declared.consumer.info.Info.{Info}
 use Rattle.js_link.specs.RowInput.{RowInput}
 use Rattle.js_link.specs.Wish.{row_input, message_of}
-use Rattle.js_link.specs.declared.wish.Wish.{Wish}
 use Rattle.js_link.specs.declared.wish.Wish.TheVariants.{Reads, Awaits}
 use Rattle.js_link.specs.declared.wish.Met.{Met}
 use Rattle.js_link.specs.declared.wish.Wish.TheVariants as wishes
@@ -35,7 +34,7 @@ use Rattle.js_ordered_table.specs.declared.consumer.Stage.TheVariants.{Between, 
 use Rattle.js_ordered_table.specs.declared.consumer.Phase.{Phase}
 use Rattle.js_ordered_table.specs.declared.consumer.Phase.TheVariants.{Pulls, Pushes, Recreates, Idle, Ended, Exhausted}
 use Rattle.js_ordered_table.specs.Recreation.{try_row, create_row, ask_row, succeed_row, succeed_push, fail_row, hold, held_in, message_on, stage_rows, created}
-use Rattle.js_ordered_table.specs.Arrivals.{read_row, push_kind, beat_answer, hear_kind, armed}
+use Rattle.js_ordered_table.specs.Arrivals.{read_row, push_kind, beat_answer, beat_subject, hear_kind, armed}
 use Rattle.js_ordered_table.specs.declared.kind.PushKind.{PushKind}
 use Rattle.js_ordered_table.specs.declared.kind.PushKind.TheVariants.{Delivered, OtherStatus, Bad, Beat}
 use Rattle.js_ordered_table.specs.Table.{push_rows, go_on, changed, watcher_ended, event_change, row_at, pass}
@@ -188,32 +187,33 @@ beat_now p x (Beat last) (Some reply) = by_up x.passing.up
     by_up true = refl
     by_up false = refl
 
-kind_told : (p q : RowInput) (message : Message) (kind : PushKind) (c : Consumer) → beat_answer p.up message.reply ≡ beat_answer q.up message.reply → hear_kind p message kind c ≡ hear_kind q message kind c
-kind_told p q message Delivered c is = refl
-kind_told p q message OtherStatus c is = refl
-kind_told p q message Bad c is = refl
-kind_told p q message (Beat last) c is = rw is refl
+kind_told : (stalled : Bool) (p q : RowInput) (message : Message) (kind : PushKind) (c : Consumer) → beat_answer p.up (beat_subject stalled message) ≡ beat_answer q.up (beat_subject stalled message)
+    → hear_kind stalled p message kind c ≡ hear_kind stalled q message kind c
+kind_told stalled p q message Delivered c is = refl
+kind_told stalled p q message OtherStatus c is = refl
+kind_told stalled p q message Bad c is = refl
+kind_told stalled p q message (Beat last) c is = rw is refl
 
-kind_by : (m : Matter) (state : State) (p : RowInput) (message : Message) (kind : PushKind) (c : Consumer)
-    → hear_kind p message kind c ≡ hear_kind (row_input p.now (given (givings p m state) (beat_wish kind message.reply))) message kind c
-kind_by m state p message Delivered c = refl
-kind_by m state p message OtherStatus c = refl
-kind_by m state p message Bad c = refl
-kind_by m state p message (Beat last) c =
-    kind_told p (row_input p.now (given (givings p m state) (beat_wish (Beat last) message.reply))) message (Beat last) c
-    (beat_told p.now p.up p.request p.inbox p.subject m state p refl last message.reply)
+kind_by : (stalled : Bool) (m : Matter) (state : State) (p : RowInput) (message : Message) (kind : PushKind) (c : Consumer)
+    → hear_kind stalled p message kind c ≡ hear_kind stalled (row_input p.now (given (givings p m state) (beat_wish kind (beat_subject stalled message)))) message kind c
+kind_by stalled m state p message Delivered c = refl
+kind_by stalled m state p message OtherStatus c = refl
+kind_by stalled m state p message Bad c = refl
+kind_by stalled m state p message (Beat last) c =
+    kind_told stalled p (row_input p.now (given (givings p m state) (beat_wish (Beat last) (beat_subject stalled message)))) message (Beat last) c
+    (beat_told p.now p.up p.request p.inbox p.subject m state p refl last (beat_subject stalled message))
 
-hear_told : (b : Bool) (m : Matter) (state : State) (p : RowInput) (inbox : ℕ) (message : Message) (kind : PushKind) (c : Consumer)
-    → (if b then hear_kind p message kind (at_phase (Pushes inbox (armed p.now)) c) else silent_row c [])
+hear_told : (stalled b : Bool) (m : Matter) (state : State) (p : RowInput) (inbox : ℕ) (message : Message) (kind : PushKind) (c : Consumer)
+    → (if b then hear_kind stalled p message kind (at_phase (Pushes inbox (armed p.now)) c) else silent_row c [])
     ≡ (if b
-    then hear_kind (row_input p.now (given (givings p m state) (if b then beat_wish kind message.reply else wishes.Nothing))) message kind
-    (at_phase (Pushes inbox (armed (row_input p.now (given (givings p m state) (if b then beat_wish kind message.reply else wishes.Nothing))).now)) c)
+    then hear_kind stalled (row_input p.now (given (givings p m state) (if b then beat_wish kind (beat_subject stalled message) else wishes.Nothing))) message kind
+    (at_phase (Pushes inbox (armed (row_input p.now (given (givings p m state) (if b then beat_wish kind (beat_subject stalled message) else wishes.Nothing))).now)) c)
     else silent_row c [])
-hear_told false m state p inbox message kind c = refl
-hear_told true m state p inbox message kind c =
-    kind_by m state p message kind (at_phase (Pushes inbox (armed p.now)) c)
-    ∙ ap (λ (now : ℕ). hear_kind (row_input p.now (given (givings p m state) (beat_wish kind message.reply))) message kind (at_phase (Pushes inbox (armed now)) c))
-    (beat_now p (givings p m state) kind message.reply)
+hear_told stalled false m state p inbox message kind c = refl
+hear_told stalled true m state p inbox message kind c =
+    kind_by stalled m state p message kind (at_phase (Pushes inbox (armed p.now)) c)
+    ∙ ap (λ (now : ℕ). hear_kind stalled (row_input p.now (given (givings p m state) (beat_wish kind (beat_subject stalled message)))) message kind (at_phase (Pushes inbox (armed now)) c))
+    (beat_now p (givings p m state) kind (beat_subject stalled message))
 
 -- ---- the reader
 
@@ -277,7 +277,7 @@ row_told g p m (Succeed info) (Recreates r) c = succeed_told g.setup g p.now p.u
 row_told g p m Fail (Recreates r) c = fail_told g p (row_input p.now (given (givings p m c.connection) (opened_dropped r.opened))) r c (now_dropped p.now (givings p m c.connection) r.opened)
 row_told g p m CheckArrival (Pushes inbox heartbeat_timer) c =
     ap (λ (o : Option Message). silent_row c (push_rows inbox o)) (sym (message_told inbox (message_on inbox m.arrival)))
-row_told g p m (Hear arrival) (Pushes inbox heartbeat_timer) c = hear_told (arrival.inbox == inbox) m c.connection p inbox arrival.message (push_kind arrival.message) c
+row_told g p m (Hear arrival) (Pushes inbox heartbeat_timer) c = hear_told g.settings.resilience.answers_stalled (arrival.inbox == inbox) m c.connection p inbox arrival.message (push_kind arrival.message) c
 row_told g p m CheckSilence (Pushes inbox heartbeat_timer) c = refl
 row_told g p m Arm (Pushes inbox heartbeat_timer) c = refl
 row_told g p m (Read row) (Pulls reader) c = reader_told g p m row reader c

@@ -10,6 +10,7 @@ pub mod Accepted
 pub mod OneRecreation
 pub mod OnLiterals
 pub mod WorkedRows
+mod ResilientRows
 pub mod Honest
 pub mod Numbers
 pub mod Promises

@@ -1,6 +1,6 @@
 -- On one inbox the consumer numbers of the yields are 1, 2, 3 and so on.
 use Rattle.std.proofs.Common.{◌≡◌, ℕ, zero, suc, ◌+◌, Bool, true, false, List, [], ◌∷◌, ◌++◌, map, Option, Some, None, refl, subst}
-use Rattle.std.specs.Prelude.{nat_lt, ◌||◌, ◌==◌}
+use Rattle.std.specs.Prelude.{nat_lt, ◌||◌, ◌==◌, not, ◌&&◌}
 use Rattle.std.proofs.lemmas.Bool.{eqb-true}
 use Rattle.js_base.specs.declared.message.Message.{Message}
 use Rattle.js_base.specs.Clock.{is_due}
@@ -19,7 +19,6 @@ use Rattle.js_pull.specs.declared.reader.ReaderOutput.{ReaderOutput as PullTold}
 use Rattle.js_pull.specs.declared.reader.MessagesErrorKind.TheVariants as error
 use Rattle.js_ordered_table.specs.declared.consumer.Consumer.{Consumer}
 use Rattle.js_ordered_table.specs.Consumer.{Matter, Change, Unchanged, Becomes, WatcherEnds, Passed, at_phase, output_of}
-use Rattle.js_ordered_table.specs.declared.row.Arrival.{Arrival}
 use Rattle.js_ordered_table.specs.declared.row.Row.{Row}
 use Rattle.js_ordered_table.specs.declared.row.Row.TheVariants.{Event, Start, Try, Create, Ask, Await, Answered, Hold, Succeed, Fail, CheckArrival, Hear, CheckSilence, Arm, Read}
 use Rattle.js_ordered_table.specs.declared.consumer.Recreation.{Recreation}
@@ -28,8 +27,8 @@ use Rattle.js_ordered_table.specs.declared.consumer.ReplayInput.{ReplayInput}
 use Rattle.js_ordered_table.specs.declared.consumer.Phase.{Phase}
 use Rattle.js_ordered_table.specs.declared.consumer.Phase.TheVariants.{Pulls, Pushes, Recreates, Idle, Ended, Exhausted}
 use Rattle.js_ordered_table.specs.declared.replay_state.ReplayState.{ReplayState}
-use Rattle.js_ordered_table.specs.Recreation.{start_row, create_row, succeed_row, succeed_push, message_on}
-use Rattle.js_ordered_table.specs.Arrivals.{message_row, told, push_kind, hear_kind, armed, beat_answer}
+use Rattle.js_ordered_table.specs.Recreation.{create_row, succeed_row, succeed_push, message_on, missing_after}
+use Rattle.js_ordered_table.specs.Arrivals.{message_row, told, push_kind, hear_kind, armed, beat_answer, beat_subject}
 use Rattle.js_ordered_table.specs.declared.kind.PushKind.{PushKind}
 use Rattle.js_ordered_table.specs.declared.kind.PushKind.TheVariants.{Delivered, OtherStatus, Bad, Beat}
 use Rattle.js_ordered_table.specs.Table.{go_on, is_connected, changed, watcher_ended, event_change, event_row, reader_row, row_at, pass}
@@ -108,11 +107,11 @@ beat_up up None n = refl
 beat_up true (Some reply) n = refl
 beat_up false (Some reply) n = refl
 
-hear_up : (p : RowInput) (message : Message) (k : PushKind) (c : Consumer) → GoesUp c.core.consumer_sequence (hear_kind p message k c)
-hear_up p message Delivered c = message_up (readable_as message.reply) message c
-hear_up p message OtherStatus c = refl
-hear_up p message Bad c = refl
-hear_up p message (Beat last) c = beat_up p.up message.reply c.core.consumer_sequence
+hear_up : (stalled : Bool) (p : RowInput) (message : Message) (k : PushKind) (c : Consumer) → GoesUp c.core.consumer_sequence (hear_kind stalled p message k c)
+hear_up stalled p message Delivered c = message_up (readable_as message.reply) message c
+hear_up stalled p message OtherStatus c = refl
+hear_up stalled p message Bad c = refl
+hear_up stalled p message (Beat last) c = beat_up p.up (beat_subject stalled message) c.core.consumer_sequence
 
 create_up : (setup : OrderedSetup) (p : RowInput) (r : Recreation) (c : Consumer) → GoesUp c.core.consumer_sequence (create_row setup p r c)
 create_up (Pull setup) p r c = refl
@@ -168,13 +167,15 @@ row_up g p m Try (Recreates r) c = if_each (GoesUp c.core.consumer_sequence) p.u
 row_up g p m Create (Recreates r) c = create_up g.setup p r c
 row_up g p m Ask (Recreates r) c = if_each (GoesUp c.core.consumer_sequence) p.up _ _ (λ _. refl) (λ _. refl)
 row_up g p m Await (Recreates r) c = refl
-row_up g p m (Answered reply) (Recreates r) c = refl
+row_up g p m (Answered reply) (Recreates r) c =
+    if_each (λ (outputs : List Output). Counts c.core.consumer_sequence outputs c.core.consumer_sequence)
+    (missing_after g.settings.resilience.tells_missing_stream (pull.info_reply reply) c.stream_missing && not c.stream_missing) _ _ (λ _. refl) (λ _. refl)
 row_up g p m Hold (Recreates r) c = refl
 row_up g p m (Succeed info) (Recreates r) c = succeed_up g.setup g p info r c
 row_up g p m Fail (Recreates r) c = if_each (GoesUp c.core.consumer_sequence) (nat_lt g.settings.retries (r.failures + 1)) _ _ (λ _. refl) (λ _. refl)
 row_up g p m CheckArrival (Pushes inbox heartbeat_timer) c = refl
 row_up g p m (Hear arrival) (Pushes inbox heartbeat_timer) c =
-    if_both (GoesUp c.core.consumer_sequence) (arrival.inbox == inbox) _ _ (hear_up p arrival.message (push_kind arrival.message) (at_phase (Pushes inbox (armed p.now)) c)) refl
+    if_both (GoesUp c.core.consumer_sequence) (arrival.inbox == inbox) _ _ (hear_up g.settings.resilience.answers_stalled p arrival.message (push_kind arrival.message) (at_phase (Pushes inbox (armed p.now)) c)) refl
 row_up g p m CheckSilence (Pushes inbox heartbeat_timer) c = if_each (GoesUp c.core.consumer_sequence) (is_due heartbeat_timer p.now) _ _ (λ _. refl) (λ _. refl)
 row_up g p m Arm (Pushes inbox heartbeat_timer) c = refl
 row_up g p m (Read row) (Pulls reader) c = reader_up p m row reader c

@@ -1,6 +1,6 @@
 -- In one step at most one recreation begins: when it has begun, no reader is current, and no row that follows brings another.
 use Rattle.std.proofs.Common.{◌≡◌, ℕ, zero, suc, ◌+◌, ◌⊎◌, Bool, true, false, List, [], ◌∷◌, ◌++◌, map, Option, Some, None, refl, inl, inr, arith}
-use Rattle.std.specs.Prelude.{⊤, nat_lt, is_some, ◌||◌, ◌==◌}
+use Rattle.std.specs.Prelude.{⊤, nat_lt, is_some, ◌||◌, ◌==◌, not, ◌&&◌}
 use Rattle.std.specs.List.{AllByRecursion}
 use Rattle.js_base.specs.declared.message.Message.{Message}
 use Rattle.js_base.specs.declared.clock.Timer.{Timer}
@@ -30,8 +30,8 @@ use Rattle.js_ordered_table.specs.declared.consumer.Stage.{Stage}
 use Rattle.js_ordered_table.specs.declared.consumer.Stage.TheVariants.{Between, Deleting, Creating, Waiting}
 use Rattle.js_ordered_table.specs.declared.consumer.Phase.{Phase}
 use Rattle.js_ordered_table.specs.declared.consumer.Phase.TheVariants.{Pulls, Pushes, Recreates, Idle, Ended, Exhausted}
-use Rattle.js_ordered_table.specs.Recreation.{start_row, try_row, create_row, ask_row, succeed_row, succeed_push, fail_row, message_on, stage_rows, recreation_rows, created, answered, has_subject}
-use Rattle.js_ordered_table.specs.Arrivals.{in_place_of, message_row, told, push_kind, beat_answer, beat_rows, hear_kind, armed}
+use Rattle.js_ordered_table.specs.Recreation.{start_row, try_row, create_row, ask_row, succeed_row, succeed_push, fail_row, message_on, stage_rows, recreation_rows, created, answered, has_subject, missing_after}
+use Rattle.js_ordered_table.specs.Arrivals.{in_place_of, message_row, told, push_kind, beat_answer, beat_rows, beat_subject, hear_kind, armed}
 use Rattle.js_ordered_table.specs.declared.kind.PushKind.{PushKind}
 use Rattle.js_ordered_table.specs.declared.kind.PushKind.TheVariants.{Delivered, OtherStatus, Bad, Beat}
 use Rattle.js_ordered_table.specs.Table.{push_rows, go_on, is_connected, changed, watcher_ended, event_change, event_row, reader_row, row_at, pass}
@@ -240,11 +240,11 @@ beat_next : (beat : Option ℕ) (consumer_sequence : ℕ) → Heads IsNext (beat
 beat_next None consumer_sequence = tt
 beat_next (Some n) consumer_sequence = if_each (Heads IsNext) (n == consumer_sequence) _ _ (λ _. tt) (λ _. (tt, tt))
 
-hear_kind_leads : (p : RowInput) (message : Message) (kind : PushKind) (c : Consumer) → Leads IsNext (hear_kind p message kind c)
-hear_kind_leads p message Delivered c = message_leads (readable_as message.reply) message c
-hear_kind_leads p message OtherStatus c = record { none = refl; next = tt }
-hear_kind_leads p message Bad c = record { none = refl; next = tt }
-hear_kind_leads p message (Beat n) c = record { none = beat_none p.up message.reply; next = beat_next n c.core.consumer_sequence }
+hear_kind_leads : (stalled : Bool) (p : RowInput) (message : Message) (kind : PushKind) (c : Consumer) → Leads IsNext (hear_kind stalled p message kind c)
+hear_kind_leads stalled p message Delivered c = message_leads (readable_as message.reply) message c
+hear_kind_leads stalled p message OtherStatus c = record { none = refl; next = tt }
+hear_kind_leads stalled p message Bad c = record { none = refl; next = tt }
+hear_kind_leads stalled p message (Beat n) c = record { none = beat_none p.up (beat_subject stalled message); next = beat_next n c.core.consumer_sequence }
 
 weaker : (passed : Passed) → Rests passed → Leads IsNext passed
 weaker passed r = record { none = r.none; next = later_heads passed.next r.next }
@@ -271,7 +271,7 @@ leads g p m Event phase c l = absurd l
 leads g p m Start phase c l = absurd l
 leads g p m (Succeed info) phase c l = absurd l
 leads g p m (Hear arrival) (Pushes inbox heartbeat_timer) c l =
-    if_each (Leads IsNext) (arrival.inbox == inbox) _ _ (λ _. hear_kind_leads p arrival.message (push_kind arrival.message) (at_phase (Pushes inbox (armed p.now)) c)) (λ _. record { none = refl; next = tt })
+    if_each (Leads IsNext) (arrival.inbox == inbox) _ _ (λ _. hear_kind_leads g.settings.resilience.answers_stalled p arrival.message (push_kind arrival.message) (at_phase (Pushes inbox (armed p.now)) c)) (λ _. record { none = refl; next = tt })
 leads g p m CheckSilence (Pushes inbox heartbeat_timer) c l = if_each (Leads IsNext) (is_due heartbeat_timer p.now) _ _ (λ _. record { none = refl; next = (tt, tt) }) (λ _. record { none = refl; next = tt })
 leads g p m Arm (Pushes inbox heartbeat_timer) c l = record { none = refl; next = tt }
 leads g p m (Read row) (Pulls reader) c l = reader_leads p m row reader c
@@ -316,7 +316,11 @@ answered_good mode None = tt
 answered_good mode (Some info) = if_each IsGood (has_subject mode info) (Succeed info) Fail (λ _. tt) (λ _. tt)
 
 answer_leads : (g : ReplayInput) (p : RowInput) (m : Matter) (reply : Option Message) (phase : Phase) (c : Consumer) → Leads IsGood (row_at g p m (Answered reply) phase c)
-answer_leads g p m reply (Recreates r) c = record { none = refl; next = (answered_good g.setup (pull.info_of_reply reply), tt) }
+answer_leads g p m reply (Recreates r) c = record {
+  none = if_each (λ (outputs : List Output). recreations outputs ≡ 0)
+      (missing_after g.settings.resilience.tells_missing_stream (pull.info_reply reply) c.stream_missing && not c.stream_missing) _ _ (λ _. refl) (λ _. refl);
+  next = (answered_good g.setup (pull.info_in (pull.info_reply reply)), tt);
+}
 answer_leads g p m reply (Pulls reader) c = record { none = refl; next = tt }
 answer_leads g p m reply (Pushes inbox heartbeat_timer) c = record { none = refl; next = tt }
 answer_leads g p m reply Idle c = record { none = refl; next = tt }

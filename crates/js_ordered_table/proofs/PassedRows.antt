@@ -189,34 +189,34 @@ yields_next : (place : Place) (message : Message) (c : Consumer) → (place.numb
     → yielding (place_shown place) c ≡ (accepted (place_shown place) message c).consumer
 yields_next place message c here = ap (λ (b : Bool). if b then (accepted (place_shown place) message c).consumer else c) here
 
-pub from_stream : (p : RowInput) (message : Message) (heard : Heard) (c : Consumer) → IsHeardFrom c.core.consumer_sequence message heard
-    → message_row (readable_as message.reply) message c ≡ heard_row p message heard c
-from_stream p message hears.Unreadable c none = ap (λ (place : Option ack.Place). message_row place message c) none
-from_stream p message (hears.Yields place) c (there, next) =
+pub from_stream : (stalled : Bool) (p : RowInput) (message : Message) (heard : Heard) (c : Consumer) → IsHeardFrom c.core.consumer_sequence message heard
+    → message_row (readable_as message.reply) message c ≡ heard_row stalled p message heard c
+from_stream stalled p message hears.Unreadable c none = ap (λ (place : Option ack.Place). message_row place message c) none
+from_stream stalled p message (hears.Yields place) c (there, next) =
     let here : (place.number == c.core.consumer_sequence + 1) ≡ true = rw next (eqb_same (c.core.consumer_sequence + 1)) in
     ap (λ (place : Option ack.Place). message_row place message c) there
     ∙ ap (λ (b : Bool). if b then accepted (place_shown place) message c else restart c) here
     ∙ sym (ap (handing place message) (yields_next place message c here))
-from_stream p message hears.Gap c (place, there, other) =
+from_stream stalled p message hears.Gap c (place, there, other) =
     let here : (place.number == c.core.consumer_sequence + 1) ≡ false = ne_eqb place.number (c.core.consumer_sequence + 1) other in
     ap (λ (place : Option ack.Place). message_row place message c) there
     ∙ ap (λ (b : Bool). if b then accepted (place_shown place) message c else restart c) here
-from_stream p message (hears.Beat last) c heard = absurd heard
-from_stream p message hears.OtherStatus c heard = absurd heard
+from_stream stalled p message (hears.Beat last) c heard = absurd heard
+from_stream stalled p message hears.OtherStatus c heard = absurd heard
 
 -- an arrival is what its kind says
-pub hears_as : (p : RowInput) (message : Message) (k : PushKind) (heard : Heard) (c : Consumer) → IsHeardAs c.core.consumer_sequence message k heard → hear_kind p message k c ≡ heard_row p message heard c
-hears_as p message kind.Delivered heard c is = from_stream p message heard c is
-hears_as p message (kind.Beat last) heard c is = ap (λ (h : Heard). heard_row p message h c) (sym is)
-hears_as p message kind.Bad heard c is = ap (λ (h : Heard). heard_row p message h c) (sym is)
-hears_as p message kind.OtherStatus heard c is = ap (λ (h : Heard). heard_row p message h c) (sym is)
+pub hears_as : (stalled : Bool) (p : RowInput) (message : Message) (k : PushKind) (heard : Heard) (c : Consumer) → IsHeardAs c.core.consumer_sequence message k heard → hear_kind stalled p message k c ≡ heard_row stalled p message heard c
+hears_as stalled p message kind.Delivered heard c is = from_stream stalled p message heard c is
+hears_as stalled p message (kind.Beat last) heard c is = ap (λ (h : Heard). heard_row stalled p message h c) (sym is)
+hears_as stalled p message kind.Bad heard c is = ap (λ (h : Heard). heard_row stalled p message h c) (sym is)
+hears_as stalled p message kind.OtherStatus heard c is = ap (λ (h : Heard). heard_row stalled p message h c) (sym is)
 
 -- where the consumer listens
 pub hears_here : (g : ReplayInput) (p : RowInput) (m : Matter) (inbox : ℕ) (message : Message) (phase : Phase) (c : Consumer) → listens_to inbox phase ≡ true
-    → row_at g p m (row.Hear (record { inbox = inbox; message = message })) phase c ≡ hear_kind p message (push_kind message) (at_phase (Pushes inbox (armed p.now)) c)
+    → row_at g p m (row.Hear (record { inbox = inbox; message = message })) phase c ≡ hear_kind g.settings.resilience.answers_stalled p message (push_kind message) (at_phase (Pushes inbox (armed p.now)) c)
 hears_here g p m inbox message (Pushes current heartbeat_timer) c here =
     let same : inbox ≡ current = grind (arith, nat_tests) in
-    rw here (ap (λ (i : ℕ). hear_kind p message (push_kind message) (at_phase (Pushes i (armed p.now)) c)) (sym same))
+    rw here (ap (λ (i : ℕ). hear_kind g.settings.resilience.answers_stalled p message (push_kind message) (at_phase (Pushes i (armed p.now)) c)) (sym same))
 hears_here g p m inbox message (Pulls reader) c here = cc
 hears_here g p m inbox message (Recreates r) c here = cc
 hears_here g p m inbox message Idle c here = cc

@@ -50,6 +50,7 @@ state_at phase c requests_sent inboxes_opened = record {
     name = c.name;
     missed = c.missed;
     limited = c.limited;
+    stream_missing = false;
     connection = c.connection;
   };
   link_up = true;

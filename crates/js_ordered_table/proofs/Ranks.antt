@@ -1,5 +1,5 @@
 -- What follows a row has a lower rank, so that rows end.
-use Rattle.std.proofs.Common.{◌≡◌, ℕ, zero, suc, ◌+◌, ◌<◌, false, List, [], ◌∷◌, ◌++◌, map, Option, Some, None, refl, ◌∙◌, ap, arith}
+use Rattle.std.proofs.Common.{◌≡◌, ℕ, zero, suc, ◌+◌, ◌<◌, false, List, [], ◌∷◌, ◌++◌, map, Option, Some, None, refl, ◌∙◌, ap, arith, Bool}
 use Rattle.std.specs.Prelude.{nat_lt, not, is_some, ◌&&◌, ◌||◌, ◌==◌}
 use Rattle.std.specs.List.{AllByRecursion}
 use Rattle.js_base.specs.declared.message.Message.{Message}
@@ -32,6 +32,8 @@ use Rattle.js_ordered_table.specs.declared.consumer.Phase.{Phase}
 use Rattle.js_ordered_table.specs.declared.consumer.Stage.TheVariants.{Between, Deleting, Creating, Waiting}
 use Rattle.js_ordered_table.specs.declared.consumer.Phase.TheVariants.{Pulls, Pushes, Recreates, Idle, Ended, Exhausted}
 use Rattle.js_ordered_table.specs.Recreation.{create_row, succeed_row, succeed_push, stage_rows, recreation_rows, created, answered, has_subject, message_on}
+use Rattle.js_pull.specs.declared.replies.InfoReply.{InfoReply}
+use Rattle.js_pull.specs.declared.replies.InfoReply.TheVariants as says
 use Rattle.js_ordered_table.specs.Arrivals.{in_place_of, message_row, read_row, push_kind, beat_rows, hear_kind, armed}
 use Rattle.js_ordered_table.specs.declared.kind.PushKind.{PushKind}
 use Rattle.js_ordered_table.specs.declared.kind.PushKind.TheVariants.{Delivered, OtherStatus, Bad, Beat}
@@ -96,11 +98,11 @@ beat_falls : (beat : Option ℕ) (consumer_sequence : ℕ) → AreBelow 5 (beat_
 beat_falls None consumer_sequence = tt
 beat_falls (Some last) consumer_sequence = if_each (AreBelow 5) (last == consumer_sequence) _ _ (λ _. tt) (λ _. (omega arith, tt))
 
-hear_kind_falls : (p : RowInput) (message : Message) (k : PushKind) (c : Consumer) → Leads 5 (hear_kind p message k c)
-hear_kind_falls p message Delivered c = message_falls 5 (omega arith) (readable_as message.reply) message c
-hear_kind_falls p message OtherStatus c = tt
-hear_kind_falls p message Bad c = tt
-hear_kind_falls p message (Beat last) c = beat_falls last c.core.consumer_sequence
+hear_kind_falls : (stalled : Bool) (p : RowInput) (message : Message) (k : PushKind) (c : Consumer) → Leads 5 (hear_kind stalled p message k c)
+hear_kind_falls stalled p message Delivered c = message_falls 5 (omega arith) (readable_as message.reply) message c
+hear_kind_falls stalled p message OtherStatus c = tt
+hear_kind_falls stalled p message Bad c = tt
+hear_kind_falls stalled p message (Beat last) c = beat_falls last c.core.consumer_sequence
 
 -- ---- the pull reader
 
@@ -127,21 +129,23 @@ arrival_falls p (Some message) r c = hear_falls message (pull_kind message) (pul
 silence_falls : (p : RowInput) (r : PullReader) (c : Consumer) → Reads 5 c (pull.check_silence p r)
 silence_falls p r c =
     if_each (Reads 5 c) (is_any_due r.heartbeat_timer p.now) _ _
-    (λ _. if_each (λ (passed : Passed). AreBelow 5 (in_place_of passed.next [])) c.missed _ _ (λ _. (omega arith, tt)) (λ _. tt))
+    (λ _. if_each (λ (passed : Passed). AreBelow 5 (in_place_of passed.next (map Read (pull.silence_inquiry r)))) c.missed _ _ (λ _. (omega arith, tt))
+    (λ _. if_each (λ (rows : List PullRow). AreBelow 5 (map Read rows)) (r.source.resilience.asks_at_first_heartbeat && not (pull.is_asking r.inquiry)) _ _ (λ _. (omega arith, tt)) (λ _. tt)))
     (λ _. tt)
 
-answer_falls : (failures : ℕ) (info : Option Info) (r : PullReader) (c : Consumer) → Reads 3 c (pull.answered failures info r)
-answer_falls failures None r c = (omega arith, tt)
-answer_falls failures (Some info) r c = (omega arith, tt)
+answer_falls : (failures : ℕ) (says : InfoReply) (r : PullReader) (c : Consumer) → Reads 5 c (pull.answered failures says r)
+answer_falls failures (says.Info info) r c = (omega arith, tt)
+answer_falls failures (says.Error code) r c = if_each (Reads 5 c) (r.source.resilience.recreates_when_gone && pull.is_gone code) _ _ (λ _. (omega arith, tt)) (λ _. (omega arith, tt))
+answer_falls failures says.Nothing r c = (omega arith, tt)
 
-asked_falls : (p : RowInput) (timeout : Option Timer) (failures : ℕ) (reply : Option (Option Message)) (r : PullReader) (c : Consumer) → Reads 4 c (pull.check_asked p timeout failures reply r)
+asked_falls : (p : RowInput) (timeout : Option Timer) (failures : ℕ) (reply : Option (Option Message)) (r : PullReader) (c : Consumer) → Reads 6 c (pull.check_asked p timeout failures reply r)
 asked_falls p timeout failures (Some reply) r c = (omega arith, tt)
-asked_falls p timeout failures None r c = if_each (λ (rows : List PullRow). AreBelow 4 (map Read rows)) (is_any_due timeout p.now) _ _ (λ _. (omega arith, tt)) (λ _. tt)
+asked_falls p timeout failures None r c = if_each (λ (rows : List PullRow). AreBelow 6 (map Read rows)) (is_any_due timeout p.now) _ _ (λ _. (omega arith, tt)) (λ _. tt)
 
-inquiry_falls : (p : RowInput) (answer : Option pull.Answer) (inquiry : InfoRequest) (r : PullReader) (c : Consumer) → Reads 4 c (pull.check_inquiry p answer inquiry r)
+inquiry_falls : (p : RowInput) (answer : Option pull.Answer) (inquiry : InfoRequest) (r : PullReader) (c : Consumer) → Reads 6 c (pull.check_inquiry p answer inquiry r)
 inquiry_falls p answer inquiries.NoInfoRequest r c = tt
 inquiry_falls p answer (inquiries.Asked request timeout failures) r c = asked_falls p timeout failures (pull.reply_to request answer) r c
-inquiry_falls p answer (inquiries.Resting wait failures) r c = if_each (λ (rows : List PullRow). AreBelow 4 (map Read rows)) (is_due wait p.now) _ _ (λ _. (omega arith, tt)) (λ _. tt)
+inquiry_falls p answer (inquiries.Resting wait failures) r c = if_each (λ (rows : List PullRow). AreBelow 6 (map Read rows)) (is_due wait p.now) _ _ (λ _. (omega arith, tt)) (λ _. tt)
 
 begin_change_falls : (p : RowInput) (change : Option State) (r : PullReader) (c : Consumer) → Reads 9 c (pull.begin_change p change r)
 begin_change_falls p None r c = (omega arith, (omega arith, tt))
@@ -164,7 +168,7 @@ reader_falls p answer arrival read.Arm r c = tt
 reader_falls p answer arrival (read.Inquire failures) r c = if_each (Reads 2 c) p.up _ _ (λ _. tt) (λ _. (omega arith, tt))
 reader_falls p answer arrival (read.FailInfoRequest failures) r c = if_each (Reads 1 c) (nat_lt (failures + 1) 6) _ _ (λ _. tt) (λ _. (omega arith, tt))
 reader_falls p answer arrival read.CheckInfoRequest r c = inquiry_falls p answer r.inquiry r c
-reader_falls p answer arrival (read.Answered reply failures) r c = answer_falls failures (pull.info_of_reply reply) r c
+reader_falls p answer arrival (read.Answered reply failures) r c = answer_falls failures (pull.info_reply reply) r c
 reader_falls p answer arrival read.CheckExpiry r c = if_each (λ (rows : List PullRow). AreBelow 1 (map Read rows)) (is_any_due r.expiry p.now) _ _ (λ _. (omega arith, tt)) (λ _. tt)
 reader_falls p answer arrival read.CheckArrival r c = arrival_falls p arrival r c
 reader_falls p answer arrival read.CheckSilence r c = silence_falls p r c
@@ -218,13 +222,13 @@ row_falls g p m Try (Recreates r) c = if_each (Leads 3) p.up _ _ (λ _. tt) (λ 
 row_falls g p m Create (Recreates r) c = create_falls g.setup p r c
 row_falls g p m Ask (Recreates r) c = if_each (Leads 1) p.up _ _ (λ _. tt) (λ _. (omega arith, tt))
 row_falls g p m Await (Recreates r) c = stage_falls g p m r.stage
-row_falls g p m (Answered reply) (Recreates r) c = (answered_falls g.setup (pull.info_of_reply reply), tt)
+row_falls g p m (Answered reply) (Recreates r) c = (answered_falls g.setup (pull.info_in (pull.info_reply reply)), tt)
 row_falls g p m Hold (Recreates r) c = tt
 row_falls g p m (Succeed info) (Recreates r) c = succeed_falls g.setup g p info r c
 row_falls g p m Fail (Recreates r) c = if_each (Leads 0) (nat_lt g.settings.retries (r.failures + 1)) _ _ (λ _. tt) (λ _. tt)
 row_falls g p m CheckArrival (Pushes inbox heartbeat_timer) c = push_rows_fall inbox (message_on inbox m.arrival)
 row_falls g p m (Hear arrival) (Pushes inbox heartbeat_timer) c =
-    if_both (Leads 5) (arrival.inbox == inbox) _ _ (hear_kind_falls p arrival.message (push_kind arrival.message) (at_phase (Pushes inbox (armed p.now)) c)) tt
+    if_both (Leads 5) (arrival.inbox == inbox) _ _ (hear_kind_falls g.settings.resilience.answers_stalled p arrival.message (push_kind arrival.message) (at_phase (Pushes inbox (armed p.now)) c)) tt
 row_falls g p m CheckSilence (Pushes inbox heartbeat_timer) c = if_each (Leads 5) (is_due heartbeat_timer p.now) _ _ (λ _. (omega arith, tt)) (λ _. tt)
 row_falls g p m Arm (Pushes inbox heartbeat_timer) c = tt
 row_falls g p m (Read row) (Pulls reader) c = reader_falls p m.answer (message_on reader.source.inbox m.arrival) row reader c

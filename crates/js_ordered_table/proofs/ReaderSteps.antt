@@ -1,10 +1,9 @@
 -- A row of a pull reader that was passed, where a case is not computed.
 use Rattle.std.proofs.Common.{◌≡◌, ℕ, Bool, true, false, List, [], ◌∷◌, ◌++◌, Option, Some, None, refl, ap, subst}
-use Rattle.std.specs.Prelude.{◌==◌, ◌&&◌, ◌+◌, nat_lt, not, map, if◌then◌else◌}
+use Rattle.std.specs.Prelude.{◌&&◌, ◌+◌, nat_lt, not, map, if◌then◌else◌}
 use Rattle.js_base.specs.declared.clock.Timer.{Timer}
 use Rattle.js_base.specs.Clock.{is_any_due}
 use Rattle.js_base.specs.declared.message.Message.{Message}
-use Rattle.js_json.specs.declared.consumer.info.Info.{Info}
 use Rattle.js_link.specs.declared.wish.Met.{Met}
 use Rattle.js_link.specs.declared.wish.Met.TheVariants.{Empty, Took, Got, Gone}
 use Rattle.js_link.specs.RowInput.{RowInput}
@@ -19,6 +18,8 @@ use Rattle.js_pull.specs.declared.reader.Reader.{Reader}
 use Rattle.js_pull.specs.declared.reader.Reason.TheVariants.{Low}
 use Rattle.js_pull.specs.declared.reader.Row.{Row}
 use Rattle.js_pull.specs.declared.reader.Row.TheVariants as read
+use Rattle.js_pull.specs.declared.replies.InfoReply.{InfoReply}
+use Rattle.js_pull.specs.declared.replies.InfoReply.TheVariants as says
 use Rattle.js_pull.specs.Reader as pull
 use Rattle.js_pull.specs.Reader.{Answer, reply_to}
 use Rattle.js_link.specs.declared.sent.Sent.{Sent}
@@ -111,9 +112,10 @@ inquiry_sends p answer NoInfoRequest r = refl
 inquiry_sends p answer (Asked request timeout failures) r = asked_sends p timeout failures (reply_to request answer) r
 inquiry_sends p answer (Resting wait failures) r = refl
 
-pub answered_sends : (failures : ℕ) (info : Option Info) (r : Reader) → (pull.answered failures info r).sent ≡ []
-answered_sends failures None r = refl
-answered_sends failures (Some info) r = refl
+pub answered_sends : (failures : ℕ) (says : InfoReply) (r : Reader) → (pull.answered failures says r).sent ≡ []
+answered_sends failures (says.Info info) r = refl
+answered_sends failures (says.Error code) r = if_sends (r.source.resilience.recreates_when_gone && pull.is_gone code) _ _ refl refl
+answered_sends failures says.Nothing r = refl
 
 pub hear_sends : (message : Message) (k : Kind) (r : Reader) → (pull.hear message k r).sent ≡ []
 hear_sends message Delivered r = refl

@@ -1,6 +1,6 @@
 -- A recreation goes on asking for the start that was put out last.
-use Rattle.std.proofs.Common.{◌≡◌, ℕ, ◌+◌, false, List, [], ◌∷◌, ◌++◌, Option, Some, None, refl, subst}
-use Rattle.std.specs.Prelude.{⊤, nat_lt, ◌||◌, ◌==◌}
+use Rattle.std.proofs.Common.{◌≡◌, ℕ, ◌+◌, false, List, [], ◌∷◌, ◌++◌, Option, Some, None, refl, subst, Bool}
+use Rattle.std.specs.Prelude.{⊤, nat_lt, ◌||◌, ◌==◌, not, ◌&&◌}
 use Rattle.js_base.specs.declared.message.Message.{Message}
 use Rattle.js_base.specs.declared.clock.Timer.{Timer}
 use Rattle.js_base.specs.Clock.{is_due}
@@ -25,7 +25,7 @@ use Rattle.js_ordered_table.specs.declared.consumer.Opened.{Opened}
 use Rattle.js_ordered_table.specs.declared.consumer.ReplayInput.{ReplayInput}
 use Rattle.js_ordered_table.specs.declared.consumer.Phase.{Phase}
 use Rattle.js_ordered_table.specs.declared.consumer.Phase.TheVariants.{Pulls, Pushes, Recreates, Idle, Ended, Exhausted}
-use Rattle.js_ordered_table.specs.Recreation.{start_row, create_row, succeed_row, succeed_push, message_on}
+use Rattle.js_ordered_table.specs.Recreation.{start_row, create_row, succeed_row, succeed_push, message_on, missing_after}
 use Rattle.js_ordered_table.specs.Arrivals.{message_row, told, push_kind, hear_kind, hear_row, armed}
 use Rattle.js_ordered_table.specs.declared.kind.PushKind.{PushKind}
 use Rattle.js_ordered_table.specs.declared.kind.PushKind.TheVariants.{Delivered, OtherStatus, Bad, Beat}
@@ -120,11 +120,11 @@ told_none (tells.Tells error.MissingHeartbeat) c never = if_both LeavesNone c.mi
 told_none (tells.Tells error.Pull) c never = never
 told_none (tells.Tells error.Other) c never = never
 
-hear_kind_none : (p : RowInput) (message : Message) (k : PushKind) (c : Consumer) → NotAsking c.phase → LeavesNone (hear_kind p message k c)
-hear_kind_none p message Delivered c never = message_none (readable_as message.reply) message c never
-hear_kind_none p message OtherStatus c never = never
-hear_kind_none p message Bad c never = never
-hear_kind_none p message (Beat n) c never = never
+hear_kind_none : (stalled : Bool) (p : RowInput) (message : Message) (k : PushKind) (c : Consumer) → NotAsking c.phase → LeavesNone (hear_kind stalled p message k c)
+hear_kind_none stalled p message Delivered c never = message_none (readable_as message.reply) message c never
+hear_kind_none stalled p message OtherStatus c never = never
+hear_kind_none stalled p message Bad c never = never
+hear_kind_none stalled p message (Beat n) c never = never
 
 -- ---- the rows of a recreation
 
@@ -192,12 +192,12 @@ event_asks g p m Idle c from a = change_asks g p m m.change Idle c from a
 
 -- ---- every row
 
-hear_asks : (p : RowInput) (arrival : Arrival) (inbox : ℕ) (heartbeat_timer : Timer) (c : Consumer) (from : ℕ) → Asks from (hear_row p arrival inbox (at_phase (Pushes inbox heartbeat_timer) c))
-hear_asks p arrival inbox heartbeat_timer c from =
+hear_asks : (stalled : Bool) (p : RowInput) (arrival : Arrival) (inbox : ℕ) (heartbeat_timer : Timer) (c : Consumer) (from : ℕ) → Asks from (hear_row stalled p arrival inbox (at_phase (Pushes inbox heartbeat_timer) c))
+hear_asks stalled p arrival inbox heartbeat_timer c from =
     if_both (Asks from) (arrival.inbox == inbox) _ _
-    (let passed : Passed = hear_kind p arrival.message (push_kind arrival.message) (at_phase (Pushes inbox (armed p.now)) c) in
+    (let passed : Passed = hear_kind stalled p arrival.message (push_kind arrival.message) (at_phase (Pushes inbox (armed p.now)) c) in
     not_asking passed.consumer.phase (from_after from passed.outputs)
-    (hear_kind_none p arrival.message (push_kind arrival.message) (at_phase (Pushes inbox (armed p.now)) c) tt))
+    (hear_kind_none stalled p arrival.message (push_kind arrival.message) (at_phase (Pushes inbox (armed p.now)) c) tt))
     tt
 
 pub row_asks : (g : ReplayInput) (p : RowInput) (m : Matter) (row : Row) (phase : Phase) (c : Consumer) (from : ℕ) → AsksFrom phase from → Asks from (row_at g p m row phase (at_phase phase c))
@@ -207,12 +207,14 @@ row_asks g p m Try (Recreates r) c from a = if_each (Asks from) p.up _ _ (λ _. 
 row_asks g p m Create (Recreates r) c from a = create_asks g.setup p r c from a
 row_asks g p m Ask (Recreates r) c from a = if_each (Asks from) p.up _ _ (λ _. a) (λ _. a)
 row_asks g p m Await (Recreates r) c from a = a
-row_asks g p m (Answered reply) (Recreates r) c from a = a
+row_asks g p m (Answered reply) (Recreates r) c from a =
+    if_each (λ (outputs : List Output). from_after from outputs ≡ start_sequence r.start)
+    (missing_after g.settings.resilience.tells_missing_stream (pull.info_reply reply) c.stream_missing && not c.stream_missing) _ _ (λ _. a) (λ _. a)
 row_asks g p m Hold (Recreates r) c from a = a
 row_asks g p m (Succeed info) (Recreates r) c from a = succeed_asks g g.setup p info r c from a
 row_asks g p m Fail (Recreates r) c from a = if_each (Asks from) (nat_lt g.settings.retries (r.failures + 1)) _ _ (λ _. tt) (λ _. a)
 row_asks g p m CheckArrival (Pushes inbox heartbeat_timer) c from a = tt
-row_asks g p m (Hear arrival) (Pushes inbox heartbeat_timer) c from a = hear_asks p arrival inbox heartbeat_timer c from
+row_asks g p m (Hear arrival) (Pushes inbox heartbeat_timer) c from a = hear_asks g.settings.resilience.answers_stalled p arrival inbox heartbeat_timer c from
 row_asks g p m CheckSilence (Pushes inbox heartbeat_timer) c from a = if_each (Asks from) (is_due heartbeat_timer p.now) _ _ (λ _. tt) (λ _. tt)
 row_asks g p m Arm (Pushes inbox heartbeat_timer) c from a = tt
 row_asks g p m (Read row) (Pulls reader) c from a = reader_asks p m row reader c from

@@ -41,8 +41,10 @@ use Rattle.js_ordered_table.specs.declared.consumer.Stage.TheVariants.{Between, 
 use Rattle.js_ordered_table.specs.declared.consumer.Phase.TheVariants.{Pulls, Pushes, Recreates, Idle, Ended, Exhausted}
 use Rattle.js_ordered_table.specs.OrderedCore.{after_yield, start_after}
 use Rattle.js_ordered_table.specs.Texts.{configured_start}
-use Rattle.js_ordered_table.specs.Recreation.{start_row, try_row, create_row, ask_row, succeed_row, succeed_pull, succeed_push, fail_row, message_on, hold, held_in, hold_row, stage_rows, recreation_rows, created, answered, has_subject}
-use Rattle.js_ordered_table.specs.Arrivals.{message_row, told, with_sent, push_kind, beat_answer, beat_rows, hear_kind, hear_row, silence_row, armed}
+use Rattle.js_ordered_table.specs.Recreation.{start_row, try_row, create_row, ask_row, succeed_row, succeed_pull, succeed_push, fail_row, message_on, hold, held_in, hold_row, stage_rows, recreation_rows, created, answered, has_subject, missing_after}
+use Rattle.js_pull.specs.declared.replies.InfoReply.{InfoReply}
+use Rattle.js_pull.specs.declared.replies.InfoReply.TheVariants as says
+use Rattle.js_ordered_table.specs.Arrivals.{message_row, told, with_sent, push_kind, beat_answer, beat_rows, beat_subject, hear_kind, hear_row, silence_row, armed}
 use Rattle.js_ordered_table.specs.declared.kind.PushKind.{PushKind}
 use Rattle.js_ordered_table.specs.declared.kind.PushKind.TheVariants.{Delivered, OtherStatus, Bad, Beat}
 use Rattle.js_ordered_table.specs.Table.{push_rows, go_on, is_connected, changed, watcher_ended, event_change, event_row, reader_row, row_at, pass}
@@ -260,9 +262,11 @@ arrival_read : (p : RowInput) (arrival : Option Message) (r : PullReader) → Is
 arrival_read p None r = record { source = refl; hands = tt }
 arrival_read p (Some message) r = hear_read r message (pull_kind message) (pull.with_pin message (pull.with_silence p.now r)) refl refl
 
-answered_read : (arrival : Option Message) (failures : ℕ) (info : Option Info) (r : PullReader) → IsRead r arrival (pull.answered failures info r)
-answered_read arrival failures None r = record { source = refl; hands = tt }
-answered_read arrival failures (Some info) r = record { source = refl; hands = tt }
+answered_read : (arrival : Option Message) (failures : ℕ) (says : InfoReply) (r : PullReader) → IsRead r arrival (pull.answered failures says r)
+answered_read arrival failures (says.Info info) r = record { source = refl; hands = tt }
+answered_read arrival failures (says.Error code) r =
+    if_each (IsRead r arrival) (r.source.resilience.recreates_when_gone && pull.is_gone code) _ _ (λ _. record { source = refl; hands = tt }) (λ _. record { source = refl; hands = tt })
+answered_read arrival failures says.Nothing r = record { source = refl; hands = tt }
 
 asked_read : (p : RowInput) (arrival : Option Message) (timeout : Option Timer) (failures : ℕ) (reply : Option (Option Message)) (r : PullReader) → IsRead r arrival (pull.check_asked p timeout failures reply r)
 asked_read p arrival timeout failures None r = record { source = refl; hands = tt }
@@ -296,7 +300,7 @@ row_read p answer arrival (read.Inquire failures) r = if_each (IsRead r arrival)
 row_read p answer arrival (read.FailInfoRequest failures) r =
     if_each (IsRead r arrival) (nat_lt (failures + 1) 6) _ _ (λ _. record { source = refl; hands = tt }) (λ _. record { source = refl; hands = tt })
 row_read p answer arrival read.CheckInfoRequest r = inquiry_read p arrival answer r.inquiry r
-row_read p answer arrival (read.Answered reply failures) r = answered_read arrival failures (pull.info_of_reply reply) r
+row_read p answer arrival (read.Answered reply failures) r = answered_read arrival failures (pull.info_reply reply) r
 row_read p answer arrival read.CheckExpiry r = record { source = refl; hands = tt }
 row_read p answer arrival read.CheckArrival r = arrival_read p arrival r
 row_read p answer arrival read.CheckSilence r =
@@ -359,17 +363,17 @@ beat_rows_honest : (setup : OrderedSetup) (s : Server) (beat : Option ℕ) (cons
 beat_rows_honest setup s None consumer_sequence = tt
 beat_rows_honest setup s (Some n) consumer_sequence = if_each (AllByRecursion (IsHonestRow setup s)) (n == consumer_sequence) _ _ (λ _. tt) (λ _. (tt, tt))
 
-hear_kind_keeps : (setup : OrderedSetup) (s : Server) (p : RowInput) (inbox : ℕ) (heartbeat_timer : Timer) (c : Consumer) (message : Message) (k : PushKind)
+hear_kind_keeps : (stalled : Bool) (setup : OrderedSetup) (s : Server) (p : RowInput) (inbox : ℕ) (heartbeat_timer : Timer) (c : Consumer) (message : Message) (k : PushKind)
     → IsWhole setup s.log s.removed (s.starts inbox) (s.lists inbox)
     → IsPush setup → IsKeptOn setup s c.core.consumer_sequence c.core.stream_sequence c.core.recreation_count inbox
     → (k ≡ Delivered → DeliveredAs setup s inbox (readable_as message.reply) message)
-    → KeepsRow setup s c.core (hear_kind p message k (at_phase (Pushes inbox heartbeat_timer) c))
-hear_kind_keeps setup s p inbox heartbeat_timer c message Delivered whole mode k delivered =
+    → KeepsRow setup s c.core (hear_kind stalled p message k (at_phase (Pushes inbox heartbeat_timer) c))
+hear_kind_keeps stalled setup s p inbox heartbeat_timer c message Delivered whole mode k delivered =
     message_keeps setup s inbox (Pushes inbox heartbeat_timer) (λ c' kept. (mode, kept)) whole c k (readable_as message.reply) message (delivered refl)
-hear_kind_keeps setup s p inbox heartbeat_timer c message OtherStatus whole mode k delivered = record { kept = (mode, k); rows = tt; start = refl; extends = refl }
-hear_kind_keeps setup s p inbox heartbeat_timer c message Bad whole mode k delivered = record { kept = (mode, k); rows = tt; start = refl; extends = refl }
-hear_kind_keeps setup s p inbox heartbeat_timer c message (Beat n) whole mode k delivered =
-    record { kept = (mode, k); rows = beat_rows_honest setup s n c.core.consumer_sequence; start = refl; extends = beat_extends setup s c.core.stream_sequence p.up message.reply }
+hear_kind_keeps stalled setup s p inbox heartbeat_timer c message OtherStatus whole mode k delivered = record { kept = (mode, k); rows = tt; start = refl; extends = refl }
+hear_kind_keeps stalled setup s p inbox heartbeat_timer c message Bad whole mode k delivered = record { kept = (mode, k); rows = tt; start = refl; extends = refl }
+hear_kind_keeps stalled setup s p inbox heartbeat_timer c message (Beat n) whole mode k delivered =
+    record { kept = (mode, k); rows = beat_rows_honest setup s n c.core.consumer_sequence; start = refl; extends = beat_extends setup s c.core.stream_sequence p.up (beat_subject stalled message) }
 
 -- ---- a mode's messages
 
@@ -410,10 +414,10 @@ reader_keeps g s p m row reader c whole mode k honest =
 hear_keeps : (g : ReplayInput) (s : Server) (p : RowInput) (arrival : Arrival) (inbox : ℕ) (heartbeat_timer : Timer) (c : Consumer)
     → ((inbox : ℕ) → IsWhole g.setup s.log s.removed (s.starts inbox) (s.lists inbox))
     → IsPush g.setup → IsKeptOn g.setup s c.core.consumer_sequence c.core.stream_sequence c.core.recreation_count inbox → IsHonestArrival g.setup s arrival
-    → KeepsRow g.setup s c.core (hear_row p arrival inbox (at_phase (Pushes inbox heartbeat_timer) c))
+    → KeepsRow g.setup s c.core (hear_row g.settings.resilience.answers_stalled p arrival inbox (at_phase (Pushes inbox heartbeat_timer) c))
 hear_keeps g s p arrival inbox heartbeat_timer c whole mode k honest =
     if_with (KeepsRow g.setup s c.core) (arrival.inbox == inbox) _ _
-    (λ same. hear_kind_keeps g.setup s p inbox (armed p.now) c arrival.message (push_kind arrival.message) (whole inbox) mode k
+    (λ same. hear_kind_keeps g.settings.resilience.answers_stalled g.setup s p inbox (armed p.now) c arrival.message (push_kind arrival.message) (whole inbox) mode k
     (λ kind_is place place_is.
     subst (λ (i : ℕ). IsDelivery s i place.number (entry_of place arrival.message)) (eqb-true arrival.inbox inbox same)
     (honest place (push_message g.setup arrival.message mode kind_is) place_is)))
@@ -484,7 +488,13 @@ row_keeps g s whole p m Try (Recreates r) c configured k matter honest opens = t
 row_keeps g s whole p m Create (Recreates r) c configured k matter honest opens = create_keeps g g.setup s p r c k opens
 row_keeps g s whole p m Ask (Recreates r) c configured k matter honest opens = ask_keeps g s p r c k
 row_keeps g s whole p m Await (Recreates r) c configured k matter honest opens = record { kept = k; rows = rows_of_stage g s p m r.stage; start = refl; extends = refl }
-row_keeps g s whole p m (Answered reply) (Recreates r) c configured k matter honest opens = record { kept = k; rows = (answered_row g.setup s g.setup (pull.info_of_reply reply), tt); start = refl; extends = refl }
+row_keeps g s whole p m (Answered reply) (Recreates r) c configured k matter honest opens = record {
+  kept = k;
+  rows = (answered_row g.setup s g.setup (pull.info_in (pull.info_reply reply)), tt);
+  start = refl;
+  extends = if_each (λ (outputs : List Output). Extends g.setup s c.core.stream_sequence outputs c.core.stream_sequence)
+      (missing_after g.settings.resilience.tells_missing_stream (pull.info_reply reply) c.stream_missing && not c.stream_missing) _ _ (λ _. refl) (λ _. refl);
+}
 row_keeps g s whole p m Hold (Recreates r) c configured k matter honest opens = hold_row_keeps g s m r c k matter
 row_keeps g s whole p m (Succeed info) (Recreates r) c configured k matter honest opens = succeed_keeps g g.setup refl s p info r c k opens
 row_keeps g s whole p m Fail (Recreates r) c configured k matter honest opens = fail_keeps g s p r c k

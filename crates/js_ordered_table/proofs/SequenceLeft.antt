@@ -1,5 +1,5 @@
 -- Where no arrival names the last of all sequences, a consumer always has a sequence to go on from.
-use Rattle.std.proofs.Common.{◌≡◌, ℕ, ◌+◌, false, List, [], ◌∷◌, ◌++◌, map, Option, Some, None, subst}
+use Rattle.std.proofs.Common.{◌≡◌, ℕ, ◌+◌, false, List, [], ◌∷◌, ◌++◌, map, Option, Some, None, subst, Bool}
 use Rattle.std.specs.Prelude.{⊤, IfSome, nat_lt, is_some, ◌||◌, ◌==◌}
 use Rattle.std.specs.List.{AllByRecursion}
 use Rattle.std.proofs.lemmas.Bool.{eqb-true}
@@ -172,15 +172,15 @@ beat_open : (beat : Option ℕ) (consumer_sequence : ℕ) → AreOpen (beat_rows
 beat_open None consumer_sequence = tt
 beat_open (Some n) consumer_sequence = if_each AreOpen (n == consumer_sequence) _ _ (λ _. tt) (λ _. (tt, tt))
 
-hear_kind_opens : (p : RowInput) (inbox : ℕ) (heartbeat_timer : Timer) (c : Consumer) → Last c → (message : Message) → IsBelowEnd message → (kind : PushKind) → Opens (hear_kind p message kind (at_phase (Pushes inbox heartbeat_timer) c))
-hear_kind_opens p inbox heartbeat_timer c k message h Delivered = message_opens (Pushes inbox heartbeat_timer) tt c k (readable_as message.reply) message h
-hear_kind_opens p inbox heartbeat_timer c k message h OtherStatus = record { consumer = record { last = k; phase = tt }; rows = tt }
-hear_kind_opens p inbox heartbeat_timer c k message h Bad = record { consumer = record { last = k; phase = tt }; rows = tt }
-hear_kind_opens p inbox heartbeat_timer c k message h (Beat n) = record { consumer = record { last = k; phase = tt }; rows = beat_open n c.core.consumer_sequence }
+hear_kind_opens : (stalled : Bool) (p : RowInput) (inbox : ℕ) (heartbeat_timer : Timer) (c : Consumer) → Last c → (message : Message) → IsBelowEnd message → (kind : PushKind) → Opens (hear_kind stalled p message kind (at_phase (Pushes inbox heartbeat_timer) c))
+hear_kind_opens stalled p inbox heartbeat_timer c k message h Delivered = message_opens (Pushes inbox heartbeat_timer) tt c k (readable_as message.reply) message h
+hear_kind_opens stalled p inbox heartbeat_timer c k message h OtherStatus = record { consumer = record { last = k; phase = tt }; rows = tt }
+hear_kind_opens stalled p inbox heartbeat_timer c k message h Bad = record { consumer = record { last = k; phase = tt }; rows = tt }
+hear_kind_opens stalled p inbox heartbeat_timer c k message h (Beat n) = record { consumer = record { last = k; phase = tt }; rows = beat_open n c.core.consumer_sequence }
 
-hear_opens : (p : RowInput) (arrival : Arrival) (inbox : ℕ) (heartbeat_timer : Timer) (c : Consumer) → Last c → IsBelowEnd arrival.message → Opens (hear_row p arrival inbox (at_phase (Pushes inbox heartbeat_timer) c))
-hear_opens p arrival inbox heartbeat_timer c k h = if_each Opens (arrival.inbox == inbox) _ _
-    (λ _. hear_kind_opens p inbox (armed p.now) c k arrival.message h (push_kind arrival.message)) (λ _. record { consumer = record { last = k; phase = tt }; rows = tt })
+hear_opens : (stalled : Bool) (p : RowInput) (arrival : Arrival) (inbox : ℕ) (heartbeat_timer : Timer) (c : Consumer) → Last c → IsBelowEnd arrival.message → Opens (hear_row stalled p arrival inbox (at_phase (Pushes inbox heartbeat_timer) c))
+hear_opens stalled p arrival inbox heartbeat_timer c k h = if_each Opens (arrival.inbox == inbox) _ _
+    (λ _. hear_kind_opens stalled p inbox (armed p.now) c k arrival.message h (push_kind arrival.message)) (λ _. record { consumer = record { last = k; phase = tt }; rows = tt })
 
 -- ---- an event's first row
 
@@ -231,12 +231,12 @@ row_opens g p m Try (Recreates r) c k kp h hr = try_opens g p r c k kp
 row_opens g p m Create (Recreates r) c k kp h hr = create_opens g.setup p r c k kp
 row_opens g p m Ask (Recreates r) c k kp h hr = ask_opens g p r c k kp
 row_opens g p m Await (Recreates r) c k kp h hr = record { consumer = record { last = k; phase = kp }; rows = stage_open g p m r.stage }
-row_opens g p m (Answered reply) (Recreates r) c k kp h hr = record { consumer = record { last = k; phase = kp }; rows = (answered_open g.setup (pull.info_of_reply reply), tt) }
+row_opens g p m (Answered reply) (Recreates r) c k kp h hr = record { consumer = record { last = k; phase = kp }; rows = (answered_open g.setup (pull.info_in (pull.info_reply reply)), tt) }
 row_opens g p m Hold (Recreates r) c k kp h hr = record { consumer = record { last = k; phase = held_in_open m.arrival r.opened kp h }; rows = tt }
 row_opens g p m (Succeed info) (Recreates r) c k kp h hr = succeed_opens g.setup g p info r c k kp
 row_opens g p m Fail (Recreates r) c k kp h hr = fail_opens g p r (at_phase (Recreates r) c) k
 row_opens g p m CheckArrival (Pushes inbox heartbeat_timer) c k kp h hr = record { consumer = record { last = k; phase = tt }; rows = push_rows_open inbox (message_on inbox m.arrival) (on_inbox inbox m.arrival h) }
-row_opens g p m (Hear arrival) (Pushes inbox heartbeat_timer) c k kp h hr = hear_opens p arrival inbox heartbeat_timer c k hr
+row_opens g p m (Hear arrival) (Pushes inbox heartbeat_timer) c k kp h hr = hear_opens g.settings.resilience.answers_stalled p arrival inbox heartbeat_timer c k hr
 row_opens g p m CheckSilence (Pushes inbox heartbeat_timer) c k kp h hr =
     if_each Opens (is_due heartbeat_timer p.now) _ _ (λ _. record { consumer = record { last = k; phase = tt }; rows = (tt, tt) }) (λ _. record { consumer = record { last = k; phase = tt }; rows = tt })
 row_opens g p m Arm (Pushes inbox heartbeat_timer) c k kp h hr = record { consumer = record { last = k; phase = tt }; rows = tt }

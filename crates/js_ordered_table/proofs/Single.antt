@@ -27,8 +27,10 @@ use Rattle.js_ordered_table.specs.declared.consumer.Consumer.{Consumer}
 use Rattle.js_ordered_table.specs.Consumer.{Matter, Change, Unchanged, Becomes, WatcherEnds, Passed, at_phase}
 use Rattle.js_ordered_table.specs.declared.row.Row.{Row}
 use Rattle.js_ordered_table.specs.declared.row.Row.TheVariants.{Event, Start, Try, Create, Ask, Await, Answered, Hold, Succeed, Fail, CheckArrival, Hear, CheckSilence, Arm, Read}
-use Rattle.js_ordered_table.specs.Recreation.{create_row, succeed_row, succeed_push, message_on}
-use Rattle.js_ordered_table.specs.Arrivals.{message_row, read_row, push_kind, beat_answer, hear_kind, armed}
+use Rattle.js_ordered_table.specs.Recreation.{create_row, succeed_row, succeed_push, message_on, missing_after}
+use Rattle.js_pull.specs.declared.replies.InfoReply.{InfoReply}
+use Rattle.js_pull.specs.declared.replies.InfoReply.TheVariants as says
+use Rattle.js_ordered_table.specs.Arrivals.{message_row, read_row, push_kind, beat_answer, beat_subject, hear_kind, armed}
 use Rattle.js_ordered_table.specs.declared.kind.PushKind.{PushKind}
 use Rattle.js_ordered_table.specs.declared.kind.PushKind.TheVariants.{Delivered, OtherStatus, Bad, Beat}
 use Rattle.js_ordered_table.specs.Table.{go_on, is_connected, changed, watcher_ended, event_change, event_row, row_at}
@@ -82,9 +84,10 @@ arrival_single : (p : RowInput) (arrival : Option Message) (r : PullReader) (c :
 arrival_single p None r c = nothing
 arrival_single p (Some message) r c = arrived_single message (pull_kind message) (pull.with_pin message (pull.with_silence p.now r)) c
 
-answer_single : (failures : ℕ) (info : Option Info) (r : PullReader) (c : Consumer) → Reads c (pull.answered failures info r)
-answer_single failures None r c = nothing
-answer_single failures (Some info) r c = nothing
+answer_single : (failures : ℕ) (says : InfoReply) (r : PullReader) (c : Consumer) → Reads c (pull.answered failures says r)
+answer_single failures (says.Info info) r c = nothing
+answer_single failures (says.Error code) r c = if_each (Reads c) (r.source.resilience.recreates_when_gone && pull.is_gone code) _ _ (λ _. nothing) (λ _. nothing)
+answer_single failures says.Nothing r c = nothing
 
 asked_single : (p : RowInput) (timeout : Option Timer) (failures : ℕ) (reply : Option (Option Message)) (r : PullReader) (c : Consumer) → Reads c (pull.check_asked p timeout failures reply r)
 asked_single p timeout failures (Some reply) r c = nothing
@@ -113,7 +116,7 @@ reader_single p answer arrival read.Arm r c = nothing
 reader_single p answer arrival (read.Inquire failures) r c = if_each (Reads c) p.up _ _ (λ _. record { handed = omega arith; sent = omega arith }) (λ _. nothing)
 reader_single p answer arrival (read.FailInfoRequest failures) r c = if_each (Reads c) (nat_lt (failures + 1) 6) _ _ (λ _. nothing) (λ _. record { handed = omega arith; sent = omega arith })
 reader_single p answer arrival read.CheckInfoRequest r c = inquiry_single p answer r.inquiry r c
-reader_single p answer arrival (read.Answered reply failures) r c = answer_single failures (pull.info_of_reply reply) r c
+reader_single p answer arrival (read.Answered reply failures) r c = answer_single failures (pull.info_reply reply) r c
 reader_single p answer arrival read.CheckExpiry r c = nothing
 reader_single p answer arrival read.CheckArrival r c = arrival_single p arrival r c
 reader_single p answer arrival read.CheckSilence r c = if_each (Reads c) (is_any_due r.heartbeat_timer p.now) _ _ (λ _. if_each Single c.missed _ _ (λ _. nothing) (λ _. nothing)) (λ _. nothing)
@@ -157,11 +160,11 @@ beat_single up None = nothing
 beat_single true (Some reply) = record { handed = omega arith; sent = omega arith }
 beat_single false (Some reply) = nothing
 
-hear_single : (p : RowInput) (message : Message) (k : PushKind) (c : Consumer) → Single (hear_kind p message k c)
-hear_single p message Delivered c = message_single (readable_as message.reply) message c
-hear_single p message OtherStatus c = nothing
-hear_single p message Bad c = record { handed = omega arith; sent = omega arith }
-hear_single p message (Beat last) c = beat_single p.up message.reply
+hear_single : (stalled : Bool) (p : RowInput) (message : Message) (k : PushKind) (c : Consumer) → Single (hear_kind stalled p message k c)
+hear_single stalled p message Delivered c = message_single (readable_as message.reply) message c
+hear_single stalled p message OtherStatus c = nothing
+hear_single stalled p message Bad c = record { handed = omega arith; sent = omega arith }
+hear_single stalled p message (Beat last) c = beat_single p.up (beat_subject stalled message)
 
 pub row_single : (g : ReplayInput) (p : RowInput) (m : Matter) (row : Row) (phase : Phase) (c : Consumer) → Single (row_at g p m row phase c)
 row_single g p m Event phase c = first_single g p m phase c
@@ -170,13 +173,15 @@ row_single g p m Try (Recreates r) c = if_each Single p.up _ _ (λ _. record { h
 row_single g p m Create (Recreates r) c = create_single g.setup p r c
 row_single g p m Ask (Recreates r) c = if_each Single p.up _ _ (λ _. record { handed = omega arith; sent = omega arith }) (λ _. nothing)
 row_single g p m Await (Recreates r) c = nothing
-row_single g p m (Answered reply) (Recreates r) c = nothing
+row_single g p m (Answered reply) (Recreates r) c =
+    if_each IsSingle (missing_after g.settings.resilience.tells_missing_stream (pull.info_reply reply) c.stream_missing && not c.stream_missing) _ _
+    (λ _. record { handed = omega arith; sent = omega arith }) (λ _. nothing)
 row_single g p m Hold (Recreates r) c = nothing
 row_single g p m (Succeed info) (Recreates r) c = succeed_single g.setup g p info r c
 row_single g p m Fail (Recreates r) c = if_each Single (nat_lt g.settings.retries (r.failures + 1)) _ _ (λ _. record { handed = omega arith; sent = omega arith }) (λ _. nothing)
 row_single g p m CheckArrival (Pushes inbox heartbeat_timer) c = nothing
 row_single g p m (Hear arrival) (Pushes inbox heartbeat_timer) c =
-    if_both Single (arrival.inbox == inbox) _ _ (hear_single p arrival.message (push_kind arrival.message) (at_phase (Pushes inbox (armed p.now)) c)) nothing
+    if_both Single (arrival.inbox == inbox) _ _ (hear_single g.settings.resilience.answers_stalled p arrival.message (push_kind arrival.message) (at_phase (Pushes inbox (armed p.now)) c)) nothing
 row_single g p m CheckSilence (Pushes inbox heartbeat_timer) c = if_each Single (is_due heartbeat_timer p.now) _ _ (λ _. record { handed = omega arith; sent = omega arith }) (λ _. nothing)
 row_single g p m Arm (Pushes inbox heartbeat_timer) c = nothing
 row_single g p m (Read row) (Pulls reader) c = reader_single p m.answer (message_on reader.source.inbox m.arrival) row reader c

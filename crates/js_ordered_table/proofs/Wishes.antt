@@ -1,6 +1,6 @@
 -- A row sends what it asks to send.
 use Rattle.std.proofs.Common.{◌≡◌, ℕ, ◌+◌, Bool, true, false, List, [], ◌∷◌, ◌++◌, map, Option, Some, None, refl, sym, ◌∙◌, ap}
-use Rattle.std.specs.Prelude.{◌||◌, nat_lt, ◌==◌, if◌then◌else◌}
+use Rattle.std.specs.Prelude.{◌||◌, nat_lt, ◌==◌, if◌then◌else◌, not, ◌&&◌}
 use Rattle.js_base.specs.declared.message.Message.{Message}
 use Rattle.js_base.specs.Clock.{is_due}
 use Rattle.js_base.specs.declared.message.State.{State}
@@ -30,8 +30,8 @@ use Rattle.js_ordered_table.specs.declared.consumer.Stage.{Stage}
 use Rattle.js_ordered_table.specs.declared.consumer.Stage.TheVariants.{Between, Deleting, Creating, Waiting}
 use Rattle.js_ordered_table.specs.declared.consumer.Phase.{Phase}
 use Rattle.js_ordered_table.specs.declared.consumer.Phase.TheVariants.{Pulls, Pushes, Recreates, Idle, Ended, Exhausted}
-use Rattle.js_ordered_table.specs.Recreation.{start_row, create_row, succeed_row, succeed_push, fail_row, message_on}
-use Rattle.js_ordered_table.specs.Arrivals.{message_row, told, push_kind, beat_answer, hear_kind, armed}
+use Rattle.js_ordered_table.specs.Recreation.{start_row, create_row, succeed_row, succeed_push, fail_row, message_on, missing_after}
+use Rattle.js_ordered_table.specs.Arrivals.{message_row, told, push_kind, beat_answer, beat_subject, hear_kind, armed}
 use Rattle.js_ordered_table.specs.declared.kind.PushKind.{PushKind}
 use Rattle.js_ordered_table.specs.declared.kind.PushKind.TheVariants.{Delivered, OtherStatus, Bad, Beat}
 use Rattle.js_ordered_table.specs.Table.{go_on, is_connected, changed, watcher_ended, event_change, event_row, reader_row, row_at}
@@ -177,11 +177,11 @@ beat_sends : (p : RowInput) (last : Option ℕ) (reply : Option (List ℕ)) → 
 beat_sends p last None = refl
 beat_sends p last (Some reply) = both sent (λ (xs : List Sent). map output_of xs) p.up _ _ _ _ refl refl
 
-kind_sends : (p : RowInput) (message : Message) (kind : PushKind) (c : Consumer) → Sends (beat_wish kind message.reply) p (hear_kind p message kind c)
-kind_sends p message Delivered c = message_silent (readable_as message.reply) message c
-kind_sends p message OtherStatus c = refl
-kind_sends p message Bad c = refl
-kind_sends p message (Beat last) c = beat_sends p last message.reply
+kind_sends : (stalled : Bool) (p : RowInput) (message : Message) (kind : PushKind) (c : Consumer) → Sends (beat_wish kind (beat_subject stalled message)) p (hear_kind stalled p message kind c)
+kind_sends stalled p message Delivered c = message_silent (readable_as message.reply) message c
+kind_sends stalled p message OtherStatus c = refl
+kind_sends stalled p message Bad c = refl
+kind_sends stalled p message (Beat last) c = beat_sends p last (beat_subject stalled message)
 
 -- what a row sends is what it asks to send
 pub row_sends : (g : ReplayInput) (p : RowInput) (m : Matter) (row : Row) (phase : Phase) (c : Consumer) → Sends (wish_at g row phase) p (row_at g p m row phase c)
@@ -191,7 +191,9 @@ row_sends g p m Try (Recreates r) c = both (λ (passed : Passed). sent passed.ou
 row_sends g p m Create (Recreates r) c = create_sends g.setup p r c
 row_sends g p m Ask (Recreates r) c = both (λ (passed : Passed). sent passed.outputs) (λ (xs : List Sent). map output_of xs) p.up _ _ _ _ refl refl
 row_sends g p m Await (Recreates r) c = quiet [] (sends_of (awaited r.stage) p) refl (awaited_silent r.stage p)
-row_sends g p m (Answered reply) (Recreates r) c = refl
+row_sends g p m (Answered reply) (Recreates r) c =
+    if_each (λ (outputs : List Output). sent outputs ≡ [])
+    (missing_after g.settings.resilience.tells_missing_stream (pull.info_reply reply) c.stream_missing && not c.stream_missing) _ _ (λ _. refl) (λ _. refl)
 row_sends g p m Hold (Recreates r) c = quiet [] (sends_of (opened_read r.opened) p) refl (read_silent r.opened p)
 row_sends g p m (Succeed info) (Recreates r) c = succeed_sends g.setup g p info r c
 row_sends g p m Fail (Recreates r) c =
@@ -199,7 +201,7 @@ row_sends g p m Fail (Recreates r) c =
 row_sends g p m CheckArrival (Pushes inbox heartbeat_timer) c = refl
 row_sends g p m (Hear arrival) (Pushes inbox heartbeat_timer) c =
     both (λ (passed : Passed). sent passed.outputs) (λ (w : Wish). map output_of (sends_of w p)) (arrival.inbox == inbox) _ _ _ _
-    (kind_sends p arrival.message (push_kind arrival.message) (at_phase (Pushes inbox (armed p.now)) c)) refl
+    (kind_sends g.settings.resilience.answers_stalled p arrival.message (push_kind arrival.message) (at_phase (Pushes inbox (armed p.now)) c)) refl
 row_sends g p m CheckSilence (Pushes inbox heartbeat_timer) c = if_each Silent (is_due heartbeat_timer p.now) _ _ (λ _. refl) (λ _. refl)
 row_sends g p m Arm (Pushes inbox heartbeat_timer) c = refl
 row_sends g p m (Read row) (Pulls reader) c = reader_sends p m row reader c

@@ -113,22 +113,38 @@ abbrev pub beat_rows : Option ℕ → ℕ → List Row
 beat_rows None consumer_sequence = []
 beat_rows (Some last) consumer_sequence = if last == consumer_sequence then [] else Start ∷ []
 
--- what push does with an arrival of a kind
-abbrev pub hear_kind : RowInput → Message → PushKind → Consumer → Passed
-hear_kind p message Delivered c = message_row (readable_as message.reply) message c
-hear_kind p message (Beat last) c = record { consumer = c; outputs = beat_answer p.up message.reply; next = beat_rows last c.core.consumer_sequence }
-hear_kind p message Bad c = put_item item.Other c
-hear_kind p message OtherStatus c = silent_row c []
+-- the subject to which a message asks for an answer: its reply subject, or else the one that a stalled consumer names
+abbrev pub reply_or : Option (List ℕ) → Option (List ℕ) → Option (List ℕ)
+reply_or None stalled = stalled
+reply_or (Some reply) stalled = Some reply
+
+abbrev pub answer_subject : Message → Option (List ℕ)
+answer_subject m = reply_or m.reply (last_value (codes "Nats-Consumer-Stalled") (all_headers m.headers))
+
+-- the subject at which a beat is answered: the one of a stalled consumer only by the option
+abbrev pub beat_subject : Bool → Message → Option (List ℕ)
+beat_subject stalled m = if stalled then answer_subject m else m.reply
+
+-- what push does with an arrival of a kind, where it answers stalled consumers or not
+abbrev pub hear_kind : Bool → RowInput → Message → PushKind → Consumer → Passed
+hear_kind stalled p message Delivered c = message_row (readable_as message.reply) message c
+hear_kind stalled p message (Beat last) c = record {
+  consumer = c;
+  outputs = beat_answer p.up (beat_subject stalled message);
+  next = beat_rows last c.core.consumer_sequence;
+}
+hear_kind stalled p message Bad c = put_item item.Other c
+hear_kind stalled p message OtherStatus c = silent_row c []
 
 -- push's heartbeat
 abbrev pub armed : ℕ → Timer
 armed now = record { set = now; wait = 10 * second }
 
 -- each arrival on the current inbox arms the heartbeat
-abbrev pub hear_row : RowInput → Arrival → ℕ → Consumer → Passed
-hear_row p arrival inbox c =
+abbrev pub hear_row : Bool → RowInput → Arrival → ℕ → Consumer → Passed
+hear_row stalled p arrival inbox c =
     if arrival.inbox == inbox
-    then hear_kind p arrival.message (push_kind arrival.message) (at_phase (Pushes inbox (armed p.now)) c)
+    then hear_kind stalled p arrival.message (push_kind arrival.message) (at_phase (Pushes inbox (armed p.now)) c)
     else silent_row c []
 
 -- a heartbeat that is missing is an item, and a recreation starts

@@ -15,7 +15,7 @@ use Rattle.js_ordered_table.specs.declared.consumer.ReplayInput.{ReplayInput}
 use Rattle.js_ordered_table.specs.declared.consumer.Phase.{Phase}
 use Rattle.js_ordered_table.specs.declared.consumer.Phase.TheVariants.{Pulls, Pushes, Ended, Exhausted}
 use Rattle.js_ordered_table.specs.OrderedCore.{new_core}
-use Rattle.js_ordered_table.specs.Texts.{configured_start, inbox_subject, source_of}
+use Rattle.js_ordered_table.specs.Texts.{configured_start, inbox_subject, pull_source}
 use Rattle.js_ordered_table.specs.Arrivals.{armed}
 use Rattle.js_ordered_table.specs.Table.{pass}
 use Rattle.js_ordered_table.specs.declared.setup.OrderedSetup.{OrderedSetup}
@@ -70,9 +70,9 @@ read_rank read.Threshold = 1
 read_rank (read.FailInfoRequest failures) = 1
 read_rank read.CheckExpiry = 1
 read_rank (read.Inquire failures) = 2
-read_rank (read.Answered reply failures) = 3
-read_rank read.CheckInfoRequest = 4
+read_rank (read.Answered reply failures) = 5
 read_rank read.CheckSilence = 5
+read_rank read.CheckInfoRequest = 6
 read_rank read.CheckArrival = 6
 read_rank (read.Begin change) = 9
 
@@ -151,7 +151,7 @@ run_events g (e ∷ es) w = let ran = event g e w in ran ∷ run_events g es ran
 
 -- the first inbox is current
 abbrev pub first_phase : ReplayInput → ℕ → OrderedSetup → Phase
-first_phase g start (Pull setup) = Pulls (pull.new_reader (source_of g 0 0 (inbox_subject g 0) g.first))
+first_phase g start (Pull setup) = Pulls (pull.new_reader (pull_source g 0 0 (inbox_subject g 0) g.first))
 first_phase g start (Push setup) = Pushes 0 (armed start)
 
 -- pull asks at once
@@ -168,6 +168,7 @@ first_state g start = record {
     name = g.first.name;
     missed = false;
     limited = false;
+    stream_missing = false;
     connection = Connected;
   };
   link_up = true;

@@ -1,8 +1,8 @@
 -- What passing rows comes to in a replay, as the functions that pass them say it.
 use Rattle.std.specs.Prelude.{ℕ, suc, ◌+◌, Bool, List, map, Option, Some, None, ◌==◌, false, if◌then◌else◌}
 use Rattle.js_base.specs.declared.clock.Timer.{Timer}
-use Rattle.js_ordered_table.specs.Texts.{recreation_timeout, inbox_subject, source_of}
-use Rattle.js_ordered_table.specs.Recreation.{recreation, held_in}
+use Rattle.js_ordered_table.specs.Texts.{recreation_timeout, inbox_subject, pull_source}
+use Rattle.js_ordered_table.specs.Recreation.{held_in}
 use Rattle.js_base.specs.declared.message.Message.{Message}
 use Rattle.js_pull.specs.Reader.{new_reader, retry_wait, with_pin, with_silence}
 use Rattle.js_ordered_table.specs.declared.consumer.Recreation.{Recreation}
@@ -12,7 +12,7 @@ use Rattle.js_ordered_table.specs.declared.row.Arrival.{Arrival}
 use Rattle.js_ordered_table.specs.declared.consumer.Phase.TheVariants.{Pulls, Pushes, Recreates, Idle, Ended, Exhausted}
 use Rattle.js_ordered_table.specs.declared.consumer.Stage.TheVariants.{Waiting}
 use Rattle.js_ordered_table.specs.Consumer.{Matter, Passed, at_phase}
-use Rattle.js_ordered_table.specs.Fold.{Ran, rank, and_then, pass_each, pass_to, passing, after}
+use Rattle.js_ordered_table.specs.Fold.{Ran, rank, and_then, pass_each, pass_to, after}
 use Rattle.js_ordered_table.specs.OrderedCore.{after_yield}
 use Rattle.js_ordered_table.specs.Consumer as state
 use Rattle.js_ordered_table.specs.declared.consumer.Consumer.{Consumer}
@@ -83,7 +83,7 @@ heard now message r = with_pin message (with_silence now r)
 
 -- the reader of the first inbox
 abbrev pub first_reader_of : ReplayInput → Reader
-first_reader_of g = new_reader (source_of g 0 0 (inbox_subject g 0) g.first)
+first_reader_of g = new_reader (pull_source g 0 0 (inbox_subject g 0) g.first)
 
 -- ---- what an open recreation holds
 

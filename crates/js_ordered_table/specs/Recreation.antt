@@ -1,12 +1,14 @@
 -- The rows of a recreation.
-use Rattle.std.specs.Prelude.{ℕ, ◌+◌, Bool, true, List, [], ◌∷◌, ◌++◌, map, Option, Some, None, is_some, nat_lt, ◌==◌, codes, if◌then◌else◌}
+use Rattle.std.specs.Prelude.{ℕ, ◌+◌, ◌&&◌, Bool, true, false, not, List, [], ◌∷◌, ◌++◌, map, Option, Some, None, is_some, nat_lt, ◌==◌, codes, if◌then◌else◌}
 use Rattle.js_base.specs.declared.message.Message.{Message}
 use Rattle.js_base.specs.declared.clock.Timer.{Timer}
 use Rattle.js_base.specs.Clock.{is_due}
 use Rattle.js_json.specs.declared.consumer.info.Info.{Info}
 use Rattle.js_link.specs.RowInput.{RowInput}
 use Rattle.js_pull.specs.Reader as pull
-use Rattle.js_pull.specs.Reader.{Answer, reply_to, info_of_reply, retry_wait, u64_max}
+use Rattle.js_pull.specs.declared.replies.InfoReply.{InfoReply}
+use Rattle.js_pull.specs.declared.replies.InfoReply.TheVariants as says
+use Rattle.js_pull.specs.Reader.{Answer, reply_to, info_in, retry_wait, stream_not_found, u64_max}
 use Rattle.js_pull.specs.Reader.{new_reader}
 use Rattle.js_ordered_table.specs.declared.consumer.Consumer.{Consumer}
 use Rattle.js_ordered_table.specs.Consumer.{Matter, Passed, silent_row, at_phase}
@@ -20,10 +22,11 @@ use Rattle.js_ordered_table.specs.declared.consumer.Stage.{Stage}
 use Rattle.js_ordered_table.specs.declared.consumer.Stage.TheVariants.{Between, Deleting, Creating, Waiting}
 use Rattle.js_ordered_table.specs.declared.consumer.Phase.TheVariants.{Pulls, Pushes, Recreates, Idle, Exhausted}
 use Rattle.js_ordered_table.specs.OrderedCore.{after_restart, restart_at}
-use Rattle.js_ordered_table.specs.Texts.{consumer_name, delete_subject, create_subject, create_body, recreation_timeout, source_of}
+use Rattle.js_ordered_table.specs.Texts.{consumer_name, delete_subject, create_subject, create_body, recreation_timeout, pull_source}
 use Rattle.js_ordered_table.specs.declared.setup.OrderedSetup.{OrderedSetup}
 use Rattle.js_ordered_table.specs.declared.setup.OrderedSetup.TheVariants.{Pull, Push}
 use Rattle.js_ordered_table.specs.declared.run.ItemKind.TheVariants as item
+use Rattle.js_ordered_table.specs.declared.run.Output.{Output}
 use Rattle.js_ordered_table.specs.declared.run.Output.TheVariants as out
 
 -- ---- Start
@@ -119,7 +122,7 @@ abbrev pub succeed_pull : ReplayInput → RowInput → Info → Consumer → Pas
 succeed_pull g p info c =
     if p.up
     then record {
-      consumer = at_phase (Pulls (new_reader (source_of g c.core.recreation_count p.inbox p.subject info))) c;
+      consumer = at_phase (Pulls (new_reader (pull_source g c.core.recreation_count p.inbox p.subject info))) c;
       outputs = out.Subscribe p.inbox p.subject ∷ [];
       next = map Read pull.opening;
     }
@@ -162,6 +165,30 @@ has_subject (Push setup) info = is_some info.config.deliver_subject
 abbrev pub answered : OrderedSetup → Option Info → Row
 answered setup None = Fail
 answered setup (Some info) = if has_subject setup info then Succeed info else Fail
+
+-- an answer to a create says that the stream is not found
+abbrev pub is_stream_missing : InfoReply → Bool
+is_stream_missing (says.Info info) = false
+is_stream_missing (says.Error code) = code.0 == stream_not_found
+is_stream_missing says.Nothing = false
+
+-- whether the stream is missing, as it is kept where that is told
+abbrev pub missing_after : Bool → InfoReply → Bool → Bool
+missing_after tells reply was_missing = if tells then is_stream_missing reply else was_missing
+
+-- it is told where it was not missing before
+abbrev pub missing_outputs : Bool → Bool → List Output
+missing_outputs missing was_missing = if missing && not was_missing then out.Item item.StreamNotFound ∷ [] else []
+
+-- an answer to a create
+abbrev pub answered_row : ReplayInput → InfoReply → Consumer → Passed
+answered_row g reply c =
+    let missing = missing_after g.settings.resilience.tells_missing_stream reply c.stream_missing in
+    record {
+      consumer = record c { stream_missing = missing };
+      outputs = missing_outputs missing c.stream_missing;
+      next = answered g.setup (info_in reply) ∷ [];
+    }
 
 -- a create looks at its answer before its clock
 abbrev pub created : ReplayInput → RowInput → Timer → Option (Option Message) → List Row

@@ -16,7 +16,7 @@ use Rattle.js_ordered_table.specs.declared.row.Row.TheVariants.{Event, Start, Tr
 use Rattle.js_ordered_table.specs.declared.consumer.ReplayInput.{ReplayInput}
 use Rattle.js_ordered_table.specs.declared.consumer.Phase.{Phase}
 use Rattle.js_ordered_table.specs.declared.consumer.Phase.TheVariants.{Pulls, Pushes, Recreates, Idle, Ended, Exhausted}
-use Rattle.js_ordered_table.specs.Recreation.{start_row, try_row, create_row, ask_row, succeed_row, fail_row, answered, stage_rows, hold_row, recreation_rows, message_on}
+use Rattle.js_ordered_table.specs.Recreation.{start_row, try_row, create_row, ask_row, succeed_row, fail_row, answered_row, stage_rows, hold_row, recreation_rows, message_on}
 use Rattle.js_ordered_table.specs.Arrivals.{read_row, hear_row, silence_row, end_with, restart, armed}
 use Rattle.js_ordered_table.specs.declared.setup.OrderedSetup.{OrderedSetup}
 use Rattle.js_ordered_table.specs.declared.setup.OrderedSetup.TheVariants.{Pull, Push}
@@ -89,12 +89,12 @@ row_at g p m Try (Recreates r) c = try_row g p r c
 row_at g p m Create (Recreates r) c = create_row g.setup p r c
 row_at g p m Ask (Recreates r) c = ask_row g p r c
 row_at g p m Await (Recreates r) c = silent_row c (stage_rows g p m r.stage)
-row_at g p m (Answered reply) (Recreates r) c = silent_row c (answered g.setup (pull.info_of_reply reply) ∷ [])
+row_at g p m (Answered reply) (Recreates r) c = answered_row g (pull.info_reply reply) c
 row_at g p m Hold (Recreates r) c = hold_row m r c
 row_at g p m (Succeed info) (Recreates r) c = succeed_row g.setup g p info r c
 row_at g p m Fail (Recreates r) c = fail_row g p r c
 row_at g p m CheckArrival (Pushes inbox heartbeat_timer) c = silent_row c (push_rows inbox (message_on inbox m.arrival))
-row_at g p m (Hear arrival) (Pushes inbox heartbeat_timer) c = hear_row p arrival inbox c
+row_at g p m (Hear arrival) (Pushes inbox heartbeat_timer) c = hear_row g.settings.resilience.answers_stalled p arrival inbox c
 row_at g p m CheckSilence (Pushes inbox heartbeat_timer) c = silence_row p heartbeat_timer c
 row_at g p m Arm (Pushes inbox heartbeat_timer) c = silent_row (at_phase (Pushes inbox (armed p.now)) c) []
 row_at g p m (Read row) (Pulls reader) c = reader_row p m row reader c

@@ -8,7 +8,7 @@ use Rattle.js_pull.specs.Rows.{brought, row_list, row_of}
 use Rattle.js_pull.specs.declared.rows.Due.{Due}
 use Rattle.js_pull.specs.Reader.{reply_to}
 use Rattle.js_ordered_table.specs.Passes.{hearings, place_shown, yielding}
-use Rattle.js_ordered_table.specs.Arrivals.{put_item, restart, beat_answer, beat_rows, push_kind}
+use Rattle.js_ordered_table.specs.Arrivals.{put_item, restart, beat_answer, beat_rows, beat_subject, push_kind}
 use Rattle.js_ordered_table.specs.Recreation.{message_on}
 use Rattle.js_ordered_table.specs.Consumer.{Matter, Passed, silent_row as silent_passed}
 use Rattle.js_ordered_table.specs.Table.{go_on, is_connected, reader_row}
@@ -188,22 +188,26 @@ IsHeardAs consumer_sequence message kind.OtherStatus heard = heard ≡ hears.Oth
 abbrev pub IsHeard : ℕ → Message → Heard → Type 0
 IsHeard consumer_sequence message heard = IsHeardAs consumer_sequence message (push_kind message) heard
 
--- what is put out at it
-abbrev pub heard_outputs : Bool → Message → Heard → List Output
-heard_outputs up message (hears.Yields place) = out.Yield place.sequence place.number message.subject message.payload ∷ []
-heard_outputs up message hears.Unreadable = out.Item item.Other ∷ []
-heard_outputs up message (hears.Beat last) = beat_answer up message.reply
-heard_outputs up message hears.Gap = []
-heard_outputs up message hears.OtherStatus = []
+-- what is put out at it, where stalled consumers are answered or not
+abbrev pub heard_outputs : Bool → Bool → Message → Heard → List Output
+heard_outputs stalled up message (hears.Yields place) = out.Yield place.sequence place.number message.subject message.payload ∷ []
+heard_outputs stalled up message hears.Unreadable = out.Item item.Other ∷ []
+heard_outputs stalled up message (hears.Beat last) = beat_answer up (beat_subject stalled message)
+heard_outputs stalled up message hears.Gap = []
+heard_outputs stalled up message hears.OtherStatus = []
 
 -- a message at this place is handed out, which leaves this consumer
 abbrev pub handing : Place → Message → Consumer → Passed
 handing place message c = record { consumer = c; outputs = out.Yield place.sequence place.number message.subject message.payload ∷ []; next = [] }
 
 -- and what comes of it
-abbrev pub heard_row : RowInput → Message → Heard → Consumer → Passed
-heard_row p message (hears.Yields place) c = handing place message (yielding (place_shown place) c)
-heard_row p message hears.Unreadable c = put_item item.Other c
-heard_row p message (hears.Beat last) c = record { consumer = c; outputs = beat_answer p.up message.reply; next = beat_rows last c.core.consumer_sequence }
-heard_row p message hears.Gap c = restart c
-heard_row p message hears.OtherStatus c = silent_passed c []
+abbrev pub heard_row : Bool → RowInput → Message → Heard → Consumer → Passed
+heard_row stalled p message (hears.Yields place) c = handing place message (yielding (place_shown place) c)
+heard_row stalled p message hears.Unreadable c = put_item item.Other c
+heard_row stalled p message (hears.Beat last) c = record {
+  consumer = c;
+  outputs = beat_answer p.up (beat_subject stalled message);
+  next = beat_rows last c.core.consumer_sequence;
+}
+heard_row stalled p message hears.Gap c = restart c
+heard_row stalled p message hears.OtherStatus c = silent_passed c []

@@ -117,8 +117,8 @@ create_body g r = body_of (create_request_value (create_request g r))
 -- ---- readers
 
 -- whom the reader of a consumer with this info asks
-abbrev pub source_of : ReplayInput → ℕ → ℕ → List ℕ → Info → PullSource
-source_of g recreation_count inbox subject info = record {
+abbrev pub pull_source : ReplayInput → ℕ → ℕ → List ℕ → Info → PullSource
+pull_source g recreation_count inbox subject info = record {
   api = g.settings.api_prefix;
   stream = info.stream_name;
   name = info.name;
@@ -127,4 +127,5 @@ source_of g recreation_count inbox subject info = record {
   info_timeout = info_timeout recreation_count g.settings;
   config = ordered_batch_config info;
   pinned = false;
+  resilience = g.settings.resilience;
 }

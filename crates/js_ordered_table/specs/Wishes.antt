@@ -15,7 +15,7 @@ use Rattle.js_ordered_table.specs.declared.consumer.Consumer.{Consumer}
 use Rattle.js_ordered_table.specs.Consumer.{Matter, Change, Unchanged, Becomes, WatcherEnds}
 use Rattle.js_ordered_table.specs.declared.consumer.Opened.{Opened}
 use Rattle.js_ordered_table.specs.Texts.{delete_subject, create_subject, create_body}
-use Rattle.js_ordered_table.specs.Arrivals.{push_kind}
+use Rattle.js_ordered_table.specs.Arrivals.{beat_subject, push_kind}
 use Rattle.js_ordered_table.specs.declared.kind.PushKind.{PushKind}
 use Rattle.js_ordered_table.specs.declared.kind.PushKind.TheVariants.{Beat}
 use Rattle.js_ordered_table.specs.declared.row.Arrival.{Arrival}
@@ -81,7 +81,10 @@ wish_at g Hold (Recreates r) = opened_read r.opened
 wish_at g (Succeed info) (Recreates r) = succeed_wish g.setup
 wish_at g Fail (Recreates r) = opened_dropped r.opened
 wish_at g CheckArrival (Pushes inbox heartbeat_timer) = Reads inbox
-wish_at g (Hear arrival) (Pushes inbox heartbeat_timer) = if arrival.inbox == inbox then beat_wish (push_kind arrival.message) arrival.message.reply else Nothing
+wish_at g (Hear arrival) (Pushes inbox heartbeat_timer) =
+    if arrival.inbox == inbox
+    then beat_wish (push_kind arrival.message) (beat_subject g.settings.resilience.answers_stalled arrival.message)
+    else Nothing
 wish_at g (Read row) (Pulls reader) = pull.wish row reader
 wish_at g _ phase = Nothing
 

@@ -13,6 +13,7 @@ use Rattle.js_json.specs.declared.pull.OrderedConfig as pulls
 use Rattle.js_json.specs.declared.push.OrderedConfig as pushes
 use Rattle.js_json.specs.Conversion.{ordered_pull_config, ordered_push_config}
 use Rattle.js_json.specs.declared.consumer.deliver_policy.DeliverPolicy.TheVariants as policy
+use Rattle.js_pull.specs.Resilience.{none}
 use Rattle.js_ordered_table.specs.declared.setup.Settings.{Settings}
 use Rattle.js_ordered_table.specs.declared.consumer.ReplayInput.{ReplayInput}
 use Rattle.js_ordered_table.specs.declared.setup.OrderedSetup.{OrderedSetup}
@@ -28,7 +29,7 @@ use Rattle.js_ordered_table.specs.Gapless.{Logged, Server, IsHonest, IsGapless, 
 
 -- all at their defaults
 abbrev pub settings : Settings
-settings = record { api_prefix = codes "$JS.API"; inbox_prefix = codes "_INBOX.t"; context_timeout = None; request_timeout = Some 10_000_000_000; retries = 4_294_967_295 }
+settings = record { api_prefix = codes "$JS.API"; inbox_prefix = codes "_INBOX.t"; context_timeout = None; request_timeout = Some 10_000_000_000; retries = 4_294_967_295; resilience = none }
 
 -- the configurations of ordered consumers, with all else at its default
 abbrev pub pull_config : DeliverPolicy → pulls.OrderedConfig

@@ -78,5 +78,8 @@ pub struct Consumer {
     pub missed: bool,
     /// Pull: whether a limit was met, and nothing was accepted since.
     pub limited: bool,
+    /// Whether the last answer to a create request said that the stream is not found, and the
+    /// option to report that is on.
+    pub stream_missing: bool,
     pub connection: State,
 }

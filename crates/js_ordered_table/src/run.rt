@@ -25,6 +25,9 @@ pub enum ItemKind {
     Pull,
     /// A recreation has used up its tries. The next event begins another one.
     Recreate,
+    /// The answer to a create request says that the stream is not found. It is reported once, until
+    /// a create request is answered in another way. The recreation goes on trying.
+    StreamNotFound,
     /// An arrival can't be read; or, for push, the connection's state is no longer watched.
     Other,
 }

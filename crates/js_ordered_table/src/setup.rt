@@ -1,6 +1,7 @@
 //! How an ordered consumer is set up.
 use js_base::{Nanos, Text};
 use js_json::{pull, push};
+use js_pull::Resilience;
 
 /// What an ordered consumer is told about its connection.
 #[derive(Debug, PartialEq, Eq, Drop)]
@@ -15,6 +16,8 @@ pub struct Settings {
     pub request_timeout: Option<Nanos>,
     /// How many further tries a recreation makes after its first.
     pub retries: u32,
+    /// What the consumer does so that it never hangs, and tells when its stream is gone.
+    pub resilience: Resilience,
 }
 
 /// The configuration of an ordered consumer; its variant is the mode.

@@ -1,5 +1,5 @@
 //! Names, subjects, bodies and timeouts of an ordered consumer.
-ghost use Rattle.std.specs.Prelude.{◌≡◌, [], IfOk, IsOk, Some, decimal, string_bytes, ◌++◌};
+ghost use Rattle.std.specs.Prelude.{◌≡◌, IfOk, IsOk, Some, decimal, string_bytes, ◌++◌};
 ghost use Rattle.js_pull.specs.Limits.{body_of};
 ghost use Rattle.js_ordered_table.specs.Passes.{input_of};
 ghost use Rattle.js_ordered_table.specs.Texts as texts;
@@ -11,12 +11,11 @@ use crate::run::Start;
 use crate::setup::{OrderedSetup, Settings};
 use bytes::Bytes;
 use js_base::{
-    Nanos, OutOfMemory, Subject, Text, TryClone, consumer_api_subject, each_copied, named_subject,
-    replace_with, with_word,
+    Nanos, OutOfMemory, Subject, Text, TryClone, consumer_api_subject, named_subject, replace_with,
+    with_word,
 };
-use js_json::consumer::{Action, Config, CreateRequest, DeliverPolicy, Info, IntoConsumerConfig};
+use js_json::consumer::{Action, Config, CreateRequest, DeliverPolicy, IntoConsumerConfig};
 use js_json_members::{ReadError, ToValue};
-use js_pull::{PullSource, ordered_batch_config};
 use std::alloc::{AllocError, Global};
 
 // ---- timeouts
@@ -43,7 +42,7 @@ pub fn recreation_timeout(settings: &Settings) -> Nanos
 }
 
 // How long a pull reader waits for its consumer's info. The first reader's wait has no bound of its own.
-fn info_timeout(recreation_count: u64, settings: &Settings) -> Option<Nanos>
+pub(crate) fn info_timeout(recreation_count: u64, settings: &Settings) -> Option<Nanos>
     ensures { result ≡ texts.info_timeout recreation_count settings.now }
 {
     if recreation_count == 0 {
@@ -332,49 +331,4 @@ pub fn create_body(
             Err(OutOfMemory)
         }
     }
-}
-
-// ---- readers
-
-/// Returns the pull source for the reader of a consumer with this info. Fails with `OutOfMemory` if
-/// memory runs out.
-pub fn source_of(
-    context: &ConsumerContext<'_>,
-    recreation_count: u64,
-    inbox: u64,
-    subject: Subject,
-    info: &Info,
-) -> Result<PullSource, OutOfMemory>
-    ensures { IfOk result (λ source. source ≡ texts.source_of (input_of context.now) recreation_count inbox subject info.now) }
-{
-    match each_copied(&context.settings.api_prefix, &info.stream_name, &info.name) {
-        Ok((api, stream, name)) => Ok(PullSource {
-            api,
-            stream,
-            name,
-            inbox,
-            subject,
-            info_timeout: info_timeout(recreation_count, context.settings),
-            config: ordered_batch_config(info),
-            pinned: false,
-        }),
-        Err(OutOfMemory) => {
-            drop(subject);
-            Err(OutOfMemory)
-        }
-    }
-}
-
-/// Returns the same as [`source_of`], but with no inbox yet: its number is 0 and its subject is
-/// empty. Fails with `OutOfMemory` if memory runs out.
-pub fn source_without_inbox(
-    alloc: Global,
-    context: &ConsumerContext<'_>,
-    recreation_count: u64,
-    info: &Info,
-) -> Result<PullSource, OutOfMemory>
-    ensures { IfOk result (λ source. source ≡ texts.source_of (input_of context.now) recreation_count 0 [] info.now) }
-{
-    let unknown = Subject::from(String::new(alloc));
-    source_of(context, recreation_count, 0, unknown, info)
 }

@@ -10,6 +10,7 @@ use Rattle.js_link.specs.declared.sent.Sent.TheVariants as goes
 use Rattle.js_pull.specs.Limits.{batch_of, clamp_batch, clamp_heartbeat, pull_body}
 use Rattle.js_pull.specs.declared.reader.PullSource.{PullSource}
 use Rattle.js_pull.specs.Reader.{new_reader}
+use Rattle.js_pull.specs.Resilience.{none}
 use Rattle.js_pull.specs.Reader.{opening}
 use Rattle.js_pull.specs.Poll.{Position, Stride, walk}
 use Rattle.js_pull.specs.declared.reader.ReaderOutput.TheVariants as tells
@@ -20,7 +21,7 @@ unfoldable pub streams_on_literals : ⊤
 unfolding writing_on_literals pull_request_value
 streams_on_literals = tt
 
-abbrev source : BatchConfig → PullSource
+abbrev pub source : BatchConfig → PullSource
 source config = record {
   api = codes "$JS.API";
   stream = codes "events";
@@ -30,6 +31,7 @@ source config = record {
   info_timeout = None;
   config = config;
   pinned = false;
+  resilience = none;
 }
 
 abbrev stream : PullSource → Position

@@ -6,7 +6,6 @@ use Rattle.js_base.specs.declared.message.Message.{Message}
 use Rattle.js_base.specs.declared.message.State.{State}
 use Rattle.js_link.specs.LinkView.{LinkView}
 use Rattle.js_link.specs.Wish.{message_of}
-use Rattle.js_link.specs.declared.wish.Wish.{Wish}
 use Rattle.js_link.specs.declared.wish.Wish.TheVariants.{Watches}
 use Rattle.js_link.specs.declared.wish.Met.{Met}
 use Rattle.js_link.specs.declared.wish.Met.TheVariants.{Unasked, Took, Stands, WatchOver}

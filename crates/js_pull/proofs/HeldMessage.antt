@@ -1,8 +1,8 @@
 -- A message that is held counts as unread: what a row does to a link it does to the link that is seen.
 use Rattle.std.proofs.Common.{◌≡◌, ℕ, ◌+◌, Bool, true, false, List, Option, Some, None, refl, sym, ◌∙◌, ap, subst}
 use Rattle.js_base.specs.declared.message.Message.{Message}
-use Rattle.js_link.specs.LinkView.{LinkView, put, with_first, Waits, Ended, Status}
-use Rattle.js_link.specs.Calls.{Publishes, FailsToSend, Asks, Answers, Takes}
+use Rattle.js_link.specs.LinkView.{LinkView, put, with_first}
+use Rattle.js_link.specs.Calls.{Takes}
 use Rattle.js_link.specs.declared.wish.Wish.TheVariants as wishes
 use Rattle.js_link.specs.declared.wish.Met.TheVariants as meetings
 use Rattle.js_link.specs.declared.wish.Met.{Met}

@@ -138,4 +138,4 @@ arrival_idle p arrival r met v u is m is_open empty =
 
 pub silence_idle : (now : ℕ) (p : RowInput) (r : Reader) → p.now ≡ now → is_any_due r.heartbeat_timer now ≡ false → rows.check_silence p r ≡ rows.silent_row r []
 silence_idle now p r at early =
-    ap (λ (b : Bool). if b then rows.tell error.MissingHeartbeat (rows.with_silence p.now r) [] else rows.silent_row r []) (ap (is_any_due r.heartbeat_timer) at ∙ early)
+    ap (λ (b : Bool). if b then rows.tell error.MissingHeartbeat (rows.with_silence p.now r) (rows.silence_inquiry r) else rows.silent_row r []) (ap (is_any_due r.heartbeat_timer) at ∙ early)

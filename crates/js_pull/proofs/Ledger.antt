@@ -8,7 +8,6 @@ use Rattle.js_base.specs.Clock.{is_due, is_any_due}
 use Rattle.js_base.specs.declared.clock.Timer.{Timer}
 use Rattle.js_base.specs.declared.message.State.{State}
 use Rattle.js_base.specs.declared.message.State.TheVariants.{Pending, Connected, Disconnected}
-use Rattle.js_json.specs.declared.consumer.info.Info.{Info}
 use Rattle.js_link.specs.RowInput.{RowInput}
 use Rattle.js_pull.specs.declared.kind.Kind.{Kind}
 use Rattle.js_pull.specs.declared.kind.Kind.TheVariants.{Delivered, IdleHeartbeat, Deleted, PushBased, Limit, Gone, Bad, Ledger}
@@ -17,6 +16,8 @@ use Rattle.js_pull.specs.declared.reader.PullSource.{PullSource}
 use Rattle.js_pull.specs.declared.reader.Reader.{Reader}
 use Rattle.js_pull.specs.Reader.{new_reader}
 use Rattle.js_pull.specs.Reader as rows
+use Rattle.js_pull.specs.declared.replies.InfoReply.{InfoReply}
+use Rattle.js_pull.specs.declared.replies.InfoReply.TheVariants as reply
 use Rattle.js_pull.proofs.Cases.{if_each, if_known, half_pending}
 use Rattle.js_pull.specs.Poll.{Position, Stride, first_row, later_rows, passed_by, step, walk, closed_at, IsBounded, IsBoundedAt, IsLowRequest, IsReady}
 use Rattle.js_pull.specs.declared.reader.InfoRequest.{InfoRequest}
@@ -122,9 +123,12 @@ begin_keeps : (p : RowInput) (change : Option State) (r : Reader) → IsBounded 
 begin_keeps p change r k = if_each Keeps r.ended _ _ (λ _. record { reader = k; next = tt })
     (λ _. if_each Keeps (rows.is_asking r.inquiry) _ _ (λ _. record { reader = k; next = ((λ low. absurd low), ((λ low. low), tt)) }) (λ _. change_keeps p change r k))
 
-answered_keeps : (failures : ℕ) (info : Option Info) (r : Reader) → IsBounded r → Keeps (rows.answered failures info r)
-answered_keeps failures None r k = record { reader = k; next = ((λ low. absurd low), tt) }
-answered_keeps failures (Some info) r k = record { reader = record { bytes = k.bytes; pending = k.pending }; next = ((λ low. absurd low), tt) }
+answered_keeps : (failures : ℕ) (says : InfoReply) (r : Reader) → IsBounded r → Keeps (rows.answered failures says r)
+answered_keeps failures (reply.Info info) r k = record { reader = record { bytes = k.bytes; pending = k.pending }; next = ((λ low. absurd low), tt) }
+answered_keeps failures (reply.Error code) r k = if_each Keeps (r.source.resilience.recreates_when_gone && rows.is_gone code) _ _
+    (λ _. record { reader = record { bytes = k.bytes; pending = k.pending }; next = tt })
+    (λ _. record { reader = k; next = ((λ low. absurd low), tt) })
+answered_keeps failures reply.Nothing r k = record { reader = k; next = ((λ low. absurd low), tt) }
 
 asked_keeps : (p : RowInput) (timeout : Option Timer) (failures : ℕ) (reply : Option (Option Message)) (r : Reader) → IsBounded r → Keeps (rows.check_asked p timeout failures reply r)
 asked_keeps p timeout failures (Some reply) r k = record { reader = k; next = ((λ low. absurd low), tt) }
@@ -150,11 +154,15 @@ row_keeps p answer arrival (FailInfoRequest failures) r k low = if_each Keeps (n
     (λ _. record { reader = record { bytes = k.bytes; pending = k.pending }; next = tt })
     (λ _. record { reader = record { bytes = k.bytes; pending = k.pending }; next = ((λ low. absurd low), tt) })
 row_keeps p answer arrival CheckInfoRequest r k low = inquiry_keeps p answer r.inquiry r k
-row_keeps p answer arrival (Answered reply failures) r k low = answered_keeps failures (rows.info_of_reply reply) r k
+row_keeps p answer arrival (Answered message failures) r k low = answered_keeps failures (rows.info_reply message) r k
 row_keeps p answer arrival CheckExpiry r k low = record { reader = k; next = if_each (IsReady r) (is_any_due r.expiry p.now) _ _ (λ _. ((λ low. absurd low), tt)) (λ _. tt) }
 row_keeps p answer arrival CheckArrival r k low = arrival_keeps p arrival r k
 row_keeps p answer arrival CheckSilence r k low = if_each Keeps (is_any_due r.heartbeat_timer p.now) _ _
-    (λ _. record { reader = record { bytes = k.bytes; pending = k.pending }; next = tt }) (λ _. record { reader = k; next = tt })
+    (λ _. record {
+      reader = record { bytes = k.bytes; pending = k.pending };
+      next = if_each (IsReady (rows.with_silence p.now r)) (r.source.resilience.asks_at_first_heartbeat && not (rows.is_asking r.inquiry)) _ _ (λ _. ((λ low. absurd low), tt)) (λ _. tt);
+    })
+    (λ _. record { reader = k; next = tt })
 
 -- ---- a walk
 

@@ -6,7 +6,6 @@ use Rattle.js_base.specs.declared.clock.Timer.{Timer}
 use Rattle.js_base.specs.declared.message.Message.{Message}
 use Rattle.js_base.specs.declared.message.State.{State}
 use Rattle.js_base.specs.declared.message.State.TheVariants.{Pending, Connected, Disconnected}
-use Rattle.js_json.specs.declared.consumer.info.Info.{Info}
 use Rattle.js_link.specs.LinkView.{LinkView}
 use Rattle.js_link.specs.RowInput.{RowInput}
 use Rattle.js_link.specs.Wish.{row_input, message_of}
@@ -30,6 +29,8 @@ use Rattle.js_pull.specs.Reader as rows
 use Rattle.js_pull.specs.Rows.{met_row}
 use Rattle.js_pull.specs.Poll.{Position}
 use Rattle.js_pull.specs.Stream.{PassesNext, BeginsAt, begun_with, is_took}
+use Rattle.js_pull.specs.declared.replies.InfoReply.{InfoReply}
+use Rattle.js_pull.specs.declared.replies.InfoReply.TheVariants as reply
 use Rattle.js_pull.proofs.Cases.{if_each}
 
 -- ---- the messages that are left
@@ -89,7 +90,7 @@ row_counts CheckSilence met r v u m = nothing_counts r.source.inbox met v u m
 -- ---- how far the end of an event is
 
 abbrev pub rank : Row → ℕ
-rank (Begin change) = 8
+rank (Begin change) = 10
 rank (Ask reason) = 1
 rank Threshold = 2
 rank Arm = 1
@@ -98,8 +99,8 @@ rank (FailInfoRequest failures) = 2
 rank CheckInfoRequest = 4
 rank (Answered reply failures) = 3
 rank CheckExpiry = 2
-rank CheckArrival = 3
-rank CheckSilence = 1
+rank CheckArrival = 5
+rank CheckSilence = 4
 
 abbrev pub rank_of : List Row → ℕ
 rank_of [] = 0
@@ -117,7 +118,7 @@ pub record Nears (n : ℕ) (r : Reader) (passed : rows.Passed) : Type 0 where
 abbrev NearsList : ℕ → List Row → Type 0
 NearsList n xs = rank_of xs < n
 
-hear_nears : (message : Message) (kind : Kind) (r s : Reader) → s.source ≡ r.source → Nears 3 r (rows.hear message kind s)
+hear_nears : (message : Message) (kind : Kind) (r s : Reader) → s.source ≡ r.source → Nears 5 r (rows.hear message kind s)
 hear_nears message Delivered r s e = record { source = e; lower = omega arith }
 hear_nears message IdleHeartbeat r s e = record { source = e; lower = omega arith }
 hear_nears message Deleted r s e = record { source = e; lower = omega arith }
@@ -127,23 +128,25 @@ hear_nears message kinds.Gone r s e = record { source = e; lower = omega arith }
 hear_nears message Bad r s e = record { source = e; lower = omega arith }
 hear_nears message (Ledger messages bytes) r s e = record { source = e; lower = omega arith }
 
-arrival_nears : (p : RowInput) (arrival : Option Message) (r : Reader) → Nears 3 r (rows.check_arrival p arrival r)
+arrival_nears : (p : RowInput) (arrival : Option Message) (r : Reader) → Nears 5 r (rows.check_arrival p arrival r)
 arrival_nears p None r = record { source = refl; lower = omega arith }
 arrival_nears p (Some message) r = hear_nears message (pull_kind message) r (rows.with_pin message (rows.with_silence p.now r)) refl
 
-change_nears : (p : RowInput) (change : Option State) (r : Reader) → Nears 8 r (rows.begin_change p change r)
+change_nears : (p : RowInput) (change : Option State) (r : Reader) → Nears 10 r (rows.begin_change p change r)
 change_nears p None r = record { source = refl; lower = omega arith }
 change_nears p (Some Connected) r = record { source = refl; lower = omega arith }
 change_nears p (Some Pending) r = record { source = refl; lower = omega arith }
 change_nears p (Some Disconnected) r = record { source = refl; lower = omega arith }
 
-pub begin_nears : (p : RowInput) (change : Option State) (r : Reader) → Nears 8 r (rows.begin_row p change r)
-begin_nears p change r = if_each (Nears 8 r) r.ended _ _ (λ _. record { source = refl; lower = omega arith })
-    (λ _. if_each (Nears 8 r) (rows.is_asking r.inquiry) _ _ (λ _. record { source = refl; lower = omega arith }) (λ _. change_nears p change r))
+pub begin_nears : (p : RowInput) (change : Option State) (r : Reader) → Nears 10 r (rows.begin_row p change r)
+begin_nears p change r = if_each (Nears 10 r) r.ended _ _ (λ _. record { source = refl; lower = omega arith })
+    (λ _. if_each (Nears 10 r) (rows.is_asking r.inquiry) _ _ (λ _. record { source = refl; lower = omega arith }) (λ _. change_nears p change r))
 
-answered_nears : (failures : ℕ) (info : Option Info) (r : Reader) → Nears 3 r (rows.answered failures info r)
-answered_nears failures None r = record { source = refl; lower = omega arith }
-answered_nears failures (Some info) r = record { source = refl; lower = omega arith }
+answered_nears : (failures : ℕ) (says : InfoReply) (r : Reader) → Nears 3 r (rows.answered failures says r)
+answered_nears failures (reply.Info info) r = record { source = refl; lower = omega arith }
+answered_nears failures (reply.Error code) r = if_each (Nears 3 r) (r.source.resilience.recreates_when_gone && rows.is_gone code) _ _
+    (λ _. record { source = refl; lower = omega arith }) (λ _. record { source = refl; lower = omega arith })
+answered_nears failures reply.Nothing r = record { source = refl; lower = omega arith }
 
 asked_nears : (p : RowInput) (timeout : Option Timer) (failures : ℕ) (reply : Option (Option Message)) (r : Reader) → Nears 4 r (rows.check_asked p timeout failures reply r)
 asked_nears p timeout failures (Some reply) r = record { source = refl; lower = omega arith }
@@ -165,11 +168,15 @@ row_nears p answer arrival (Inquire failures) r = if_each (Nears 3 r) p.up _ _ (
 row_nears p answer arrival (FailInfoRequest failures) r = if_each (Nears 2 r) (nat_lt (failures + 1) 6) _ _
     (λ _. record { source = refl; lower = omega arith }) (λ _. record { source = refl; lower = omega arith })
 row_nears p answer arrival CheckInfoRequest r = inquiry_nears p answer r.inquiry r
-row_nears p answer arrival (Answered reply failures) r = answered_nears failures (rows.info_of_reply reply) r
+row_nears p answer arrival (Answered message failures) r = answered_nears failures (rows.info_reply message) r
 row_nears p answer arrival CheckExpiry r = record { source = refl; lower = if_each (NearsList 2) (is_any_due r.expiry p.now) _ _ (λ _. omega arith) (λ _. omega arith) }
 row_nears p answer arrival CheckArrival r = arrival_nears p arrival r
-row_nears p answer arrival CheckSilence r = if_each (Nears 1 r) (is_any_due r.heartbeat_timer p.now) _ _
-    (λ _. record { source = refl; lower = omega arith }) (λ _. record { source = refl; lower = omega arith })
+row_nears p answer arrival CheckSilence r = if_each (Nears 4 r) (is_any_due r.heartbeat_timer p.now) _ _
+    (λ _. record {
+      source = refl;
+      lower = if_each (NearsList 4) (r.source.resilience.asks_at_first_heartbeat && not (rows.is_asking r.inquiry)) _ _ (λ _. omega arith) (λ _. omega arith);
+    })
+    (λ _. record { source = refl; lower = omega arith })
 
 -- ---- a row that was passed
 
@@ -224,7 +231,7 @@ begun_falls now change at new v u rests leads same = by_rows at.reader at.todo r
     by_rows r todo rests leads =
         let nears = begin_nears (publishing now false) change r in
         let new_at : new ≡ begun_with now change r [] at.connection = leads ∙ ap (λ (xs : List Row). begun_with now change r xs at.connection) rests in
-        let lower : rank_of new.todo < 8 = subst (λ (p : Position). rank_of p.todo < 8) (sym new_at) nears.lower in
+        let lower : rank_of new.todo < 10 = subst (λ (p : Position). rank_of p.todo < 10) (sym new_at) nears.lower in
         let source : new.reader.source ≡ r.source = ap (λ (p : Position). p.reader.source) new_at ∙ nears.source in
         let counts : u.count new.reader.source.inbox ≡ v.count r.source.inbox = ap (λ (s : PullSource). u.count s.inbox) source ∙ ap (λ (w : LinkView). w.count r.source.inbox) same in
         omega (arith, lower, counts)

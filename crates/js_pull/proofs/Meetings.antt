@@ -1,6 +1,6 @@
 -- What a row meets, seen by one who holds a message.
-use Rattle.std.proofs.Common.{◌≡◌, ℕ, true, false, Option, Some, None, refl, sym, ◌∙◌, ap, subst}
-use Rattle.std.specs.Prelude.{Result, Ok, Err, IfOk, OnErr}
+use Rattle.std.proofs.Common.{◌≡◌, ℕ, true, false, Option, Some, None, sym, ◌∙◌, ap, subst}
+use Rattle.std.specs.Prelude.{Result, Ok, Err, IfOk}
 use Rattle.js_base.specs.declared.message.Message.{Message}
 use Rattle.js_link.specs.LinkView.{LinkView}
 use Rattle.js_link.specs.Calls.{Takes}
@@ -11,10 +11,6 @@ use Rattle.js_link.specs.declared.wish.Met.{Met}
 use Rattle.js_link.specs.declared.wish.Met.TheVariants.{Took, Empty, Shut}
 use Rattle.js_link.specs.Meets.{Meets}
 use Rattle.js_pull.specs.declared.reader.Reader.{Reader}
-use Rattle.js_pull.specs.declared.reader.InfoRequest.{InfoRequest}
-use Rattle.js_pull.specs.declared.reader.InfoRequest.TheVariants.{NoInfoRequest, Asked, Resting}
-use Rattle.js_pull.specs.declared.reader.Row.{Row}
-use Rattle.js_pull.specs.declared.reader.Row.TheVariants.{Begin, Ask, Threshold, Arm, Inquire, FailInfoRequest, CheckInfoRequest, Answered, CheckExpiry, CheckArrival, CheckSilence}
 use Rattle.js_pull.specs.declared.rows.Due.{Due}
 use Rattle.js_pull.specs.declared.rows.Due.TheVariants as due_of
 use Rattle.js_pull.specs.Reader as rows

@@ -7,7 +7,6 @@ use Rattle.js_base.specs.Clock.{is_any_due}
 use Rattle.js_base.specs.declared.clock.Timer.{Timer}
 use Rattle.js_base.specs.declared.message.State.{State}
 use Rattle.js_base.specs.declared.message.State.TheVariants.{Pending, Connected, Disconnected}
-use Rattle.js_json.specs.declared.consumer.info.Info.{Info}
 use Rattle.js_link.specs.RowInput.{RowInput}
 use Rattle.js_link.specs.Wish.{row_input, message_of}
 use Rattle.js_link.specs.declared.wish.Wish.{Wish}
@@ -23,6 +22,8 @@ use Rattle.js_pull.specs.declared.reader.InfoRequest.TheVariants.{NoInfoRequest,
 use Rattle.js_pull.specs.declared.reader.Reason.{Reason}
 use Rattle.js_pull.specs.declared.reader.Row.{Row}
 use Rattle.js_pull.specs.declared.reader.Row.TheVariants.{Begin, Ask, Threshold, Arm, Inquire, FailInfoRequest, CheckInfoRequest, Answered, CheckExpiry, CheckArrival, CheckSilence}
+use Rattle.js_pull.specs.declared.replies.InfoReply.{InfoReply}
+use Rattle.js_pull.specs.declared.replies.InfoReply.TheVariants as reply
 use Rattle.js_pull.proofs.Cases.{if_each}
 
 -- ---- what is asked is sent
@@ -47,9 +48,10 @@ arrival_silent : (p : RowInput) (arrival : Option Message) (r : Reader) → Sile
 arrival_silent p None r = refl
 arrival_silent p (Some message) r = hear_silent message (pull_kind message) (rows.with_pin message (rows.with_silence p.now r))
 
-answered_silent : (failures : ℕ) (info : Option Info) (r : Reader) → Silent (rows.answered failures info r)
-answered_silent failures None r = refl
-answered_silent failures (Some info) r = refl
+answered_silent : (failures : ℕ) (says : InfoReply) (r : Reader) → Silent (rows.answered failures says r)
+answered_silent failures (reply.Info info) r = refl
+answered_silent failures (reply.Error code) r = if_each Silent (r.source.resilience.recreates_when_gone && rows.is_gone code) _ _ (λ _. refl) (λ _. refl)
+answered_silent failures reply.Nothing r = refl
 
 asked_silent : (p : RowInput) (timeout : Option Timer) (failures : ℕ) (reply : Option (Option Message)) (r : Reader) → Silent (rows.check_asked p timeout failures reply r)
 asked_silent p timeout failures None r = refl
@@ -78,7 +80,7 @@ row_sends p answer arrival Arm r = refl
 row_sends p answer arrival (Inquire failures) r = both (λ (passed : rows.Passed). passed.sent) p.up _ _ _ _ refl refl
 row_sends p answer arrival (FailInfoRequest failures) r = if_each Silent (nat_lt (failures + 1) 6) _ _ (λ _. refl) (λ _. refl)
 row_sends p answer arrival CheckInfoRequest r = inquiry_sends p answer r.inquiry r
-row_sends p answer arrival (Answered reply failures) r = answered_silent failures (rows.info_of_reply reply) r
+row_sends p answer arrival (Answered message failures) r = answered_silent failures (rows.info_reply message) r
 row_sends p answer arrival CheckExpiry r = refl
 row_sends p answer arrival CheckArrival r = arrival_silent p arrival r
 row_sends p answer arrival CheckSilence r = if_each Silent (is_any_due r.heartbeat_timer p.now) _ _ (λ _. refl) (λ _. refl)

@@ -1,5 +1,6 @@
 pub mod Kind
 pub mod Limits
+pub mod Resilience
 pub mod Reader
 pub mod Passes
 pub mod Rows

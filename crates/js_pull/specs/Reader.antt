@@ -8,6 +8,7 @@ use Rattle.js_base.specs.declared.clock.Timer.{Timer}
 use Rattle.js_base.specs.declared.message.State.{State}
 use Rattle.js_base.specs.declared.message.State.TheVariants.{Pending, Connected, Disconnected}
 use Rattle.js_json.specs.declared.consumer.info.Info.{Info}
+use Rattle.js_codes.specs.declared.error_code.ErrorCode.{ErrorCode}
 use Rattle.js_json.specs.declared.response.Response.{Response}
 use Rattle.js_json.specs.declared.response.Response.TheVariants as response
 use Rattle.js_json.specs.Response.{response_of}
@@ -39,6 +40,8 @@ use Rattle.js_pull.specs.declared.reader.Row.TheVariants.{Begin, Ask, Threshold,
 use Rattle.js_pull.specs.declared.reader.ReaderOutput.{ReaderOutput}
 use Rattle.js_base.specs.ApiSubject.{under, consumer_api_subject}
 use Rattle.js_pull.specs.declared.reader.ReaderOutput.TheVariants.{Nothing, Hands, Tells}
+use Rattle.js_pull.specs.declared.replies.InfoReply.{InfoReply}
+use Rattle.js_pull.specs.declared.replies.InfoReply.TheVariants as says
 
 -- a reader that has asked for nothing yet
 abbrev pub new_reader : PullSource → Reader
@@ -74,6 +77,10 @@ silent_row reader rows = record { reader = reader; sent = []; told = Nothing; ne
 -- the user is told of an error
 abbrev pub tell : MessagesErrorKind → Reader → List Row → Passed
 tell kind reader rows = record { reader = reader; sent = []; told = Tells kind; next = rows }
+
+-- after an error that ends it, no row follows
+abbrev pub end_with : MessagesErrorKind → Reader → Passed
+end_with kind r = tell kind (record r { ended = true }) []
 
 -- the last number that a counter holds
 abbrev pub u64_max : ℕ
@@ -214,25 +221,49 @@ abbrev pub is_unheard : Option StatusCode → Bool
 is_unheard None = false
 is_unheard (Some status) = status.0 == 503
 
--- an answer that holds an info, and not an error
-abbrev pub info_in : Result (Response Info) ReadError → Option Info
-info_in (Ok (response.Ok info)) = Some info
-info_in (Ok (response.Err error)) = None
-info_in (Err error) = None
+-- an answer that reads as an info, or as an error of the API
+abbrev pub read_reply : Result (Response Info) ReadError → InfoReply
+read_reply (Ok (response.Ok info)) = says.Info info
+read_reply (Ok (response.Err error)) = says.Error error.err_code
+read_reply (Err error) = says.Nothing
 
--- a payload that reads as an info
-abbrev pub response_info : List ℕ → Option Info
-response_info payload = info_in (response_of (float_free info_fields) payload)
+-- what a payload says
+abbrev pub payload_reply : List ℕ → InfoReply
+payload_reply payload = read_reply (response_of (float_free info_fields) payload)
+
+-- what a message says that is not of status 503
+abbrev pub info_reply : Option Message → InfoReply
+info_reply None = says.Nothing
+info_reply (Some message) = if is_unheard message.status then says.Nothing else payload_reply message.payload
+
+-- the info that an answer holds
+abbrev pub info_in : InfoReply → Option Info
+info_in (says.Info info) = Some info
+info_in (says.Error code) = None
+info_in says.Nothing = None
 
 -- a message that is not of status 503, and reads as an info
 abbrev pub info_of_reply : Option Message → Option Info
-info_of_reply None = None
-info_of_reply (Some message) = if is_unheard message.status then None else response_info message.payload
+info_of_reply message = info_in (info_reply message)
+
+-- the stream is not found
+abbrev pub stream_not_found : ℕ
+stream_not_found = 10059
+
+-- the error that the API sends where the consumer is not found, or its stream
+abbrev pub is_gone : ErrorCode → Bool
+is_gone code = code.0 == 10014 || code.0 == stream_not_found
+
+-- an error: that the consumer is gone ends the reader by the option; else the try has failed
+abbrev pub refused : ℕ → Bool → Reader → Passed
+refused failures gone r =
+    if r.source.resilience.recreates_when_gone && gone then end_with error.ConsumerDeleted r else silent_row r (FailInfoRequest failures ∷ [])
 
 -- a good answer brings a request, with reset where no pull request waits
-abbrev pub answered : ℕ → Option Info → Reader → Passed
-answered failures None r = silent_row r (FailInfoRequest failures ∷ [])
-answered failures (Some info) r = silent_row (record r { inquiry = NoInfoRequest }) (Ask (Informed (info.num_waiting == 0)) ∷ [])
+abbrev pub answered : ℕ → InfoReply → Reader → Passed
+answered failures (says.Info info) r = silent_row (record r { inquiry = NoInfoRequest }) (Ask (Informed (info.num_waiting == 0)) ∷ [])
+answered failures (says.Error code) r = refused failures (is_gone code) r
+answered failures says.Nothing r = silent_row r (FailInfoRequest failures ∷ [])
 
 -- the reply to a request, if this answers it
 abbrev pub reply_to : ℕ → Option Answer → Option (Option Message)
@@ -255,10 +286,6 @@ check_inquiry p answer (Resting wait failures) r = silent_row r (if is_due wait 
 -- pending falls, not below 0
 abbrev pub lowered : ℕ → ℕ → Reader → Reader
 lowered messages bytes r = record r { pending = r.pending - messages; pending_bytes = r.pending_bytes - bytes }
-
--- after an error that ends it, no row follows
-abbrev pub end_with : MessagesErrorKind → Reader → Passed
-end_with kind r = tell kind (record r { ended = true }) []
 
 -- what an arrival of a kind does
 abbrev pub hear : Message → Kind → Reader → Passed
@@ -297,9 +324,14 @@ abbrev pub check_arrival : RowInput → Option Message → Reader → Passed
 check_arrival p None r = silent_row r (CheckSilence ∷ [])
 check_arrival p (Some message) r = hear message (pull_kind message) (with_pin message (with_silence p.now r))
 
+-- by the option an info is asked for after a missing heartbeat, unless one is open
+abbrev pub silence_inquiry : Reader → List Row
+silence_inquiry r = if r.source.resilience.asks_at_first_heartbeat && not (is_asking r.inquiry) then Inquire 0 ∷ [] else []
+
 -- a heartbeat that is missing is told, and armed anew
 abbrev pub check_silence : RowInput → Reader → Passed
-check_silence p r = if is_any_due r.heartbeat_timer p.now then tell error.MissingHeartbeat (with_silence p.now r) [] else silent_row r []
+check_silence p r =
+    if is_any_due r.heartbeat_timer p.now then tell error.MissingHeartbeat (with_silence p.now r) (silence_inquiry r) else silent_row r []
 
 -- ---- an event
 
@@ -331,7 +363,7 @@ row p answer arrival Arm r = silent_row (with_silence p.now r) []
 row p answer arrival (Inquire failures) r = inquire p failures r
 row p answer arrival (FailInfoRequest failures) r = fail_inquiry p failures r
 row p answer arrival CheckInfoRequest r = check_inquiry p answer r.inquiry r
-row p answer arrival (Answered reply failures) r = answered failures (info_of_reply reply) r
+row p answer arrival (Answered message failures) r = answered failures (info_reply message) r
 row p answer arrival CheckExpiry r = silent_row r (if is_any_due r.expiry p.now then Ask Expired ∷ [] else [])
 row p answer arrival CheckArrival r = check_arrival p arrival r
 row p answer arrival CheckSilence r = check_silence p r

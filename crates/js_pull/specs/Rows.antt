@@ -4,18 +4,19 @@ use Rattle.js_base.specs.Clock.{is_due, is_any_due}
 use Rattle.js_base.specs.declared.message.Message.{Message}
 use Rattle.js_base.specs.declared.message.StatusCode.{StatusCode}
 use Rattle.js_base.specs.Headers.{last_value, all_headers}
-use Rattle.js_json.specs.declared.consumer.info.Info.{Info}
 use Rattle.js_link.specs.RowInput.{RowInput}
 use Rattle.js_link.specs.Wish.{row_input, message_of, reply_met}
 use Rattle.js_link.specs.declared.wish.Met.{Met}
 use Rattle.js_pull.specs.declared.reader.Reader.{Reader}
-use Rattle.js_pull.specs.declared.reader.Reason.{Reason}
-use Rattle.js_pull.specs.declared.reader.Reason.TheVariants.{Informed}
+use Rattle.js_pull.specs.declared.replies.Finding.{Finding}
+use Rattle.js_pull.specs.declared.replies.Finding.TheVariants as finds
+use Rattle.js_pull.specs.declared.replies.InfoReply.{InfoReply}
+use Rattle.js_pull.specs.declared.replies.InfoReply.TheVariants as says
 use Rattle.js_pull.specs.declared.reader.Row.{Row}
 use Rattle.js_pull.specs.declared.reader.Row.TheVariants as row
 use Rattle.js_pull.specs.declared.reader.ReaderOutput.{ReaderOutput}
 use Rattle.js_pull.specs.declared.reader.ReaderOutput.TheVariants as tells
-use Rattle.js_pull.specs.Reader.{wish, answer_of, info_of_reply, pin_header}
+use Rattle.js_pull.specs.Reader.{wish, answer_of, info_reply, is_gone, pin_header}
 use Rattle.js_pull.specs.Reader as rows
 use Rattle.js_pull.specs.Passes.{publishing}
 use Rattle.js_pull.specs.declared.reader.InfoRequest.{InfoRequest}
@@ -121,15 +122,16 @@ IsInquired answer _ answered = ⊤
 
 -- ---- what a row needs beside what it met
 
--- why messages are asked for after an answer, where it is a good one
-abbrev pub informed_by : Option Info → Option Reason
-informed_by None = None
-informed_by (Some info) = Some (Informed (info.num_waiting == 0))
+-- what a row learns from an answer: whether requests wait at the consumer, or that it is gone
+abbrev pub finding_of : InfoReply → Finding
+finding_of (says.Info info) = finds.Found (info.num_waiting == 0)
+finding_of (says.Error code) = if is_gone code then finds.Gone else finds.Nothing
+finding_of says.Nothing = finds.Nothing
 
 -- a reply was read by the row that reads one
-abbrev pub IsInformed : Row → Option Reason → Type 0
-IsInformed (row.Answered reply failures) reason = reason ≡ informed_by (info_of_reply reply)
-IsInformed row reason = ⊤
+abbrev pub IsInformed : Row → Finding → Type 0
+IsInformed (row.Answered message failures) finding = finding ≡ finding_of (info_reply message)
+IsInformed row finding = ⊤
 
 -- the pin that a message without a status, or of status 200, names
 abbrev pub pin_named : Message → Option StatusCode → Option (List ℕ)

@@ -31,6 +31,7 @@ use Rattle.js_pull.specs.declared.stream.RowOutcome.TheVariants as outcome
 use Rattle.js_pull.specs.Passes.{publishing}
 use Rattle.js_pull.specs.Reader.{wish, begin_row, new_reader, opening}
 use Rattle.js_pull.specs.Poll.{Position, PollAnswer, HandsOut, Fails, Waits, Ends, Lacks, IsOpen, change_met, closed_at, later_rows, text_of}
+use Rattle.js_pull.specs.Resilience.{none}
 use Rattle.js_pull.specs.Rows.{met_row, row_of, rows_of, IsInformed, pin_brought}
 use Rattle.js_pull.specs.declared.rows.Due.{Due}
 use Rattle.js_pull.specs.declared.rows.Due.TheVariants as due_of
@@ -163,7 +164,7 @@ poll_answer next.OutOfMemory = Lacks
 -- a stream that reads this inbox
 abbrev pub opened_at : List ℕ → List ℕ → List ℕ → Option ℕ → BatchConfig → Bool → ℕ → List ℕ → Position
 opened_at api stream name info_timeout config pinned inbox subject = record {
-  reader = new_reader (record { api = api; stream = stream; name = name; inbox = inbox; subject = subject; info_timeout = info_timeout; config = config; pinned = pinned });
+  reader = new_reader (record { api = api; stream = stream; name = name; inbox = inbox; subject = subject; info_timeout = info_timeout; config = config; pinned = pinned; resilience = none });
   todo = opening;
   connection = Connected;
 }

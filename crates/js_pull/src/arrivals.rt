@@ -8,7 +8,7 @@ ghost use Rattle.js_pull.specs.declared.rows.Due.TheVariants as due_of;
 ghost use Rattle.js_pull.specs.HeldMessage.{seen};
 ghost use Rattle.js_pull.specs.Stream.{IsMeeting};
 
-use crate::{Due, Reader, Spare, informed_of};
+use crate::{Due, Finding, Reader, Spare, informed_of};
 use js_base::{Message, OutOfMemory, replace_with};
 use js_link::{InboxId, Link, Met, Taken, ask, take};
 use std::alloc::Global;
@@ -43,7 +43,7 @@ fn take_first<L: Link>(
         Ok(pin) => Ok(Meeting {
             met,
             spare: Spare {
-                informed: None,
+                informed: Finding::Nothing,
                 pin,
             },
         }),
@@ -79,7 +79,7 @@ fn take_held<L: Link>(
                 Ok(Meeting {
                     met: Met::Shut,
                     spare: Spare {
-                        informed: None,
+                        informed: Finding::Nothing,
                         pin: None,
                     },
                 })
@@ -87,7 +87,7 @@ fn take_held<L: Link>(
             Taken::Empty => Ok(Meeting {
                 met,
                 spare: Spare {
-                    informed: None,
+                    informed: Finding::Nothing,
                     pin,
                 },
             }),
@@ -96,7 +96,7 @@ fn take_held<L: Link>(
                 Ok(Meeting {
                     met,
                     spare: Spare {
-                        informed: None,
+                        informed: Finding::Nothing,
                         pin,
                     },
                 })

@@ -22,18 +22,20 @@ mod reader;
 mod remaining_rows;
 mod replies;
 mod requests;
+mod resilience;
 mod rows;
 mod stream;
 mod timers;
 
 pub use kind::{HeaderNumber, Kind, header_number, pull_kind};
 pub use limits::{clamp_batch, clamp_expires, clamp_heartbeat, ordered_batch_config};
-pub use needs::{informed_of, reason_of};
+pub use needs::{finding_of, informed_of};
 pub use reader::{
     InfoRequest, MessagesErrorKind, PullSource, Reader, ReaderOutput, Reason, Row, armed_silence,
     is_any_due, is_asking, retry_wait, timeout_from,
 };
-pub use replies::info_of_reply;
+pub use replies::{Finding, InfoReply, info_of_reply, info_reply};
+pub use resilience::Resilience;
 pub use rows::{Due, DueRows, Notice, PassedRow, Spare, check_inquiry};
 pub use stream::{Advance, Consumer, MessagesError, Stream, description_of, same_state};
 pub use timers::wakes_at;

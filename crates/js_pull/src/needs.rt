@@ -1,60 +1,79 @@
 //! What a row needs before it is passed: the texts of what it wishes, what its reply says, and the
 //! pin that an arrival brings.
-ghost use Rattle.std.specs.Prelude.{◌≡◌, IfOk, Option};
+ghost use Rattle.std.specs.Prelude.{◌≡◌, ◌==◌, IfOk, Option};
 ghost use Rattle.std.specs.Option.{option_copied};
 ghost use Rattle.js_base.specs.declared.message.Message.{Message as SpecMessage};
 ghost use Rattle.js_link.specs.Wish.{message_of};
 ghost use Rattle.js_pull.specs.Reader as rows;
 ghost use Rattle.js_pull.specs.declared.reader.Reason.TheVariants.{Low};
 ghost use Rattle.js_pull.specs.declared.reader.Row.TheVariants as read;
-ghost use Rattle.js_pull.specs.Rows.{IsInformed, informed_by, pin_brought, row_of};
+ghost use Rattle.js_pull.specs.Rows.{IsInformed, finding_of as finding_in, pin_brought, row_of};
+ghost use Rattle.js_pull.specs.declared.replies.Finding.TheVariants as finds;
 
-use crate::reader::{InfoRequest, Reader, Reason};
-use crate::replies::{brought_pin, info_of_reply};
+use crate::reader::{InfoRequest, Reader};
+use crate::replies::{Finding, InfoReply, brought_pin, info_reply};
 use crate::rows::Due;
 use bytes::Bytes;
-use js_base::{Message, OutOfMemory, Text, TryClone};
+use js_base::{Boxed, Message, OutOfMemory, Text, TryClone};
+use js_codes::errors::ErrorCode;
+use js_json::consumer::Info;
 use js_link::{Met, Wish};
 use std::alloc::Global;
 
-/// Returns what a row learns from the reply that it reads: the reason to ask for messages, if the
-/// reply is a good answer to an info request. Other rows learn nothing. Fails with `OutOfMemory` if
-/// memory runs out.
-pub fn informed_of(
-    alloc: Global,
-    due: Due,
-    reply: &Option<Message>,
-) -> Result<Option<Reason>, OutOfMemory>
-    ensures { IfOk result (λ reason. IsInformed (row_of reply.now due) reason) }
+/// Returns what a row learns from the reply that it reads, if it reads the reply to an info request.
+/// Other rows learn nothing. Fails with `OutOfMemory` if memory runs out.
+pub fn informed_of(alloc: Global, due: Due, reply: &Option<Message>) -> Result<Finding, OutOfMemory>
+    ensures { IfOk result (λ finding. IsInformed (row_of reply.now due) finding) }
 {
     match due {
-        Due::Answered { .. } => reason_of(alloc, reply.as_ref()),
-        Due::Ask { .. } => Ok(None),
-        Due::Threshold => Ok(None),
-        Due::Arm => Ok(None),
-        Due::Inquire { .. } => Ok(None),
-        Due::FailInfoRequest { .. } => Ok(None),
-        Due::CheckInfoRequest => Ok(None),
-        Due::CheckExpiry => Ok(None),
-        Due::CheckArrival => Ok(None),
-        Due::CheckSilence => Ok(None),
+        Due::Answered { .. } => finding_of(alloc, reply.as_ref()),
+        Due::Ask { .. } => Ok(Finding::Nothing),
+        Due::Threshold => Ok(Finding::Nothing),
+        Due::Arm => Ok(Finding::Nothing),
+        Due::Inquire { .. } => Ok(Finding::Nothing),
+        Due::FailInfoRequest { .. } => Ok(Finding::Nothing),
+        Due::CheckInfoRequest => Ok(Finding::Nothing),
+        Due::CheckExpiry => Ok(Finding::Nothing),
+        Due::CheckArrival => Ok(Finding::Nothing),
+        Due::CheckSilence => Ok(Finding::Nothing),
     }
 }
 
-/// Returns the reason to ask for messages after this answer to an info request, or `None` if the
-/// answer holds no info. It is a reset if no request waits at the server. Fails with `OutOfMemory`
-/// if memory runs out.
-pub fn reason_of(alloc: Global, reply: Option<&Message>) -> Result<Option<Reason>, OutOfMemory>
-    ensures { IfOk result (λ reason. reason ≡ informed_by (rows.info_of_reply (option_copied reply.entry))) }
+// What an info says, which is let go.
+fn found(info: Boxed<Info>) -> Finding
+    ensures { result ≡ finds.Found (info.num_waiting == 0) }
 {
-    match info_of_reply(alloc, reply) {
-        Ok(None) => Ok(None),
-        Ok(Some(info)) => {
-            let reset = info.num_waiting == 0;
-            drop(info);
-            Ok(Some(Reason::Informed { reset }))
-        }
-        Err(OutOfMemory) => Err(OutOfMemory),
+    let reset = info.get().num_waiting == 0;
+    drop(info);
+    Finding::Found { reset }
+}
+
+// The error that the API sends where the consumer is not found, or its stream.
+fn is_gone(code: ErrorCode) -> bool
+    ensures { result ≡ rows.is_gone code }
+{
+    code == ErrorCode::CONSUMER_NOT_FOUND || code == ErrorCode::STREAM_NOT_FOUND
+}
+
+fn refused(code: ErrorCode) -> Finding
+    ensures { result ≡ finding_in (InfoReply.Error code) }
+{
+    if is_gone(code) {
+        Finding::Gone
+    } else {
+        Finding::Nothing
+    }
+}
+
+/// Returns what a reader learns from an answer to an info request. Fails with `OutOfMemory` if
+/// memory runs out.
+pub fn finding_of(alloc: Global, reply: Option<&Message>) -> Result<Finding, OutOfMemory>
+    ensures { IfOk result (λ finding. finding ≡ finding_in (rows.info_reply (option_copied reply.entry))) }
+{
+    match info_reply(alloc, reply)? {
+        InfoReply::Info(info) => Ok(found(info)),
+        InfoReply::Error(code) => Ok(refused(code)),
+        InfoReply::Nothing => Ok(Finding::Nothing),
     }
 }
 

@@ -5,6 +5,7 @@ ghost use Rattle.js_pull.specs.Passes.{asks_if};
 ghost use Rattle.js_pull.specs.Reader.{new_reader};
 ghost use Rattle.js_pull.specs.Reader as rows;
 
+use crate::resilience::Resilience;
 use js_base::{Message, Moment, Nanos, State, Subject, Text, Timer};
 use js_json::pull::BatchConfig;
 
@@ -45,6 +46,8 @@ pub struct PullSource {
     pub config: BatchConfig,
     /// Whether one of several clients is pinned.
     pub pinned: bool,
+    /// What the reader does so that it never hangs.
+    pub resilience: Resilience,
 }
 
 /// The request for the consumer's info that follows a reconnection.

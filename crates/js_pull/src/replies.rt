@@ -1,4 +1,5 @@
-//! What a reader learns from the messages that it is sent.
+//! What a reader learns from the messages that it is sent: what an answer says, and which client is
+//! pinned.
 ghost use Rattle.std.specs.Prelude.{◌≡◌, true, Some, IfOk, OnErr, OnOk, option_map};
 ghost use Rattle.std.specs.Option.{option_copied};
 ghost use Rattle.js_base.specs.Headers.{all_headers, last_value};
@@ -6,11 +7,34 @@ ghost use Rattle.js_pull.specs.Reader as rows;
 ghost use Rattle.js_pull.specs.Rows.{pin_brought};
 
 use crate::reader::Reader;
-use js_base::{HeaderMap, Message, OutOfMemory, StatusCode, Text};
+use js_base::{Boxed, HeaderMap, Message, OutOfMemory, StatusCode, Text};
+use js_codes::errors::{Error, ErrorCode};
 use js_json::consumer::Info;
 use js_json::{Response, response_as};
 use js_json_members::ReadError;
 use std::alloc::Global;
+
+/// What the answer says to a request for a consumer's info, or to one that creates a consumer.
+#[derive(Drop)]
+pub enum InfoReply {
+    /// It holds the consumer's info.
+    Info(Boxed<Info>),
+    /// It holds an error of the API, with this code.
+    Error(ErrorCode),
+    /// The replier is gone, the status is 503, or the payload reads as neither of both.
+    Nothing,
+}
+
+/// What a reader learns from the answer to an info request.
+#[derive(Clone, Copy)]
+pub enum Finding {
+    /// Nothing: the try has failed.
+    Nothing,
+    /// The consumer is there. With `reset`, no pull request waits at it.
+    Found { reset: bool },
+    /// The consumer is gone, or its stream.
+    Gone,
+}
 
 fn is_unheard(status: Option<StatusCode>) -> bool
     ensures { result ≡ rows.is_unheard status }
@@ -21,16 +45,28 @@ fn is_unheard(status: Option<StatusCode>) -> bool
     }
 }
 
-// The info that a payload holds, where it reads as one and not as an error.
-fn response_info(alloc: Global, payload: &[u8]) -> Result<Option<Info>, OutOfMemory>
-    ensures { IfOk result (λ info. info ≡ rows.response_info payload.now) }
+fn boxed_info(alloc: Global, info: Info) -> Result<InfoReply, OutOfMemory>
+    ensures { IfOk result (λ reply. reply ≡ InfoReply.Info info) }
+{
+    Ok(InfoReply::Info(Boxed::new(alloc, info)?))
+}
+
+// The code of an error that is let go.
+fn error_reply(error: Error) -> InfoReply
+    ensures { result ≡ InfoReply.Error error.err_code }
+{
+    let code = error.err_code;
+    drop(error);
+    InfoReply::Error(code)
+}
+
+// What a payload says.
+fn payload_reply(alloc: Global, payload: &[u8]) -> Result<InfoReply, OutOfMemory>
+    ensures { IfOk result (λ reply. reply ≡ rows.payload_reply payload.now) }
 {
     match response_as::<Info>(alloc, payload) {
-        Ok(Response::Ok(info)) => Ok(Some(info)),
-        Ok(Response::Err { error }) => {
-            drop(error);
-            Ok(None)
-        }
+        Ok(Response::Ok(info)) => boxed_info(alloc, info),
+        Ok(Response::Err { error }) => Ok(error_reply(error)),
         Err(ReadError::OutOfMemory) => Err(OutOfMemory),
         Err(
             ReadError::Missing { .. }
@@ -38,7 +74,22 @@ fn response_info(alloc: Global, payload: &[u8]) -> Result<Option<Info>, OutOfMem
             | ReadError::OutOfRange { .. }
             | ReadError::Float
             | ReadError::NotJson,
-        ) => Ok(None),
+        ) => Ok(InfoReply::Nothing),
+    }
+}
+
+/// Returns what an answer says. Fails with `OutOfMemory` if memory runs out.
+pub fn info_reply(alloc: Global, reply: Option<&Message>) -> Result<InfoReply, OutOfMemory>
+    ensures { IfOk result (λ says. says ≡ rows.info_reply (option_copied reply.entry)) }
+{
+    match reply {
+        None => Ok(InfoReply::Nothing),
+        Some(message) => {
+            if is_unheard(message.status) {
+                return Ok(InfoReply::Nothing);
+            }
+            payload_reply(alloc, message.payload.as_slice())
+        }
     }
 }
 
@@ -48,14 +99,10 @@ fn response_info(alloc: Global, payload: &[u8]) -> Result<Option<Info>, OutOfMem
 pub fn info_of_reply(alloc: Global, reply: Option<&Message>) -> Result<Option<Info>, OutOfMemory>
     ensures { IfOk result (λ info. info ≡ rows.info_of_reply (option_copied reply.entry)) }
 {
-    match reply {
-        None => Ok(None),
-        Some(message) => {
-            if is_unheard(message.status) {
-                return Ok(None);
-            }
-            response_info(alloc, message.payload.as_slice())
-        }
+    match info_reply(alloc, reply)? {
+        InfoReply::Info(info) => Ok(Some(info.into_inner())),
+        InfoReply::Error(_) => Ok(None),
+        InfoReply::Nothing => Ok(None),
     }
 }
 

@@ -15,12 +15,13 @@ ghost use Rattle.js_pull.specs.Kind.{pull_kind as kind_of};
 ghost use Rattle.js_pull.specs.Passes.{publishing};
 ghost use Rattle.js_pull.specs.Reader as rows;
 ghost use Rattle.js_pull.specs.declared.reader.Row.TheVariants as read;
-ghost use Rattle.js_pull.specs.Rows.{IsInformed, ReadsTo, Steps, StepsTo, informed_by, inquiry_step, passing_at, pin_brought, requesting, row_of, rows_with};
+ghost use Rattle.js_pull.specs.Rows.{IsInformed, ReadsTo, Steps, StepsTo, finding_of, inquiry_step, passing_at, pin_brought, requesting, row_list, row_of, rows_with};
 
 use crate::kind::{Kind, pull_kind};
 use crate::reader::{
     InfoRequest, MessagesErrorKind, Reader, Reason, is_any_due, is_asking, retry_wait, timeout_from,
 };
+use crate::replies::Finding;
 use js_base::{Message, Moment, State, Text, Timer};
 use js_link::Met;
 
@@ -82,7 +83,7 @@ pub struct PassedRow {
 #[derive(Drop)]
 pub struct Spare {
     /// What the row learns from the reply that it reads.
-    pub informed: Option<Reason>,
+    pub informed: Finding,
     /// The pin that an arrival brings.
     pub pin: Option<Text>,
 }
@@ -213,18 +214,32 @@ impl Reader {
         silent_row(None)
     }
 
-    /// Handles an answer to an info request that was read: a pull request follows, or, without a
-    /// reason, the try has failed.
-    pub fn pass_answered(&mut self, failures: u64, informed: Option<Reason>) -> PassedRow
-        ensures { (reply : Option SpecMessage) → (met : LinkMet) → informed ≡ informed_by (rows.info_of_reply reply)
-            → StepsTo (rows.answered failures (rows.info_of_reply reply) self.old) met result self.new }
+    // The consumer is gone: by the option that ends the reader, else the try has failed.
+    fn pass_gone(&mut self, failures: u64) -> PassedRow
+        ensures { (met : LinkMet) → StepsTo (rows.refused failures true self.old) met result self.new }
+    {
+        if self.source.resilience.recreates_when_gone {
+            return self.end_with(MessagesErrorKind::ConsumerDeleted);
+        }
+        silent_row(Some(Due::FailInfoRequest { failures }))
+    }
+
+    /// Handles an answer to an info request that was read: a pull request follows if the consumer is
+    /// there. If the consumer is gone, the reader ends by the option `recreates_when_gone`.
+    /// Otherwise the try has failed.
+    pub fn pass_answered(&mut self, failures: u64, informed: Finding) -> PassedRow
+        ensures { (reply : Option SpecMessage) → (met : LinkMet) → informed ≡ finding_of (rows.info_reply reply)
+            → StepsTo (rows.answered failures (rows.info_reply reply) self.old) met result self.new }
     {
         match informed {
-            None => silent_row(Some(Due::FailInfoRequest { failures })),
-            Some(reason) => {
+            Finding::Nothing => silent_row(Some(Due::FailInfoRequest { failures })),
+            Finding::Found { reset } => {
                 self.inquiry = InfoRequest::NoInfoRequest;
-                silent_row(Some(Due::Ask { reason }))
+                silent_row(Some(Due::Ask {
+                    reason: Reason::Informed { reset },
+                }))
             }
+            Finding::Gone => self.pass_gone(failures),
         }
     }
 
@@ -243,13 +258,25 @@ impl Reader {
         }
     }
 
-    /// Reports a missing heartbeat, and arms its timer again.
+    // By the option an info is requested after a missing heartbeat, unless a request is open.
+    fn silence_inquiry(&self) -> Option<Due>
+        ensures { (reply : Option SpecMessage) → row_list reply result ≡ rows.silence_inquiry self.now }
+    {
+        if self.source.resilience.asks_at_first_heartbeat && !is_asking(&self.inquiry) {
+            Some(Due::Inquire { failures: 0 })
+        } else {
+            None
+        }
+    }
+
+    /// Reports a missing heartbeat, and arms its timer again. By the option
+    /// `asks_at_first_heartbeat` a request for the consumer's info follows, unless one is open.
     pub fn pass_check_silence(&mut self, now: Moment) -> PassedRow
         ensures { (met : LinkMet) → StepsTo (rows.check_silence (publishing now false) self.old) met result self.new }
     {
         if is_any_due(&self.heartbeat_timer, now) {
             self.arm_silence(now);
-            tells(MessagesErrorKind::MissingHeartbeat, None)
+            tells(MessagesErrorKind::MissingHeartbeat, self.silence_inquiry())
         } else {
             silent_row(None)
         }

@@ -15,7 +15,7 @@ ghost use Rattle.js_pull.specs.Timers.{SleepsIfLeftAlone, timer_due};
 use crate::arrivals::{Meeting, meet};
 use crate::remaining_rows::RemainingRows;
 use crate::timers::wakes_at;
-use crate::{Due, DueRows, MessagesErrorKind, Notice, PullSource, Reader};
+use crate::{Due, DueRows, MessagesErrorKind, Notice, PullSource, Reader, Resilience};
 use js_base::{Error, Message, Moment, Nanos, Next, State, Text};
 use js_json::pull::BatchConfig;
 use js_link::{InboxId, Link, LinkError, Watch};
@@ -214,6 +214,7 @@ impl Stream {
             info_timeout: consumer.info_timeout,
             config,
             pinned,
+            resilience: Resilience::none(),
         };
         let reader = Reader::new(source);
         let opened = Stream::new(reader, State::Connected);

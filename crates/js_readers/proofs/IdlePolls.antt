@@ -188,6 +188,7 @@ errors_tell error.RequestLimitExceeded = refl
 errors_tell error.PushBasedConsumer = refl
 errors_tell error.SequenceEnd = refl
 errors_tell error.ConsumerDeleted = refl
+errors_tell error.StreamNotFound = refl
 errors_tell error.NoResponders = refl
 errors_tell error.PullBasedConsumer = refl
 

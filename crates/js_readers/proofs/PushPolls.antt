@@ -11,7 +11,8 @@ use Rattle.js_link.specs.Meets.{Meets}
 use Rattle.js_link.specs.declared.wish.Wish.TheVariants.{Nothing, Reads}
 use Rattle.js_link.specs.declared.wish.Met.{Met}
 use Rattle.js_link.specs.declared.wish.Met.TheVariants.{Unasked, GoneOut, Refused, Took, Empty, Shut}
-use Rattle.js_readers.specs.PushRows.{answer_subject, answer_wish, armed, arrival_row, hear, next_row, pass, quietly, wish, Passed}
+use Rattle.js_ordered_table.specs.Arrivals.{answer_subject}
+use Rattle.js_readers.specs.PushRows.{answer_wish, armed, arrival_row, hear, next_row, pass, quietly, wish, Passed}
 use Rattle.js_readers.specs.PushMessages.{AnswersBy, IsLeftAlone, Lacks, IsPoll, Passes, PassesQuietly, PollAnswer, Sleeps, due_at}
 use Rattle.js_readers.specs.declared.push.error.MessagesErrorKind.{MessagesErrorKind}
 use Rattle.js_readers.specs.declared.push.error.MessagesErrorKind.TheVariants as error

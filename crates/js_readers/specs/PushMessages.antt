@@ -15,7 +15,8 @@ use Rattle.js_link.specs.declared.wish.Met.TheVariants.{Took, Empty, Shut}
 use Rattle.js_link.specs.declared.link.Taken.{Taken}
 use Rattle.js_link.specs.declared.link.Taken.TheVariants as taken
 use Rattle.js_message.specs.declared.message.Message.{Message}
-use Rattle.js_readers.specs.PushRows.{answer_subject, answer_wish, pass, wish}
+use Rattle.js_ordered_table.specs.Arrivals.{answer_subject}
+use Rattle.js_readers.specs.PushRows.{answer_wish, pass, wish}
 use Rattle.js_readers.specs.declared.push.error.MessagesErrorKind.{MessagesErrorKind}
 use Rattle.js_readers.specs.declared.push.error.MessagesErrorKind.TheVariants as error
 use Rattle.js_readers.specs.declared.push.messages.Messages.{Messages}

@@ -1,7 +1,6 @@
 -- The rows of a reader of a push consumer: what a row asks of the link, and what it makes of what it meets there.
 use Rattle.std.specs.Prelude.{ℕ, ◌≡◌, refl, ◌==◌, ◌*◌, ◌-◌, List, [], ◌∷◌, Option, Some, None, codes, if◌then◌else◌}
 use Rattle.js_base.specs.Clock.{second, is_any_due}
-use Rattle.js_base.specs.Headers.{last_value, all_headers}
 use Rattle.js_base.specs.declared.headers.Header.{Header}
 use Rattle.js_base.specs.declared.message.Message.{Message}
 use Rattle.js_base.specs.declared.message.StatusCode.{StatusCode}
@@ -9,6 +8,7 @@ use Rattle.js_link.specs.declared.wish.Wish.{Wish}
 use Rattle.js_link.specs.declared.wish.Wish.TheVariants.{Nothing, Publishes, Reads}
 use Rattle.js_link.specs.declared.wish.Met.{Met}
 use Rattle.js_link.specs.declared.wish.Met.TheVariants.{Took, Empty, Shut}
+use Rattle.js_ordered_table.specs.Arrivals.{answer_subject}
 use Rattle.js_pull.specs.Reader.{armed_silence}
 use Rattle.js_readers.specs.declared.push.messages.Messages.{Messages}
 use Rattle.js_readers.specs.declared.push.row.Row.{Row}
@@ -22,14 +22,6 @@ abbrev pub new_messages : ℕ → ℕ → ℕ → Messages
 new_messages inbox heartbeat timeout = record { inbox = inbox; heartbeat = heartbeat; heartbeat_timer = None; next = Arm; timeout = timeout }
 
 -- ---- what a row asks
-
--- the subject to which a message asks for an answer: its reply subject, or else the one that a stalled consumer names
-abbrev pub reply_or : Option (List ℕ) → Option (List ℕ) → Option (List ℕ)
-reply_or None stalled = stalled
-reply_or (Some reply) stalled = Some reply
-
-abbrev pub answer_subject : Message → Option (List ℕ)
-answer_subject m = reply_or m.reply (last_value (codes "Nats-Consumer-Stalled") (all_headers m.headers))
 
 -- an empty message there
 abbrev pub answer_wish : Option (List ℕ) → Wish

@@ -11,6 +11,7 @@ mod settings;
 pub use crate::pull::{StreamError, StreamErrorKind};
 pub use breach::{Breach, RisingError};
 pub use js_ordered_stream::{Activity, Health, OrderedError, OrderedErrorKind};
+pub use js_pull::Resilience;
 pub use pull::OrderedPullCalls;
 pub use push::OrderedPushCalls;
 pub use reader::OrderedReader;

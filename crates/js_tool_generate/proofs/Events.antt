@@ -35,7 +35,7 @@ use Rattle.js_ordered_table.specs.declared.run.Output.{Output}
 use Rattle.js_ordered_table.specs.declared.run.Start.{Start}
 use Rattle.js_ordered_table.specs.declared.run.Start.TheVariants as start
 use Rattle.js_ordered_table.specs.OrderedCore.{after_yield, new_core}
-use Rattle.js_ordered_table.specs.Texts.{configured_start, consumer_name, inbox_subject, recreation_timeout, source_of}
+use Rattle.js_ordered_table.specs.Texts.{configured_start, consumer_name, inbox_subject, recreation_timeout, pull_source}
 use Rattle.js_ordered_table.specs.declared.replay_state.ReplayState.{ReplayState}
 use Rattle.js_ordered_table.specs.Consumer.{Matter}
 use Rattle.js_ordered_table.specs.Arrivals.{read_row}
@@ -82,11 +82,17 @@ pub record IsOpened (request last inboxes_opened : ℕ) (w : ReplayState) : Type
   pub num_is : c.core.consumer_sequence ≡ 0
   pub last_is : c.core.stream_sequence ≡ last
   pub missed_is : c.missed ≡ false
+  pub off_is : source.resilience.asks_at_first_heartbeat ≡ false
   pub asked_is : requests_sent ≡ request
   pub made_is : made_now ≡ inboxes_opened + 1
 
 four_nils : (o : List Output) → (((o ++ []) ++ []) ++ []) ++ [] ≡ o
 four_nils o = append-nil (((o ++ []) ++ []) ++ []) ∙ append-nil ((o ++ []) ++ []) ∙ append-nil (o ++ []) ∙ append-nil o
+
+-- a stream that was there is there, whether that would be told or not
+either_way : (b : Bool) → (if b then false else false) ≡ false
+either_way true = refl
+either_way false = refl
 
 equal : (a b : ℕ) → a ≡ b → (a == b) ≡ true
 equal a b e = (Decides-eqb a b).1 e
@@ -260,20 +266,27 @@ module _ (settings : Settings) (config : OrderedConfig) (first : Info) (starts :
           outputs = (refl, omega (arith, is));
         })
 
-    -- one on another inbox does nothing
-    pub passes_over : (depth : ℕ) (l : Requests) → (source.inbox == inbox) ≡ false → c.missed ≡ false
+    -- one on another inbox does nothing, where a missing heartbeat asks for no info
+    pub passes_over : (depth : ℕ) (l : Requests) → (source.inbox == inbox) ≡ false → c.missed ≡ false → source.resilience.asks_at_first_heartbeat ≡ false
         → Leads starts last from (λ w. (missed : Bool) × IsOn source (record c { missed = missed }) requests_sent inboxes_opened w) last from
         (pass_to replay_input now arrives (suc (suc depth)) (Read read.CheckArrival) (state_at (Pulls (reader source l)) c requests_sent inboxes_opened))
-    passes_over depth l other found =
+    passes_over depth l other found off =
         rw other (leads_alone starts last from last from (λ w. (missed : Bool) × IsOn source (record c { missed = missed }) requests_sent inboxes_opened w)
         (pass_to replay_input now arrives (suc depth) (Read read.CheckSilence) (state_at (Pulls (reader source l)) c (requests_sent + 0) (inboxes_opened + 0)))
+        (subst (λ (asks : Bool). Leads starts last from (λ w. (missed : Bool) × IsOn source (record c { missed = missed }) requests_sent inboxes_opened w) last from
+        (done now arrives depth (state_at (Pulls (reader source l)) c (requests_sent + 0) (inboxes_opened + 0))
+        (if is_any_due l.heartbeat_timer now
+        then pull.tell error.MissingHeartbeat (record (reader source l) { heartbeat_timer = pull.armed_silence now source.config.idle_heartbeat })
+        (if asks && not (pull.is_asking (reader source l).inquiry) then read.Inquire 0 ∷ [] else [])
+        else pull.silent_row (reader source l) [])))
+        (sym off)
         (if_both (λ (passed : pull.Passed). Leads starts last from (λ w. (missed : Bool) × IsOn source (record c { missed = missed }) requests_sent inboxes_opened w) last from
         (done now arrives depth (state_at (Pulls (reader source l)) c (requests_sent + 0) (inboxes_opened + 0)) passed))
         (is_any_due l.heartbeat_timer now)
         (pull.tell error.MissingHeartbeat (record (reader source l) { heartbeat_timer = pull.armed_silence now source.config.idle_heartbeat }) [])
         (pull.silent_row (reader source l) [])
         (rw found (record { state = (true, (record l { heartbeat_timer = pull.armed_silence now source.config.idle_heartbeat }, same_counts _ _ _ _ _ _ (omega arith) (omega arith))); outputs = (refl, refl) }))
-        (record { state = (c.missed, (l, same_counts _ _ _ _ _ _ (omega arith) (omega arith))); outputs = (refl, refl) })))
+        (record { state = (c.missed, (l, same_counts _ _ _ _ _ _ (omega arith) (omega arith))); outputs = (refl, refl) }))))
 
   -- ---- the whole event of an arrival
 
@@ -353,20 +366,20 @@ module _ (settings : Settings) (config : OrderedConfig) (first : Info) (starts :
 
     -- the new consumer is there, and its inbox is read
     pub creates : (request inboxes_opened : ℕ) (info : Info) (w : ReplayState) → IsRecreating Creating request last inboxes_opened w → (request ≡ answered) → starts inboxes_opened ≡ from
-        → response_of (float_free info_fields) payload ≡ Ok (response.Ok info)
+        → response_of (float_free info_fields) payload ≡ Ok (response.Ok info) → settings.resilience.asks_at_first_heartbeat ≡ false
         → Leads starts last from (IsOpened request last inboxes_opened) last from (event replay_input (record { at = now; what = what.Answer answered (Some answer) }) w)
     unfolding event
-    creates request inboxes_opened info w at same begins reads =
+    creates request inboxes_opened info w at same begins reads off =
         let here : (at.request_now == answered) ≡ true = equal at.request_now answered (at.request_is ∙ same) in
         let inbox : ℕ = at.made_now + 0 + 0 + 0 in
-        let source : PullSource = source_of replay_input at.recreation_count inbox (inbox_subject replay_input inbox) info in
+        let source : PullSource = pull_source replay_input at.recreation_count inbox (inbox_subject replay_input inbox) info in
         let c : Progress = record { core = record { stream_sequence = at.last_now; consumer_sequence = 0; recreation_count = at.recreation_count; start = at.configured }; name = at.name; missed = false; limited = at.limited; connection = at.connection } in
         let requests_sent : ℕ = at.requests_sent + 0 + 0 + 0 + 0 in
         let rest : Leads starts last from (IsOn source c requests_sent (inbox + 1)) last from
         (pass_each (pass_to replay_input now says 6) (Read read.Threshold ∷ Read read.Arm ∷ []) (state_at (Pulls (reader source new)) c requests_sent (inbox + 1))) =
         opens source c requests_sent (inbox + 1) new in
         subst (λ (w : ReplayState). Leads starts last from (IsOpened request last inboxes_opened) last from (event replay_input (record { at = now; what = what.Answer answered (Some answer) }) w)) (sym at.state)
-        (rw (here, reads) (record {
+        (rw (here, reads, either_way settings.resilience.tells_missing_stream) (record {
           state = record {
             source = source;
             c = c;
@@ -377,6 +390,7 @@ module _ (settings : Settings) (config : OrderedConfig) (first : Info) (starts :
             num_is = refl;
             last_is = at.last_is;
             missed_is = refl;
+            off_is = off;
             asked_is = let a = at.asked_is in omega arith;
             made_is = let m = at.made_is in omega arith;
           };
@@ -385,10 +399,10 @@ module _ (settings : Settings) (config : OrderedConfig) (first : Info) (starts :
 
   -- ---- the opening
 
-  pub opened : (start : ℕ) → Leads starts 0 0 (IsOn (source_of replay_input 0 0 (inbox_subject replay_input 0) first) (record { core = new_core (configured_start replay_input.setup); name = first.name; missed = false; limited = false; connection = Connected }) 0 1) 0 0 (opening replay_input start)
+  pub opened : (start : ℕ) → Leads starts 0 0 (IsOn (pull_source replay_input 0 0 (inbox_subject replay_input 0) first) (record { core = new_core (configured_start replay_input.setup); name = first.name; missed = false; limited = false; connection = Connected }) 0 1) 0 0 (opening replay_input start)
   unfolding opening
   opened start =
-      let source : PullSource = source_of replay_input 0 0 (inbox_subject replay_input 0) first in
+      let source : PullSource = pull_source replay_input 0 0 (inbox_subject replay_input 0) first in
       let c : Progress = record { core = new_core (configured_start replay_input.setup); name = first.name; missed = false; limited = false; connection = Connected } in
       leads_then starts 0 0 0 0 0 0 (IsOn source c 0 1) (IsOn source c 0 1)
       (pass_to replay_input start tick 2 (Read read.Threshold) (state_at (Pulls (reader source new)) c 0 1))

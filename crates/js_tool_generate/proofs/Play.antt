@@ -43,7 +43,7 @@ pub record IsReading (inbox number before : ℕ) (w : ReplayState) : Type 0 wher
   pub asked_is : requests_sent ≡ 2 * inbox
   pub made_is : inboxes_opened ≡ inbox + 1
 
-module _ (settings : Settings) (config : OrderedConfig) (first : Info) (starts : ℕ → ℕ) where
+module _ (settings : Settings) (config : OrderedConfig) (first : Info) (starts : ℕ → ℕ) (off : settings.resilience.asks_at_first_heartbeat ≡ false) where
   abbrev replay_input : ReplayInput
   replay_input = at.replay_input settings config first starts
 
@@ -140,7 +140,7 @@ module _ (settings : Settings) (config : OrderedConfig) (first : Info) (starts :
           made_is = let m = o.made_is in omega arith;
         })
         (at.passes_over settings config first starts now (before + number) from o.source o.c (o.requests_sent + 0) (o.made_now + 0) inbox (reply (before + (number + 1)) (number + 1)) (decimal (before + (number + 1))) gap_place 7 l
-        (not_equal o.source.inbox inbox (λ e. let i = o.inbox_is in absurd (omega arith))) o.missed_is))
+        (not_equal o.source.inbox inbox (λ e. let i = o.inbox_is in absurd (omega arith))) o.missed_is o.off_is))
         w o.on
 
     recovers : (place from : ℕ) (w : ReplayState) → IsReading inbox number before w
@@ -157,7 +157,7 @@ module _ (settings : Settings) (config : OrderedConfig) (first : Info) (starts :
         (λ w d. leads_then starts last next last next last next (IsOpened (2 * inbox + 1 + 1) last (inbox + 1)) (IsReading (inbox + 1) 0 last) _
         (λ (w : ReplayState). plays replay_input (place + 1 + 1 + 1) (delivery inbox before (number + 1) ∷ []) w)
         (at.creates settings config first starts ((place + 1 + 1) * 1_000_000) last next (2 * inbox + 2) (info_text (name_of (inbox + 1))) (2 * inbox + 1 + 1) (inbox + 1) (transcript.info (name_of (inbox + 1))) w d
-        (omega arith) starts_there (info_reads (name_of (inbox + 1)) (name_plain (inbox + 1) (omega arith)) (name_utf8 (inbox + 1) (omega arith))))
+        (omega arith) starts_there (info_reads (name_of (inbox + 1)) (name_plain (inbox + 1) (omega arith)) (name_utf8 (inbox + 1) (omega arith))) off)
         (λ w o. leads_alone starts last next last next (IsReading (inbox + 1) 0 last) _
         (late ((place + 1 + 1 + 1) * 1_000_000) next w (subst (λ (r : ℕ). IsOpened r last (inbox + 1) w) (omega arith) o)))))
 

@@ -36,7 +36,7 @@ all_follow seed count small =
     let o = at.opened settings new_ordered_pull_config (info (codes "gen")) (starts seed) 0 in
     let w : ReplayState = (opening replay_input 0).state in
     let r : IsReading 0 0 0 w = record { source = _; c = _; requests_sent = 0; inboxes_opened = 1; on = o.state; inbox_is = refl; num_is = refl; last_is = refl; asked_is = refl; made_is = refl } in
-    let played = episodes_play settings new_ordered_pull_config (info (codes "gen")) (starts seed) seed (λ inbox. refl) count 0 1 0 w (omega arith) r in (
+    let played = episodes_play settings new_ordered_pull_config (info (codes "gen")) (starts seed) refl seed (λ inbox. refl) count 0 1 0 w (omega arith) r in (
       played.0,
       follows_append (starts seed) 0 0 (opening replay_input 0).outputs _ 0 0 (before seed (0 + count)) played.0 o.outputs
           (subst (λ (outputs : List Output). Follows (starts seed) 0 0 outputs (before seed (0 + count)) played.0) (plays_outputs replay_input 1 (episodes seed 0 count) w) played.1),

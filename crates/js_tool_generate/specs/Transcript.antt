@@ -10,6 +10,7 @@ use Rattle.js_ordered_table.specs.declared.setup.OrderedSetup.TheVariants.{Pull}
 use Rattle.js_ordered_table.specs.declared.consumer.ReplayInput.{ReplayInput}
 use Rattle.js_ordered_table.specs.declared.event.Event.{Event}
 use Rattle.js_ordered_table.specs.declared.event.EventKind.{EventKind}
+use Rattle.js_pull.specs.Resilience.{none}
 use Rattle.js_tool_generate.specs.Episode.{episodes}
 
 -- ---- the setup
@@ -22,6 +23,7 @@ settings = record {
   context_timeout = None;
   request_timeout = Some 10_000_000_000;
   retries = 4_294_967_295;
+  resilience = none;
 }
 
 -- 2026-01-01T00:00:00Z

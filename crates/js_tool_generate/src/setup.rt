@@ -8,6 +8,7 @@ use js_json::consumer::Info;
 use js_json::{Response, pull, response_as};
 use js_json_members::ReadError;
 use js_ordered_table::{OrderedSetup, ReplayInput, Settings};
+use js_pull::Resilience;
 use std::alloc::Global;
 
 // All at their defaults.
@@ -24,6 +25,7 @@ fn settings(alloc: Global) -> Result<Settings, OutOfMemory>
         context_timeout: None,
         request_timeout: Some(10_000_000_000),
         retries: 4_294_967_295,
+        resilience: Resilience::none(),
     })
 }
 

@@ -21,7 +21,8 @@ use Rattle.js_ordered_table.specs.declared.event.EventKind.TheVariants as what
 use Rattle.js_tool_io.specs.Lines.{lines_of}
 use Rattle.js_tool_transcript.specs.declared.transcript.lines.Lines.TheVariants.{Extended}
 use Rattle.js_tool_transcript.specs.Message.{message_keys}
-use Rattle.js_tool_transcript.specs.ExtendedMessage.{base64_of, bytes_of, is_extended_name, members_extended, only_in, under, payload_base64, with_length, extended_fields}
+use Rattle.js_tool_transcript.specs.ExtendedMessage.{base64_of, bytes_of, message_names, only_in, payload_base64, with_length, extended_fields}
+use Rattle.js_tool_transcript.specs.ExtendedName.{is_named, members_with, under}
 use Rattle.js_tool_transcript.specs.Event.{arrival_fields, arrival, reply_fields, answer, event_line, extended_line}
 use Rattle.js_tool_transcript.specs.EventText.{message_text, what_text, event_json, event_text, is_recordable_message, is_recordable_kind, is_recordable, IsTyped, IsTypedKind}
 use Rattle.js_tool_transcript.specs.ExtendedText.{any_message_text, any_what_text, extended_json, extended_text, IsBase64, IsWritten, IsWrittenKind}
@@ -116,7 +117,7 @@ length_there true sized m found none =
 length_there false sized m found none =
     rows_left (codes "length") (rows_with (payload_row false m.payload) m) (with_size sized m.length found) ∙ length_before sized m.length found none
 
-length_read : (sized : Bool) (n : ℕ) (ms : Members) → get_member (codes "length") ms ≡ length_data sized n → under (codes "length") natural (object ms) ≡ Ok (if sized then None else Some n)
+length_read : (sized : Bool) (n : ℕ) (ms : Members) → get_member (codes "length") ms ≡ length_data sized n → under (codes "length") key.Payload natural (object ms) ≡ Ok (if sized then None else Some n)
 unfolding under natural
 length_read true n ms is = rw is refl
 length_read false n ms is = rw is refl
@@ -163,21 +164,21 @@ message_read false sized m found typed is same empty =
 
 -- ---- behind a number
 
-extended_names : (keys : List Key) (ms : Members) → names_are (λ name. is_among keys name || is_extended_name name) ms ≡ members_extended keys ms
+extended_names : (keys : List Key) (ms : Members) → names_are (λ name. is_among keys name || is_named message_names name) ms ≡ members_with keys message_names ms
 extended_names keys no_members = refl
-extended_names keys (member name d ms) = ap (λ (b : Bool). (is_among keys name || is_extended_name name) && b) (extended_names keys ms)
+extended_names keys (member name d ms) = ap (λ (b : Bool). (is_among keys name || is_named message_names name) && b) (extended_names keys ms)
 
-arrival_names : (text sized : Bool) (inbox : ℕ) (m : Message) → members_extended (key.Inbox ∷ message_keys) (rows_held (codes "inbox") inbox (rows_by text sized m)) ≡ true
+arrival_names : (text sized : Bool) (inbox : ℕ) (m : Message) → members_with (key.Inbox ∷ message_keys) message_names (rows_held (codes "inbox") inbox (rows_by text sized m)) ≡ true
 arrival_names true sized inbox m =
     let keys = key.Inbox ∷ message_keys in
     let found = member (codes "inbox") (count inbox) no_members in
     sym (extended_names keys (held (rows_by true sized m) found))
-    ∙ rows_names (λ name. is_among keys name || is_extended_name name) (rows_by true sized m) found (refl, (refl, (refl, (refl, (refl, (refl, (refl, tt))))))) refl
+    ∙ rows_names (λ name. is_among keys name || is_named message_names name) (rows_by true sized m) found (refl, (refl, (refl, (refl, (refl, (refl, (refl, tt))))))) refl
 arrival_names false sized inbox m =
     let keys = key.Inbox ∷ message_keys in
     let found = member (codes "inbox") (count inbox) no_members in
     sym (extended_names keys (held (rows_by false sized m) found))
-    ∙ rows_names (λ name. is_among keys name || is_extended_name name) (rows_by false sized m) found (refl, (refl, (refl, (refl, (refl, (refl, (refl, tt))))))) refl
+    ∙ rows_names (λ name. is_among keys name || is_named message_names name) (rows_by false sized m) found (refl, (refl, (refl, (refl, (refl, (refl, (refl, tt))))))) refl
 
 inbox_there : (text sized : Bool) (inbox : ℕ) (m : Message) → get_member (codes "inbox") (rows_held (codes "inbox") inbox (rows_by text sized m)) ≡ Some (count inbox)
 inbox_there true sized inbox m =
@@ -197,17 +198,17 @@ arrival_read text sized inbox m typed is same =
     (record { bare = record { subject = refl; reply = refl; payload = refl; status = refl; description = refl; headers = refl }; base64 = refl; length = refl }) in
     rw (arrival_names text sized inbox m, number, message) refl
 
-reply_names : (text sized : Bool) (request : ℕ) (m : Message) → members_extended (key.Request ∷ message_keys) (rows_held (codes "request") request (rows_by text sized m)) ≡ true
+reply_names : (text sized : Bool) (request : ℕ) (m : Message) → members_with (key.Request ∷ message_keys) message_names (rows_held (codes "request") request (rows_by text sized m)) ≡ true
 reply_names true sized request m =
     let keys = key.Request ∷ message_keys in
     let found = member (codes "request") (count request) no_members in
     sym (extended_names keys (held (rows_by true sized m) found))
-    ∙ rows_names (λ name. is_among keys name || is_extended_name name) (rows_by true sized m) found (refl, (refl, (refl, (refl, (refl, (refl, (refl, tt))))))) refl
+    ∙ rows_names (λ name. is_among keys name || is_named message_names name) (rows_by true sized m) found (refl, (refl, (refl, (refl, (refl, (refl, (refl, tt))))))) refl
 reply_names false sized request m =
     let keys = key.Request ∷ message_keys in
     let found = member (codes "request") (count request) no_members in
     sym (extended_names keys (held (rows_by false sized m) found))
-    ∙ rows_names (λ name. is_among keys name || is_extended_name name) (rows_by false sized m) found (refl, (refl, (refl, (refl, (refl, (refl, (refl, tt))))))) refl
+    ∙ rows_names (λ name. is_among keys name || is_named message_names name) (rows_by false sized m) found (refl, (refl, (refl, (refl, (refl, (refl, (refl, tt))))))) refl
 
 request_there : (text sized : Bool) (request : ℕ) (m : Message) → get_member (codes "request") (rows_held (codes "request") request (rows_by text sized m)) ≡ Some (count request)
 request_there true sized request m =

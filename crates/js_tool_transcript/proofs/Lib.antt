@@ -20,6 +20,7 @@ mod Printed
 mod PushedText
 mod RelaySetupRead
 mod RecordableRead
+mod ResilienceRead
 mod RowsRead
 mod StringsRead
 mod RelayTranscriptRead

@@ -17,9 +17,15 @@ use Rattle.js_ordered_table.specs.declared.event.EventKind.{EventKind}
 use Rattle.js_ordered_table.specs.declared.event.EventKind.TheVariants as what
 use Rattle.js_tool_transcript.specs.declared.transcript.lines.Lines.{Lines}
 use Rattle.js_tool_transcript.specs.declared.transcript.lines.Lines.TheVariants.{Plain, Extended}
+use Rattle.js_tool_transcript.specs.declared.transcript.extended_name.ExtendedName.TheVariants as names
+use Rattle.js_tool_transcript.specs.declared.transcript.setup.Setup.{Setup}
+use Rattle.js_tool_transcript.specs.ExtendedSetup.{resilience, extended_setup_fields, extended_setup_of, extended_setup_line, setup_line_in}
+use Rattle.js_tool_transcript.specs.Setup.{setup_keys, setup_fields, setup_of, setup_line}
 use Rattle.js_tool_transcript.specs.Members.{only, value_as, line_as}
 use Rattle.js_tool_transcript.specs.Message.{message_keys, message_fields}
-use Rattle.js_tool_transcript.specs.ExtendedMessage.{bytes_of, is_extended_name, members_extended, has_only_extended, only_in, under, payload_base64, extended_fields}
+use Rattle.js_tool_transcript.specs.ExtendedMessage.{bytes_of, message_names, only_in, payload_base64, extended_fields}
+use Rattle.js_tool_transcript.specs.ExtendedName.{is_named, members_with, has_only_with, under}
+use Rattle.js_tool_transcript.specs.declared.transcript.extended_name.ExtendedName.{ExtendedName}
 use Rattle.js_tool_transcript.specs.Event.{arrival_fields, arrival, reply_fields, gone_fields, answer, link_named, connection_named, watcher_named, alone, with_key, what_fields, event_keys, event_fields_in, event_of_in, event_line, event_line_in, extended_line}
 use Rattle.js_tool_transcript.proofs.OtherKeys.{get_other}
 
@@ -39,44 +45,44 @@ then_agree (Err e) s f g same next = tt
 
 -- ---- a message
 
-absent : {A : Type 0} (name : List ℕ) (reads : Reads A) (d : Data) → get name d ≡ None → under name reads d ≡ Ok None
+pub absent : {A : Type 0} (name : List ℕ) (k : Key) (reads : Reads A) (d : Data) → get name d ≡ None → under name k reads d ≡ Ok None
 unfolding under
-absent name reads d none = rw none refl
+absent name k reads d none = rw none refl
 
-as_it_is : (r : Result Message ReadError) → Agree r (r >>= λ message. Ok message)
-as_it_is (Ok m) = refl
+as_it_is : {A : Type 0} (r : Result A ReadError) → Agree r (r >>= λ x. Ok x)
+as_it_is (Ok x) = refl
 as_it_is (Err e) = tt
 
 message_agrees : (d : Data) → get (codes "payload_base64") d ≡ None → get (codes "length") d ≡ None → Agree (message_fields d) (extended_fields d)
 unfolding extended_fields payload_base64
-message_agrees d one two = rw (absent (codes "payload_base64") (named bytes_of) d one, absent (codes "length") natural d two) (as_it_is (message_fields d))
+message_agrees d one two = rw (absent (codes "payload_base64") key.Payload (named bytes_of) d one, absent (codes "length") key.Payload natural d two) (as_it_is (message_fields d))
 
 -- ---- an object
 
 both_hold : (a b : Bool) → a ≡ true → b ≡ true → (a && b) ≡ true
 both_hold a b p q = rw (p, q) refl
 
-members_agree : (keys : List Key) (ms : Members) → members_only keys ms ≡ true → members_extended keys ms ≡ true
-members_agree keys no_members only = refl
-members_agree keys (member name d ms) only =
+members_agree : (keys : List Key) (names : List ExtendedName) (ms : Members) → members_only keys ms ≡ true → members_with keys names ms ≡ true
+members_agree keys names no_members only = refl
+members_agree keys names (member name d ms) only =
     let parts = and_parts (is_among keys name) (members_only keys ms) only in
-    both_hold (is_among keys name || is_extended_name name) (members_extended keys ms) (or_left (is_among keys name) (is_extended_name name) parts.0) (members_agree keys ms parts.1)
+    both_hold (is_among keys name || is_named names name) (members_with keys names ms) (or_left (is_among keys name) (is_named names name) parts.0) (members_agree keys names ms parts.1)
 
-keys_agree : (keys : List Key) (d : Data) → has_only keys d ≡ true → has_only_extended keys d ≡ true
-keys_agree keys null only = only
-keys_agree keys (boolean b) only = only
-keys_agree keys (number n) only = only
-keys_agree keys (string s) only = only
-keys_agree keys (array ds) only = only
-keys_agree keys (object ms) only = members_agree keys ms only
+pub keys_agree : (keys : List Key) (names : List ExtendedName) (d : Data) → has_only keys d ≡ true → has_only_with keys names d ≡ true
+keys_agree keys names null only = only
+keys_agree keys names (boolean b) only = only
+keys_agree keys names (number n) only = only
+keys_agree keys names (string s) only = only
+keys_agree keys names (array ds) only = only
+keys_agree keys names (object ms) only = members_agree keys names ms only
 
 only_agrees : {A : Type 0} (keys : List Key) (f g : Data → Result A ReadError) (k : Key) (d : Data) → (has_only keys d ≡ true → Agree (f d) (g d)) → Agree (only_in Plain keys f k d) (only_in Extended keys g k d)
 unfolding only_in
 only_agrees {A} keys f g k d same = by_test (has_only keys d) refl
   where
-    by_test : (b : Bool) → has_only keys d ≡ b → Agree {A = A} (if b then f d else Err (WrongKind k)) (if has_only_extended keys d then g d else Err (WrongKind k))
+    by_test : (b : Bool) → has_only keys d ≡ b → Agree {A = A} (if b then f d else Err (WrongKind k)) (if has_only_with keys message_names d then g d else Err (WrongKind k))
     by_test true only =
-        subst (λ (b : Bool). Agree {A = A} (f d) (if b then g d else Err (WrongKind k))) (sym (keys_agree keys d only)) (same only)
+        subst (λ (b : Bool). Agree {A = A} (f d) (if b then g d else Err (WrongKind k))) (sym (keys_agree keys message_names d only)) (same only)
     by_test false other = tt
 
 -- ---- what happens
@@ -153,3 +159,29 @@ line_agrees line = then_agree (value_of line) (value_of line) (event_of_in Plain
 pub reads_alike : (form : Lines) (line : List ℕ) (e : Event) → event_line line ≡ Ok e → event_line_in form line ≡ Ok e
 reads_alike Plain line e is = is
 reads_alike Extended line e is = subst (λ (r : Result Event ReadError). Agree r (extended_line line)) is (line_agrees line)
+
+-- ---- a first line
+
+setup_fields_agree : (d : Data) → get (codes "resilience") d ≡ None → Agree (setup_fields d) (extended_setup_fields d)
+unfolding extended_setup_fields
+setup_fields_agree d none = rw (absent (codes "resilience") key.Settings resilience d none) (as_it_is (setup_fields d))
+
+setup_agrees : (d : Data) → Agree (setup_of d) (extended_setup_of d)
+unfolding value_as
+setup_agrees d = by_test (has_only setup_keys d) refl
+  where
+    by_test : (b : Bool) → has_only setup_keys d ≡ b
+        → Agree {A = Setup} (if b then setup_fields d else Err NotJson) (if has_only_with setup_keys (names.Resilience ∷ []) d then extended_setup_fields d else Err NotJson)
+    by_test true only =
+        subst (λ (b : Bool). Agree {A = Setup} (setup_fields d) (if b then extended_setup_fields d else Err NotJson)) (sym (keys_agree setup_keys (names.Resilience ∷ []) d only))
+        (setup_fields_agree d (get_other setup_keys (codes "resilience") d only refl))
+    by_test false other = tt
+
+setup_line_agrees : (line : List ℕ) → Agree (setup_line line) (extended_setup_line line)
+unfolding line_as
+setup_line_agrees line = then_agree (value_of line) (value_of line) setup_of extended_setup_of (itself (value_of line)) setup_agrees
+
+-- what the first line of a transcript says it says in both forms
+pub setup_alike : (form : Lines) (line : List ℕ) (s : Setup) → setup_line line ≡ Ok s → setup_line_in form line ≡ Ok s
+setup_alike Plain line s is = is
+setup_alike Extended line s is = subst (λ (r : Result Setup ReadError). Agree r (extended_setup_line line)) is (setup_line_agrees line)

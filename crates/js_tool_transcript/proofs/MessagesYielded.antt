@@ -1,6 +1,6 @@
 -- What holds of the subject and the payload of each message that arrives holds of each yield.
 use Rattle.std.proofs.Common.{ℕ, zero, suc, ◌+◌, Bool, true, false, List, [], ◌∷◌, ◌++◌, map, Option, Some, None, subst}
-use Rattle.std.specs.Prelude.{⊤, IfSome, nat_lt, is_some, ◌||◌, ◌==◌}
+use Rattle.std.specs.Prelude.{⊤, IfSome, nat_lt, is_some, ◌||◌, ◌==◌, ◌&&◌, not}
 use Rattle.std.specs.List.{AllByRecursion}
 use Rattle.js_base.specs.declared.clock.Timer.{Timer}
 use Rattle.js_base.specs.Clock.{is_due}
@@ -42,8 +42,8 @@ use Rattle.js_ordered_table.specs.declared.setup.OrderedSetup.TheVariants.{Pull,
 use Rattle.js_ordered_table.specs.Fold.{Ran, passing, after, pass_all, pass_each, pass_to, rank, tick, matter_of, link_after, event, run_events, first_phase, opening_rows, first_state, opening, fold, step_of}
 use Rattle.js_ordered_table.specs.Gapless as gapless
 use Rattle.js_ordered_table.specs.Gapless.{joined, all_outputs, yields}
-use Rattle.js_ordered_table.specs.Arrivals.{message_row, told, with_sent, push_kind, beat_answer, beat_rows, hear_kind, hear_row, silence_row, armed}
-use Rattle.js_ordered_table.specs.Recreation.{start_row, try_row, create_row, ask_row, succeed_row, succeed_pull, succeed_push, fail_row, message_on, hold, held_in, stage_rows, recreation_rows, created, answered, has_subject}
+use Rattle.js_ordered_table.specs.Arrivals.{message_row, told, with_sent, push_kind, beat_answer, beat_rows, hear_kind, hear_row, silence_row, armed, beat_subject}
+use Rattle.js_ordered_table.specs.Recreation.{start_row, try_row, create_row, ask_row, succeed_row, succeed_pull, succeed_push, fail_row, message_on, hold, held_in, stage_rows, recreation_rows, created, answered, has_subject, missing_after, missing_outputs}
 use Rattle.js_ordered_table.specs.Consumer.{Matter, Change, Unchanged, Becomes, WatcherEnds, Passed, at_phase, output_of}
 use Rattle.js_ordered_table.specs.Table.{push_rows, go_on, is_connected, changed, watcher_ended, event_change, event_row, reader_row, row_at, pass}
 use Rattle.js_pull.specs.Poll.{same_state}
@@ -143,6 +143,10 @@ module _ (P : List ℕ → List ℕ → Type 0) where
   answered_is mode None = tt
   answered_is mode (Some info) = if_each (IsRow P) (has_subject mode info) (Succeed info) Fail (λ _. tt) (λ _. tt)
 
+  -- an item is told, or nothing
+  missing_are : (missing was_missing : Bool) → AllByRecursion (IsOutput P) (missing_outputs missing was_missing)
+  missing_are missing was_missing = if_each (AllByRecursion (IsOutput P)) (missing && not was_missing) _ _ (λ _. (tt, tt)) (λ _. tt)
+
   created_are : (g : ReplayInput) (p : RowInput) (timeout : Timer) (reply : Option (Option Message)) → AllByRecursion (IsRow P) (created g p timeout reply)
   created_are g p timeout (Some reply) = (tt, tt)
   created_are g p timeout None = if_each (AllByRecursion (IsRow P)) (is_due timeout p.now) _ _ (λ _. (tt, tt)) (λ _. tt)
@@ -222,17 +226,17 @@ module _ (P : List ℕ → List ℕ → Type 0) where
   beat_rows_are None consumer_sequence = tt
   beat_rows_are (Some n) consumer_sequence = if_each (AllByRecursion (IsRow P)) (n == consumer_sequence) _ _ (λ _. tt) (λ _. (tt, tt))
 
-  hear_kind_is : (p : RowInput) (inbox : ℕ) (heartbeat_timer : Timer) (c : Consumer) (message : Message) (k : PushKind) → IsOf P message
-      → Keeps P (hear_kind p message k (at_phase (Pushes inbox heartbeat_timer) c))
-  hear_kind_is p inbox heartbeat_timer c message Delivered is = message_is (Pushes inbox heartbeat_timer) c (readable_as message.reply) message tt is
-  hear_kind_is p inbox heartbeat_timer c message OtherStatus is = record { phase = tt; rows = tt; outputs = tt }
-  hear_kind_is p inbox heartbeat_timer c message Bad is = record { phase = tt; rows = tt; outputs = (tt, tt) }
-  hear_kind_is p inbox heartbeat_timer c message (Beat n) is = record { phase = tt; rows = beat_rows_are n c.core.consumer_sequence; outputs = beat_is p.up message.reply }
+  hear_kind_is : (stalled : Bool) (p : RowInput) (inbox : ℕ) (heartbeat_timer : Timer) (c : Consumer) (message : Message) (k : PushKind) → IsOf P message
+      → Keeps P (hear_kind stalled p message k (at_phase (Pushes inbox heartbeat_timer) c))
+  hear_kind_is stalled p inbox heartbeat_timer c message Delivered is = message_is (Pushes inbox heartbeat_timer) c (readable_as message.reply) message tt is
+  hear_kind_is stalled p inbox heartbeat_timer c message OtherStatus is = record { phase = tt; rows = tt; outputs = tt }
+  hear_kind_is stalled p inbox heartbeat_timer c message Bad is = record { phase = tt; rows = tt; outputs = (tt, tt) }
+  hear_kind_is stalled p inbox heartbeat_timer c message (Beat n) is = record { phase = tt; rows = beat_rows_are n c.core.consumer_sequence; outputs = beat_is p.up (beat_subject stalled message) }
 
-  hear_is : (p : RowInput) (arrival : Arrival) (inbox : ℕ) (heartbeat_timer : Timer) (c : Consumer) → IsOf P arrival.message
-      → Keeps P (hear_row p arrival inbox (at_phase (Pushes inbox heartbeat_timer) c))
-  hear_is p arrival inbox heartbeat_timer c is =
-      if_both (Keeps P) (arrival.inbox == inbox) _ _ (hear_kind_is p inbox (armed p.now) c arrival.message (push_kind arrival.message) is) (record { phase = tt; rows = tt; outputs = tt })
+  hear_is : (stalled : Bool) (p : RowInput) (arrival : Arrival) (inbox : ℕ) (heartbeat_timer : Timer) (c : Consumer) → IsOf P arrival.message
+      → Keeps P (hear_row stalled p arrival inbox (at_phase (Pushes inbox heartbeat_timer) c))
+  hear_is stalled p arrival inbox heartbeat_timer c is =
+      if_both (Keeps P) (arrival.inbox == inbox) _ _ (hear_kind_is stalled p inbox (armed p.now) c arrival.message (push_kind arrival.message) is) (record { phase = tt; rows = tt; outputs = tt })
 
   push_rows_are : (inbox : ℕ) (o : Option Message) → IfSome o (IsOf P) → AllByRecursion (IsRow P) (push_rows inbox o)
   push_rows_are inbox None is = (tt, tt)
@@ -285,12 +289,16 @@ module _ (P : List ℕ → List ℕ → Type 0) where
   row_is g p m Create (Recreates r) c k matter is = create_is g.setup p r c k
   row_is g p m Ask (Recreates r) c k matter is = ask_is g p r c k
   row_is g p m Await (Recreates r) c k matter is = record { phase = k; rows = stage_are g p m r.stage; outputs = tt }
-  row_is g p m (Answered reply) (Recreates r) c k matter is = record { phase = k; rows = (answered_is g.setup (pull.info_of_reply reply), tt); outputs = tt }
+  row_is g p m (Answered reply) (Recreates r) c k matter is = record {
+    phase = k;
+    rows = (answered_is g.setup (pull.info_of_reply reply), tt);
+    outputs = missing_are (missing_after g.settings.resilience.tells_missing_stream (pull.info_reply reply) c.stream_missing) c.stream_missing;
+  }
   row_is g p m Hold (Recreates r) c k matter is = record { phase = held_is m.arrival r.opened k matter; rows = tt; outputs = tt }
   row_is g p m (Succeed info) (Recreates r) c k matter is = succeed_is g.setup g p info r c k
   row_is g p m Fail (Recreates r) c k matter is = fail_is g p r c
   row_is g p m CheckArrival (Pushes inbox heartbeat_timer) c k matter is = record { phase = tt; rows = push_rows_are inbox (message_on inbox m.arrival) (on_inbox inbox m.arrival matter); outputs = tt }
-  row_is g p m (Hear arrival) (Pushes inbox heartbeat_timer) c k matter is = hear_is p arrival inbox heartbeat_timer c is
+  row_is g p m (Hear arrival) (Pushes inbox heartbeat_timer) c k matter is = hear_is g.settings.resilience.answers_stalled p arrival inbox heartbeat_timer c is
   row_is g p m CheckSilence (Pushes inbox heartbeat_timer) c k matter is = silence_is p heartbeat_timer inbox c
   row_is g p m Arm (Pushes inbox heartbeat_timer) c k matter is = record { phase = tt; rows = tt; outputs = tt }
   row_is g p m (Read row) (Pulls reader) c k matter is = reader_is p m row reader c matter

@@ -1,20 +1,22 @@
 -- What an extended line can say of a message beside the keys of a transcript: a payload in base 64, and a length.
-use Rattle.std.specs.Prelude.{ℕ, ◌||◌, ◌&&◌, Bool, true, false, List, length, codes, Option, Some, None, Result, Ok, Err, if◌then◌else◌}
+use Rattle.std.specs.Prelude.{ℕ, Bool, List, [], ◌∷◌, length, codes, Option, Some, None, Result, Ok, Err, if◌then◌else◌}
 use Rattle.std.specs.Result.{result_ok}
-use Rattle.std.specs.Str.{bytes_eq}
 use Rattle.base64.specs.Engines.{standard}
 use Rattle.base64.specs.GeneralPurpose.{encode_of, decode_of}
-use Rattle.serde_json.specs.Data.{Data, null, boolean, number, string, array, object, Members, no_members, member}
+use Rattle.serde_json.specs.Data.{Data}
 use Rattle.serde_json.specs.Find.{get}
 use Rattle.js_base.specs.declared.message.Message.{Message}
 use Rattle.js_json_members.specs.declared.key.Key.{Key}
 use Rattle.js_json_members.specs.declared.key.Key.TheVariants as key
 use Rattle.js_json_members.specs.declared.error.ReadError.{ReadError}
 use Rattle.js_json_members.specs.declared.error.ReadError.TheVariants.{WrongKind}
-use Rattle.js_json_members.specs.Member.{◌>>=◌, Reads, if_present, unless_null, natural, named}
-use Rattle.js_json_members.specs.Value.{is_among, has_only}
+use Rattle.js_json_members.specs.Member.{◌>>=◌, Reads, natural, named}
+use Rattle.js_json_members.specs.Value.{has_only}
 use Rattle.js_tool_transcript.specs.declared.transcript.lines.Lines.{Lines}
 use Rattle.js_tool_transcript.specs.declared.transcript.lines.Lines.TheVariants.{Plain, Extended}
+use Rattle.js_tool_transcript.specs.declared.transcript.extended_name.ExtendedName.{ExtendedName}
+use Rattle.js_tool_transcript.specs.declared.transcript.extended_name.ExtendedName.TheVariants as name
+use Rattle.js_tool_transcript.specs.ExtendedName.{has_only_with, under}
 use Rattle.js_tool_transcript.specs.Message.{message_fields}
 
 -- ---- base 64
@@ -29,37 +31,19 @@ bytes_of text = result_ok (decode_of standard text)
 
 -- ---- the names that only an extended line has
 
-abbrev pub is_extended_name : List ℕ → Bool
-is_extended_name name = bytes_eq name (codes "payload_base64") || bytes_eq name (codes "length")
-
--- all names are those of keys, or extended ones
-abbrev pub members_extended : List Key → Members → Bool
-members_extended keys no_members = true
-members_extended keys (member name d ms) = (is_among keys name || is_extended_name name) && members_extended keys ms
-
--- an object that has no other names
-abbrev pub has_only_extended : List Key → Data → Bool
-has_only_extended keys null = false
-has_only_extended keys (boolean b) = false
-has_only_extended keys (number n) = false
-has_only_extended keys (string s) = false
-has_only_extended keys (array ds) = false
-has_only_extended keys (object ms) = members_extended keys ms
+abbrev pub message_names : List ExtendedName
+message_names = name.PayloadBase64 ∷ name.Length ∷ []
 
 -- an object that has no other names than lines of this form allow
 abbrev pub has_only_in : Lines → List Key → Data → Bool
 has_only_in Plain keys d = has_only keys d
-has_only_in Extended keys d = has_only_extended keys d
+has_only_in Extended keys d = has_only_with keys message_names d
 
 -- a member that is such an object
 unfoldable pub only_in : {A : Type 0} → Lines → List Key → (Data → Result A ReadError) → Reads A
 only_in lines keys fields key d = if has_only_in lines keys d then fields d else Err (WrongKind key)
 
 -- ---- their members
-
--- a member of this name, which may be absent or null. No key has the name, so its faults tell the payload's
-unfoldable pub under : {A : Type 0} → List ℕ → Reads A → Data → Result (Option A) ReadError
-under name reads d = if_present (Ok None) (unless_null reads key.Payload) (get name d)
 
 -- bytes stand in the place of a payload, and not beside one
 abbrev pub in_place_of : Option Data → Option (List ℕ) → Result (Option (List ℕ)) ReadError
@@ -69,7 +53,7 @@ in_place_of (Some payload) (Some bytes) = Err (WrongKind key.Payload)
 
 -- a payload in base 64, in place of `payload`
 unfoldable pub payload_base64 : Data → Result (Option (List ℕ)) ReadError
-payload_base64 d = under (codes "payload_base64") (named bytes_of) d >>= in_place_of (get (codes "payload") d)
+payload_base64 d = under (codes "payload_base64") key.Payload (named bytes_of) d >>= in_place_of (get (codes "payload") d)
 
 -- a payload is as long as it is, unless a length is said too
 abbrev pub with_payload : Option (List ℕ) → Message → Message
@@ -84,7 +68,7 @@ with_length (Some n) m = record m { length = n }
 unfoldable pub extended_fields : Data → Result Message ReadError
 extended_fields d = do
   bytes ← payload_base64 d
-  length ← under (codes "length") natural d
+  length ← under (codes "length") key.Payload natural d
   message ← message_fields d
   Ok (with_length length (with_payload bytes message))
 

@@ -1,7 +1,9 @@
 pub mod Members
 pub mod Setup
 pub mod Message
+pub mod ExtendedName
 pub mod ExtendedMessage
+pub mod ExtendedSetup
 pub mod Event
 pub mod EventText
 pub mod ExtendedText

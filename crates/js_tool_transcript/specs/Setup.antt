@@ -15,6 +15,7 @@ use Rattle.js_json.specs.Conversion.{as_ordered_pull_config, as_ordered_push_con
 use Rattle.js_ordered_table.specs.declared.setup.Settings.{Settings}
 use Rattle.js_ordered_table.specs.declared.setup.OrderedSetup.{OrderedSetup}
 use Rattle.js_ordered_table.specs.declared.setup.OrderedSetup.TheVariants as setup
+use Rattle.js_pull.specs.Resilience.{none}
 use Rattle.js_tool_transcript.specs.declared.transcript.setup.Mode.{Mode}
 use Rattle.js_tool_transcript.specs.declared.transcript.setup.Mode.TheVariants as mode
 use Rattle.js_tool_transcript.specs.declared.transcript.setup.Setup.{Setup}
@@ -43,6 +44,7 @@ settings_fields d = do
     context_timeout = context_timeout;
     request_timeout = unwrap_or request_timeout (Some 10_000_000_000);
     retries = unwrap_or retries 4_294_967_295;
+    resilience = none;
   })
 
 abbrev pub settings : Reads Settings

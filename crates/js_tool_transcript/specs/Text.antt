@@ -55,6 +55,7 @@ kind_name kind.PushBasedConsumer = codes "PushBasedConsumer"
 kind_name kind.Pull = codes "Pull"
 kind_name kind.Recreate = codes "Recreate"
 kind_name kind.Other = codes "Other"
+kind_name kind.StreamNotFound = codes "StreamNotFound"
 
 -- where a recreated consumer starts
 abbrev pub start_data : Start → Data

@@ -9,7 +9,7 @@ use Rattle.js_tool_transcript.specs.declared.transcript.Transcript.{Transcript}
 use Rattle.js_tool_transcript.specs.declared.transcript.Unread.{Unread}
 use Rattle.js_tool_transcript.specs.declared.transcript.Unread.TheVariants as unread
 use Rattle.js_tool_io.specs.Lines.{lines_of}
-use Rattle.js_tool_transcript.specs.Setup.{setup_line}
+use Rattle.js_tool_transcript.specs.ExtendedSetup.{setup_line_in}
 use Rattle.js_tool_transcript.specs.Event.{event_line_in}
 
 -- what follows, where the line reads
@@ -37,7 +37,7 @@ with_lines_in form setup lines = events_in form 2 lines >>= λ events. Ok (recor
 -- a setup and events, or the number of the first line that does not read
 abbrev pub transcript_of_in : Lines → List (List ℕ) → Result Transcript ℕ
 transcript_of_in form [] = Err 1
-transcript_of_in form (line ∷ lines) = numbered 1 (setup_line line) >>= λ setup. with_lines_in form setup lines
+transcript_of_in form (line ∷ lines) = numbered 1 (setup_line_in form line) >>= λ setup. with_lines_in form setup lines
 
 -- the events that were read before, and those that are still read
 abbrev pub after_lines : List Event → Result (List Event) ℕ → Result (List Event) ℕ

@@ -10,7 +10,9 @@
 //!
 //! A line of a transcript cannot say every event: its payload is a text, and its length is the
 //! payload's. An extended line says every event: [`push_extended_event`] writes it, and
-//! [`next_line_in`] with [`Lines::Extended`] reads it, and reads the lines of a transcript too.
+//! [`next_line_in`] with [`Lines::Extended`] reads it, and reads the lines of a transcript too. The
+//! first line of extended lines may also have the options of a reader that never hangs
+//! ([`push_resilience`], [`first_line_in`]); in a transcript they are all off.
 #![tactic(auto)]
 
 mod relay;
@@ -21,6 +23,6 @@ pub use relay::relay_text;
 pub use text::{Cell, field_text, push_end, push_line, push_outputs, push_refused, refusal_line};
 pub use transcript::{
     Lines, Payloads, Setup, Transcript, Unread, compact_event, event_line, event_line_in, event_of,
-    first_line, is_recordable, next_line, next_line_in, push_event, push_extended_event,
-    setup_line, setup_of,
+    first_line, first_line_in, is_recordable, next_line, next_line_in, push_event,
+    push_extended_event, push_resilience, setup_line, setup_line_in, setup_of,
 };

@@ -184,6 +184,7 @@ fn item_name(kind: ItemKind) -> &'static [u8]
         ItemKind::Pull => b"Pull",
         ItemKind::Recreate => b"Recreate",
         ItemKind::Other => b"Other",
+        ItemKind::StreamNotFound => b"StreamNotFound",
     }
 }
 

@@ -2,7 +2,9 @@
 
 ghost use Rattle.std.specs.Prelude.{◌≡◌, Ok};
 ghost use Rattle.js_tool_transcript.specs.Transcript.{GivesLines, numbered};
+ghost use Rattle.js_tool_transcript.specs.ExtendedSetup.{setup_line_in as first_in};
 ghost use Rattle.js_tool_transcript.specs.Setup.{setup_line as setup_in};
+ghost use Rattle.js_tool_transcript.specs.declared.transcript.setup.Setup as setups;
 ghost use Rattle.js_ordered_table.specs.declared.event.Event as events;
 ghost use Rattle.js_tool_transcript.specs.Event.{event_line as event_in, event_line_in as line_of};
 ghost use Rattle.js_tool_transcript.specs.declared.transcript.Unread.TheVariants.{OutOfMemory};
@@ -11,11 +13,13 @@ mod compact;
 mod event;
 mod event_text;
 mod extended;
+mod extended_name;
 mod extended_text;
 mod lines;
 mod members;
 mod message;
 mod payloads;
+mod resilience;
 mod setup;
 
 pub use compact::compact_event;
@@ -27,7 +31,8 @@ use js_json_members::ReadError;
 use js_ordered_table::Event;
 pub use lines::Lines;
 pub use payloads::Payloads;
-pub use setup::{Setup, setup_line, setup_of};
+pub use resilience::push_resilience;
+pub use setup::{Setup, setup_line, setup_line_in, setup_of};
 use std::alloc::{AllocFailed, Global};
 
 /// A setup and the events after it. Only contracts use this type; no value of it is ever created.
@@ -64,7 +69,28 @@ impl<T: Drop> From<AllocFailed<T>> for Unread {
 pub fn first_line(alloc: Global, line: &[u8]) -> Result<Setup, Unread>
     ensures { GivesLines (λ s. s) result (numbered 1 (setup_in line.now)) }
 {
-    match setup_line(alloc, line) {
+    first_line_in(alloc, Lines::Plain, line)
+}
+
+/// Reads the setup on the first line of a form, as [`first_line`] does. The first line of a
+/// transcript reads the same in both forms.
+///
+/// # Errors
+///
+/// Fails as `first_line` does. In `Lines::Extended` the line may have one more key, `resilience`,
+/// and also is no setup if that is no object, has a key that names no option, or has an option that
+/// is neither true nor false.
+pub fn first_line_in(alloc: Global, lines: Lines, line: &[u8]) -> Result<Setup, Unread>
+    ensures setup { GivesLines (λ s. s) result (numbered 1 (first_in lines line.now)) }
+    ensures plain { (said : setups.Setup) → setup_in line.now ≡ Ok said → GivesLines (λ s. s) result (Ok said) }
+{
+    numbered_setup(alloc, lines, line)
+}
+
+fn numbered_setup(alloc: Global, lines: Lines, line: &[u8]) -> Result<Setup, Unread>
+    ensures { GivesLines (λ s. s) result (numbered 1 (first_in lines line.now)) }
+{
+    match setup_line_in(alloc, lines, line) {
         Ok(setup) => Ok(setup),
         Err(ReadError::OutOfMemory) => Err(Unread::OutOfMemory),
         Err(_) => Err(Unread::BadLine(1)),

@@ -10,6 +10,7 @@ use js_ordered::{
     AtEnd, Event, EventKind, IncrementalReplay, ItemKind, OrderedCore, OrderedSetup, Output,
     ReplayError, ReplayInput, Run, Settings, Start, replay_ordered,
 };
+use js_pull::Resilience;
 use std::alloc::{AllocError, Global};
 use std::process::Abort;
 
@@ -30,6 +31,7 @@ fn settings(api_prefix: Text, inbox_prefix: Text) -> Settings {
         context_timeout: None,
         request_timeout: None,
         retries: 0,
+        resilience: Resilience::none(),
     }
 }
 

@@ -9,8 +9,8 @@ use js_json::{Response, response_as};
 use js_json_members::ReadError;
 use js_link::{InboxId, MemoryLink};
 use js_pull::{
-    Advance, Consumer, PullSource, Reader, Stream, clamp_batch, clamp_expires, clamp_heartbeat,
-    info_of_reply, ordered_batch_config,
+    Advance, Consumer, PullSource, Reader, Resilience, Stream, clamp_batch, clamp_expires,
+    clamp_heartbeat, info_of_reply, ordered_batch_config,
 };
 use std::alloc::Global;
 use std::process::Abort;
@@ -76,6 +76,7 @@ fn source(
         info_timeout: None,
         config,
         pinned: true,
+        resilience: Resilience::none(),
     }
 }
 

@@ -1,6 +1,6 @@
 //! The arrivals of a pull reader in a replay. A row borrows the arrival from the event, and makes
 //! the output of a message before it handles it.
-ghost use Rattle.std.specs.Prelude.{◌≡◌, ◌≢◌, ◌+◌, ◌≤◌, ◌∷◌, ◌↔◌, [], IfOk, OnOk, OnErr, IsTrue, option_to_list, vec_capacity, vec_len};
+ghost use Rattle.std.specs.Prelude.{◌≡◌, ◌≢◌, ◌+◌, ◌≤◌, ◌∷◌, ◌↔◌, [], IfOk, OnOk, OnErr, IsTrue, false, option_to_list, vec_capacity, vec_len};
 ghost use Rattle.js_ordered.specs.Driven.{Arrives, PassesTo, matter_now};
 ghost use Rattle.js_pull.specs.Kind.{pull_kind as kind_of};
 ghost use Rattle.js_ordered_table.specs.Tasks.{IsHeardFrom, heard_outputs};
@@ -30,12 +30,16 @@ struct ReadyArrival {
 
 // What is put out of a message of the stream.
 #[inline]
-fn make_ready(state: &ReplayState, message: &Message) -> Result<ReadyArrival, OutOfMemory>
+fn make_ready(
+    alloc: Global,
+    state: &ReplayState,
+    message: &Message,
+) -> Result<ReadyArrival, OutOfMemory>
     ensures heard { IfOk result (λ ready. IsHeardFrom state.now.consumer.core.consumer_sequence message.now ready.heard) }
-    ensures output { IfOk result (λ ready. option_to_list ready.output ≡ heard_outputs state.now.link_up message.now ready.heard) }
+    ensures output { IfOk result (λ ready. option_to_list ready.output ≡ heard_outputs false state.now.link_up message.now ready.heard) }
 {
     let heard = heard_from(state.consumer.core.consumer_sequence, message);
-    let output = output_of(state.link_up, message, heard)?;
+    let output = output_of(alloc, false, state.link_up, message, heard)?;
     Ok(ReadyArrival { heard, output })
 }
 
@@ -68,7 +72,7 @@ fn hear_message(
     requires arrives { Arrives (matter_now context.now) message.now state.old.consumer.phase }
     requires kind { kind_of message.now ≡ Kind.Delivered }
     requires heard { IsHeardFrom state.old.consumer.core.consumer_sequence message.now ready.heard }
-    requires output { option_to_list ready.output ≡ heard_outputs state.old.link_up message.now ready.heard }
+    requires output { option_to_list ready.output ≡ heard_outputs false state.old.link_up message.now ready.heard }
     requires room { vec_len outputs.old + 1 ≤ vec_capacity outputs.old }
     ensures { PassesTo context.now (row.Read read.CheckArrival ∷ []) state.old state.new outputs.old.items outputs.new.items result }
 {
@@ -147,7 +151,7 @@ fn hear_arrival(
     if !is_delivered(message) {
         return hear_status(alloc, context, state, message, outputs);
     }
-    let ready = make_ready(state, message)?;
+    let ready = make_ready(alloc, state, message)?;
     hear_message(alloc, context, state, message, ready, outputs)
 }
 

@@ -4,8 +4,8 @@ ghost use Rattle.std.specs.Prelude.{◌≡◌, ◌+◌, ◌≤◌, ◌∷◌, []
 ghost use Rattle.js_ordered.specs.Driven.{Finishes, PassesOn, PassesTo, matter_now};
 ghost use Rattle.js_ordered.specs.Giving.{IsPublishing, IsSending};
 ghost use Rattle.js_ordered_table.specs.Tasks.{next_rows};
-ghost use Rattle.js_pull.specs.Rows.{IsInquired, brought, informed_by, row_of};
-ghost use Rattle.js_pull.specs.Reader.{info_of_reply, info_subject};
+ghost use Rattle.js_pull.specs.Rows.{IsInquired, brought, finding_of as finding_in, row_of};
+ghost use Rattle.js_pull.specs.Reader.{info_reply, info_subject};
 ghost use Rattle.js_pull.specs.declared.reader.Row.TheVariants as read;
 ghost use Rattle.js_ordered_table.specs.Consumer.{Matter};
 ghost use Rattle.js_ordered_table.specs.declared.row.Row.TheVariants as row;
@@ -19,7 +19,9 @@ use bytes::Bytes;
 use js_base::{OutOfMemory, TryClone, all_3};
 use js_ordered_table::transitions::{NextTasks, PassedTask, pull};
 use js_ordered_table::{Output, Phase, ReplayState};
-use js_pull::{Due, InfoRequest, PassedRow as Read, Reader, Reason, check_inquiry, reason_of};
+use js_pull::{
+    Due, Finding, InfoRequest, PassedRow as Read, Reader, Reason, check_inquiry, finding_of,
+};
 use std::alloc::Global;
 
 // What the reader tells without a message is put out.
@@ -123,11 +125,11 @@ fn inquire(
 
 // ---- the consumer's info
 
-// Why messages are asked for after the reply that the event brings.
-fn informed(alloc: Global, context: &EventContext<'_>) -> Result<Option<Reason>, OutOfMemory>
-    ensures { IfOk result (λ reason. reason ≡ informed_by (info_of_reply (brought (matter_now context.now).answer))) }
+// What the reader learns from the reply that the event brings.
+fn informed(alloc: Global, context: &EventContext<'_>) -> Result<Finding, OutOfMemory>
+    ensures { IfOk result (λ finding. finding ≡ finding_in (info_reply (brought (matter_now context.now).answer))) }
 {
-    reason_of(alloc, context.reply())
+    finding_of(alloc, context.reply())
 }
 
 // The reply is read.

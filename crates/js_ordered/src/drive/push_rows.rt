@@ -4,7 +4,7 @@ ghost use Rattle.std.specs.Prelude.{◌≡◌, ◌+◌, ◌≤◌, ◌++◌, ◌
 ghost use Rattle.js_ordered.specs.Driven.{PassesOn, PassesTo, matter_now};
 ghost use Rattle.js_ordered_table.specs.Tasks.{heard_outputs, next_rows};
 ghost use Rattle.js_ordered_table.specs.Passes.{listens_to};
-ghost use Rattle.js_ordered_table.specs.Arrivals.{beat_answer};
+ghost use Rattle.js_ordered_table.specs.Arrivals.{beat_answer, beat_subject as subject_of};
 ghost use Rattle.js_ordered_table.specs.Recreation.{message_on};
 ghost use Rattle.js_ordered_table.specs.declared.row.Row.TheVariants as row;
 ghost use Rattle.js_ordered_table.specs.declared.run.Output.{Output as SpecOutput};
@@ -12,12 +12,13 @@ ghost use Rattle.js_ordered_table.specs.declared.run.Output.{Output as SpecOutpu
 use crate::drive::give::{put, tell};
 use crate::event_context::EventContext;
 use bytes::Bytes;
-use js_base::{Message, OutOfMemory, TryClone};
+use js_base::{Message, OutOfMemory, Subject};
 use js_ordered_table::transitions::push::{
     arrival_next, heard_as, listen, pass_hear, pass_silence,
 };
 use js_ordered_table::transitions::{Heard, NextTasks, PassedTask};
-use js_ordered_table::{ItemKind, Output, Phase, ReplayState, yield_of};
+use js_ordered_table::{ItemKind, Output, Phase, ReplayState, beat_subject, yield_of};
+use std::alloc::Global;
 
 // The event brings something on this inbox.
 #[inline]
@@ -100,17 +101,22 @@ fn listens(state: &ReplayState, inbox: u64) -> bool
 }
 
 // A beat that asks for an answer gets an empty one, where the link is up.
-fn answer_of(up: bool, message: &Message) -> Result<Option<Output>, OutOfMemory>
-    ensures { IfOk result (λ output. option_to_list output ≡ beat_answer up message.now.reply) }
+fn answer_of(
+    alloc: Global,
+    stalled: bool,
+    up: bool,
+    message: &Message,
+) -> Result<Option<Output>, OutOfMemory>
+    ensures { IfOk result (λ output. option_to_list output ≡ beat_answer up (subject_of stalled message.now)) }
 {
-    match &message.reply {
+    match beat_subject(stalled, message) {
         None => Ok(None),
-        Some(reply) => {
+        Some(subject) => {
             if !up {
                 return Ok(None);
             }
             Ok(Some(Output::Publish {
-                subject: reply.try_clone()?,
+                subject: Subject::new(alloc, subject)?,
                 reply: None,
                 payload: Bytes::from_static(b""),
             }))
@@ -118,21 +124,23 @@ fn answer_of(up: bool, message: &Message) -> Result<Option<Output>, OutOfMemory>
     }
 }
 
-// What is put out of an arrival.
+// What is put out of an arrival, where stalled consumers are answered or not.
 #[inline]
 pub(crate) fn output_of(
+    alloc: Global,
+    stalled: bool,
     up: bool,
     message: &Message,
     heard: Heard,
 ) -> Result<Option<Output>, OutOfMemory>
-    ensures { IfOk result (λ output. option_to_list output ≡ heard_outputs up message.now heard) }
+    ensures { IfOk result (λ output. option_to_list output ≡ heard_outputs stalled up message.now heard) }
 {
     match heard {
         Heard::Yields(place) => Ok(Some(yield_of(message, place)?)),
         Heard::Unreadable => Ok(Some(Output::Item {
             kind: ItemKind::Other,
         })),
-        Heard::Beat(_) => answer_of(up, message),
+        Heard::Beat(_) => answer_of(alloc, stalled, up, message),
         Heard::Gap => Ok(None),
         Heard::OtherStatus => Ok(None),
     }
@@ -141,6 +149,7 @@ pub(crate) fn output_of(
 // A message is heard on an inbox. Where it is not the current one, nothing comes of it.
 #[inline]
 pub(crate) fn hear(
+    alloc: Global,
     context: &EventContext<'_>,
     state: &mut ReplayState,
     inbox: u64,
@@ -154,7 +163,8 @@ pub(crate) fn hear(
         return Ok(NextTasks::Nothing);
     }
     let heard = heard_as(state.consumer.core.consumer_sequence, message);
-    let output = output_of(state.link_up, message, heard)?;
+    let stalled = context.consumer.settings.resilience.answers_stalled;
+    let output = output_of(alloc, stalled, state.link_up, message, heard)?;
     let next = pass_hear(&context.consumer, &mut state.consumer, inbox, heard);
     put(output, outputs);
     Ok(next)

@@ -1,10 +1,11 @@
 //! The rows of a recreation in a replay. Their texts are made first, so a row that runs out of
 //! memory changes nothing.
-ghost use Rattle.std.specs.Prelude.{◌≡◌, ◌+◌, ◌≤◌, ◌∷◌, [], Some, IfOk, OnOk, OnErr, codes, is_some, option_map, vec_capacity, vec_len};
-ghost use Rattle.js_ordered.specs.Driven.{PassesTo, matter_now};
+ghost use Rattle.std.specs.Prelude.{◌≡◌, ◌+◌, ◌≤◌, ◌∷◌, [], IfOk, OnOk, OnErr, Option, codes, is_some, option_map, vec_capacity, vec_len};
+ghost use Rattle.js_base.specs.declared.message.Message.{Message as SpecMessage};
+ghost use Rattle.js_ordered.specs.Driven.{PassesOn, PassesTo, matter_now};
 ghost use Rattle.js_ordered.specs.Giving.{IsOpening, IsSending};
-ghost use Rattle.js_ordered_table.specs.Tasks.{IsAnswered, answered_rows};
-ghost use Rattle.js_pull.specs.Reader.{info_of_reply as info_in, reply_to};
+ghost use Rattle.js_ordered_table.specs.Tasks.{IsAnswered, answered_rows, next_rows};
+ghost use Rattle.js_pull.specs.Reader.{info_reply as info_said, reply_to};
 ghost use Rattle.js_ordered_table.specs.Invariant.{IsPull, IsPush};
 ghost use Rattle.js_ordered_table.specs.Passes.{at, input_of, holding};
 ghost use Rattle.js_ordered_table.specs.Recreation.{held_in};
@@ -14,8 +15,7 @@ ghost use Rattle.js_ordered_table.specs.declared.row.Row.TheVariants as row;
 use crate::drive::give::{Opening, Sending, inbox_for, request_for, send, subscribe, tell};
 use crate::event_context::EventContext;
 use bytes::Bytes;
-use js_base::{Boxed, Message, OutOfMemory, TryClone};
-use js_json::consumer::Info;
+use js_base::{OutOfMemory, TryClone};
 use js_ordered_table::transitions::recreation::{
     pass_answered, pass_ask, pass_await, pass_create, pass_fail, pass_start, pass_try,
 };
@@ -24,7 +24,7 @@ use js_ordered_table::{
     ConsumerContext, Opened, OrderedSetup, Output, Phase, Recreation, ReplayState, RequestOutcome,
     Stage, texts,
 };
-use js_pull::info_of_reply;
+use js_pull::{InfoReply, info_reply};
 use std::alloc::Global;
 
 // ---- a recreation starts
@@ -279,39 +279,44 @@ pub(crate) fn look_on(
     Ok(pass_await(&context.consumer, &mut state.consumer, recreation, answered))
 }
 
-// What was read, in a box. It is generic, since an info is large.
-fn in_box<T: Drop>(alloc: Global, read: Option<T>) -> Result<Option<Boxed<T>>, OutOfMemory>
-    ensures { IfOk result (λ boxed. boxed ≡ read) }
-{
-    match read {
-        None => Ok(None),
-        Some(value) => Ok(Some(Boxed::new(alloc, value)?)),
-    }
-}
-
-// What a message tells, in a box.
-fn boxed_info(alloc: Global, message: &Message) -> Result<Option<Boxed<Info>>, OutOfMemory>
-    ensures { IfOk result (λ info. info ≡ info_in (Some message.now)) }
-{
-    in_box(alloc, info_of_reply(alloc, Some(message))?)
-}
-
-// What the reply to a request tells, where the event brings one.
-fn reply_info(
+// What the reply to a request says, where the event brings one.
+fn reply_said(
     alloc: Global,
     context: &EventContext<'_>,
     request: u64,
-) -> Result<Option<Option<Boxed<Info>>>, OutOfMemory>
-    ensures { IfOk result (λ info. info ≡ option_map info_in (reply_to request (matter_now context.now).answer)) }
+) -> Result<Option<InfoReply>, OutOfMemory>
+    ensures { IfOk result (λ said. said ≡ option_map info_said (reply_to request (matter_now context.now).answer)) }
 {
     match context.reply_to(request) {
         RequestOutcome::Waiting => Ok(None),
-        RequestOutcome::Gone => Ok(Some(None)),
-        RequestOutcome::Got(message) => Ok(Some(boxed_info(alloc, message)?)),
+        RequestOutcome::Gone => Ok(Some(InfoReply::Nothing)),
+        RequestOutcome::Got(message) => Ok(Some(info_reply(alloc, Some(message))?)),
     }
 }
 
-// The reply to a create is read.
+// The reply to a create is read, and the user may be told what it says of the stream.
+fn read_reply(
+    context: &EventContext<'_>,
+    state: &mut ReplayState,
+    recreation: Recreation,
+    reply: InfoReply,
+    outputs: &mut Vec<Output>,
+) -> NextTasks
+    requires room { vec_len outputs.old + 1 ≤ vec_capacity outputs.old }
+    ensures { (message : Option SpecMessage) → reply ≡ info_said message
+        → PassesOn context.now (row.Answered message ∷ []) (at (Phase.Recreates recreation) state.old) outputs.old.items (next_rows (matter_now context.now) result) state.new outputs.new.items }
+{
+    let PassedTask { told, next } = pass_answered(
+        &context.consumer,
+        &mut state.consumer,
+        recreation,
+        reply,
+    );
+    tell(told, outputs);
+    next
+}
+
+// The reply to a create is read, where the event brings it.
 pub(crate) fn answered(
     alloc: Global,
     context: &EventContext<'_>,
@@ -320,25 +325,19 @@ pub(crate) fn answered(
     request: u64,
     outputs: &mut Vec<Output>,
 ) -> Result<NextTasks, OutOfMemory>
+    requires room { vec_len outputs.old + 1 ≤ vec_capacity outputs.old }
     ensures { PassesTo context.now (answered_rows (reply_to request (matter_now context.now).answer)) (at (Phase.Recreates recreation) state.old) state.new outputs.old.items outputs.new.items result }
 {
-    match reply_info(alloc, context, request) {
+    match reply_said(alloc, context, request) {
         Err(refused) => {
             keep_open(state, recreation);
             Err(refused)
         }
-        Ok(read) => match read {
-            None => {
-                keep_open(state, recreation);
-                Ok(NextTasks::Nothing)
-            }
-            Some(info) => Ok(pass_answered(
-                &context.consumer,
-                &mut state.consumer,
-                recreation,
-                info,
-            )),
-        },
+        Ok(None) => {
+            keep_open(state, recreation);
+            Ok(NextTasks::Nothing)
+        }
+        Ok(Some(reply)) => Ok(read_reply(context, state, recreation, reply, outputs)),
     }
 }
 

@@ -14,11 +14,10 @@ use crate::drive::recreation::{create_inbox, keep_open};
 use crate::event_context::EventContext;
 use js_base::{Items, OutOfMemory};
 use js_json::consumer::Info;
+use js_ordered_table::pull_source::pull_source_without_inbox;
 use js_ordered_table::transitions::recreation::{pass_succeed_pull, pass_succeed_push};
 use js_ordered_table::transitions::{Held, NextTasks, Task};
-use js_ordered_table::{
-    ConsumerContext, OrderedSetup, Output, Phase, Recreation, ReplayState, texts,
-};
+use js_ordered_table::{ConsumerContext, OrderedSetup, Output, Phase, Recreation, ReplayState};
 use js_pull::PullSource;
 use std::alloc::Global;
 
@@ -35,10 +34,10 @@ fn next_reader(
     state: &ReplayState,
     info: &Info,
 ) -> Result<NextReader, OutOfMemory>
-    ensures source { IfOk result (λ next. next.source ≡ texts_of.source_of (input_of context.now) state.now.consumer.core.recreation_count 0 [] info.now) }
+    ensures source { IfOk result (λ next. next.source ≡ texts_of.pull_source (input_of context.now) state.now.consumer.core.recreation_count 0 [] info.now) }
     ensures opening { IfOk result (λ next. IsOpening state.now.link_up state.now.inboxes_opened (texts_of.inbox_subject (input_of context.now) state.now.inboxes_opened) next.opening) }
 {
-    let source = texts::source_without_inbox(
+    let source = pull_source_without_inbox(
         alloc,
         context,
         state.consumer.core.recreation_count,

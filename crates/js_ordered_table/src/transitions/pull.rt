@@ -3,7 +3,7 @@ ghost use Rattle.std.specs.Prelude.{ℕ, ◌≡◌, [], false, None, Option, map
 ghost use Rattle.js_base.specs.declared.message.Message.{Message as SpecMessage};
 ghost use Rattle.js_json.specs.declared.consumer.info.Info.{Info as SpecInfo};
 ghost use Rattle.js_link.specs.RowInput.{RowInput};
-ghost use Rattle.js_pull.specs.Rows.{ReadsTo, brought, informed_by, rows_with, told_shown};
+ghost use Rattle.js_pull.specs.Rows.{ReadsTo, brought, finding_of, rows_with, told_shown};
 ghost use Rattle.js_ordered_table.specs.Tasks.{IsOfStream, StepsTo, at_moment, heard_outputs, heard_row, next_rows, reader_rows, requesting, told_outputs};
 ghost use Rattle.js_pull.specs.Reader as reads;
 ghost use Rattle.js_pull.specs.declared.reader.Row.TheVariants as read;
@@ -17,7 +17,9 @@ use crate::transitions::recreation::set_phase;
 use crate::transitions::task::{Heard, NextTasks, PassedTask, RowOutput, Task};
 use crate::{Consumer, ItemKind, Phase};
 use js_base::{Moment, State};
-use js_pull::{Due, DueRows, MessagesErrorKind, Notice, PassedRow as Read, Reader, Reason};
+use js_pull::{
+    Due, DueRows, Finding, MessagesErrorKind, Notice, PassedRow as Read, Reader, Reason,
+};
 
 // ---- rows
 
@@ -75,11 +77,12 @@ pub fn fail_inquiry(reader: &mut Reader, now: Moment, failures: u64) -> Read
     reader.pass_fail_inquiry(now, failures)
 }
 
-/// Handles an answer to an info request that was read: a pull request follows, or, without a
-/// reason, the try has failed.
-pub fn answered(reader: &mut Reader, failures: u64, informed: Option<Reason>) -> Read
-    ensures { (reply : Option SpecMessage) → (message : Option SpecMessage) → informed ≡ informed_by (reads.info_of_reply reply)
-        → ReadsTo reply message (reads.answered failures (reads.info_of_reply reply) reader.old) reader.new result }
+/// Handles an answer to an info request that was read: a pull request follows if the consumer is
+/// there. If the consumer is gone, the reader ends by the option `recreates_when_gone`. Otherwise the
+/// try has failed.
+pub fn answered(reader: &mut Reader, failures: u64, informed: Finding) -> Read
+    ensures { (reply : Option SpecMessage) → (message : Option SpecMessage) → informed ≡ finding_of (reads.info_reply reply)
+        → ReadsTo reply message (reads.answered failures (reads.info_reply reply) reader.old) reader.new result }
 {
     reader.pass_answered(failures, informed)
 }
@@ -93,7 +96,8 @@ pub fn check_expiry(reader: &mut Reader, now: Moment) -> Read
     reader.pass_check_expiry(now)
 }
 
-/// Reports a missing heartbeat, and arms its timer again.
+/// Reports a missing heartbeat, and arms its timer again. By the option `asks_at_first_heartbeat` a
+/// request for the consumer's info follows, unless one is open.
 #[inline]
 pub fn check_silence(reader: &mut Reader, now: Moment) -> Read
     ensures { (p : RowInput) → (reply : Option SpecMessage) → (message : Option SpecMessage)
@@ -187,7 +191,7 @@ pub fn take_notice(consumer: &mut Consumer, notice: Notice, due: Option<Due>) ->
 pub fn take_message(consumer: &mut Consumer, heard: Heard, due: Option<Due>) -> NextTasks
     requires { IsOfStream heard }
     ensures { (m : Matter) → (p : RowInput) → (message : SpecMessage)
-        → StepsTo m (with_sent [] (reader_rows m due) (heard_row p message heard (record consumer.old { missed = false }))) (heard_outputs p.up message heard) consumer.new result }
+        → StepsTo m (with_sent [] (reader_rows m due) (heard_row false p message heard (record consumer.old { missed = false }))) (heard_outputs false p.up message heard) consumer.new result }
 {
     consumer.missed = false;
     match heard {

@@ -130,7 +130,8 @@ pub fn pass_hear(
     heard: Heard,
 ) -> NextTasks
     ensures { (m : Matter) → (p : RowInput) → (message : SpecMessage)
-        → StepsTo m (heard_row p message heard (at_phase (Phase.Pushes inbox (reading.armed context.now.moment)) consumer.old)) (heard_outputs p.up message heard) consumer.new result }
+        → StepsTo m (heard_row context.now.settings.now.resilience.answers_stalled p message heard (at_phase (Phase.Pushes inbox (reading.armed context.now.moment)) consumer.old))
+        (heard_outputs context.now.settings.now.resilience.answers_stalled p.up message heard) consumer.new result }
 {
     listen(context, consumer, inbox);
     match heard {

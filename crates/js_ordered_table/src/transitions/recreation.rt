@@ -1,9 +1,9 @@
 //! The rows of a recreation: it deletes the old consumer, and creates a new one that continues
 //! after the last yield.
-ghost use Rattle.std.specs.Prelude.{ℕ, ◌≡◌, ◌<◌, ◌+◌, [], ◌∷◌, codes, is_some, min};
+ghost use Rattle.std.specs.Prelude.{ℕ, ◌≡◌, ◌<◌, ◌+◌, [], ◌∷◌, Some, codes, is_some, min};
 ghost use Rattle.js_link.specs.RowInput.{RowInput};
 ghost use Rattle.js_ordered_table.specs.Tasks.{IsAnswered, Listens, StepsTo, at_moment, create_outputs, next_rows, opening_to, requested, requesting, rows_of, subscribed, told_outputs};
-ghost use Rattle.js_pull.specs.Reader.{reply_to, u64_max};
+ghost use Rattle.js_pull.specs.Reader.{info_in, reply_to, u64_max};
 ghost use Rattle.js_ordered_table.specs.Passes.{input_of, timeout_at, waiting};
 ghost use Rattle.js_ordered_table.specs.Recreation as rows;
 ghost use Rattle.js_ordered_table.specs.Consumer.{Matter, at_phase, silent_row as silent_passed};
@@ -16,8 +16,9 @@ use crate::{
     Consumer, ConsumerContext, ItemKind, Opened, OrderedSetup, Phase, Recreation, Stage, texts,
 };
 use js_base::{Boxed, Items, Moment, Text, Timer, replace_with};
+use js_codes::errors::ErrorCode;
 use js_json::consumer::Info;
-use js_pull::{Due, PullSource, Reader, retry_wait};
+use js_pull::{Due, InfoReply, PullSource, Reader, retry_wait};
 use std::alloc::Global;
 use std::mem;
 
@@ -305,36 +306,83 @@ fn has_subject(setup: &OrderedSetup, info: &Info) -> bool
     }
 }
 
-// A create was answered: well or not.
-fn answered(setup: &OrderedSetup, info: Option<Boxed<Info>>) -> Task
-    ensures { (m : Matter) → rows_of m result ≡ rows.answered setup.now info ∷ [] }
+// A create was answered with an info.
+fn informed(setup: &OrderedSetup, info: Boxed<Info>) -> Task
+    ensures { (m : Matter) → rows_of m result ≡ rows.answered setup.now (Some info) ∷ [] }
 {
-    match info {
-        None => Task::Fail,
-        Some(info) => {
-            if has_subject(setup, info.get()) {
-                Task::Succeed(info)
-            } else {
-                Task::Fail
-            }
-        }
+    if has_subject(setup, info.get()) {
+        Task::Succeed(info)
+    } else {
+        Task::Fail
+    }
+}
+
+// A create was answered: well or not.
+fn answered(setup: &OrderedSetup, reply: InfoReply) -> Task
+    ensures { (m : Matter) → rows_of m result ≡ rows.answered setup.now (info_in reply) ∷ [] }
+{
+    match reply {
+        InfoReply::Info(info) => informed(setup, info),
+        InfoReply::Error(_) => Task::Fail,
+        InfoReply::Nothing => Task::Fail,
+    }
+}
+
+fn is_stream_missing(reply: &InfoReply) -> bool
+    ensures { result ≡ rows.is_stream_missing reply.now }
+{
+    match reply {
+        InfoReply::Info(_) => false,
+        InfoReply::Error(code) => *code == ErrorCode::STREAM_NOT_FOUND,
+        InfoReply::Nothing => false,
+    }
+}
+
+// Whether the stream is missing after a reply, as it is kept where that is told.
+fn missing_after(tells: bool, reply: &InfoReply, was_missing: bool) -> bool
+    ensures { result ≡ rows.missing_after tells reply.now was_missing }
+{
+    if tells {
+        is_stream_missing(reply)
+    } else {
+        was_missing
+    }
+}
+
+// A stream that is missing is told where it was not missing before.
+fn missing_output(is_missing: bool, was_missing: bool) -> RowOutput
+    ensures { told_outputs result ≡ rows.missing_outputs is_missing was_missing }
+{
+    if is_missing && !was_missing {
+        RowOutput::Tells(ItemKind::StreamNotFound)
+    } else {
+        RowOutput::Nothing
     }
 }
 
 /// Handles the reply to a create request. The try has failed if the reply held no info or, for
-/// push, if the info has no deliver subject.
+/// push, if the info has no deliver subject. By the option `tells_missing_stream` it reports that
+/// the stream is not found, unless the last reply said so too.
 pub fn pass_answered(
     context: &ConsumerContext<'_>,
     consumer: &mut Consumer,
     recreation: Recreation,
-    info: Option<Boxed<Info>>,
-) -> NextTasks
+    reply: InfoReply,
+) -> PassedTask
     ensures { (m : Matter)
-        → StepsTo m (silent_passed (at_phase (Phase.Recreates recreation) consumer.old) (rows.answered context.now.setup.now info ∷ [])) [] consumer.new result }
+        → StepsTo m (rows.answered_row (input_of context.now) reply (at_phase (Phase.Recreates recreation) consumer.old)) (told_outputs result.told) consumer.new result.next }
 {
-    let task = answered(context.setup, info);
+    let tells = context.settings.resilience.tells_missing_stream;
+    let was_missing = consumer.stream_missing;
+    let is_missing = missing_after(tells, &reply, was_missing);
+    consumer.stream_missing = is_missing;
+    let told = missing_output(is_missing, was_missing);
+    let task = answered(context.setup, reply);
     set_phase(consumer, Phase::Recreates(recreation));
-    NextTasks::One(task)
+    PassedTask {
+        told,
+        next: NextTasks::One(task),
+    }
 }
 
 /// Handles a create request of pull that succeeded: the reader reads the inbox that was opened. If
@@ -346,7 +394,7 @@ pub fn pass_succeed_pull(
     mut source: PullSource,
     inbox: Option<Inbox>,
 ) -> NextTasks
-    ensures { (m : Matter) → (p : RowInput) → (info : SpecInfo) → source ≡ texts_of.source_of (input_of context.now) consumer.old.core.recreation_count 0 [] info
+    ensures { (m : Matter) → (p : RowInput) → (info : SpecInfo) → source ≡ texts_of.pull_source (input_of context.now) consumer.old.core.recreation_count 0 [] info
         → StepsTo m (rows.succeed_pull (input_of context.now) (opening_to context.now.moment inbox p) info (at_phase (Phase.Recreates recreation) consumer.old))
         (subscribed inbox) consumer.new result }
 {

@@ -10,7 +10,7 @@ ghost use Rattle.js_ordered_stream.specs.Opening.{IsGaplessPull, input_of_pull, 
 ghost use Rattle.js_ordered_stream.specs.Ordered.{IsGivenKind, SleepsUntil, something_due};
 ghost use Rattle.js_ordered_table.specs.Poll.{IsPoll};
 ghost use Rattle.js_ordered_table.specs.Timers.{SleepsIfLeftAlone};
-ghost use Rattle.js_readers.specs.OrderedOpening.{OpensPull};
+ghost use Rattle.js_readers.specs.OrderedOpening.{OpensPull, OpensPullWith};
 ghost use Rattle.js_readers.specs.OrderedPolls.{PollsWithSource, given_answer};
 ghost use Rattle.js_readers.specs.Stream.{IsTimed};
 
@@ -22,6 +22,7 @@ use js_call_consumers::OrderedPullConsumer;
 use js_link::{InboxId, Link};
 use js_message::Message;
 use js_ordered_stream::{Health, OrderedError};
+use js_pull::Resilience;
 use std::alloc::Global;
 
 /// The messages of an ordered pull consumer, in order and without a gap. If a message is missing,
@@ -53,6 +54,20 @@ pub trait OrderedPullCalls: Drop {
     /// sent then.
     fn messages<L: Link>(self, alloc: Global, link: &mut L) -> Result<Ordered, StreamError>
         ensures opens { OpensPull result (reads self) (L.view link.old) (L.view link.new) }
+        ensures gapless { IfOk result (λ ordered. IsGaplessPull ordered.reader) };
+
+    /// Reads the consumer as `messages` does, with these options. `messages` has all of them off, as
+    /// async-nats reads; turn all on with `Resilience::all()`, so that the reader never hangs and
+    /// tells you if its stream is gone.
+    ///
+    /// Fails as `messages` does.
+    fn messages_with<L: Link>(
+        self,
+        alloc: Global,
+        link: &mut L,
+        resilience: Resilience,
+    ) -> Result<Ordered, StreamError>
+        ensures opens { OpensPullWith resilience result (reads self) (L.view link.old) (L.view link.new) }
         ensures gapless { IfOk result (λ ordered. IsGaplessPull ordered.reader) };
 }
 
@@ -137,8 +152,17 @@ impl OrderedPullCalls for OrderedPullConsumer {
     ghost reads = { λ consumer. consumer };
 
     fn messages<L: Link>(self, alloc: Global, link: &mut L) -> Result<Ordered, StreamError> {
+        self.messages_with(alloc, link, Resilience::none())
+    }
+
+    fn messages_with<L: Link>(
+        self,
+        alloc: Global,
+        link: &mut L,
+        resilience: Resilience,
+    ) -> Result<Ordered, StreamError> {
         let timeout = message_timeout(&self.scope);
-        let settings = settings_of(alloc, self.scope, link.request_timeout());
+        let settings = settings_of(alloc, self.scope, link.request_timeout(), resilience);
         let opened = js_ordered_stream::pull::Ordered::open(
             alloc,
             link,

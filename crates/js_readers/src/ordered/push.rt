@@ -10,7 +10,7 @@ ghost use Rattle.js_ordered_stream.specs.Opening.{IsGaplessPush, input_of_push, 
 ghost use Rattle.js_ordered_stream.specs.Ordered.{IsGivenKind, SleepsUntil, something_due};
 ghost use Rattle.js_ordered_table.specs.Poll.{IsPoll};
 ghost use Rattle.js_ordered_table.specs.Timers.{SleepsIfLeftAlone};
-ghost use Rattle.js_readers.specs.OrderedOpening.{OpensPush, open_error_kind};
+ghost use Rattle.js_readers.specs.OrderedOpening.{OpensPush, OpensPushWith, open_error_kind};
 ghost use Rattle.js_readers.specs.OrderedPolls.{PollsWithSource, given_answer};
 ghost use Rattle.js_readers.specs.Stream.{IsTimed};
 
@@ -23,6 +23,7 @@ use js_link::{InboxId, Link};
 use js_message::Message;
 use js_ordered_stream::push::OpenError;
 use js_ordered_stream::{Health, OrderedError};
+use js_pull::Resilience;
 use std::alloc::Global;
 
 /// The messages of an ordered push consumer, in order and without a gap. It answers the server's
@@ -55,6 +56,20 @@ pub trait OrderedPushCalls: Drop {
     /// `OutOfMemory` if memory runs out. Nothing was sent then.
     fn messages<L: Link>(self, alloc: Global, link: &mut L) -> Result<Ordered, StreamError>
         ensures opens { OpensPush result (reads self) (L.view link.old) (L.view link.new) }
+        ensures gapless { IfOk result (λ ordered. IsGaplessPush ordered.reader) };
+
+    /// Reads the consumer as `messages` does, with these options. `messages` has all of them off, as
+    /// async-nats reads; turn all on with `Resilience::all()`, so that the reader never hangs and
+    /// tells you if its stream is gone.
+    ///
+    /// Fails as `messages` does.
+    fn messages_with<L: Link>(
+        self,
+        alloc: Global,
+        link: &mut L,
+        resilience: Resilience,
+    ) -> Result<Ordered, StreamError>
+        ensures opens { OpensPushWith resilience result (reads self) (L.view link.old) (L.view link.new) }
         ensures gapless { IfOk result (λ ordered. IsGaplessPush ordered.reader) };
 }
 
@@ -146,8 +161,17 @@ impl OrderedPushCalls for OrderedPushConsumer {
     ghost reads = { λ consumer. consumer };
 
     fn messages<L: Link>(self, alloc: Global, link: &mut L) -> Result<Ordered, StreamError> {
+        self.messages_with(alloc, link, Resilience::none())
+    }
+
+    fn messages_with<L: Link>(
+        self,
+        alloc: Global,
+        link: &mut L,
+        resilience: Resilience,
+    ) -> Result<Ordered, StreamError> {
         let timeout = message_timeout(&self.scope);
-        let settings = settings_of(alloc, self.scope, link.request_timeout());
+        let settings = settings_of(alloc, self.scope, link.request_timeout(), resilience);
         let opened = js_ordered_stream::push::Ordered::open(
             alloc,
             link,

@@ -5,15 +5,17 @@ ghost use Rattle.js_readers.specs.OrderedOpening.{settings_of};
 use js_base::{Nanos, Text};
 use js_call::ApiScope;
 use js_ordered_table::Settings;
+use js_pull::Resilience;
 use std::alloc::Global;
 
-// What a reader of the scope's consumers is made with. Its inboxes have the subjects that the link gives them.
+// What a reader of the scope's consumers is made with, which has these options. Its inboxes have the subjects that the link gives them.
 pub(crate) fn settings_of(
     alloc: Global,
     scope: ApiScope,
     request_timeout: Option<Nanos>,
+    resilience: Resilience,
 ) -> Settings
-    ensures { result ≡ settings_of scope request_timeout }
+    ensures { result ≡ settings_of resilience scope request_timeout }
 {
     Settings {
         api_prefix: scope.prefix,
@@ -21,5 +23,6 @@ pub(crate) fn settings_of(
         context_timeout: scope.timeout,
         request_timeout,
         retries: u32::MAX,
+        resilience,
     }
 }

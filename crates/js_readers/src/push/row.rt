@@ -1,12 +1,10 @@
 //! The steps of a reader, what they report, and how a heartbeat is answered.
-ghost use Rattle.std.specs.Prelude.{◌≡◌, [], None, OnErr, OnOk, codes};
-ghost use Rattle.std.specs.Option.{option_copied};
-ghost use Rattle.js_base.specs.Headers.{all_headers, last_value};
-ghost use Rattle.js_readers.specs.PushRows.{answer_subject};
+ghost use Rattle.std.specs.Prelude.{OnErr, OnOk};
 ghost use Rattle.js_readers.specs.PushMessages.{IsAnswered, IsUnanswered};
 
-use js_base::{HeaderMap, Message, OutOfMemory};
+use js_base::{Message, OutOfMemory};
 use js_link::{Link, LinkError};
+use js_ordered_table::answer_subject;
 use std::alloc::Global;
 
 /// What a reader does next.
@@ -31,26 +29,6 @@ pub(crate) enum RowOutcome {
     /// Nothing has come, and the timer is not due.
     Waits,
     Ends,
-}
-
-// The subject for the answer to a heartbeat whose consumer has stopped until it is answered.
-fn stalled_subject(headers: &Option<HeaderMap>) -> Option<&str>
-    ensures { option_copied result ≡ last_value (codes "Nats-Consumer-Stalled") (all_headers headers.now) }
-{
-    match headers {
-        None => None,
-        Some(headers) => headers.get_last("Nats-Consumer-Stalled"),
-    }
-}
-
-// The subject to which a heartbeat asks for an answer, if it does.
-fn answer_subject(message: &Message) -> Option<&str>
-    ensures { option_copied result ≡ answer_subject message.now }
-{
-    match &message.reply {
-        Some(reply) => Some(reply.as_str()),
-        None => stalled_subject(&message.headers),
-    }
 }
 
 // Answers a heartbeat, where it asks for that. An answer that the link refuses is passed over.

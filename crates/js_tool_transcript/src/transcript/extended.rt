@@ -1,14 +1,16 @@
 //! The members that only extended lines have: a payload in base64, and a length.
 
-ghost use Rattle.std.specs.Prelude.{◌≡◌, ◌||◌, codes};
+ghost use Rattle.std.specs.Prelude.{◌≡◌};
 ghost use Rattle.std.specs.Option.{ok_or};
-ghost use Rattle.serde_json.specs.View.{view, members_view};
+ghost use Rattle.serde_json.specs.View.{view};
 ghost use Rattle.js_json_members.specs.Member.{Gives, named};
-ghost use Rattle.js_json_members.specs.Value.{is_among as is_key_among};
 ghost use Rattle.js_json_members.specs.declared.key.Key.TheVariants as key;
 ghost use Rattle.js_json_members.specs.declared.error.ReadError.TheVariants as faults;
-ghost use Rattle.js_tool_transcript.specs.ExtendedMessage.{bytes_of, is_extended_name as is_extended_name_in, members_extended, has_only_extended as has_only_extended_in, has_only_in as has_only_of, under as under_in, payload_base64 as payload_base64_in, with_payload as with_payload_in, with_length as with_length_in, extended_fields as extended_in, fields_in as fields_of};
+ghost use Rattle.js_tool_transcript.specs.ExtendedMessage.{bytes_of, has_only_in as has_only_of, payload_base64 as payload_base64_in, with_payload as with_payload_in, with_length as with_length_in, extended_fields as extended_in, fields_in as fields_of};
+ghost use Rattle.js_tool_transcript.specs.ExtendedName.{name_text, under as under_in};
+ghost use Rattle.js_tool_transcript.specs.declared.transcript.extended_name.ExtendedName.TheVariants as names;
 
+use super::extended_name::{ExtendedName, has_only_with, under};
 use super::lines::Lines;
 use super::members::text_of;
 use super::message::message_fields;
@@ -17,43 +19,11 @@ use base64::DecodeAllocError;
 use base64::engine::general_purpose::STANDARD;
 use bytes::Bytes;
 use js_base::{Message, all_3};
-use js_json_members::{Key, Member, ReadError, has_only};
-use serde_json::{Map, Value};
+use js_json_members::{Key, ReadError, has_only};
+use serde_json::Value;
 use std::alloc::Global;
 
 // ---- names
-
-fn is_extended_name(name: &str) -> bool
-    ensures { result ≡ is_extended_name_in name.now }
-{
-    name == "payload_base64" || name == "length"
-}
-
-fn is_among(keys: &[Key], name: &str) -> bool
-    ensures { result ≡ is_key_among keys.now name.now }
-{
-    keys.iter().any(|key| name == key.name())
-}
-
-fn are_extended(members: &Map<String, Value>, keys: &[Key]) -> bool
-    ensures { result ≡ members_extended keys.now (members_view members.now.entries) }
-{
-    for (name, _) in members.iter() {
-        if !is_among(keys, name) && !is_extended_name(name) {
-            return false;
-        }
-    }
-    true
-}
-
-fn has_only_extended(object: &Value, keys: &[Key]) -> bool
-    ensures { result ≡ has_only_extended_in keys.now (view object.now) }
-{
-    match object {
-        Value::Object(members) => are_extended(members, keys),
-        _ => false,
-    }
-}
 
 /// Returns whether the value is an object with no names but those of the keys and, in extended
 /// lines, the extended ones.
@@ -62,7 +32,11 @@ pub(crate) fn has_only_in(lines: Lines, object: &Value, keys: &[Key]) -> bool
 {
     match lines {
         Lines::Plain => has_only(object, keys),
-        Lines::Extended => has_only_extended(object, keys),
+        Lines::Extended => has_only_with(
+            object,
+            keys,
+            &[ExtendedName::PayloadBase64, ExtendedName::Length],
+        ),
     }
 }
 
@@ -96,15 +70,15 @@ fn bytes_of(
     decoded(alloc, payloads, key, text_of(key, value)?)
 }
 
-#[tactic(auto, unfolding(crate::specs::ExtendedMessage::under))]
+#[tactic(auto, unfolding(crate::specs::ExtendedName::under))]
 fn bytes_member(
     alloc: Global,
     payloads: &mut Payloads,
     object: &Value,
 ) -> Result<Option<Bytes>, ReadError>
-    ensures { Gives result (under_in (codes "payload_base64") (named bytes_of) (view object.now)) }
+    ensures { Gives result (under_in (name_text names.PayloadBase64) key.Payload (named bytes_of) (view object.now)) }
 {
-    match object.get("payload_base64") {
+    match object.get(ExtendedName::PayloadBase64.text()) {
         None | Some(Value::Null) => Ok(None),
         Some(value) => Ok(Some(bytes_of(alloc, payloads, Key::Payload, value)?)),
     }
@@ -128,16 +102,6 @@ fn payload_base64(
                 Err(ReadError::WrongKind { key: Key::Payload })
             }
         },
-    }
-}
-
-#[tactic(auto, unfolding(crate::specs::ExtendedMessage::under))]
-fn under<T: Member>(alloc: Global, object: &Value, name: &str) -> Result<Option<T>, ReadError>
-    ensures { Gives result (under_in name.now T.reads (view object.now)) }
-{
-    match object.get(name) {
-        None | Some(Value::Null) => Ok(None),
-        Some(value) => Ok(Some(T::read(alloc, Key::Payload, value)?)),
     }
 }
 
@@ -180,7 +144,7 @@ fn extended_fields(
 {
     let (bytes, length, message) = all_3(
         payload_base64(alloc, payloads, object),
-        under::<u64>(alloc, object, "length"),
+        under::<u64>(alloc, object, ExtendedName::Length, Key::Payload),
         message_fields(alloc, payloads, object),
     )?;
     Ok(with_length(length, with_payload(bytes, message)))

@@ -7,9 +7,13 @@ ghost use Rattle.serde_json.specs.View.{view};
 ghost use Rattle.js_json_members.specs.Member.{Gives, GivesAs, given as given_in, required as required_in, named, nested as nested_in, text};
 ghost use Rattle.js_json_members.specs.declared.key.Key.TheVariants as key;
 ghost use Rattle.js_json.specs.ConsumerInfo.{info_fields};
+ghost use Rattle.js_tool_transcript.specs.ExtendedSetup.{with_resilience as with_options, extended_setup_fields as extended_in, extended_setup_of as extended_of, extended_setup_line as extended_line, setup_line_in as line_of_form};
 ghost use Rattle.js_tool_transcript.specs.Setup.{mode_named, settings_fields as settings_in, settings as settings_member, ordered_setup as ordered_in, setup_with as with_in, setup_fields as setup_in, setup_of as setup_of_in, setup_line as line_in};
 
+use super::extended_name::{ExtendedName, has_only_with};
+use super::lines::Lines;
 use super::members::text_of;
+use super::resilience::resilience_member;
 use js_base::{Moment, OutOfMemory, Text, all_5, both};
 use js_json::consumer::FromConsumer;
 use js_json::{consumer, pull, push};
@@ -17,6 +21,7 @@ use js_json_members::{
     Key, Member, Named, ReadError, by_text, defaulted, given, has_only, nested, required, value_of,
 };
 use js_ordered_table::{OrderedSetup, Settings};
+use js_pull::Resilience;
 use serde_json::Value;
 use std::alloc::Global;
 
@@ -98,6 +103,7 @@ fn settings_fields(alloc: Global, object: &Value) -> Result<Settings, ReadError>
         context_timeout,
         request_timeout: request_timeout.unwrap_or(Some(10_000_000_000)),
         retries: retries.unwrap_or(4_294_967_295),
+        resilience: Resilience::none(),
     })
 }
 
@@ -222,4 +228,60 @@ pub fn setup_line(alloc: Global, line: &[u8]) -> Result<Setup, ReadError>
     let setup = setup_of(alloc, &value);
     drop(value);
     setup
+}
+
+// ---- extended lines
+
+fn with_resilience(resilience: Option<Resilience>, mut setup: Setup) -> Setup
+    ensures { result ≡ with_options resilience setup }
+{
+    if let Some(resilience) = resilience {
+        setup.settings.resilience = resilience;
+    }
+    setup
+}
+
+#[tactic(auto, unfolding(crate::specs::ExtendedSetup::extended_setup_fields))]
+fn extended_setup_fields(alloc: Global, object: &Value) -> Result<Setup, ReadError>
+    ensures { Gives result (extended_in (view object.now)) }
+{
+    let (resilience, setup) = both(
+        resilience_member(alloc, object),
+        setup_fields(alloc, object),
+    )?;
+    Ok(with_resilience(resilience, setup))
+}
+
+fn extended_setup_of(alloc: Global, value: &Value) -> Result<Setup, ReadError>
+    ensures { Gives result (extended_of (view value.now)) }
+{
+    if has_only_with(
+        value,
+        &[Key::Mode, Key::Start, Key::Settings, Key::Config, Key::Info],
+        &[ExtendedName::Resilience],
+    ) {
+        extended_setup_fields(alloc, value)
+    } else {
+        Err(ReadError::NotJson)
+    }
+}
+
+fn extended_setup_line(alloc: Global, line: &[u8]) -> Result<Setup, ReadError>
+    ensures { Gives result (extended_line line.now) }
+{
+    let value = value_of(alloc, line)?;
+    let setup = extended_setup_of(alloc, &value);
+    drop(value);
+    setup
+}
+
+/// Reads the setup on a first line of a form. In `Lines::Extended` the line may have the options of
+/// an ordered reader beside the setup; in `Lines::Plain` all options are off.
+pub fn setup_line_in(alloc: Global, lines: Lines, line: &[u8]) -> Result<Setup, ReadError>
+    ensures { Gives result (line_of_form lines line.now) }
+{
+    match lines {
+        Lines::Plain => setup_line(alloc, line),
+        Lines::Extended => extended_setup_line(alloc, line),
+    }
 }

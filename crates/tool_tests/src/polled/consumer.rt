@@ -29,6 +29,7 @@ fn scope_of(link: &mut MemoryLink, settings: Settings) -> ApiScope {
         context_timeout,
         request_timeout,
         retries: _,
+        resilience: _,
     } = settings;
     drop(inbox_prefix);
     link.set_limits(u64::MAX, request_timeout);

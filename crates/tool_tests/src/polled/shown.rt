@@ -85,6 +85,7 @@ fn item_kind(kind: OrderedErrorKind) -> Option<ItemKind> {
         OrderedErrorKind::Recreate => Some(ItemKind::Recreate),
         OrderedErrorKind::RequestLimitExceeded => Some(ItemKind::RequestLimitExceeded),
         OrderedErrorKind::PushBasedConsumer => Some(ItemKind::PushBasedConsumer),
+        OrderedErrorKind::StreamNotFound => Some(ItemKind::StreamNotFound),
         OrderedErrorKind::SequenceEnd
         | OrderedErrorKind::ConsumerDeleted
         | OrderedErrorKind::NoResponders

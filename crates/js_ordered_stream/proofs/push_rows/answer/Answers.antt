@@ -7,7 +7,7 @@ use Rattle.js_ordered_stream.proofs.push_rows.answer.Goals as goal
 pub returns-in-Yields-clause-heard : goal.returns-in-Yields-clause-heard
 returns-in-Yields-clause-heard g c =
     let heard = c.heard_as-heard.ensures in
-    (heard, unanswered c.args.number c.args.message.now c.heard_as-heard.result (hears.Yields c.in-Yields.field-0) (g.L.Link.view c.args.link.now) c.in-Yields.is refl heard)
+    (heard, unanswered c.args.number c.args.message.now c.args.stalled c.heard_as-heard.result (hears.Yields c.in-Yields.field-0) (g.L.Link.view c.args.link.now) c.in-Yields.is refl heard)
 
 pub returns-clause-heard : goal.returns-clause-heard
 returns-clause-heard g c =

@@ -20,8 +20,8 @@ returns-in_ok-informed-in-Pulls c =
     let r = c.in-Pulls.reader in
     let reply = brought m.answer in
     reads_here g now m (read.Answered reply c.args.failures) r w _ c.args.outputs.now.items _ (next_rows m c.finish.result) c.in-Pulls.is
-    (leads_finish g now m (read.Answered reply c.args.failures) r c.answered-step.new.reader w _ (passing g now w) c.answered-step.result (pull.answered c.args.failures (pull.info_of_reply reply) r) c.args.outputs.now.items _ c.finish.result refl refl
-    (c.answered-step.ensures reply None c.in_ok-informed-in-Pulls.ensures) (answered_sends c.args.failures (pull.info_of_reply reply) r) (c.finish.ensures m))
+    (leads_finish g now m (read.Answered reply c.args.failures) r c.answered-step.new.reader w _ (passing g now w) c.answered-step.result (pull.answered c.args.failures (pull.info_reply reply) r) c.args.outputs.now.items _ c.finish.result refl refl
+    (c.answered-step.ensures reply None c.in_ok-informed-in-Pulls.ensures) (answered_sends c.args.failures (pull.info_reply reply) r) (c.finish.ensures m))
 
 pub returns-in_default : goal.returns-in_default
 returns-in_default c =

@@ -8,7 +8,8 @@ use Rattle.js_link.specs.declared.wish.Met.{Met}
 use Rattle.js_link.specs.declared.wish.Met.TheVariants.{Unasked, GoneOut, Refused}
 use Rattle.js_link.specs.declared.link.LinkError.{LinkError}
 use Rattle.js_link.specs.declared.link.LinkError.TheVariants.{Failed}
-use Rattle.js_readers.specs.PushRows.{answer_subject, answer_wish}
+use Rattle.js_ordered_table.specs.Arrivals.{answer_subject}
+use Rattle.js_readers.specs.PushRows.{answer_wish}
 use Rattle.js_readers.specs.PushMessages.{IsAnswered}
 use Rattle.js_readers.proofs.push.row.answer.Goals as goal
 
