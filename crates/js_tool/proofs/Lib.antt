@@ -3,3 +3,4 @@ pub mod Called
 pub mod LinesPassed
 pub mod Reruns
 pub mod LineErrors
+pub mod RunsTold

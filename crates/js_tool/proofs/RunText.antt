@@ -1,5 +1,5 @@
 -- The text of a run as it grows: the opening's, that of each event more, and the end.
-use Rattle.std.proofs.Common.{◌≡◌, ℕ, suc, ◌+◌, List, [], ◌∷◌, ◌++◌, length, flat_map, sym, ap, ◌∙◌, append_assoc, append-nil, length-append, arith}
+use Rattle.std.proofs.Common.{◌≡◌, ℕ, Bool, suc, ◌+◌, List, [], ◌∷◌, ◌++◌, length, flat_map, sym, ap, ◌∙◌, append_assoc, append-nil, length-append, arith}
 use Rattle.js_ordered_table.specs.declared.consumer.ReplayInput.{ReplayInput}
 use Rattle.js_ordered.specs.declared.incremental_replay.IncrementalReplay.{IncrementalReplay}
 use Rattle.js_ordered_table.specs.declared.event.Event.{Event}
@@ -54,3 +54,24 @@ pub text_ends : (g : ReplayInput) (start : ℕ) (es : List Event) → run_text (
 unfolding run_text
 text_ends g start es =
     ap (λ (n : ℕ). text_so_far (fold g start es) ++ last_line (fold g start es).ended n) (steps_count g start es)
+
+-- so it is there after one more
+pub text_passes : (g : ReplayInput) (start : ℕ) (es : List Event) (e : Event) (before : List ℕ) (number : ℕ) (replay : IncrementalReplay) (outputs : List Output) (text : List ℕ)
+    → before ≡ text_so_far (fold g start es) → HasCome g start (es ++ e ∷ []) replay → number ≡ replay.count → outputs ≡ replay.outputs → text ≡ before ++ flat_map (output_text number) outputs
+    → text ≡ text_so_far (fold g start (es ++ e ∷ []))
+text_passes g start es e before number replay outputs text told come counted put says =
+    says
+    ∙ ap (λ (front : List ℕ). front ++ flat_map (output_text number) outputs) told
+    ∙ ap (λ (n : ℕ). text_so_far (fold g start es) ++ flat_map (output_text n) outputs) (counted ∙ come.count)
+    ∙ ap (λ (last : List Output). text_so_far (fold g start es) ++ flat_map (output_text (length (es ++ e ∷ []))) last) (put ∙ come.outputs)
+    ∙ sym (text_on g start es e)
+
+-- and so the whole text is there at the end
+pub text_done : (g : ReplayInput) (start : ℕ) (es : List Event) (before : List ℕ) (ended : Bool) (number : ℕ) (text : List ℕ) → before ≡ text_so_far (fold g start es) → ended ≡ (fold g start es).ended → number ≡ length es
+    → text ≡ before ++ last_line ended number → text ≡ run_text (fold g start es)
+text_done g start es before ended number text told ends counted says =
+    says
+    ∙ ap (λ (front : List ℕ). front ++ last_line ended number) told
+    ∙ ap (λ (b : Bool). text_so_far (fold g start es) ++ last_line b number) ends
+    ∙ ap (λ (n : ℕ). text_so_far (fold g start es) ++ last_line (fold g start es).ended n) counted
+    ∙ sym (text_ends g start es)

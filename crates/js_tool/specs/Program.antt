@@ -15,25 +15,15 @@ use Rattle.js_window_workers.specs.declared.workers.WindowCounts.{WindowCounts}
 use Rattle.js_window_workers.specs.WindowCounts.{CountsOfRun}
 use Rattle.js_tool.specs.declared.status.Status.{Status}
 use Rattle.js_tool.specs.declared.status.Status.TheVariants as status
-use Rattle.js_tool.specs.declared.program.ReplayOutcome.{ReplayOutcome}
-use Rattle.js_tool.specs.declared.program.ReplayOutcome.TheVariants as outcome
 use Rattle.js_tool_transcript.specs.declared.transcript.Transcript.{Transcript}
 use Rattle.js_tool.specs.CommandTexts.{summary_text, info_text, error_text, info_status, window_text}
 use Rattle.js_tool.specs.Command.{Asked, Replay, Generate, Window}
 use Rattle.js_tool.specs.Command as commands
 use Rattle.js_tool_transcript.specs.Transcript.{transcript, extended_transcript}
-use Rattle.js_tool_transcript.specs.TranscriptReplay.{replay_input, ReplaysAs, IsRefusedAs, FirstUnreadAs, IsValidAs}
+use Rattle.js_tool_transcript.specs.TranscriptReplay.{replay_input, ReplaysAs, IsRefusedAs, IsValidAs}
 use Rattle.js_tool_transcript.specs.Text.{run_text, refusal_text}
 
--- ---- what the bytes call for
-
--- the outcome is what the bytes call for, by what they say
-abbrev pub IsOutcome : Result Transcript ℕ → List ℕ → ReplayOutcome → Type 0
-IsOutcome reading bytes (outcome.Done written) = (run : Run) × ReplaysAs reading bytes run × (written.items ≡ run_text run)
-IsOutcome reading bytes (outcome.Refused written) = (refusal : ReplayError) × IsRefusedAs reading bytes refusal × (written.items ≡ refusal_text refusal)
-IsOutcome reading bytes (outcome.BadLine line) = FirstUnreadAs reading bytes line
-
--- ---- the status that they call for, where nothing fails
+-- ---- the status that bytes call for, where nothing fails
 
 abbrev pub replay_status : Option ReplayError → Status
 replay_status None = status.Done
@@ -45,10 +35,6 @@ transcript_status (Err line) = status.BadLine line
 
 unfoldable pub called_by : Result Transcript ℕ → List ℕ → Status
 called_by reading bytes = if nat_lt 67_108_864 (length bytes) then status.TooLong else transcript_status reading
-
--- of a transcript
-abbrev pub called_for : List ℕ → Status
-called_for bytes = called_by (transcript bytes) bytes
 
 -- a status for want of memory or after a fault, or else this one
 abbrev pub IsUnlessFailed : Status → Status → Type 0

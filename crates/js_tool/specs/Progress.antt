@@ -1,5 +1,5 @@
--- How far a replay has come as its lines are read, and the text of what it has put out.
-use Rattle.std.specs.Prelude.{◌≡◌, ℕ, List, [], ◌∷◌, ◌++◌, Option, Some, None, Result, Ok, Err, ⊤}
+-- How far a replay has come as its lines are read, and what is told of it.
+use Rattle.std.specs.Prelude.{◌≡◌, ◌≤◌, ℕ, List, [], ◌∷◌, ◌++◌, length, Bool, Option, Some, None, Result, Ok, Err, ⊤}
 use Rattle.js_json_members.specs.declared.error.ReadError.{ReadError}
 use Rattle.js_ordered_table.specs.declared.consumer.ReplayInput.{ReplayInput}
 use Rattle.js_ordered_table.specs.declared.event.Event.{Event}
@@ -7,52 +7,76 @@ use Rattle.js_ordered_table.specs.declared.run.ReplayError.{ReplayError}
 use Rattle.js_ordered.specs.IncrementalReplay.{HasCome}
 use Rattle.js_ordered_table.specs.Fold.{fold}
 use Rattle.js_ordered_table.specs.Refusal.{refuse}
-use Rattle.js_tool.specs.declared.program.ReplayOutcome.{ReplayOutcome}
-use Rattle.js_tool.specs.declared.program.ReplayOutcome.TheVariants as outcome
+use Rattle.js_tool.specs.declared.step_report.Replayed.{Replayed}
+use Rattle.js_tool.specs.declared.step_report.Replayed.TheVariants as replayed
 use Rattle.js_tool.specs.declared.progress.Progress.{Progress}
 use Rattle.js_tool_transcript.specs.declared.transcript.Transcript.{Transcript}
 use Rattle.js_tool_transcript.specs.declared.transcript.lines.Lines.{Lines}
 use Rattle.js_tool_transcript.specs.declared.transcript.Unread.{Unread}
 use Rattle.js_tool_transcript.specs.declared.transcript.Unread.TheVariants as unread
 use Rattle.js_tool_transcript.specs.Event.{event_line_in}
-use Rattle.js_tool_transcript.specs.Setup.{setup_line}
-use Rattle.js_tool_transcript.specs.TranscriptReplay.{replay_input}
-use Rattle.js_tool_transcript.specs.Text.{text_so_far, run_text, refusal_text}
+use Rattle.js_tool_transcript.specs.ExtendedSetup.{setup_line_in}
+use Rattle.js_tool_transcript.specs.TranscriptReplay.{replay_input, IsRefusedAs, FirstUnreadAs}
 use Rattle.js_tool_transcript.specs.Transcript.{read_after_in}
 
--- these events were passed, and their text is there
-pub record HasPassed (g : ReplayInput) (start : ℕ) (es : List Event) (p : Progress) : Type 0 where
-  pub replay : HasCome g start es p.replay.value
-  pub text : p.text.items ≡ text_so_far (fold g start es)
+-- what a report is after the opening and these events, from this start on
+abbrev pub Tells : Type 0 → Type 1
+Tells R = ReplayInput → ℕ → List Event → R → Type 0
+
+-- these events were passed, and the report tells of them
+pub record HasPassed {R : Type 0} (tells : Tells R) (g : ReplayInput) (start : ℕ) (es : List Event) (p : Progress R) : Type 0 where
+  pub given : replay_input p.setup.now ≡ g
+  pub replay : HasCome g start es p.replay
+  pub told : tells g start es p.report
 
 -- Of these lines of a form those that are left were not passed yet: whatever follows them, all is read as it was before.
-abbrev pub PassesTo : Lines → Progress → List (List ℕ) → Progress → List (List ℕ) → Type 0
-PassesTo form old lines new left = (g : ReplayInput) (start : ℕ) (es : List Event) → HasPassed g start es old
-    → (passed : List Event) × HasPassed g start passed new × ((more : List (List ℕ)) → read_after_in form es (lines ++ more) ≡ read_after_in form passed (left ++ more))
+abbrev pub PassesTo : {R : Type 0} → Tells R → Lines → Progress R → List (List ℕ) → Progress R → List (List ℕ) → Type 0
+PassesTo tells form old lines new left = (g : ReplayInput) (start : ℕ) (es : List Event) → HasPassed tells g start es old
+    → (passed : List Event) × HasPassed tells g start passed new × ((more : List (List ℕ)) → read_after_in form es (lines ++ more) ≡ read_after_in form passed (left ++ more))
 
 -- one of these lines is the first that does not read, or memory ran out
-abbrev pub StopsOn : Lines → Progress → List (List ℕ) → Unread → Type 0
-StopsOn form old lines unread.OutOfMemory = ⊤
-StopsOn form old lines (unread.BadLine n) = (g : ReplayInput) (start : ℕ) (es : List Event) → HasPassed g start es old
+abbrev pub StopsOn : {R : Type 0} → Tells R → Lines → Progress R → List (List ℕ) → Unread → Type 0
+StopsOn tells form old lines unread.OutOfMemory = ⊤
+StopsOn tells form old lines (unread.BadLine n) = (g : ReplayInput) (start : ℕ) (es : List Event) → HasPassed tells g start es old
     → (more : List (List ℕ)) → read_after_in form es (lines ++ more) ≡ Err n
 
 -- all of these lines were passed, or it stopped
-abbrev pub PassesLines : {A : Type 0} → Lines → Progress → List (List ℕ) → Progress → Result A Unread → Type 0
-PassesLines form old lines new (Ok done) = PassesTo form old lines new []
-PassesLines form old lines new (Err e) = StopsOn form old lines e
+abbrev pub PassesLines : {A R : Type 0} → Tells R → Lines → Progress R → List (List ℕ) → Progress R → Result A Unread → Type 0
+PassesLines tells form old lines new (Ok done) = PassesTo tells form old lines new []
+PassesLines tells form old lines new (Err e) = StopsOn tells form old lines e
 
--- the outcome of a replay of these events
-abbrev pub IsOutcomeOn : ReplayInput → ℕ → List Event → ReplayOutcome → Type 0
-IsOutcomeOn g start es (outcome.Done text) = (refuse g start es ≡ None) × (text.items ≡ run_text (fold g start es))
-IsOutcomeOn g start es (outcome.Refused text) = (refusal : ReplayError) × (refuse g start es ≡ Some refusal) × (text.items ≡ refusal_text refusal)
-IsOutcomeOn g start es (outcome.BadLine line) = ⊥
+-- ---- what lines come to
 
--- the outcome of what was read
-abbrev pub IsOutcomeTo : Result Transcript ℕ → ReplayOutcome → Type 0
-IsOutcomeTo (Ok t) answer = IsOutcomeOn (replay_input t.setup) t.setup.start t.events answer
-IsOutcomeTo (Err n) (outcome.BadLine line) = n ≡ line
-IsOutcomeTo (Err n) (outcome.Done text) = ⊥
-IsOutcomeTo (Err n) (outcome.Refused text) = ⊥
+-- the replay of these events is not refused, and the report tells of all of it
+pub record HasReplayed {R : Type 0} (tells : Tells R) (g : ReplayInput) (start : ℕ) (es : List Event) (report : R) (ended : Bool) (events : ℕ) : Type 0 where
+  pub accepted : refuse g start es ≡ None
+  pub told : tells g start es report
+  pub ends : ended ≡ (fold g start es).ended
+  pub counted : events ≡ length es
+
+-- the replay of these events comes to this
+abbrev pub IsReplayedOn : {R : Type 0} → Tells R → ReplayInput → ℕ → List Event → Replayed R → Type 0
+IsReplayedOn tells g start es (replayed.Done report ended events) = HasReplayed tells g start es report ended events
+IsReplayedOn tells g start es (replayed.Refused refusal) = refuse g start es ≡ Some refusal
+IsReplayedOn tells g start es (replayed.BadLine line) = ⊥
+
+-- what was read comes to this
+abbrev pub IsReplayedTo : {R : Type 0} → Tells R → Result Transcript ℕ → Replayed R → Type 0
+IsReplayedTo tells (Ok t) answer = IsReplayedOn tells (replay_input t.setup) t.setup.start t.events answer
+IsReplayedTo tells (Err n) (replayed.BadLine line) = n ≡ line
+IsReplayedTo tells (Err n) (replayed.Done report ended events) = ⊥
+IsReplayedTo tells (Err n) (replayed.Refused refusal) = ⊥
+
+-- a transcript, whose replay is not refused, and the report tells of all of it
+pub record ReplaysTold {R : Type 0} (tells : Tells R) (reading : Result Transcript ℕ) (bytes : List ℕ) (report : R) (ended : Bool) (events : ℕ) : Type 0 where
+  pub within : length bytes ≤ 67_108_864
+  pub by : (t : Transcript) × (reading ≡ Ok t) × HasReplayed tells (replay_input t.setup) t.setup.start t.events report ended events
+
+-- bytes come to this, by what they say
+abbrev pub IsReplayed : {R : Type 0} → Tells R → Result Transcript ℕ → List ℕ → Replayed R → Type 0
+IsReplayed tells reading bytes (replayed.Done report ended events) = ReplaysTold tells reading bytes report ended events
+IsReplayed tells reading bytes (replayed.Refused refusal) = IsRefusedAs reading bytes refusal
+IsReplayed tells reading bytes (replayed.BadLine line) = FirstUnreadAs reading bytes line
 
 -- ---- why a line does not read
 
@@ -69,7 +93,7 @@ event_error form (line ∷ lines) = error_or (event_line_in form line) (event_er
 -- the error of the first line of a transcript that does not read, where there is one
 abbrev pub line_error : Lines → List (List ℕ) → Option ReadError
 line_error form [] = None
-line_error form (line ∷ lines) = error_or (setup_line line) (event_error form lines)
+line_error form (line ∷ lines) = error_or (setup_line_in form line) (event_error form lines)
 
 -- all of these lines read, or this is the error of the first that does not, or memory ran out
 abbrev pub TellsError : {A : Type 0} → Option ReadError → Option ReadError → Result A Unread → Type 0
@@ -78,8 +102,8 @@ TellsError error told (Err unread.OutOfMemory) = ⊤
 TellsError error told (Err (unread.BadLine n)) = (e : ReadError) × (told ≡ Some e) × (error ≡ Some e)
 
 -- an outcome that names a line tells this error
-abbrev pub TellsOutcome : {E : Type 0} → Option ReadError → Option ReadError → Result ReplayOutcome E → Type 0
-TellsOutcome error told (Ok (outcome.BadLine line)) = told ≡ error
-TellsOutcome error told (Ok (outcome.Done text)) = ⊤
-TellsOutcome error told (Ok (outcome.Refused text)) = ⊤
+abbrev pub TellsOutcome : {R E : Type 0} → Option ReadError → Option ReadError → Result (Replayed R) E → Type 0
+TellsOutcome error told (Ok (replayed.BadLine line)) = told ≡ error
+TellsOutcome error told (Ok (replayed.Done report ended events)) = ⊤
+TellsOutcome error told (Ok (replayed.Refused refusal)) = ⊤
 TellsOutcome error told (Err e) = ⊤

@@ -11,26 +11,19 @@ ghost use Rattle.js_tool_transcript.specs.Transcript.{transcript, extended_trans
 ghost use Rattle.js_tool_transcript.specs.TranscriptReplay.{FirstUnread, FirstUnreadAs};
 ghost use Rattle.js_tool_transcript.specs.declared.transcript.Transcript as transcripts;
 
+use crate::answer::answer_text;
 use crate::command::ToolCommand;
 use crate::generate::answer_generate;
 use crate::info::answer_info;
-use crate::progress::replay;
+use crate::run_text::RunText;
 use crate::status::Status;
 use crate::window::{answer_window, is_window};
 use js_json_members::ReadError;
-use js_tool_io::{Sink, Source, Stop, read_all, write_all};
+use js_tool_io::{Sink, Source};
 use js_tool_transcript::Lines;
-use std::alloc::{AllocError, Global};
+use std::alloc::Global;
 use std::sync::Wait;
 use std::thread::Threads;
-
-// What an input calls for: a text to write, or none.
-#[derive(Drop)]
-pub(crate) enum ReplayOutcome {
-    Done(Vec<u8>),
-    Refused(Vec<u8>),
-    BadLine(u64),
-}
 
 /// Executes a command with a source and a sink. If a number is out of its limits, does nothing and
 /// returns `Usage`. For commands other than `Window` it promises what [`run_plain`] promises.
@@ -156,7 +149,7 @@ pub fn rerun<S: Source, K: Sink>(
     ensures told { error.old ≡ None → (line : ℕ) → result ≡ Status.BadLine line
         → IfSome (S.left input.old) (λ bytes. error.new ≡ line_error Lines.Extended (lines_of bytes)) }
 {
-    answer_replay(alloc, Lines::Extended, input, output, error)
+    answer_text::<RunText, S, K>(alloc, Lines::Extended, input, output, error)
 }
 
 /// Reads a transcript whose lines have this form to its end, and writes the text of its run, as
@@ -182,27 +175,5 @@ pub fn answer_replay<S: Source, K: Sink>(
     ensures told { error.old ≡ None → (line : ℕ) → result ≡ Status.BadLine line
         → IfSome (S.left input.old) (λ bytes. error.new ≡ line_error form (lines_of bytes)) }
 {
-    let bytes = match read_all(alloc, input) {
-        Ok(bytes) => bytes,
-        Err(Stop::Fault) => return Status::ReadFault,
-        Err(Stop::TooLong) => return Status::TooLong,
-        Err(Stop::OutOfMemory) => return Status::OutOfMemory,
-    };
-    match replay(alloc, form, bytes, error) {
-        Ok(ReplayOutcome::Done(text)) => {
-            let written = write_all(output, &text);
-            drop(text);
-            match written {
-                Ok(()) => Status::Done,
-                Err(_) => Status::WriteFault,
-            }
-        }
-        Ok(ReplayOutcome::Refused(text)) => {
-            let _ = write_all(output, &text);
-            drop(text);
-            Status::Refused
-        }
-        Ok(ReplayOutcome::BadLine(line)) => Status::BadLine { line },
-        Err(AllocError) => Status::OutOfMemory,
-    }
+    answer_text::<RunText, S, K>(alloc, form, input, output, error)
 }

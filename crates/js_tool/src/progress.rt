@@ -1,94 +1,101 @@
-//! A replay that runs while its lines are read. The text is built at once, so that neither events
-//! nor steps are kept.
+//! The one loop over the lines of a transcript: each event is passed as its line is read, and told
+//! of at once, so that neither lines nor events nor steps are kept.
 
 ghost use Rattle.std.specs.Prelude.{◌≡◌, ◌≤◌, ◌+◌, ◌++◌, ◌∷◌, [], ℕ, List, length, None, IfOk, OnOk};
 ghost use Rattle.js_ordered_table.specs.declared.consumer.ReplayInput.{ReplayInput};
 ghost use Rattle.js_ordered_table.specs.declared.event.Event as events;
 ghost use Rattle.js_tool_io.specs.Lines.{lines_of};
-ghost use Rattle.js_tool.specs.Program.{IsOutcome};
 ghost use Rattle.js_tool_transcript.specs.TranscriptReplay.{replay_input};
-ghost use Rattle.js_tool.specs.Progress.{HasPassed, PassesLines, IsOutcomeOn, IsOutcomeTo, TellsError, TellsOutcome, error_or, event_error, line_error};
+ghost use Rattle.js_tool.specs.Progress.{HasPassed, PassesLines, IsReplayedOn, IsReplayedTo, IsReplayed, TellsError, TellsOutcome, error_or, event_error, line_error};
 ghost use Rattle.js_tool_transcript.specs.Event.{event_line_in as event_in};
-ghost use Rattle.js_tool_transcript.specs.Setup.{setup_line as setup_in};
+ghost use Rattle.js_tool_transcript.specs.ExtendedSetup.{setup_line_in as setup_in};
 ghost use Rattle.js_tool_transcript.specs.Transcript.{GivesLines, numbered, transcript_in, transcript_of_in, with_lines_in};
 
-use crate::program::ReplayOutcome;
+use crate::step_report::{Replayed, StepReport};
 use js_base::OutOfMemory;
 use js_json_members::ReadError;
 use js_ordered::{Event, IncrementalReplay};
 use js_tool_io::{Pieces, cut_line, next_piece};
-use js_tool_transcript::{
-    Lines, Payloads, Setup, Unread, event_line_in, push_end, push_outputs, refusal_line, setup_line,
-};
+use js_tool_transcript::{Lines, Payloads, Setup, Unread, event_line_in, setup_line_in};
 use std::alloc::{AllocError, Global};
 
-/// How far a replay has come, and the text of its outputs.
+/// How far a replay has come, and what is told of it.
 #[derive(Drop)]
-pub(crate) struct Progress<'s> {
-    // On the heap, so that it is moved with little.
-    replay: Box<IncrementalReplay<'s>>,
-    text: Vec<u8>,
+pub(crate) struct Progress<'s, R> {
+    setup: &'s Setup,
+    replay: IncrementalReplay<'s>,
+    report: R,
     // Why the last line did not read.
     error: Option<ReadError>,
 }
 
-impl<'s> Progress<'s> {
-    fn open(alloc: Global, setup: &'s Setup) -> Result<Progress<'s>, OutOfMemory>
-        ensures { IfOk result (λ progress. HasPassed (replay_input setup.now) setup.now.start [] progress) }
+impl<'s, R: StepReport> Progress<'s, R> {
+    fn open(alloc: Global, setup: &'s Setup) -> Result<Progress<'s, R>, OutOfMemory>
+        ensures { IfOk result (λ progress. HasPassed R.tells (replay_input setup.now) setup.now.start [] progress) }
     {
-        let opened = IncrementalReplay::open(
+        let replay = IncrementalReplay::open(
             alloc,
             &setup.settings,
             &setup.setup,
             &setup.first,
             setup.start,
         )?;
-        let replay = Box::new(alloc, opened)?;
-        let mut text = Vec::new(alloc);
-        push_outputs(&mut text, 0, replay.outputs())?;
-        Ok(Progress {
-            replay,
-            text,
-            error: None,
-        })
+        match R::open(alloc, setup, &replay) {
+            Ok(report) => Ok(Progress {
+                setup,
+                replay,
+                report,
+                error: None,
+            }),
+            Err(OutOfMemory) => {
+                drop(replay);
+                Err(OutOfMemory)
+            }
+        }
     }
 
     fn pass(&mut self, alloc: Global, event: &Event) -> Result<(), OutOfMemory>
-        ensures passed { (g : ReplayInput) → (start : ℕ) → (es : List events.Event) → HasPassed g start es self.old
-            → OnOk result (HasPassed g start (es ++ event.now ∷ []) self.new) }
-        ensures counted { OnOk result (self.new.replay.value.count ≡ self.old.replay.value.count + 1) }
+        ensures passed { (g : ReplayInput) → (start : ℕ) → (es : List events.Event) → HasPassed R.tells g start es self.old
+            → OnOk result (HasPassed R.tells g start (es ++ event.now ∷ []) self.new) }
+        ensures counted { OnOk result (self.new.replay.count ≡ self.old.replay.count + 1) }
     {
-        self.replay.advance(alloc, event)?;
-        push_outputs(&mut self.text, self.replay.count(), self.replay.outputs())?;
-        Ok(())
+        self.report.pass(alloc, self.setup, &mut self.replay, event)
     }
 
-    // The text of the whole run, or the line of its refusal.
-    fn finish(self, alloc: Global) -> Result<ReplayOutcome, AllocError>
-        ensures { (g : ReplayInput) → (start : ℕ) → (es : List events.Event) → HasPassed g start es self.entry
-            → IfOk result (λ outcome. IsOutcomeOn g start es outcome) }
+    // What was told of the whole replay, or its refusal.
+    fn finish(self) -> Replayed<R>
+        ensures { (g : ReplayInput) → (start : ℕ) → (es : List events.Event) → HasPassed R.tells g start es self.entry
+            → IsReplayedOn R.tells g start es result }
     {
-        let Progress {
-            replay,
-            mut text,
-            ..
-        } = self;
-        match replay.end() {
-            Ok(ended) => {
-                push_end(&mut text, ended, replay.count())?;
-                Ok(ReplayOutcome::Done(text))
+        let Progress { replay, report, .. } = self;
+        let end = replay.end();
+        let events = replay.count();
+        drop(replay);
+        match end {
+            Ok(ended) => Replayed::Done {
+                report,
+                ended,
+                events,
+            },
+            Err(refusal) => {
+                drop(report);
+                Replayed::Refused(refusal)
             }
-            Err(refusal) => Ok(ReplayOutcome::Refused(refusal_line(alloc, refusal)?)),
         }
     }
 }
 
-// The setup that a first line says. Where it says none, why.
-fn read_setup(alloc: Global, line: &[u8], error: &mut Option<ReadError>) -> Result<Setup, Unread>
-    ensures setup { GivesLines (λ s. s) result (numbered 1 (setup_in line.now)) }
-    ensures told { TellsError (error_or (setup_in line.now) None) error.new result }
+// The setup that a first line of this form says. Where it says none, why.
+fn read_setup(
+    alloc: Global,
+    form: Lines,
+    line: &[u8],
+    error: &mut Option<ReadError>,
+) -> Result<Setup, Unread>
+    ensures setup { GivesLines (λ s. s) result (numbered 1 (setup_in form line.now)) }
+    ensures told { TellsError (error_or (setup_in form line.now) None) error.new result }
 {
-    match setup_line(alloc, line) {
+    match setup_line_in(alloc, form, line) {
         Ok(setup) => Ok(setup),
         Err(ReadError::OutOfMemory) => Err(Unread::OutOfMemory),
         Err(cause) => {
@@ -120,17 +127,17 @@ fn read_event(
     }
 }
 
-fn pass_line(
+fn pass_line<R: StepReport>(
     alloc: Global,
     payloads: &mut Payloads,
     form: Lines,
-    progress: &mut Progress<'_>,
+    progress: &mut Progress<'_, R>,
     line: &[u8],
 ) -> Result<(), Unread>
-    requires { progress.old.replay.value.count ≤ 67_108_864 }
-    ensures lines { PassesLines form progress.old (line.now ∷ []) progress.new result }
+    requires { progress.old.replay.count ≤ 67_108_864 }
+    ensures lines { PassesLines R.tells form progress.old (line.now ∷ []) progress.new result }
     ensures told { TellsError (event_error form (line.now ∷ [])) progress.new.error result }
-    ensures counted { OnOk result (progress.new.replay.value.count ≡ progress.old.replay.value.count + 1) }
+    ensures counted { OnOk result (progress.new.replay.count ≡ progress.old.replay.count + 1) }
 {
     let number = progress.replay.count() + 2;
     let event = read_event(alloc, payloads, form, number, line, &mut progress.error)?;
@@ -143,17 +150,17 @@ fn pass_line(
 }
 
 // Passes the lines of a piece.
-fn pass_lines(
+fn pass_lines<R: StepReport>(
     alloc: Global,
     payloads: &mut Payloads,
     form: Lines,
-    progress: &mut Progress<'_>,
+    progress: &mut Progress<'_, R>,
     bytes: &[u8],
 ) -> Result<(), Unread>
-    requires { progress.old.replay.value.count + length bytes.now ≤ 67_108_864 }
-    ensures lines { PassesLines form progress.old (lines_of bytes.now) progress.new result }
+    requires { progress.old.replay.count + length bytes.now ≤ 67_108_864 }
+    ensures lines { PassesLines R.tells form progress.old (lines_of bytes.now) progress.new result }
     ensures told { TellsError (event_error form (lines_of bytes.now)) progress.new.error result }
-    ensures counted { OnOk result (progress.new.replay.value.count ≤ progress.old.replay.value.count + length bytes.now) }
+    ensures counted { OnOk result (progress.new.replay.count ≤ progress.old.replay.count + length bytes.now) }
 {
     let mut rest = bytes;
     while !rest.is_empty() {
@@ -165,16 +172,16 @@ fn pass_lines(
 }
 
 // Passes all lines of a piece and of those behind it.
-fn pass_pieces(
+fn pass_pieces<R: StepReport>(
     alloc: Global,
     payloads: &mut Payloads,
     form: Lines,
-    progress: &mut Progress<'_>,
+    progress: &mut Progress<'_, R>,
     piece: &[u8],
     bytes: &mut Pieces,
 ) -> Result<(), Unread>
-    requires { progress.old.replay.value.count + length piece.now + length bytes.old ≤ 67_108_864 }
-    ensures lines { PassesLines form progress.old (lines_of piece.now ++ lines_of bytes.old) progress.new result }
+    requires { progress.old.replay.count + length piece.now + length bytes.old ≤ 67_108_864 }
+    ensures lines { PassesLines R.tells form progress.old (lines_of piece.now ++ lines_of bytes.old) progress.new result }
     ensures told { TellsError (event_error form (lines_of piece.now ++ lines_of bytes.old)) progress.new.error result }
 {
     match pass_lines(alloc, payloads, form, progress, piece) {
@@ -192,15 +199,15 @@ fn pass_pieces(
     Ok(())
 }
 
-fn pass_all(
+fn pass_all<R: StepReport>(
     alloc: Global,
     form: Lines,
-    progress: &mut Progress<'_>,
+    progress: &mut Progress<'_, R>,
     piece: &[u8],
     mut bytes: Pieces,
 ) -> Result<(), Unread>
-    requires { progress.old.replay.value.count + length piece.now + length bytes ≤ 67_108_864 }
-    ensures lines { PassesLines form progress.old (lines_of piece.now ++ lines_of bytes) progress.new result }
+    requires { progress.old.replay.count + length piece.now + length bytes ≤ 67_108_864 }
+    ensures lines { PassesLines R.tells form progress.old (lines_of piece.now ++ lines_of bytes) progress.new result }
     ensures told { TellsError (event_error form (lines_of piece.now ++ lines_of bytes)) progress.new.error result }
 {
     let mut payloads = Payloads::new(alloc);
@@ -210,19 +217,22 @@ fn pass_all(
     passed
 }
 
-fn replay_events(
+/// Replays a setup and the events on these lines of a form: those of the piece, and those of the
+/// bytes behind it, which are freed as they are read. Does what [`replay_lines`] does behind the
+/// first line.
+pub fn replay_events<R: StepReport>(
     alloc: Global,
     form: Lines,
     setup: &Setup,
     piece: &[u8],
     bytes: Pieces,
     error: &mut Option<ReadError>,
-) -> Result<ReplayOutcome, AllocError>
+) -> Result<Replayed<R>, AllocError>
     requires { length piece.now + length bytes ≤ 67_108_864 }
-    ensures outcome { IfOk result (λ outcome. IsOutcomeTo (with_lines_in form setup.now (lines_of piece.now ++ lines_of bytes)) outcome) }
+    ensures outcome { IfOk result (λ outcome. IsReplayedTo R.tells (with_lines_in form setup.now (lines_of piece.now ++ lines_of bytes)) outcome) }
     ensures told { TellsOutcome (event_error form (lines_of piece.now ++ lines_of bytes)) error.new result }
 {
-    let mut progress = match Progress::open(alloc, setup) {
+    let mut progress = match Progress::<R>::open(alloc, setup) {
         Ok(progress) => progress,
         Err(OutOfMemory) => {
             drop(bytes);
@@ -230,11 +240,11 @@ fn replay_events(
         }
     };
     match pass_all(alloc, form, &mut progress, piece, bytes) {
-        Ok(()) => progress.finish(alloc),
+        Ok(()) => Ok(progress.finish()),
         Err(Unread::BadLine(line)) => {
             *error = progress.error;
             drop(progress);
-            Ok(ReplayOutcome::BadLine(line))
+            Ok(Replayed::BadLine(line))
         }
         Err(Unread::OutOfMemory) => {
             drop(progress);
@@ -244,25 +254,25 @@ fn replay_events(
 }
 
 // Goes on behind the first line, by what that line says.
-fn replay_rest(
+fn replay_rest<R: StepReport>(
     alloc: Global,
     form: Lines,
     first: &Result<Setup, Unread>,
     piece: &[u8],
     bytes: Pieces,
     error: &mut Option<ReadError>,
-) -> Result<ReplayOutcome, AllocError>
+) -> Result<Replayed<R>, AllocError>
     requires { length piece.now + length bytes ≤ 67_108_864 }
-    ensures outcome { (line : List ℕ) → GivesLines (λ s. s) first.now (numbered 1 (setup_in line))
-        → IfOk result (λ outcome. IsOutcomeTo (transcript_of_in form (line ∷ (lines_of piece.now ++ lines_of bytes))) outcome) }
-    ensures told { (line : List ℕ) → TellsError (error_or (setup_in line) None) error.old first.now
+    ensures outcome { (line : List ℕ) → GivesLines (λ s. s) first.now (numbered 1 (setup_in form line))
+        → IfOk result (λ outcome. IsReplayedTo R.tells (transcript_of_in form (line ∷ (lines_of piece.now ++ lines_of bytes))) outcome) }
+    ensures told { (line : List ℕ) → TellsError (error_or (setup_in form line) None) error.old first.now
         → TellsOutcome (line_error form (line ∷ (lines_of piece.now ++ lines_of bytes))) error.new result }
 {
     match first {
         Ok(setup) => replay_events(alloc, form, setup, piece, bytes, error),
         Err(Unread::BadLine(line)) => {
             drop(bytes);
-            Ok(ReplayOutcome::BadLine(*line))
+            Ok(Replayed::BadLine(*line))
         }
         Err(Unread::OutOfMemory) => {
             drop(bytes);
@@ -271,25 +281,25 @@ fn replay_rest(
     }
 }
 
-/// Returns the outcome of replaying the bytes, whose lines have this form. They are freed as they
-/// are read. If a line cannot be read, puts its read error into `error`; there is none if the input
-/// has no line.
+/// Replays the bytes, whose lines have this form, and returns what the report tells of it. They are
+/// freed as they are read. If a line cannot be read, puts its read error into `error`; there is
+/// none if the input has no line. Fails only if memory runs out.
 #[tactic(auto, using(crate::proofs::LinesPassed::no_bytes))]
-pub(crate) fn replay(
+pub fn replay_lines<R: StepReport>(
     alloc: Global,
     form: Lines,
     mut bytes: Pieces,
     error: &mut Option<ReadError>,
-) -> Result<ReplayOutcome, AllocError>
+) -> Result<Replayed<R>, AllocError>
     requires { length bytes ≤ 67_108_864 }
-    ensures outcome { IfOk result (λ outcome. IsOutcome (transcript_in form bytes) bytes outcome) }
+    ensures outcome { IfOk result (λ outcome. IsReplayed R.tells (transcript_in form bytes) bytes outcome) }
     ensures told { error.old ≡ None → TellsOutcome (line_error form (lines_of bytes)) error.new result }
 {
     let Some(piece) = next_piece(alloc, &mut bytes) else {
-        return Ok(ReplayOutcome::BadLine(1));
+        return Ok(Replayed::BadLine(1));
     };
     let (line, rest) = cut_line(&piece);
-    let first = read_setup(alloc, line, error);
+    let first = read_setup(alloc, form, line, error);
     let outcome = replay_rest(alloc, form, &first, rest, bytes, error);
     drop(first);
     outcome

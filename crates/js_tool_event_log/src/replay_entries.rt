@@ -1,19 +1,20 @@
 //! The yields of a replay, collected as its lines are read. Neither lines nor events are kept.
 
-ghost use Rattle.std.specs.Prelude.{◌≡◌, ◌≤◌, ◌+◌, ◌++◌, ◌∷◌, [], ℕ, List, length, IfOk, OnOk};
+ghost use Rattle.std.specs.Prelude.{◌≡◌, ◌≤◌, ◌+◌, ◌++◌, ◌∷◌, [], length, OnOk};
 ghost use Rattle.js_event_log.specs.RunProjection.{yielded};
-ghost use Rattle.js_ordered_table.specs.declared.consumer.ReplayInput.{ReplayInput};
-ghost use Rattle.js_ordered_table.specs.declared.event.Event as events;
-ghost use Rattle.js_tool_transcript.specs.TranscriptReplay.{replay_input};
+ghost use Rattle.js_ordered_table.specs.Fold.{fold};
+ghost use Rattle.js_ordered_table.specs.Gapless.{all_outputs};
+ghost use Rattle.js_tool_io.specs.Lines.{lines_of};
 ghost use Rattle.js_tool_transcript.specs.Transcript.{with_lines};
-ghost use Rattle.js_tool_event_log.specs.ReplayEntries.{HasYielded, PassesLines, ReadsYields, ending_of};
+ghost use Rattle.js_tool_event_log.specs.ReplayEntries.{ReadsYields};
 
 use js_base::{Entry, Items, OutOfMemory};
 use js_event_log::entry_of;
 use js_ordered::{Event, IncrementalReplay, Output, ReplayError};
-use js_tool_io::Lines;
-use js_tool_transcript::{Payloads, Setup, Unread, next_line};
-use std::alloc::Global;
+use js_tool::{Lines, Replayed, StepReport, replay_events};
+use js_tool_io::Pieces;
+use js_tool_transcript::{Setup, Unread};
+use std::alloc::{AllocError, Global};
 
 /// The result of a replay.
 #[derive(Drop)]
@@ -24,10 +25,9 @@ pub(crate) enum Ending {
     Refused(ReplayError),
 }
 
-// How far a replay has come, and what it has yielded.
+// What a replay has yielded.
 #[derive(Drop)]
-pub(crate) struct YieldProgress<'s> {
-    replay: IncrementalReplay<'s>,
+pub(crate) struct Yields {
     entries: Items<Entry>,
 }
 
@@ -50,106 +50,46 @@ fn add_yields(entries: &mut Items<Entry>, outputs: &[Output]) -> Result<(), OutO
     Ok(())
 }
 
-impl<'s> YieldProgress<'s> {
-    fn open(alloc: Global, setup: &'s Setup) -> Result<YieldProgress<'s>, OutOfMemory>
-        ensures { IfOk result (λ progress. HasYielded (replay_input setup.now) setup.now.start [] progress) }
-    {
-        let replay = IncrementalReplay::open(
-            alloc,
-            &setup.settings,
-            &setup.setup,
-            &setup.first,
-            setup.start,
-        )?;
+impl StepReport for Yields {
+    ghost tells = { λ g start es report. report.entries ≡ yielded (all_outputs (fold g start es)) };
+
+    fn open(
+        alloc: Global,
+        _setup: &Setup,
+        replay: &IncrementalReplay<'_>,
+    ) -> Result<Yields, OutOfMemory> {
         let mut entries = Items::new(alloc);
-        match add_yields(&mut entries, replay.outputs()) {
-            Ok(()) => Ok(YieldProgress { replay, entries }),
-            Err(OutOfMemory) => {
-                drop(replay);
-                Err(OutOfMemory)
-            }
-        }
+        add_yields(&mut entries, replay.outputs())?;
+        Ok(Yields { entries })
     }
 
-    fn pass(&mut self, alloc: Global, event: &Event) -> Result<(), OutOfMemory>
-        ensures passed { (g : ReplayInput) → (start : ℕ) → (es : List events.Event) → HasYielded g start es self.old
-            → OnOk result (HasYielded g start (es ++ event.now ∷ []) self.new) }
-        ensures counted { OnOk result (self.new.replay.count ≡ self.old.replay.count + 1) }
-    {
-        self.replay.advance(alloc, event)?;
-        add_yields(&mut self.entries, self.replay.outputs())?;
+    fn pass(
+        &mut self,
+        alloc: Global,
+        _setup: &Setup,
+        replay: &mut IncrementalReplay<'_>,
+        event: &Event,
+    ) -> Result<(), OutOfMemory> {
+        replay.advance(alloc, event)?;
+        add_yields(&mut self.entries, replay.outputs())?;
         Ok(())
     }
-
-    fn finish(self) -> Ending
-        ensures { (g : ReplayInput) → (start : ℕ) → (es : List events.Event) → HasYielded g start es self.entry
-            → result ≡ ending_of g start es }
-    {
-        let YieldProgress { replay, entries } = self;
-        let ended = replay.end();
-        drop(replay);
-        match ended {
-            Ok(_) => Ending::Yields(entries),
-            Err(refusal) => {
-                drop(entries);
-                Ending::Refused(refusal)
-            }
-        }
-    }
 }
 
-fn pass_line(
+/// Replays a setup and the events on the lines of a piece and of the bytes behind it.
+pub(crate) fn read_yields(
     alloc: Global,
-    payloads: &mut Payloads,
-    progress: &mut YieldProgress<'_>,
-    line: &[u8],
-) -> Result<(), Unread>
-    requires { progress.old.replay.count ≤ 67_108_864 }
-    ensures lines { PassesLines progress.old (line.now ∷ []) progress.new result }
-    ensures counted { OnOk result (progress.new.replay.count ≡ progress.old.replay.count + 1) }
+    setup: &Setup,
+    piece: &[u8],
+    bytes: Pieces,
+) -> Result<Ending, Unread>
+    requires { length piece.now + length bytes ≤ 67_108_864 }
+    ensures { ReadsYields setup.now (with_lines setup.now (lines_of piece.now ++ lines_of bytes)) result }
 {
-    let number = progress.replay.count() + 2;
-    let event = next_line(alloc, payloads, number, line)?;
-    let passed = progress.pass(alloc, &event);
-    drop(event);
-    match passed {
-        Ok(()) => Ok(()),
-        Err(OutOfMemory) => Err(Unread::OutOfMemory),
-    }
-}
-
-fn pass_lines(
-    alloc: Global,
-    progress: &mut YieldProgress<'_>,
-    lines: &mut Lines,
-) -> Result<(), Unread>
-    requires { progress.old.replay.count + length lines.old.left ≤ 67_108_864 }
-    ensures { PassesLines progress.old lines.old.left progress.new result }
-{
-    let mut payloads = Payloads::new(alloc);
-    while lines.read(alloc) {
-        match pass_line(alloc, &mut payloads, progress, lines.line()) {
-            Ok(()) => {}
-            Err(unread) => return Err(unread),
-        }
-    }
-    Ok(())
-}
-
-/// Reads the events on the lines that are left, and replays them.
-pub(crate) fn read_yields(alloc: Global, setup: &Setup, lines: &mut Lines) -> Result<Ending, Unread>
-    requires { length lines.old.left ≤ 67_108_864 }
-    ensures { ReadsYields setup.now (with_lines setup.now lines.old.left) result }
-{
-    let mut progress = match YieldProgress::open(alloc, setup) {
-        Ok(progress) => progress,
-        Err(OutOfMemory) => return Err(Unread::OutOfMemory),
-    };
-    match pass_lines(alloc, &mut progress, lines) {
-        Ok(()) => Ok(progress.finish()),
-        Err(unread) => {
-            drop(progress);
-            Err(unread)
-        }
+    match replay_events::<Yields>(alloc, Lines::Plain, setup, piece, bytes, &mut None) {
+        Ok(Replayed::Done { report, .. }) => Ok(Ending::Yields(report.entries)),
+        Ok(Replayed::Refused(refusal)) => Ok(Ending::Refused(refusal)),
+        Ok(Replayed::BadLine(line)) => Err(Unread::BadLine(line)),
+        Err(AllocError) => Err(Unread::OutOfMemory),
     }
 }

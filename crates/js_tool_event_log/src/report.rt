@@ -16,7 +16,7 @@ use crate::replay_entries::{Ending, read_yields};
 use js_base::{Entry, Items, OutOfMemory};
 use js_ordered::OrderedSetup;
 use js_tool::LogCommand;
-use js_tool_io::{Lines, Pieces};
+use js_tool_io::{Pieces, cut_line, next_piece};
 use js_tool_transcript::{Cell, Unread, first_line, push_line, refusal_line};
 use std::alloc::{AllocError, Global};
 
@@ -126,29 +126,28 @@ fn report_ending(
 }
 
 /// Returns the report of a command on the bytes, which are freed as they are read.
+#[tactic(auto, using(crate::proofs::YieldsPassed::no_bytes))]
 pub(crate) fn report_on(
     alloc: Global,
     command: LogCommand<'_>,
-    bytes: Pieces,
+    mut bytes: Pieces,
 ) -> Result<Report, Unread>
     requires within { length bytes ≤ 67_108_864 }
     requires names { HasNames (wanted command) }
     ensures { Reports (report_of (wanted command.entry)) (ServesOf (wanted command.entry)) (transcript bytes) result }
 {
-    let mut lines = Lines::new(alloc, bytes);
-    if !lines.read(alloc) {
-        drop(lines);
+    let Some(piece) = next_piece(alloc, &mut bytes) else {
         return Err(Unread::BadLine(1));
-    }
-    let setup = match first_line(alloc, lines.line()) {
+    };
+    let (line, rest) = cut_line(&piece);
+    let setup = match first_line(alloc, line) {
         Ok(setup) => setup,
         Err(unread) => {
-            drop(lines);
+            drop(bytes);
             return Err(unread);
         }
     };
-    let yields_read = read_yields(alloc, &setup, &mut lines);
-    drop(lines);
+    let yields_read = read_yields(alloc, &setup, rest, bytes);
     let ending = match yields_read {
         Ok(ending) => ending,
         Err(unread) => {

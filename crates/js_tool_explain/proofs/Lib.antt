@@ -1,4 +1,2 @@
 mod Steps
 mod Digits
-mod LinesPassed
-mod Answered

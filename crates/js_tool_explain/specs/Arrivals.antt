@@ -1,5 +1,5 @@
 -- What arrives on an inbox that the consumer reads, or does not in time, and what is said of it.
-use Rattle.std.specs.Prelude.{◌≡◌, ℕ, ◌+◌, Bool, true, false, ◌&&◌, ◌||◌, List, [], ◌∷◌, codes, Option, Some, None, nat_lt, ◌==◌, if◌then◌else◌}
+use Rattle.std.specs.Prelude.{ℕ, ◌+◌, Bool, true, false, ◌&&◌, ◌||◌, List, [], ◌∷◌, codes, Option, Some, None, nat_lt, ◌==◌, if◌then◌else◌}
 use Rattle.js_base.specs.declared.clock.Timer.{Timer}
 use Rattle.js_base.specs.declared.message.Message.{Message}
 use Rattle.js_base.specs.declared.message.State.{State}
@@ -28,7 +28,7 @@ use Rattle.js_tool_explain.specs.declared.arrivals.Arrived.{Arrived}
 use Rattle.js_tool_explain.specs.declared.arrivals.Arrived.TheVariants as news
 use Rattle.js_tool_explain.specs.Replies.{ends_at, is_change}
 use Rattle.js_tool_explain.specs.OutsideEvents.{is_held}
-use Rattle.js_tool_explain.specs.SentencePart.{Said, Text, Number, Seconds, line_text}
+use Rattle.js_tool_explain.specs.SentencePart.{Text, Number, Seconds, line_text}
 
 -- 0 where there is no status
 abbrev pub status_number : Option StatusCode → ℕ

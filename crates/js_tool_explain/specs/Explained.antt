@@ -1,5 +1,5 @@
 -- What is said of a step, and of a whole replay.
-use Rattle.std.specs.Prelude.{◌≡◌, ℕ, Bool, true, false, not, ◌&&◌, List, [], ◌∷◌, ◌++◌, length, flat_map, codes, Option, Some, None, if◌then◌else◌}
+use Rattle.std.specs.Prelude.{ℕ, Bool, true, false, not, ◌&&◌, List, [], ◌∷◌, ◌++◌, length, flat_map, codes, Option, Some, None, if◌then◌else◌}
 use Rattle.js_json.specs.declared.consumer.info.Info.{Info}
 use Rattle.js_ordered_table.specs.declared.consumer.Consumer.{Consumer}
 use Rattle.js_ordered_table.specs.declared.consumer.Phase.{Phase}
@@ -12,8 +12,6 @@ use Rattle.js_ordered_table.specs.declared.setup.OrderedSetup.{OrderedSetup}
 use Rattle.js_ordered_table.specs.declared.setup.OrderedSetup.TheVariants.{Pull, Push}
 use Rattle.js_ordered_table.specs.Fold.{Ran, event, fold, is_over, opening}
 use Rattle.js_ordered_table.specs.Texts.{configured_start}
-use Rattle.js_tool_transcript.specs.declared.transcript.Transcript.{Transcript}
-use Rattle.js_tool_transcript.specs.TranscriptReplay.{replay_input}
 use Rattle.js_tool_explain.specs.declared.arrivals.Arrived.{Arrived}
 use Rattle.js_tool_explain.specs.declared.replies.Awaited.{Awaited}
 use Rattle.js_tool_explain.specs.declared.outside_events.Outside.{Outside}
@@ -22,7 +20,7 @@ use Rattle.js_tool_explain.specs.Arrivals.{arrived, arrived_text}
 use Rattle.js_tool_explain.specs.Replies.{awaited, awaited_text, ends_at}
 use Rattle.js_tool_explain.specs.Outcome.{StepPlace, output_text}
 use Rattle.js_tool_explain.specs.OutsideEvents.{outside, outside_text}
-use Rattle.js_tool_explain.specs.SentencePart.{Said, Text, Number, Count, line_text, said_text}
+use Rattle.js_tool_explain.specs.SentencePart.{Text, Number, Count, line_text, said_text}
 use Rattle.js_tool_explain.specs.RetryWait.{new_rest_text, rest_of}
 
 -- ---- why it happens, by the consumer before an event
@@ -138,7 +136,3 @@ text_so_far g start es = opening_text g start ++ steps_text g (opening g start).
 -- and the last line
 unfoldable pub replay_text : ReplayInput → ℕ → List events.Event → List ℕ
 replay_text g start es = text_so_far g start es ++ last_line (fold g start es).ended (length es)
-
--- what is said of a transcript
-abbrev pub explained_text : Transcript → List ℕ
-explained_text t = replay_text (replay_input t.setup) t.setup.start t.events

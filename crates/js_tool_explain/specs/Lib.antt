@@ -6,4 +6,3 @@ pub mod RetryWait
 pub mod Outcome
 pub mod Explained
 pub mod Answer
-pub mod Progress

@@ -1,5 +1,5 @@
 -- What the consumer puts out in a step, and what is said of it.
-use Rattle.std.specs.Prelude.{◌≡◌, ℕ, Bool, true, false, List, [], ◌∷◌, length, codes, Option, Some, None, is_some, ◌==◌, if◌then◌else◌}
+use Rattle.std.specs.Prelude.{ℕ, Bool, true, false, List, [], ◌∷◌, length, codes, is_some, ◌==◌, if◌then◌else◌}
 use Rattle.js_ordered_table.specs.declared.consumer.Consumer.{Consumer}
 use Rattle.js_ordered_table.specs.declared.consumer.Phase.{Phase}
 use Rattle.js_ordered_table.specs.declared.consumer.Phase.TheVariants.{Pulls, Pushes, Recreates, Idle, Ended, Exhausted}
@@ -14,7 +14,7 @@ use Rattle.js_ordered_table.specs.declared.run.Start.TheVariants as start
 use Rattle.js_tool_explain.specs.declared.outcome.Place.{Place}
 use Rattle.js_tool_explain.specs.declared.outcome.Purpose.{Purpose}
 use Rattle.js_tool_explain.specs.declared.outcome.Purpose.TheVariants as purpose
-use Rattle.js_tool_explain.specs.SentencePart.{Said, Text, Number, Count, line_text}
+use Rattle.js_tool_explain.specs.SentencePart.{Text, Number, Count, line_text}
 
 -- in which step something is put out: its moment, whether the consumer was being recreated before it, whether the end of the watcher
 -- ended the consumer in it, and the link and the consumer after it
@@ -72,6 +72,7 @@ item_text up unwatched kind.PushBasedConsumer = codes "The user was handed the e
 item_text up unwatched kind.Pull = pull_text up
 item_text up unwatched kind.Recreate = codes "The user was handed the error Recreate: all tries to recreate the consumer have failed."
 item_text up unwatched kind.Other = other_text unwatched
+item_text up unwatched kind.StreamNotFound = codes "The user was handed the error StreamNotFound: the server has no stream of this name."
 
 -- where a recreation ends and another begins in one step, push has heard what it held
 abbrev pub why_text : Bool → List ℕ

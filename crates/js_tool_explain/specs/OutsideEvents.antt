@@ -1,5 +1,5 @@
 -- What happens outside the consumer, and what is said of it.
-use Rattle.std.specs.Prelude.{◌≡◌, ℕ, Bool, true, false, not, ◌&&◌, List, [], ◌∷◌, codes, Option, Some, None, ◌==◌, if◌then◌else◌}
+use Rattle.std.specs.Prelude.{ℕ, Bool, true, false, not, ◌&&◌, List, [], ◌∷◌, codes, Option, Some, None, ◌==◌, if◌then◌else◌}
 use Rattle.js_base.specs.declared.message.State.{State}
 use Rattle.js_base.specs.declared.message.State.TheVariants.{Pending, Connected, Disconnected}
 use Rattle.js_pull.specs.declared.reader.InfoRequest.{InfoRequest}

@@ -1,5 +1,5 @@
 -- What becomes of what the consumer waits for, and what is said of it.
-use Rattle.std.specs.Prelude.{◌≡◌, ℕ, Bool, true, false, not, List, [], ◌∷◌, codes, Option, Some, None, option_map, if◌then◌else◌}
+use Rattle.std.specs.Prelude.{ℕ, Bool, false, not, List, [], ◌∷◌, codes, Option, Some, None, option_map, if◌then◌else◌}
 use Rattle.js_base.specs.declared.clock.Timer.{Timer}
 use Rattle.js_base.specs.declared.message.Message.{Message}
 use Rattle.js_base.specs.declared.message.State.{State}
@@ -9,7 +9,7 @@ use Rattle.js_pull.specs.declared.reader.InfoRequest.{InfoRequest}
 use Rattle.js_pull.specs.declared.reader.InfoRequest.TheVariants.{NoInfoRequest, Asked, Resting}
 use Rattle.js_pull.specs.declared.reader.Reader.{Reader}
 use Rattle.js_pull.specs.Poll.{same_state}
-use Rattle.js_pull.specs.Reader.{is_asking, is_unheard, response_info, reply_to}
+use Rattle.js_pull.specs.Reader.{info_in, is_asking, is_unheard, payload_reply, reply_to}
 use Rattle.js_ordered_table.specs.declared.consumer.Consumer.{Consumer}
 use Rattle.js_ordered_table.specs.declared.consumer.Phase.{Phase}
 use Rattle.js_ordered_table.specs.declared.consumer.Phase.TheVariants.{Pulls, Pushes, Recreates, Idle, Ended, Exhausted}
@@ -29,7 +29,7 @@ use Rattle.js_tool_explain.specs.declared.replies.Awaited.TheVariants as news
 use Rattle.js_tool_explain.specs.declared.replies.Reply.{Reply}
 use Rattle.js_tool_explain.specs.declared.replies.Reply.TheVariants as answer
 use Rattle.js_tool_explain.specs.OutsideEvents.{ends_unwatched}
-use Rattle.js_tool_explain.specs.SentencePart.{Said, Text, Number, Seconds, line_text}
+use Rattle.js_tool_explain.specs.SentencePart.{Text, Number, Seconds, line_text}
 
 -- ---- answers
 
@@ -40,7 +40,7 @@ info_reply setup (Some info) = if has_subject setup info then answer.Good else a
 
 abbrev pub message_reply : OrderedSetup → Message → Reply
 message_reply setup message =
-    if is_unheard message.status then answer.Unheard else info_reply setup (response_info message.payload)
+    if is_unheard message.status then answer.Unheard else info_reply setup (info_in (payload_reply message.payload))
 
 abbrev pub reply_kind : OrderedSetup → Option Message → Reply
 reply_kind setup None = answer.Gone

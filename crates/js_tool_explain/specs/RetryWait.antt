@@ -1,6 +1,5 @@
 -- What a consumer waits for before it tries again, and what is said of it.
-use Rattle.std.specs.Prelude.{◌≡◌, ℕ, Bool, true, false, not, ◌&&◌, List, [], ◌∷◌, codes, Option, Some, None, ◌==◌, if◌then◌else◌}
-use Rattle.js_base.specs.declared.clock.Timer.{Timer}
+use Rattle.std.specs.Prelude.{ℕ, Bool, true, false, not, ◌&&◌, List, [], ◌∷◌, codes, Option, Some, None, ◌==◌, if◌then◌else◌}
 use Rattle.js_pull.specs.declared.reader.InfoRequest.{InfoRequest}
 use Rattle.js_pull.specs.declared.reader.InfoRequest.TheVariants.{NoInfoRequest, Asked, Resting}
 use Rattle.js_ordered_table.specs.declared.consumer.Phase.{Phase}
@@ -8,7 +7,7 @@ use Rattle.js_ordered_table.specs.declared.consumer.Phase.TheVariants.{Pulls, Pu
 use Rattle.js_ordered_table.specs.declared.consumer.Stage.{Stage}
 use Rattle.js_ordered_table.specs.declared.consumer.Stage.TheVariants.{Between, Deleting, Creating, Waiting}
 use Rattle.js_tool_explain.specs.declared.retry_wait.Rest.{Rest}
-use Rattle.js_tool_explain.specs.SentencePart.{Said, Text, Number, Seconds, Count, line_text}
+use Rattle.js_tool_explain.specs.SentencePart.{Said, Text, Seconds, Count, line_text}
 
 -- ---- what it is
 

@@ -1,5 +1,5 @@
 -- The parts of a sentence, and the line that they make.
-use Rattle.std.specs.Prelude.{◌≡◌, ℕ, zero, suc, ◌+◌, ◌*◌, ◌/◌, ◌%◌, List, [], ◌∷◌, ◌++◌, codes, decimal, flat_map, ◌==◌, if◌then◌else◌, refl}
+use Rattle.std.specs.Prelude.{ℕ, zero, suc, ◌+◌, ◌*◌, ◌/◌, ◌%◌, List, [], ◌∷◌, ◌++◌, codes, decimal, flat_map, ◌==◌, if◌then◌else◌}
 use Rattle.js_base.specs.Clock.{second}
 use Rattle.js_tool_explain.specs.declared.sentence_part.Part.{Part}
 use Rattle.js_tool_explain.specs.declared.sentence_part.Part.TheVariants as part

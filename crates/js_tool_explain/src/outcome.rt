@@ -129,6 +129,9 @@ fn item_text(is_up: bool, is_unwatched: bool, kind: ItemKind) -> &'static [u8]
             b"The user was handed the error Recreate: all tries to recreate the consumer have failed."
         }
         ItemKind::Other => other_text(is_unwatched),
+        ItemKind::StreamNotFound => {
+            b"The user was handed the error StreamNotFound: the server has no stream of this name."
+        }
     }
 }
 

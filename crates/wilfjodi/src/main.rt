@@ -20,7 +20,7 @@ wilfjodi: JetStream consumers, replayed
                           reads the same line by line, however long, and writes the text of each step before it reads on;
                           with --details also the time, the pending messages and the headers of what was handed out, and
                           with --wakes when the consumer wakes though nothing comes
-  wilfjodi rerun          does what replay does, and reads a recording's extended lines too
+  wilfjodi rerun          does what replay does, and reads a recording's extended lines too, as explain does
   wilfjodi explain        reads a transcript, and writes in plain English what the consumer did and why, one sentence a line
   wilfjodi project FILTER [SEQUENCE]
                           reads a transcript that has a configured start, and writes the last entry of each subject that

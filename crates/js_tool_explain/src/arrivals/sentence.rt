@@ -124,6 +124,24 @@ const PUSH_BASED: &[u8] =
 
 const NO_RESPONDERS: &[u8] = b"Nobody listens to pull requests (status 503).";
 
+const ENDED: &[u8] = b"A pull request has ended with status ";
+
+const STATUS: &[u8] = b"A message with status ";
+
+const UNREADABLE: &[u8] = b" came that cannot be read.";
+
+const PASSED_OVER: &[u8] = b" came and was passed over.";
+
+const NEW_INBOX: &[u8] = b"A message came on the new inbox ";
+
+const HELD: &[u8] = b" and is held until the create request is answered.";
+
+const UNHEARD: &[u8] = b"No heartbeat was heard for ";
+
+const NOTHING_CAME: &[u8] = b"Nothing came from the server for ";
+
+const FULL_STOP: &[u8] = b".";
+
 fn push_text(out: &mut Vec<u8>, at: Moment, text: &'static [u8]) -> Result<(), AllocError>
     ensures { OnOk result (out.new.items ≡ out.old.items ++ sentences.plain_text at text.now) }
 {
@@ -152,49 +170,13 @@ pub(crate) fn push_arrived(
         Arrived::PushBased => push_text(out, at, PUSH_BASED),
         Arrived::Limit { is_second } => push_text(out, at, limit_text(is_second)),
         Arrived::NoResponders => push_text(out, at, NO_RESPONDERS),
-        Arrived::RequestEnded { status } => {
-            push_status(
-                out,
-                at,
-                b"A pull request has ended with status ",
-                status,
-                b".",
-            )
+        Arrived::RequestEnded { status } => push_status(out, at, ENDED, status, FULL_STOP),
+        Arrived::BadStatus { status } => push_status(out, at, STATUS, status, UNREADABLE),
+        Arrived::OtherStatus { status } => push_status(out, at, STATUS, status, PASSED_OVER),
+        Arrived::Held { inbox } => push_status(out, at, NEW_INBOX, inbox, HELD),
+        Arrived::Silence { wait, is_second } => {
+            push_silent(out, at, UNHEARD, wait, silence_text(is_second))
         }
-        Arrived::BadStatus { status } => {
-            push_status(
-                out,
-                at,
-                b"A message with status ",
-                status,
-                b" came that cannot be read.",
-            )
-        }
-        Arrived::OtherStatus { status } => {
-            push_status(
-                out,
-                at,
-                b"A message with status ",
-                status,
-                b" came and was passed over.",
-            )
-        }
-        Arrived::Held { inbox } => push_status(
-            out,
-            at,
-            b"A message came on the new inbox ",
-            inbox,
-            b" and is held until the create request is answered.",
-        ),
-        Arrived::Silence { wait, is_second } => push_silent(
-            out,
-            at,
-            b"No heartbeat was heard for ",
-            wait,
-            silence_text(is_second),
-        ),
-        Arrived::PushSilence { wait } => {
-            push_silent(out, at, b"Nothing came from the server for ", wait, b".")
-        }
+        Arrived::PushSilence { wait } => push_silent(out, at, NOTHING_CAME, wait, FULL_STOP),
     }
 }

@@ -1,4 +1,4 @@
-use Rattle.std.proofs.Common.{◌≡◌, ◌∷◌, ℕ, List, sym, ap, subst, ◌∙◌}
+use Rattle.std.proofs.Common.{◌≡◌, ◌∷◌, ◌++◌, ℕ, List, sym, ap, subst, ◌∙◌}
 use Rattle.std.specs.Prelude.{Result, Ok}
 use Rattle.js_tool_io.specs.Lines.{lines_of}
 use Rattle.js_ordered_table.specs.Texts.{configured_start}
@@ -10,33 +10,36 @@ use Rattle.js_tool_event_log.specs.declared.replay_entries.Ending.{Ending}
 use Rattle.js_tool_event_log.specs.Report.{report_from, report_of}
 use Rattle.js_tool_event_log.specs.Relay.{ServesFrom}
 use Rattle.js_tool_event_log.proofs.LogsShown.{serves_read}
-use Rattle.js_tool_event_log.proofs.YieldsPassed.{no_line, first_stops}
+use Rattle.js_tool_event_log.proofs.YieldsPassed.{first_stops}
 use Rattle.js_tool_event_log.proofs.report.report_on.Goals as goal
-
-pub returns-then-not-read : goal.returns-then-not-read
-returns-then-not-read c = no_line c.args.bytes (sym c.new-lines.ensures.lines ∙ c.if-not-read.ensures)
 
 pub returns-in-Err : goal.returns-in-Err
 returns-in-Err c =
-    let left = c.read.new.self.left in
-    let cut : lines_of c.args.bytes ≡ c.line.result.now ∷ left =
-    sym c.new-lines.ensures.lines ∙ c.if-not-read.ensures ∙ ap (λ (line : List ℕ). line ∷ left) (sym c.line.ensures) in
-    first_stops c.args.bytes c.line.result.now left c.in-Err.unread cut c.in-Err.ensures
+    let line = c.cut_line.result.0.now in
+    let left = lines_of c.cut_line.result.1.now ++ lines_of c.next_piece.new.bytes in
+    let cut : lines_of c.args.bytes ≡ line ∷ left =
+    c.in-Some.ensures.lines ∙ ap (λ (piece : List ℕ). lines_of piece ++ lines_of c.next_piece.new.bytes) (sym c.deref.ensures.value)
+    ∙ ap (λ (lines : List (List ℕ)). lines ++ lines_of c.next_piece.new.bytes) c.cut_line.ensures.line in
+    first_stops c.args.bytes line left c.in-Err.unread cut c.in-Err.ensures
 
 pub returns-in-Err-yields_read : goal.returns-in-Err-yields_read
 returns-in-Err-yields_read c =
-    let left = c.read.new.self.left in
-    let cut : lines_of c.args.bytes ≡ c.line.result.now ∷ left =
-    sym c.new-lines.ensures.lines ∙ c.if-not-read.ensures ∙ ap (λ (line : List ℕ). line ∷ left) (sym c.line.ensures) in
-    let read : transcript c.args.bytes ≡ with_lines c.in-Ok.setup left = with_setup c.args.bytes c.line.result.now left c.in-Ok.setup cut c.in-Ok.ensures in
+    let line = c.cut_line.result.0.now in
+    let left = lines_of c.cut_line.result.1.now ++ lines_of c.next_piece.new.bytes in
+    let cut : lines_of c.args.bytes ≡ line ∷ left =
+    c.in-Some.ensures.lines ∙ ap (λ (piece : List ℕ). lines_of piece ++ lines_of c.next_piece.new.bytes) (sym c.deref.ensures.value)
+    ∙ ap (λ (lines : List (List ℕ)). lines ++ lines_of c.next_piece.new.bytes) c.cut_line.ensures.line in
+    let read : transcript c.args.bytes ≡ with_lines c.in-Ok.setup left = with_setup c.args.bytes line left c.in-Ok.setup cut c.in-Ok.ensures in
     subst (λ (reading : Result Transcript ℕ). StopsAt c.in-Err-yields_read.unread reading) (sym read) c.in-Err-yields_read.ensures
 
 pub returns-in-Ok-report : goal.returns-in-Ok-report
 returns-in-Ok-report c =
-    let left = c.read.new.self.left in
-    let cut : lines_of c.args.bytes ≡ c.line.result.now ∷ left =
-    sym c.new-lines.ensures.lines ∙ c.if-not-read.ensures ∙ ap (λ (line : List ℕ). line ∷ left) (sym c.line.ensures) in
-    let read : transcript c.args.bytes ≡ with_lines c.in-Ok.setup left = with_setup c.args.bytes c.line.result.now left c.in-Ok.setup cut c.in-Ok.ensures in
+    let line = c.cut_line.result.0.now in
+    let left = lines_of c.cut_line.result.1.now ++ lines_of c.next_piece.new.bytes in
+    let cut : lines_of c.args.bytes ≡ line ∷ left =
+    c.in-Some.ensures.lines ∙ ap (λ (piece : List ℕ). lines_of piece ++ lines_of c.next_piece.new.bytes) (sym c.deref.ensures.value)
+    ∙ ap (λ (lines : List (List ℕ)). lines ++ lines_of c.next_piece.new.bytes) c.cut_line.ensures.line in
+    let read : transcript c.args.bytes ≡ with_lines c.in-Ok.setup left = with_setup c.args.bytes line left c.in-Ok.setup cut c.in-Ok.ensures in
     let yields_read = c.in-Ok-yields_read.ensures in
     let t : Transcript = record { setup = c.in-Ok.setup; events = yields_read.0 } in
     let start = configured_start c.in-Ok.setup.setup in
