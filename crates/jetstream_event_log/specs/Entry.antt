@@ -1,5 +1,5 @@
 -- What a log keeps of a message.
-use Rattle.std.specs.Prelude.{List, Result, Ok, Err}
+use Rattle.std.specs.Prelude.{Result, Ok, Err}
 use Rattle.js_base.specs.declared.message.Entry.{Entry}
 use Rattle.js_base.specs.declared.message.Message.{Message}
 use Rattle.js_message.specs.AckSubject.{Info}

@@ -1,2 +1,3 @@
+pub mod BucketLimits
 pub mod Entry
 pub mod Places

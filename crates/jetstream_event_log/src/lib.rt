@@ -23,6 +23,7 @@
 #![tactic(auto)]
 
 pub mod bookmark;
+mod bucket_limits;
 mod entry;
 mod key_places;
 pub mod mirror;

@@ -3,6 +3,7 @@
 //! and [`purge`] return the message of a write; publish it like any other message. [`get`] returns
 //! the request that reads a key from the server without a table, and [`read_answer`] reads the
 //! answer.
+pub use crate::bucket_limits::{buckets_keep_the_last, keeps_last_of_each_key};
 pub use crate::key_places::{key_places, key_reads};
 pub use js_store_keys::{
     GetError, GetRequest, KeyPlaces, KeyReads, Operation, WriteError, WriteRefusal, create, delete,
