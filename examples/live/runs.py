@@ -39,6 +39,14 @@ class Locked(servers.Server):
         time.sleep(1.0)
 
 
+def shut(*ends):
+    for it in ends:
+        try:
+            it.shutdown(socket.SHUT_RDWR)
+        except OSError:
+            pass
+
+
 class Relay:
     """Joins clients to a server, and cuts a connection once so many bytes of the server have passed."""
 
@@ -70,11 +78,55 @@ class Relay:
                 left = None if left is None else left - len(piece)
         except OSError:
             pass
-        for it in (one, other):
+        shut(one, other)
+
+    def close(self):
+        self.listening.close()
+
+
+class Loser:
+    """Joins clients to a server, and loses some of the messages that the server sends, whole and once each."""
+
+    def __init__(self, server, one_in):
+        self.port, self.one_in = server.port, one_in
+        self.lost = set()
+        self.listening = socket.create_server(("127.0.0.1", 0))
+        self.address = f"127.0.0.1:{self.listening.getsockname()[1]}"
+        threading.Thread(target=self.accept, daemon=True).start()
+
+    def accept(self):
+        while True:
             try:
-                it.shutdown(socket.SHUT_RDWR)
+                client, _ = self.listening.accept()
             except OSError:
-                pass
+                return
+            server = socket.create_connection(("127.0.0.1", self.port))
+            threading.Thread(target=Relay.carry, args=(client, server, None), daemon=True).start()
+            threading.Thread(target=self.sieve, args=(server, client), daemon=True).start()
+
+    def sieve(self, one, other):
+        """Carries frame by frame, but for those that are lost."""
+        stream = one.makefile("rb")
+        try:
+            while line := stream.readline():
+                words = line.split()
+                body = stream.read(int(words[-1]) + 2) if words[0] in (b"MSG", b"HMSG") else b""
+                if not self.takes(words):
+                    other.sendall(line + body)
+        except OSError:
+            pass
+        shut(one, other)
+
+    def takes(self, words):
+        """Whether it loses this message. That which is the last of its stream stays: nothing would show that it is missing."""
+        if words[0] not in (b"MSG", b"HMSG") or not words[3].startswith(b"$JS.ACK."):
+            return False
+        tokens = words[3].split(b".")
+        sequence = int(tokens[5])
+        if tokens[8] == b"0" or sequence in self.lost or random.randrange(self.one_in):
+            return False
+        self.lost.add(sequence)
+        return True
 
     def close(self):
         self.listening.close()
@@ -102,3 +154,26 @@ def messages_of(first, last, subject="events.a"):
 
 def outcomes_of(first, last, behind=0):
     return "".join(f"{it} {it + behind}\n" for it in range(first, last + 1))
+
+
+def consumed(address, count, *words):
+    """What `consume` writes of so many messages."""
+    out, _ = run(address, "consume", "events", "--count", str(count), *words)
+    return out
+
+
+def consumers(server):
+    return asked(server.address, "CONSUMER.NAMES.events", {})["consumers"] or []
+
+
+def delete_consumers(server):
+    """Deletes the stream's consumers as soon as it has some, and answers how many these were."""
+    deleted = 0
+    for _ in range(50):
+        time.sleep(0.2)
+        for name in consumers(server):
+            asked(server.address, f"CONSUMER.DELETE.events.{name}", {})
+            deleted += 1
+        if deleted:
+            break
+    return deleted

@@ -1,4 +1,1 @@
-pub mod Failure
-pub mod Lines
 pub mod Outcomes
-pub mod ReadProgress

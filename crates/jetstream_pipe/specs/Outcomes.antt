@@ -3,7 +3,7 @@ use Rattle.std.specs.Prelude.{◌≡◌, ℕ, ◌+◌, ◌-◌, ◌^◌, ◌++�
 use Rattle.js_context_queue.specs.declared.published.Published.{Published}
 use Rattle.js_json.specs.declared.publish_ack.PublishAck.{PublishAck}
 use Rattle.jetstream_pipe.specs.declared.outcomes.Outcomes.{Outcomes}
-use Rattle.jetstream_pipe.specs.Lines.{outcome_line}
+use Rattle.js_pipe.specs.Lines.{outcome_line}
 
 -- the number of the line that has this tag: tags count from 0, lines from 1
 abbrev pub number_of : ℕ → ℕ

@@ -2,19 +2,12 @@
 //! connection to a server. One line of shell joins them to a socket (examples/live).
 #![tactic(auto)]
 
-mod consume;
-mod failure;
-mod lines;
 mod outcomes;
-mod page;
 mod publish;
-mod read_progress;
-mod session;
 mod start;
 mod words;
 
-use failure::{Failure, exit_code, told};
-use lines::{bring_bytes, bring_lines};
+use js_pipe::{Failure, bring_bytes, bring_lines, exit_code, told};
 use start::{Start, prepare};
 use std::process::ExitCode;
 use std::{env, thread};

@@ -3,11 +3,10 @@
 ghost use Rattle.std.specs.Prelude.{◌≡◌, [], true, false, None, is_none, OnOk, OnErr, IfErr};
 ghost use Rattle.std.specs.Io.KnownBytes.{Appends};
 ghost use Rattle.jetstream_pipe.specs.Outcomes.{Adds, AddsPublished, number_of as number_of_tag};
-ghost use Rattle.jetstream_pipe.specs.declared.failure.Failure.TheVariants.{Fault};
+ghost use Rattle.js_pipe.specs.declared.failure.Failure.TheVariants.{Fault};
 
-use crate::failure::Failure;
-use crate::page::{add_outcome_line, write_page};
 use js_context_queue::{Published, Tag};
+use js_pipe::{Failure, add_outcome_line, write_page};
 use js_tool_io::Sink;
 use std::alloc::{AllocError, Global};
 

@@ -3,16 +3,14 @@
 
 ghost use Rattle.std.specs.Prelude.{◌≡◌, [], false, IfOk, OnOk};
 
-use crate::failure::{Failure, tell};
 use crate::outcomes::Outcomes;
-use crate::session::{Happened, Session};
-use crate::words::Options;
 use bytes::Bytes;
 use crossbeam_channel::Sender;
 use js_base::{HeaderMap, Moment, Nanos, Next, OutOfMemory, Subject};
 use js_context::Context;
 use js_context_queue::{Closed, PublishQueue, Unsent};
 use js_message::OutboundMessage;
+use js_pipe::{Failure, Happened, Options, Session, tell};
 use js_tool_io::Sink;
 use std::alloc::{AllocError, Global};
 use std::collections::VecDeque;

@@ -1,14 +1,11 @@
 //! How the program starts.
 
-use crate::consume::consume;
-use crate::failure::{Failure, told};
-use crate::lines::Came;
 use crate::outcomes::Outcomes;
 use crate::publish::{WINDOW, publish};
-use crate::read_progress::Reading;
-use crate::session::Session;
-use crate::words::{Options, Task, read_words};
+use crate::words::read_words;
 use crossbeam_channel::{Receiver, Sender, bounded};
+use js_pipe::{Came, Failure, Options, Session, Task, told};
+use js_pipe_consume::{Reading, consume};
 use js_tool_io::WriteSink;
 use std::alloc::Global;
 use std::fs::File;

@@ -2,8 +2,8 @@
 
 ghost use Rattle.std.specs.Prelude.{◌≡◌, ◌<◌, OnOk, IfErr};
 ghost use Rattle.std.specs.Result.{result_map_both};
-ghost use Rattle.jetstream_pipe.specs.Failure.{exit_code as code_of};
-ghost use Rattle.jetstream_pipe.specs.declared.failure.Failure.TheVariants as failure;
+ghost use Rattle.js_pipe.specs.Failure.{exit_code as code_of};
+ghost use Rattle.js_pipe.specs.declared.failure.Failure.TheVariants as failure;
 
 use js_base::OutOfMemory;
 use std::alloc::{AllocError, AllocFailed};

@@ -2,8 +2,8 @@
 use Rattle.std.specs.Prelude.{ℕ}
 use Rattle.js_link_connection.specs.declared.error.ConnectionError.{ConnectionError}
 use Rattle.js_link_connection.specs.declared.error.ConnectionError.TheVariants as error
-use Rattle.jetstream_pipe.specs.declared.failure.Failure.{Failure}
-use Rattle.jetstream_pipe.specs.declared.failure.Failure.TheVariants as failure
+use Rattle.js_pipe.specs.declared.failure.Failure.{Failure}
+use Rattle.js_pipe.specs.declared.failure.Failure.TheVariants as failure
 
 -- the exit status that each failure ends the program with
 abbrev pub exit_code : Failure → ℕ

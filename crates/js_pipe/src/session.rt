@@ -1,11 +1,11 @@
 //! A connection over two files, with a thread that reads.
 
 ghost use Rattle.std.specs.Prelude.{◌≡◌};
-ghost use Rattle.jetstream_pipe.specs.Failure.{failure_of as failure_of_error};
+ghost use Rattle.js_pipe.specs.Failure.{failure_of as failure_of_error};
 
 use crate::failure::{Failure, tell, told};
 use crate::lines::Came;
-use crate::words::Options;
+use crate::options::Options;
 use crossbeam_channel::{Receiver, RecvTimeoutError};
 use js_base::{Moment, OutOfMemory, Text, Turn, earlier};
 use js_call::State;

@@ -2,8 +2,8 @@
 use Rattle.std.specs.Prelude.{◌≡◌, ℕ, ◌+◌, ◌^◌, ◌++◌, nat_lt, if◌then◌else◌, Option, None, Some, IsOkAnd, refl}
 use Rattle.js_message.specs.declared.message.Message.{Message}
 use Rattle.js_message.specs.Message.{info_of}
-use Rattle.jetstream_pipe.specs.declared.read_progress.Reading.{Reading}
-use Rattle.jetstream_pipe.specs.Lines.{message_line}
+use Rattle.js_pipe_consume.specs.declared.read_progress.Reading.{Reading}
+use Rattle.js_pipe.specs.Lines.{message_line}
 
 -- the sequence at which the next start goes on: the one behind the last message whose line was written, if there is one
 abbrev pub bookmark : Option ℕ → Option ℕ

@@ -3,7 +3,7 @@
 ghost use Rattle.std.specs.Prelude.{◌≡◌, ◌++◌, [], IfOk, OnOk, OnErr, IfErr, codes, decimal, string_bytes};
 ghost use Rattle.std.specs.Io.KnownBytes.{Appends};
 ghost use Rattle.js_tool_io.specs.Causes.{AppendsPrefix};
-ghost use Rattle.jetstream_pipe.specs.Lines.{message_line as line_of_message, outcome_line as line_of_outcome};
+ghost use Rattle.js_pipe.specs.Lines.{message_line as line_of_message, outcome_line as line_of_outcome};
 
 use crate::failure::Failure;
 use js_tool_io::{Sink, write_all};

@@ -2,12 +2,11 @@
 
 ghost use Rattle.std.specs.Prelude.{◌≡◌, ◌<◌, [], None, OnOk, OnErr, IfErr, nat_eq};
 ghost use Rattle.std.specs.Io.KnownBytes.{Appends};
-ghost use Rattle.jetstream_pipe.specs.ReadProgress.{Adds, bookmark};
-ghost use Rattle.jetstream_pipe.specs.declared.failure.Failure.TheVariants.{Fault};
+ghost use Rattle.js_pipe_consume.specs.ReadProgress.{Adds, bookmark};
+ghost use Rattle.js_pipe.specs.declared.failure.Failure.TheVariants.{Fault};
 
-use crate::failure::{Failure, tell};
-use crate::page::{add_message_line, write_page};
 use js_message::Message;
+use js_pipe::{Failure, add_message_line, tell, write_page};
 use js_tool_io::Sink;
 use std::alloc::Global;
 
