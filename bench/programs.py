@@ -9,7 +9,6 @@ HERE = os.path.dirname(os.path.abspath(__file__))
 TOP = os.path.dirname(HERE)
 PROVED = os.path.join(TOP, "crates", "wilfjodi", "out", "wilfjodi")
 PLAIN = os.path.join(HERE, "plain", "target", "release", "plain")
-PERMITS = os.path.join(HERE, "permits", "target", "release", "permits")
 # Where Debian's packages of Rust crates lie (librust-serde-json-dev).
 REGISTRY = "/usr/share/cargo/registry"
 
@@ -53,11 +52,11 @@ def plain():
     return PLAIN
 
 
-def permits():
-    """The path of the plain permits, or None where cargo is missing."""
+def plain_alone(folder):
+    """The path of the plain program of a folder that needs cargo alone, or None where that is missing."""
     if not shutil.which("cargo"):
-        say("the plain permits are skipped: they need cargo")
+        say(f"the plain {folder} are skipped: they need cargo")
         return None
-    say("building the plain permits")
-    subprocess.run(["cargo", "build", "--release", "--offline", "--quiet"], check=True, cwd=os.path.join(HERE, "permits"))
-    return PERMITS
+    say(f"building the plain {folder}")
+    subprocess.run(["cargo", "build", "--release", "--offline", "--quiet"], check=True, cwd=os.path.join(HERE, folder))
+    return os.path.join(HERE, folder, "target", "release", folder)

@@ -7,12 +7,16 @@
 //! | `pull MESSAGES`, `push MESSAGES` | an ordered consumer of that kind reads MESSAGES, of which none is lost | how many it yields |
 //! | `deliver MESSAGES` | MESSAGES are delivered to inboxes that nobody reads | how many these are |
 //! | `table CHANGES KEYS` | a live table reads CHANGES from an ordered push consumer, each of the next of KEYS keys | how many it tells, and how many entries it keeps |
+//! | `receive MESSAGES` | a connection receives MESSAGES of 128 bytes, and takes each from its inbox | how many these are |
+//! | `send MESSAGES` | MESSAGES of 128 bytes are published over a connection, and its bytes sent | how many bytes these are |
+//! | `hear SEED PIECES` | a connection hears PIECES of hostile bytes that are drawn by SEED | what came of them |
 //! | `lose SEEDS` | for each number below SEEDS, a pull and a push consumer read a log each from a server that loses things | how many of each kind yield theirs whole |
 //!
-//! `pull`, `push` and `deliver` count in whole batches of 500. A word that is no number counts as 0. Any other line ends the program with an error that names it.
+//! `pull`, `push` and `deliver` count in whole batches of 500, `receive` and `send` in those of 1000. A word that is no number counts as 0. Any other line ends the program with an error that names it.
 #![tactic(auto)]
 
 mod batches;
+mod hostile;
 mod lossy;
 mod lossy_server;
 mod parse;
@@ -22,6 +26,7 @@ mod requests;
 mod round;
 mod table;
 mod texts;
+mod wire;
 
 use js_ordered_stream::{pull, push};
 use reader::Kind;
@@ -73,6 +78,9 @@ fn run(rt: &(impl Print + AllocGlobal + Wait), line: &str, words: &[&str]) -> Re
         ["push", messages] => batches::read::<push::Ordered>(rt, Kind::Push, number(messages)),
         ["deliver", messages] => batches::deliver_alone(rt, number(messages)),
         ["table", changes, keys] => table::run(rt, number(changes), number(keys)),
+        ["receive", messages] => wire::receive_messages(rt, number(messages)),
+        ["send", messages] => wire::send_messages(rt, number(messages)),
+        ["hear", seed, pieces] => hostile::hear_hostile(rt, number(seed), number(pieces)),
         ["lose", seeds] => lossy::lose(rt, number(seeds)),
         _ => Err(Fail::new(format_args!("no benchmark: {line}"))),
     }

@@ -5,7 +5,7 @@ use bytes::Bytes;
 use js_base::{HeaderMap, Message, OutOfMemory, StatusCode, Subject, Text, all_3, both};
 use js_json::consumer::Info;
 use js_json::{Response, response_as};
-use js_ordered_table::Settings;
+use js_ordered_table::{Resilience, Settings};
 use std::alloc::Global;
 
 /// The settings of every reader.
@@ -20,6 +20,7 @@ pub fn settings(alloc: Global) -> Result<Settings, OutOfMemory> {
         context_timeout: None,
         request_timeout: Some(10_000_000_000),
         retries: 0,
+        resilience: Resilience::none(),
     })
 }
 
