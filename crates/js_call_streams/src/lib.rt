@@ -1,7 +1,7 @@
 //! The API calls on streams: they create, look up, update or delete a stream, and two of them first
 //! check whether it exists. The crate also lists the names of streams and what the server reports
-//! about each of them, page by page. It finds the stream that stores a subject, and asks what an
-//! account uses and may use.
+//! about each of them, page by page. It finds the stream that stores a subject. What an account uses
+//! and may use is asked here too, because a server counts it by streams.
 //!
 //! Each call sends the requests that its contract states and nothing else. If the server's pages
 //! belong to one list, you get the whole list.

@@ -75,7 +75,7 @@ fn with_external(source: Source, external: External) -> Source
     there
 }
 
-fn place(alloc: Global, source: &Source) -> Result<Source, OutOfMemory>
+fn placed_source(alloc: Global, source: &Source) -> Result<Source, OutOfMemory>
     ensures { IfOk result (λ there. there ≡ placed source.now) }
 {
     match (&source.external, &source.domain) {
@@ -87,26 +87,26 @@ fn place(alloc: Global, source: &Source) -> Result<Source, OutOfMemory>
     }
 }
 
-fn place_mirror(alloc: Global, mirror: &Option<Source>) -> Result<Option<Source>, OutOfMemory>
+fn placed_mirror(alloc: Global, mirror: &Option<Source>) -> Result<Option<Source>, OutOfMemory>
     ensures { IfOk result (λ there. there ≡ option_map placed mirror.now) }
 {
     match mirror {
         None => Ok(None),
-        Some(source) => Ok(Some(place(alloc, source)?)),
+        Some(source) => Ok(Some(placed_source(alloc, source)?)),
     }
 }
 
-fn place_each(alloc: Global, sources: &[Source]) -> Result<Vec<Source>, OutOfMemory>
+fn placed_each(alloc: Global, sources: &[Source]) -> Result<Vec<Source>, OutOfMemory>
     ensures { IfOk result (λ there. there.items ≡ map placed sources.now) }
 {
     let mut there = Vec::new(alloc);
     for source in sources {
-        there.push(place(alloc, source)?)?;
+        there.push(placed_source(alloc, source)?)?;
     }
     Ok(there)
 }
 
-fn place_sources(
+fn placed_sources(
     alloc: Global,
     sources: &Option<Items<Source>>,
 ) -> Result<Option<Items<Source>>, OutOfMemory>
@@ -114,7 +114,7 @@ fn place_sources(
 {
     match sources {
         None => Ok(None),
-        Some(sources) => Ok(Some(Items::from(place_each(alloc, sources.as_slice())?))),
+        Some(sources) => Ok(Some(Items::from(placed_each(alloc, sources.as_slice())?))),
     }
 }
 
@@ -141,9 +141,9 @@ impl Placing for Config {
     }
 
     fn place_all(&mut self, alloc: Global) -> Result<(), OutOfMemory> {
-        let mirror = place_mirror(alloc, &self.mirror)?;
+        let mirror = placed_mirror(alloc, &self.mirror)?;
         replace_with(&mut self.mirror, mirror);
-        let sources = place_sources(alloc, &self.sources)?;
+        let sources = placed_sources(alloc, &self.sources)?;
         replace_with(&mut self.sources, sources);
         Ok(())
     }

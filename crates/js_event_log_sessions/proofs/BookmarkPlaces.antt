@@ -7,7 +7,7 @@ use Rattle.js_pull.specs.Reader.{u64_max}
 use Rattle.js_ordered_table.specs.declared.run.Output.{Output}
 use Rattle.js_ordered_table.specs.declared.run.Output.TheVariants as out
 use Rattle.js_ordered_table.specs.Gapless.{Entry, yields}
-use Rattle.js_event_log_sessions.specs.declared.bookmark.Mark.{Mark}
+use Rattle.js_event_log_sessions.specs.declared.mark.Mark.{Mark}
 use Rattle.js_event_log_sessions.specs.Bookmark.{bookmark, has_last}
 use Rattle.js_event_log_sessions.specs.SessionReplay.{after_yield, bookmark_within, mark_of}
 use Rattle.js_event_log_sessions.proofs.Saves.{yields_append}

@@ -20,7 +20,7 @@ use Rattle.js_event_log_sessions.specs.declared.session_replay.SessionReplay.{Se
 use Rattle.js_event_log_sessions.specs.declared.session_replay.SessionEnd.{SessionEnd}
 use Rattle.js_event_log_sessions.specs.declared.session_replay.Sessions.{Sessions}
 use Rattle.js_event_log_sessions.specs.declared.error.SessionsError.TheVariants as error
-use Rattle.js_event_log_sessions.specs.declared.bookmark.Mark.{Mark}
+use Rattle.js_event_log_sessions.specs.declared.mark.Mark.{Mark}
 use Rattle.js_event_log_sessions.specs.declared.scope.Scope.{Scope}
 use Rattle.js_event_log_sessions.specs.declared.session.Line.{Line}
 use Rattle.js_event_log_sessions.specs.declared.session.Line.TheVariants as line

@@ -10,8 +10,8 @@
 //! messages.
 #![tactic(auto)]
 
-mod bookmark;
 mod error;
+mod mark;
 mod runs;
 mod scope;
 mod session;

@@ -6,8 +6,8 @@ ghost use Rattle.js_event_log_sessions.specs.Runs.{is_at, replay_refusal};
 ghost use Rattle.js_event_log_sessions.specs.declared.session.Line.TheVariants as line;
 ghost use Rattle.js_event_log_sessions.specs.declared.session.Session.{Session};
 
-use crate::bookmark::Mark;
 use crate::error::SessionsError;
+use crate::mark::Mark;
 use crate::scope::Scope;
 use js_base::{Moment, OutOfMemory, both};
 use js_json::consumer::Info;

@@ -2,7 +2,7 @@ use Rattle.std.proofs.Common.{◌++◌, take, ap, ◌∙◌, arith}
 use Rattle.js_ordered_table.specs.Gapless.{yields}
 use Rattle.js_event_log_sessions.specs.SessionReplay.{mark_of}
 use Rattle.js_event_log_sessions.proofs.BookmarkPlaces.{taken_more}
-use Rattle.js_event_log_sessions.proofs.bookmark.Mark.after.Goals as goal
+use Rattle.js_event_log_sessions.proofs.mark.Mark.after.Goals as goal
 
 pub loop-output-preserved : goal.loop-output-preserved
 loop-output-preserved c = λ next entries is.
