@@ -2,9 +2,9 @@
 //!
 //! A subject begins with the words of a call: `CONSUMER.INFO`, `CONSUMER.DELETE`,
 //! `CONSUMER.MSG.NEXT` or `CONSUMER.CREATE`. The names of the stream and the consumer follow. If
-//! the consumer reads one subject only, the create request also names that subject, so that a
-//! server can permit the request by its subject. The NATS docs list these subjects under "JetStream
-//! API reference".
+//! the consumer reads one subject only, the create request also names that subject. A server can
+//! then permit the request by its subject. The NATS documentation lists these subjects under
+//! "JetStream API reference".
 
 ghost use Rattle.std.specs.Prelude.{◌≡◌, IfOk, string_bytes};
 ghost use Rattle.js_base.specs.ApiSubject.{under, consumer_api_subject, named_subject};

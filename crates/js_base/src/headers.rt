@@ -45,7 +45,7 @@ impl Header {
         name.saturating_add(value).saturating_add(4)
     }
 
-    // Returns whether the header arrives as the one header that it is.
+    // Returns whether the header can be sent, and not be read as anything else.
     fn is_sendable(&self) -> bool
         ensures { result ≡ is_sendable_header self.now }
     {
@@ -174,11 +174,10 @@ impl HeaderMap {
         len
     }
 
-    /// Returns whether each header arrives as the one header that it is.
+    /// Returns whether you may send the headers.
     /// A value must have no carriage return, line feed or NUL. A name must have none of these, no
-    /// colon and no space. Do not write other headers to a connection: the server would read the
-    /// rest of such a name or value as further headers or commands. An empty name passes, because
-    /// it breaks no line.
+    /// colon and no space. Do not send other headers: the server may read the rest of such a name
+    /// or value as further headers or commands. An empty name passes, because it breaks no line.
     pub fn is_sendable(&self) -> bool
         ensures { result ≡ is_sendable self.now }
     {

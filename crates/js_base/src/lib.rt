@@ -1,11 +1,12 @@
-//! The values that every layer of the client uses, from texts to the results of polls.
+//! The values that every layer of the client uses.
 //!
 //! They are texts, lists, headers, subjects, messages, times, errors and the results of polls.
-//! Contracts see a text as its bytes, a list as its elements, and a boxed value as the value. If a
+//! Contracts see a text as its bytes, a list as its items, and a boxed value as the value. If a
 //! method that changes one of these values runs out of memory, it leaves the value as it was.
+//!
 //! [`subject_matches`] and [`is_valid_subject`] compute the definitions of the same names. [`both`]
-//! and [`all_3`] to [`all_7`] turn several results into one result, which has all values or the
-//! first error. You can then pass the error on with a single `?`.
+//! and [`all_3`] to [`all_7`] turn several results into one, which has all values or the first
+//! error. You then pass the error on with a single `?`.
 #![tactic(auto)]
 
 mod api_subject;

@@ -1,5 +1,5 @@
 //! Functions that turn several results into one: all values, or the first error.
-//! Pass the error on with a single `?`: none of the values is held at that `?`.
+//! You pass the error on with a single `?`, at which you hold none of the values.
 
 ghost use Rattle.std.specs.Prelude.{◌≡◌, IfOk, Ok};
 ghost use Rattle.js_base.specs.Results.{both as both_of, all_3 as all_3_of, all_4 as all_4_of, all_5 as all_5_of, all_6 as all_6_of, all_7 as all_7_of};

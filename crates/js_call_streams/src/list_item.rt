@@ -48,7 +48,7 @@ impl ListItem for Text {
     }
 }
 
-/// What the server reports about all streams.
+/// The infos of all streams.
 impl ListItem for Info {
     ghost list = { infos_list };
 

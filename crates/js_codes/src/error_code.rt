@@ -11,7 +11,7 @@ use std::alloc::Global;
 #[derive(Clone, Copy, Debug, Default, PartialEq, Eq)]
 pub struct ErrorCode(pub u64);
 
-/// The error codes that the server knows, in ascending order.
+/// The error codes of the server, in ascending order.
 impl ErrorCode {
     pub const ACCOUNT_RESOURCES_EXCEEDED: ErrorCode = ErrorCode(10002);
 

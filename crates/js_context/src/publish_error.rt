@@ -20,7 +20,7 @@ pub enum PublishErrorKind {
     BrokenPipe,
     /// The stream's last message has a different id than expected.
     WrongLastMessageId,
-    /// The stream's last message has a different sequence than expected.
+    /// The last message of the stream, or of the subject, has a different sequence than expected.
     WrongLastSequence,
     /// No permit was free, and backpressure is off. Nothing was sent.
     MaxAckPending,

@@ -8,8 +8,8 @@ use Rattle.js_link.specs.LinkView.{LinkView}
 use Rattle.js_context.specs.Context.{ContextView}
 use Rattle.js_context_queue.specs.declared.in_flight.InFlight.{InFlight}
 use Rattle.js_context_queue.specs.declared.unsent.Unsent.{Unsent}
-use Rattle.js_context_queue.specs.declared.queue.StepResult.{StepResult}
-use Rattle.js_context_queue.specs.declared.queue.StepResult.TheVariants.{Made, Stays, Over, NoMemory}
+use Rattle.js_context_queue.specs.declared.step_result.StepResult.{StepResult}
+use Rattle.js_context_queue.specs.declared.step_result.StepResult.TheVariants.{Made, Stays, Over, NoMemory}
 use Rattle.js_context_queue.specs.Queue.{QueueView, IsQueue, EachHasOne, Keeps, times, waiting_tags}
 use Rattle.js_context_queue.specs.Steps.{Looks, TriesFirst, outcome_of}
 use Rattle.js_context_queue.specs.InFlight.{tags_of}

@@ -8,8 +8,8 @@ use Rattle.js_call.specs.declared.open_request.OpenRequest.{OpenRequest}
 use Rattle.js_call.specs.Wakes.{IsLeftAlone, IsSent, is_due}
 use Rattle.js_context.specs.AckTimers.{ack_waits_for}
 use Rattle.js_context_queue.specs.declared.in_flight.InFlight.{InFlight}
-use Rattle.js_context_queue.specs.declared.queue.StepResult.{StepResult}
-use Rattle.js_context_queue.specs.declared.queue.StepResult.TheVariants.{Made, Stays, Over, NoMemory}
+use Rattle.js_context_queue.specs.declared.step_result.StepResult.{StepResult}
+use Rattle.js_context_queue.specs.declared.step_result.StepResult.TheVariants.{Made, Stays, Over, NoMemory}
 use Rattle.js_context_queue.specs.InFlight.{waits_of}
 use Rattle.js_context_queue.specs.Queue.{QueueView}
 use Rattle.js_context_queue.specs.LeftAlone.{GoesOn, HaveClocks, IsUnanswered, LooksInVain}

@@ -15,8 +15,8 @@ use Rattle.js_context.specs.AckFuture.{Acked, AckPolled, AckTurn, AckTurns, cloc
 use Rattle.js_context.specs.Context.{ContextView}
 use Rattle.js_context.specs.AckTimers.{ack_waits_for, unless_kept}
 use Rattle.js_context_queue.specs.declared.published.Published.{Published}
-use Rattle.js_context_queue.specs.declared.queue.StepResult.{StepResult}
-use Rattle.js_context_queue.specs.declared.queue.StepResult.TheVariants as steps
+use Rattle.js_context_queue.specs.declared.step_result.StepResult.{StepResult}
+use Rattle.js_context_queue.specs.declared.step_result.StepResult.TheVariants as steps
 use Rattle.js_context_queue.specs.declared.unsent.Unsent.{Unsent}
 use Rattle.js_context_queue.specs.InFlight.{waits_of}
 use Rattle.js_context_queue.specs.Queue.{QueueView}

@@ -14,8 +14,8 @@ use Rattle.js_context.specs.Context.{ContextView}
 use Rattle.js_context_queue.specs.declared.in_flight.InFlight.{InFlight}
 use Rattle.js_context_queue.specs.declared.published.Published.{Published}
 use Rattle.js_context_queue.specs.declared.unsent.Unsent.{Unsent}
-use Rattle.js_context_queue.specs.declared.queue.StepResult.{StepResult}
-use Rattle.js_context_queue.specs.declared.queue.StepResult.TheVariants as steps
+use Rattle.js_context_queue.specs.declared.step_result.StepResult.{StepResult}
+use Rattle.js_context_queue.specs.declared.step_result.StepResult.TheVariants as steps
 use Rattle.js_context_queue.specs.Queue.{QueueView, Keeps}
 use Rattle.js_context_queue.specs.Steps.{GivesUp, GoesBehind, Looks, TriesFirst, SendsFirst, Settles, brought}
 use Rattle.js_context_queue.specs.QueuePoll.{Ends, IsAckOf, IsLeftOf, IsOwn, IsSentFrom, IsStillOneOf, Leads, Passes, Place, Polls, Runs, Tells, place}

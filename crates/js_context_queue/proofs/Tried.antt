@@ -25,8 +25,8 @@ use Rattle.js_context.specs.Sending.{TakesAndGives}
 use Rattle.js_context.specs.AckTimers.{ack_waits_for, unless_kept}
 use Rattle.js_context_queue.specs.declared.in_flight.InFlight.{InFlight}
 use Rattle.js_context_queue.specs.declared.published.Published.{Published}
-use Rattle.js_context_queue.specs.declared.queue.StepResult.{StepResult}
-use Rattle.js_context_queue.specs.declared.queue.StepResult.TheVariants as steps
+use Rattle.js_context_queue.specs.declared.step_result.StepResult.{StepResult}
+use Rattle.js_context_queue.specs.declared.step_result.StepResult.TheVariants as steps
 use Rattle.js_context_queue.specs.declared.unsent.Unsent.{Unsent}
 use Rattle.js_context_queue.specs.InFlight.{tags_of, waits_of}
 use Rattle.js_context_queue.specs.Pending.{AcksWait, FindsNone, FirstWasTried, LooksAtEach, LooksOnInVain, PendsInVain, SendsInTurn, StaysInVain, TriesInOrder, WasTried}

@@ -11,8 +11,8 @@ use Rattle.js_context.specs.AckTimers.{ack_waits_for}
 use Rattle.js_context_queue.specs.declared.in_flight.InFlight.{InFlight}
 use Rattle.js_context_queue.specs.declared.published.Published.{Published}
 use Rattle.js_context_queue.specs.declared.unsent.Unsent.{Unsent}
-use Rattle.js_context_queue.specs.declared.queue.StepResult.{StepResult}
-use Rattle.js_context_queue.specs.declared.queue.StepResult.TheVariants as steps
+use Rattle.js_context_queue.specs.declared.step_result.StepResult.{StepResult}
+use Rattle.js_context_queue.specs.declared.step_result.StepResult.TheVariants as steps
 use Rattle.js_context_queue.specs.InFlight.{waits_of}
 use Rattle.js_context_queue.specs.Queue.{QueueView, open_tags}
 use Rattle.js_context_queue.specs.Steps.{outcome_of}

@@ -13,8 +13,8 @@ use Rattle.js_context.specs.declared.ack_future.Clock.{Clock}
 use Rattle.js_context_queue.specs.declared.in_flight.InFlight.{InFlight}
 use Rattle.js_context_queue.specs.declared.published.Published.{Published}
 use Rattle.js_context_queue.specs.declared.unsent.Unsent.{Unsent}
-use Rattle.js_context_queue.specs.declared.queue.StepResult.{StepResult}
-use Rattle.js_context_queue.specs.declared.queue.StepResult.TheVariants as steps
+use Rattle.js_context_queue.specs.declared.step_result.StepResult.{StepResult}
+use Rattle.js_context_queue.specs.declared.step_result.StepResult.TheVariants as steps
 use Rattle.js_context_queue.specs.InFlight.{waits_of}
 use Rattle.js_context_queue.specs.Queue.{QueueView}
 use Rattle.js_context_queue.specs.QueuePoll.{Place}

@@ -12,8 +12,8 @@ use Rattle.js_context.specs.declared.publish_error.PublishErrorKind.{PublishErro
 use Rattle.js_context_queue.specs.declared.in_flight.InFlight.{InFlight}
 use Rattle.js_context_queue.specs.declared.published.Published.{Published}
 use Rattle.js_context_queue.specs.declared.unsent.Unsent.{Unsent}
-use Rattle.js_context_queue.specs.declared.queue.StepResult.{StepResult}
-use Rattle.js_context_queue.specs.declared.queue.StepResult.TheVariants.{Made, Stays, Over, NoMemory}
+use Rattle.js_context_queue.specs.declared.step_result.StepResult.{StepResult}
+use Rattle.js_context_queue.specs.declared.step_result.StepResult.TheVariants.{Made, Stays, Over, NoMemory}
 use Rattle.js_context_queue.specs.Queue.{QueueView}
 use Rattle.js_context_queue.specs.SendAttempt.{IsPrevented, SendsNone}
 

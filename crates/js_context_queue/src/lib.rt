@@ -16,14 +16,17 @@
 //! To publish and confirm a single message, use [`PublishCalls::publish_and_confirm`].
 #![tactic(auto)]
 
+mod closed;
 mod confirm;
 mod in_flight;
 mod published;
 mod queue;
 mod send_attempt;
+mod step_result;
 mod unsent;
 
+pub use closed::Closed;
 pub use confirm::{Confirming, PublishCalls};
 pub use published::{Published, Tag};
-pub use queue::{Closed, PublishQueue, QueueHealth};
+pub use queue::{PublishQueue, QueueHealth};
 pub use unsent::Unsent;

@@ -11,9 +11,11 @@ ghost use Rattle.js_context_queue.specs.Pending.{LooksAtEach, LooksOnInVain, Pen
 ghost use Rattle.js_context_queue.specs.Wakes.{is_first_over, queue_due};
 ghost use Rattle.js_context_queue.specs.LeftAlone.{GoesOn, HaveClocks, IsQuiet, LooksAtNothing, LooksInVain, LooksOnAtNothing, QueuePends, SendsNothing, SleepsIfLeftAlone};
 
+use crate::closed::Closed;
 use crate::in_flight::{InFlight, detach_all};
 use crate::published::{Published, Tag};
 use crate::send_attempt::{SendResult, try_to_send};
+use crate::step_result::StepResult;
 use crate::unsent::Unsent;
 use bytes::Bytes;
 use js_base::{Error, Moment, Nanos, Next, OutOfMemory, Subject, Turn, earlier, end_of};
@@ -65,29 +67,6 @@ impl Drop for PublishQueue {
         drop(context);
         drop(unsent);
     }
-}
-
-/// What closing a queue returns.
-#[derive(Drop)]
-#[must_use = "what is left was not stored"]
-pub struct Closed {
-    /// The queue's context. The acks of messages that were sent are detached: `Context::reap`
-    /// settles them.
-    pub context: Context,
-    /// The messages that were not sent, in the order in which they were pushed.
-    pub unsent: VecDeque<Unsent>,
-}
-
-/// The result of a step.
-enum StepResult {
-    /// The step was made.
-    Made,
-    /// Nothing can be done now.
-    Stays,
-    /// An outcome is known.
-    Over(Published),
-    /// Memory ran out.
-    NoMemory,
 }
 
 impl PublishQueue {

@@ -1,4 +1,4 @@
-//! Errors of reading a JSON value, and of writing one.
+//! The errors of reading and writing a JSON value.
 
 ghost use Rattle.std.specs.Prelude.{◌≡◌};
 ghost use Rattle.js_json_members.specs.Error.{message_of, key_of};
@@ -8,7 +8,7 @@ use crate::key::Key;
 use std::alloc::{AllocError, AllocFailed};
 use std::{error, fmt};
 
-/// A `ReadError` says why a JSON value cannot be read as a type, or a value written as JSON.
+/// Why a JSON value cannot be read as a type, or why a value cannot be written as JSON.
 #[derive(Clone, Copy, Debug, PartialEq, Eq)]
 pub enum ReadError {
     /// A required member is absent.
@@ -21,7 +21,10 @@ pub enum ReadError {
     OutOfRange { key: Key },
     /// The value contains a number that is neither an `i64` nor a `u64`.
     Float,
-    /// The bytes are not JSON.
+    /// The bytes are not JSON, or nest more than 127 levels deep.
+    ///
+    /// The readers of transcripts also fail with it if a value is not an object or has an unknown
+    /// key.
     NotJson,
     /// Memory ran out.
     OutOfMemory,

@@ -1,4 +1,4 @@
-//! Reads whole values, and objects nested in others.
+//! Reading of whole values, and of objects nested in others.
 
 ghost use Rattle.std.specs.Prelude.{Result};
 ghost use Rattle.serde_json.specs.Data.{Data};
@@ -14,7 +14,7 @@ use std::alloc::Global;
 
 /// Implement `FromValue` for a type that is read from a JSON object.
 pub trait FromValue: Drop {
-    /// Gives the value or the error that reading the members returns.
+    /// What reading the members returns: the value or the error.
     ghost fields: { Data → Result Self ReadError };
 
     /// Reads the members of an object.

@@ -1,4 +1,4 @@
-//! Reads instants from text and writes them as text.
+//! Instants, and their texts.
 
 ghost use Rattle.std.specs.Prelude.{◌≡◌, ◌++◌, codes, IfOk, string_bytes};
 ghost use Rattle.jiff.specs.Words.{iso_datetime_text};
@@ -13,7 +13,7 @@ use std::alloc::{AllocError, Global};
 
 /// Parses a text as an instant.
 ///
-/// Returns `None` if the text is not a timestamp or lies outside the range of `Timestamp`.
+/// Returns `None` if the text is no timestamp, or if its instant is out of range of `Timestamp`.
 #[tactic(auto, unfolding(crate::specs::Instant::instant_of))]
 pub fn instant_of(text: &str) -> Option<Timestamp>
     ensures { result ≡ instant_in text.now }

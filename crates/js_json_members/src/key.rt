@@ -1,9 +1,9 @@
-//! Lists the keys that members may have.
+//! The keys that members may have.
 
 ghost use Rattle.std.specs.Prelude.{◌≡◌};
 ghost use Rattle.js_json_members.specs.Key.{key_name};
 
-/// A `Key` is the key of a member in a JSON object.
+/// The key of a member of a JSON object.
 #[derive(Clone, Copy, Debug, PartialEq, Eq)]
 pub enum Key {
     AckFloor,

@@ -1,8 +1,8 @@
-//! Reads members as texts, numbers, booleans, instants, lists and values by name.
+//! Reading of members as texts, numbers, booleans, instants, lists and maps.
 //!
-//! Reading fails with `WrongKind` if the value has the wrong JSON kind. It fails with `OutOfRange`
-//! if a number or a text is not a value of the type. The items of a list and the values by name
-//! are read under the key of the whole member.
+//! A read fails with `WrongKind` if the value has the wrong JSON kind. It fails with `OutOfRange`
+//! if a number or a text is not a value of the type. If an item of a list or a value of a map is at
+//! fault, the error names the key of the whole member.
 
 ghost use Rattle.std.specs.Prelude.{◌≡◌, [], pos, false};
 ghost use Rattle.serde_json.specs.View.{view, items_view, members_view};
@@ -127,10 +127,10 @@ impl Blank for i64 {
     }
 }
 
-/// A `PercentText` is a number from 0 to 255 that is read from text such as `30` or `30%`.
+/// A number from 0 to 255 that is read from text such as `30` or `30%`.
 ///
-/// Reading fails with `WrongKind` if the value is not a text. It fails with `OutOfRange` if the
-/// text is not such a number with at most one percent sign after it. The default is 0.
+/// A read fails with `WrongKind` if the value is not a text. It fails with `OutOfRange` if the text
+/// is not such a number with at most one percent sign after it. The default is 0.
 #[derive(Clone, Copy, Debug, PartialEq, Eq)]
 pub struct PercentText(pub u8);
 

@@ -1,13 +1,13 @@
-//! Reads the members of JSON objects into Rust values, and writes Rust values as JSON objects.
+//! Reading of JSON objects as Rust values, and writing of Rust values as JSON objects.
 //!
-//! To read, parse bytes with `value_of`, then fetch each member from the object by its key.
+//! To read, parse bytes with `value_of`, then fetch each member of the object by its key.
 //! `required` fails if the member is absent. `defaulted` returns the default if it is absent.
 //! `optional` returns `None` if it is absent or null. `given` returns `None` only if it is absent,
 //! and reads null as it reads any other value.
 //!
 //! Implement `Member` for a type that is read from the value of one key, and `FromValue` for a type
 //! that is read from a whole object. Keys that you do not ask for are ignored. If a key is
-//! repeated, its last value counts. A failed read returns a `ReadError`. It names the key if a
+//! repeated, its last value counts. A failed read returns a `ReadError`, which names the key if the
 //! member is absent, has the wrong JSON kind or is out of range.
 //!
 //! To write, add members to an `Object` one after another. `always` adds a member in every case,

@@ -1,4 +1,4 @@
-//! Fetches a member from an object: a required one, one with a default, or one that may be absent.
+//! The members of an object: required ones, those with a default, and those that may be absent.
 
 ghost use Rattle.std.specs.Prelude.{◌≡◌, Result, None};
 ghost use Rattle.serde_json.specs.Data.{Data};
@@ -15,7 +15,7 @@ use std::alloc::Global;
 
 /// Implement `Member` for a type that is read from the value of one key.
 pub trait Member: Drop {
-    /// Gives the value or the error that reading a JSON value under a key returns.
+    /// What reading a JSON value under a key returns: the value or the error.
     ghost reads: { Key → Data → Result Self ReadError };
 
     /// Reads the JSON value that an object has under `key`.
@@ -25,20 +25,21 @@ pub trait Member: Drop {
         ensures { Gives result (reads key (view value.now)) };
 }
 
-/// Implement `Blank` for a member that has a default when it is absent.
+/// Implement `Blank` for a type that has a default if its member is absent.
 pub trait Blank: Member {
-    /// Gives the default of an absent member.
+    /// The default of an absent member.
     ghost blank: { Self };
 
-    /// Returns the default and allocates no memory.
+    /// Returns the default.
+    /// It allocates nothing.
     fn blank(alloc: Global) -> Self
         ensures { result ≡ blank };
 }
 
 /// Reads a member that must be present.
 ///
-/// Fails with `Missing` if `object` has no such key or is not an object. Otherwise fails as reading
-/// the member fails.
+/// Fails with `Missing` if `object` has no such key or is not an object. Otherwise it fails as
+/// reading the member fails.
 #[tactic(auto, unfolding(crate::specs::Member::required))]
 pub fn required<T: Member>(alloc: Global, object: &Value, key: Key) -> Result<T, ReadError>
     ensures { Gives result (required_in T.reads key (view object.now)) }
@@ -49,9 +50,9 @@ pub fn required<T: Member>(alloc: Global, object: &Value, key: Key) -> Result<T,
     }
 }
 
-/// Reads a member, and returns its default if it is absent.
+/// Reads a member, or returns its default if it is absent.
 ///
-/// Returns the default too if `object` is not an object. Fails as reading the member fails.
+/// It also returns the default if `object` is not an object. It fails as reading the member fails.
 #[tactic(auto, unfolding(crate::specs::Member::defaulted))]
 pub fn defaulted<T: Blank>(alloc: Global, object: &Value, key: Key) -> Result<T, ReadError>
     ensures { Gives result (defaulted_in T.Member.reads key T.blank (view object.now)) }
@@ -62,9 +63,9 @@ pub fn defaulted<T: Blank>(alloc: Global, object: &Value, key: Key) -> Result<T,
     }
 }
 
-/// Reads a member, and returns `None` if it is absent or null.
+/// Reads a member, or returns `None` if it is absent or null.
 ///
-/// Returns `None` too if `object` is not an object. Fails as reading the member fails.
+/// It also returns `None` if `object` is not an object. It fails as reading the member fails.
 #[tactic(auto, unfolding(crate::specs::Member::optional, crate::specs::Member::defaulted))]
 pub fn optional<T: Member>(alloc: Global, object: &Value, key: Key) -> Result<Option<T>, ReadError>
     ensures { Gives result (optional_in T.reads key (view object.now)) }
@@ -72,10 +73,10 @@ pub fn optional<T: Member>(alloc: Global, object: &Value, key: Key) -> Result<Op
     defaulted(alloc, object, key)
 }
 
-/// Reads a member, and returns `None` if it is absent.
+/// Reads a member, or returns `None` if it is absent.
 ///
-/// Reads null as it reads any other value. Returns `None` too if `object` is not an object. Fails
-/// as reading the member fails.
+/// It reads null as it reads any other value. It also returns `None` if `object` is not an object.
+/// It fails as reading the member fails.
 #[tactic(auto, unfolding(crate::specs::Member::given))]
 pub fn given<T: Member>(alloc: Global, object: &Value, key: Key) -> Result<Option<T>, ReadError>
     ensures { Gives result (given_in T.reads key (view object.now)) }

@@ -1,4 +1,4 @@
-//! Reads members whose text names a value.
+//! Reading of members whose text names a value.
 
 ghost use Rattle.std.specs.Prelude.{◌≡◌, List, ℕ, Option};
 ghost use Rattle.serde_json.specs.View.{view};
@@ -10,7 +10,7 @@ use serde_json::Value;
 
 /// Implement `Named` for an enum whose values have names in JSON.
 pub trait Named: Drop {
-    /// Gives the value of each name, or `None` if no value has it.
+    /// The value of each name, or `None` if no value has it.
     ghost value_of: { List ℕ → Option Self };
 
     /// Returns the value with that name, or `None` if no value has it.

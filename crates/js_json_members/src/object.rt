@@ -1,4 +1,4 @@
-//! Builds JSON objects, member by member.
+//! JSON objects that are built member by member.
 
 ghost use Rattle.std.specs.Prelude.{Ok, Option, Result, option_map};
 ghost use Rattle.serde_json.specs.Data.{Data, Members, no_members};
@@ -14,10 +14,11 @@ use crate::written::Written;
 use serde_json::{Map, Value};
 use std::alloc::Global;
 
-/// An `Object` collects the members of a JSON object, which you add one after another.
+/// A JSON object to which you add members one after another.
 ///
-/// Each method that adds a member takes the object and returns it. If a member fails, the object
-/// keeps that error, adds no later member, and `finish` returns the error.
+/// Each method that adds a member takes the object and returns it. A later member replaces an
+/// earlier one with the same key. If a member fails, the object keeps that error, adds no later
+/// member, and `finish` returns the error.
 #[derive(Drop)]
 pub struct Object {
     members: Result<Map<String, Value>, ReadError>,
@@ -27,7 +28,8 @@ impl Object {
     ghost use Rattle.js_json_members.specs.Object.{Holds};
     ghost use Rattle.js_json_members.specs.Rows.{object_of, always, unless, where_some, or_null};
 
-    /// Returns an object with no members and allocates no memory.
+    /// Returns an object with no members.
+    /// It allocates nothing.
     pub fn new(alloc: Global) -> Object
         ensures { Holds result (Ok no_members) }
     {

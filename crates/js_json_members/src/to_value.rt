@@ -1,4 +1,4 @@
-//! Writes whole values as JSON objects.
+//! Writing of whole values as JSON objects.
 
 ghost use Rattle.std.specs.Prelude.{Result, string_bytes};
 ghost use Rattle.serde_json.specs.Data.{Data};
@@ -12,7 +12,7 @@ use std::alloc::Global;
 
 /// Implement `ToValue` for a type that is written as a JSON object.
 pub trait ToValue {
-    /// Gives the object, or the error if the value cannot be written.
+    /// What writing the value returns: the object, or the error if it cannot be written.
     ghost written: { Self → Result Data ReadError };
 
     /// Returns the JSON object, which contains no float.

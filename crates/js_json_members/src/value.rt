@@ -1,4 +1,4 @@
-//! Parses bytes as a JSON value, and checks the keys of an object.
+//! Parsing of bytes as a JSON value, and the check of an object's keys.
 
 ghost use Rattle.std.specs.Prelude.{◌≡◌};
 ghost use Rattle.serde_json.specs.View.{view, members_view};
@@ -14,9 +14,9 @@ use std::alloc::Global;
 
 /// Parses bytes as a JSON value without floats.
 ///
-/// Fails with `NotJson` if the bytes do not parse as one JSON value in UTF-8. Fails with `Float` if
-/// the value contains a number that is neither an `i64` nor a `u64`. Fails with `OutOfMemory` if
-/// memory runs out.
+/// Fails with `NotJson` if the bytes are not one JSON value in UTF-8, or nest more than 127 levels
+/// deep. Fails with `Float` if the value contains a number that is neither an `i64` nor a `u64`.
+/// Fails with `OutOfMemory` if memory runs out.
 pub fn value_of(alloc: Global, bytes: &[u8]) -> Result<Value, ReadError>
     ensures { GivesAs view result (value_in bytes.now) }
 {
@@ -37,7 +37,7 @@ pub fn value_of(alloc: Global, bytes: &[u8]) -> Result<Value, ReadError>
 
 /// Returns whether the value is an object whose keys are all among `keys`.
 ///
-/// Returns `false` if the value is not an object, and `true` if it is an empty object.
+/// It returns `false` if the value is not an object, and `true` if it is an empty object.
 pub fn has_only(object: &Value, keys: &[Key]) -> bool
     ensures { result ≡ has_only_in keys.now (view object.now) }
 {

@@ -1,4 +1,4 @@
-//! Writes texts, numbers, booleans, instants, lists and values by name as members.
+//! Writing of texts, numbers, booleans, instants, lists and maps as members.
 
 ghost use Rattle.std.specs.Prelude.{◌≡◌, not, false, Bool, Result, map};
 ghost use Rattle.serde_json.specs.Data.{Data, no_members};
@@ -21,10 +21,10 @@ use std::collections::BTreeMap;
 
 /// Implement `Written` for a type that is written as the value of one key.
 pub trait Written: Drop {
-    /// Gives the JSON value or the error that writing a value under a key returns.
+    /// What writing a value under a key returns: the JSON value or the error.
     ghost writes: { Key → Self → Result Data ReadError };
 
-    /// Tells which value is the default.
+    /// Whether a value is the default.
     ghost is_blank: { Self → Bool };
 
     /// Returns the JSON value to write under `key`, which contains no float.
@@ -111,9 +111,9 @@ impl Written for u8 {
     }
 }
 
-/// Writes an instant as text in UTC, and fails with `OutOfRange` if its year is before 0.
+/// Writes an instant as text in UTC.
 ///
-/// No instant is the default.
+/// It fails with `OutOfRange` if the year is before 0. No instant is the default.
 impl Written for Timestamp {
     ghost writes = { instant_data };
 

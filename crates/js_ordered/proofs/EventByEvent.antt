@@ -10,7 +10,7 @@ use Rattle.js_ordered_table.specs.declared.run.ReplayError.TheVariants as error
 use Rattle.js_ordered.specs.declared.incremental_replay.IncrementalReplay.{IncrementalReplay}
 use Rattle.js_ordered_table.specs.declared.transitions.task.Task.{Task}
 use Rattle.js_ordered_table.specs.declared.transitions.task.Task.TheVariants as task
-use Rattle.js_ordered.specs.Driven.{IsLeft, Leads, left_rows}
+use Rattle.js_ordered.specs.Drive.{IsLeft, Leads, left_rows}
 use Rattle.js_ordered.proofs.ReplayRuns.{event_begun, led_to}
 use Rattle.js_ordered_table.specs.declared.row.Row.TheVariants.{Event}
 use Rattle.js_ordered_table.specs.declared.run.Output.{Output}

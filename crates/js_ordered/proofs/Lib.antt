@@ -1,8 +1,8 @@
 pub mod RowRuns
-pub mod Counting
+pub mod RowCounts
 pub mod ReplayRuns
 pub mod EventByEvent
-pub mod Driving
-pub mod ReadDriving
+pub mod DrivenRows
+pub mod DrivenReads
 pub mod Nowhere
-pub mod Taking
+pub mod TakenTasks

@@ -7,7 +7,7 @@ use Rattle.js_link.specs.RowInput.{RowInput}
 use Rattle.js_ordered_table.specs.declared.transitions.task.NextTasks.{NextTasks}
 use Rattle.js_ordered_table.specs.declared.transitions.task.Task.{Task}
 use Rattle.js_ordered_table.specs.declared.transitions.task.Task.TheVariants as task
-use Rattle.js_ordered.specs.Driven.{IsTry, Passes, PassesTo, matter_now}
+use Rattle.js_ordered.specs.Drive.{IsTry, Passes, PassesTo, matter_now}
 use Rattle.js_ordered_table.specs.Tasks.{answered_rows, rows_of}
 use Rattle.js_pull.specs.declared.reader.Reader.{Reader}
 use Rattle.js_pull.specs.declared.reader.Row.{Row as PullRow}
@@ -26,7 +26,7 @@ use Rattle.js_ordered_table.specs.Fold.{passing}
 use Rattle.js_ordered_table.specs.Passes.{at}
 use Rattle.js_ordered_table.specs.Consumer.{Matter, silent_row}
 use Rattle.js_ordered_table.specs.Table.{row_at}
-use Rattle.js_ordered.proofs.Driving.{idle_row, nothing_passed}
+use Rattle.js_ordered.proofs.DrivenRows.{idle_row, nothing_passed}
 
 -- ---- a row where it does not belong
 

@@ -24,7 +24,7 @@ use Rattle.js_ordered_table.specs.Replay.{IsFolded}
 use Rattle.js_pull.specs.Reader.{opening as opening_reads}
 use Rattle.js_ordered_table.specs.declared.transitions.task.Task.{Task}
 use Rattle.js_ordered_table.specs.declared.transitions.task.Task.TheVariants as task
-use Rattle.js_ordered.specs.Driven.{Leads, left_rows}
+use Rattle.js_ordered.specs.Drive.{Leads, left_rows}
 use Rattle.js_ordered.proofs.RowRuns.{no_more}
 
 -- ---- the opening

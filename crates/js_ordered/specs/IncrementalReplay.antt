@@ -5,7 +5,7 @@ use Rattle.js_ordered.specs.declared.incremental_replay.IncrementalReplay.{Incre
 use Rattle.js_ordered_table.specs.declared.event.Event as events
 use Rattle.js_ordered_table.specs.declared.run.ReplayError.{ReplayError}
 use Rattle.js_ordered_table.specs.declared.transitions.task.Task.{Task}
-use Rattle.js_ordered.specs.Driven.{left_rows}
+use Rattle.js_ordered.specs.Drive.{left_rows}
 use Rattle.js_ordered_table.specs.declared.run.Output.{Output}
 use Rattle.js_ordered_table.specs.declared.replay_state.ReplayState.{ReplayState}
 use Rattle.js_ordered_table.specs.Fold.{Ran, and_then, event as ran_by, matter_of, opening, pass_each, run_events, fold}

@@ -1,3 +1,3 @@
 pub mod IncrementalReplay
-pub mod Giving
-pub mod Driven
+pub mod Give
+pub mod Drive

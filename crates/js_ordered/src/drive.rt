@@ -5,7 +5,7 @@
 //! that are left, with what was put out so far, still lead to what the whole event leads to. These
 //! rows are counted, and each turn of the loop over them passes one, so the loop ends.
 ghost use Rattle.std.specs.Prelude.{◌≡◌, ◌+◌, ◌<◌, ◌≤◌, ◌++◌, ◌∷◌, [], OnErr, OnOk, false, length, true, vec_capacity, vec_len};
-ghost use Rattle.js_ordered.specs.Driven.{IsLeft, IsTry, LeadsOn, PassesOn, PassesTo, first_held, first_rows, left_rows, left_to_do, matter_now};
+ghost use Rattle.js_ordered.specs.Drive.{IsLeft, IsTry, LeadsOn, PassesOn, PassesTo, first_held, first_rows, left_rows, left_to_do, matter_now};
 ghost use Rattle.js_ordered_table.specs.Tasks.{heard_rows, hearings_of, next_rows, rows_of};
 ghost use Rattle.js_ordered_table.specs.Passes.{at};
 ghost use Rattle.js_ordered_table.specs.Recreation.{message_on};
@@ -244,7 +244,7 @@ fn left_of(task: Task) -> NextTasks
 }
 
 // A message that was held is not heard yet.
-#[tactic(auto, using(crate::proofs::Taking::no_held, crate::proofs::Taking::one_held))]
+#[tactic(auto, using(crate::proofs::TakenTasks::no_held, crate::proofs::TakenTasks::one_held))]
 fn has_held(held: &Held) -> bool
     ensures none { result ≡ false → hearings_of held.now ≡ [] }
     ensures one { result ≡ true → length (first_held held.now) ≡ 1 }
@@ -253,7 +253,7 @@ fn has_held(held: &Held) -> bool
 }
 
 // A task stands for a row. One that takes what the event brings stands for none where the event does not bring it.
-#[tactic(auto, using(crate::proofs::Taking::no_answer, crate::proofs::Taking::one_answer, crate::proofs::Taking::no_arrival, crate::proofs::Taking::one_arrival))]
+#[tactic(auto, using(crate::proofs::TakenTasks::no_answer, crate::proofs::TakenTasks::one_answer, crate::proofs::TakenTasks::no_arrival, crate::proofs::TakenTasks::one_arrival))]
 fn has_row(context: &EventContext<'_>, task: &Task) -> bool
     ensures none { result ≡ false → rows_of (matter_now context.now) task.now ≡ [] }
     ensures one { result ≡ true → length (first_rows (matter_now context.now) task.now) ≡ 1 }

@@ -1,7 +1,7 @@
 //! A consumer, with what happens to it.
 ghost use Rattle.std.specs.Prelude.{◌≡◌};
 ghost use Rattle.std.specs.Option.{option_copied};
-ghost use Rattle.js_ordered.specs.Driven.{matter_now};
+ghost use Rattle.js_ordered.specs.Drive.{matter_now};
 ghost use Rattle.js_ordered_table.specs.Fold.{matter_of};
 ghost use Rattle.js_ordered_table.specs.Passes.{change_shown, reply_shown};
 ghost use Rattle.js_ordered_table.specs.Recreation.{message_on as arrival_on};

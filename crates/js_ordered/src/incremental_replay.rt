@@ -1,7 +1,7 @@
 //! A replay that takes its events one by one.
 ghost use Rattle.std.specs.Prelude.{◌≡◌, ◌+◌, ◌∷◌, ◌++◌, [], ℕ, List, Some, None, IfOk, OnOk, OnErr, Err, if◌then◌else◌};
 ghost use Rattle.js_ordered.specs.IncrementalReplay.{HasCome, IsEnd, IsWithin, replay_given, rest_of_replay};
-ghost use Rattle.js_ordered.specs.Driven.{IsLeft};
+ghost use Rattle.js_ordered.specs.Drive.{IsLeft};
 ghost use Rattle.js_ordered_table.specs.Refusal.{first_of, refuse_input as refused_at};
 ghost use Rattle.js_ordered_table.specs.declared.consumer.ReplayInput.{ReplayInput};
 ghost use Rattle.js_ordered_table.specs.declared.event.Event as events;

@@ -11,6 +11,7 @@
 mod drive;
 mod event_context;
 mod incremental_replay;
+mod opening;
 mod replay;
 mod task_stack;
 

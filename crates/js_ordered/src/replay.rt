@@ -2,56 +2,27 @@
 ghost use Rattle.std.specs.Prelude.{◌≡◌, ◌≢◌, ◌+◌, ◌≤◌, [], length, map, IfOk, OnOk, IfErr, Some, None, vec_capacity, vec_len};
 ghost use Rattle.js_ordered_table.specs.Fold as fold;
 ghost use Rattle.js_ordered_table.specs.Invariant.{IsPull};
-ghost use Rattle.js_ordered_table.specs.Passes.{at, first_reader_of, input_of};
+ghost use Rattle.js_ordered_table.specs.Passes.{at, input_of};
 ghost use Rattle.js_ordered_table.specs.Refusal.{is_exhausted, refuse_end, refuse_input};
 ghost use Rattle.js_ordered_table.specs.Replay.{IsAnswer, IsFolded, IsValid};
 
 use crate::drive::pass_left;
 use crate::event_context::EventContext;
+use crate::opening::{first_reader, first_state};
 use crate::task_stack::TaskStack;
-use js_base::{Items, Moment, OutOfMemory, State, TryClone};
+use js_base::{Items, Moment, OutOfMemory};
 use js_json::consumer::Info;
-use js_ordered_table::pull_source::pull_source;
 use js_ordered_table::transitions::event::is_over;
 use js_ordered_table::transitions::push::listen;
 use js_ordered_table::transitions::{NextTasks, Task};
 use js_ordered_table::{
-    Consumer, ConsumerContext, Event, EventKind, OrderedCore, OrderedSetup, Output, Phase,
-    ReplayError, ReplayState, Run, Settings, Step, refuse_input, texts,
+    ConsumerContext, Event, EventKind, OrderedSetup, Output, Phase, ReplayError, ReplayState, Run,
+    Settings, Step, refuse_input,
 };
-use js_pull::{Due, Reader};
+use js_pull::Due;
 use std::alloc::Global;
 
 // ---- the opening
-
-// The reader of the first inbox.
-fn first_reader(alloc: Global, context: &ConsumerContext<'_>) -> Result<Reader, OutOfMemory>
-    ensures { IfOk result (λ reader. reader ≡ first_reader_of (input_of context.now)) }
-{
-    let subject = texts::inbox_subject(alloc, context, 0)?;
-    Ok(Reader::new(pull_source(context, 0, 0, subject, context.first)?))
-}
-
-// Nothing was asked or yielded yet, and no inbox is read.
-fn first_state(context: &ConsumerContext<'_>) -> Result<ReplayState, OutOfMemory>
-    ensures { IfOk result (λ state. state ≡ at Phase.Idle (fold.first_state (input_of context.now) context.now.moment)) }
-{
-    let name = context.first.name.try_clone()?;
-    Ok(ReplayState {
-        consumer: Consumer {
-            phase: Phase::Idle,
-            core: OrderedCore::new(context.setup.configured_start()),
-            name,
-            missed: false,
-            limited: false,
-            stream_missing: false,
-            connection: State::Connected,
-        },
-        link_up: true,
-        requests_sent: 0,
-        inboxes_opened: 1,
-    })
-}
 
 // The opening of pull, which asks at once and arms its heartbeat.
 fn open_pull(

@@ -1,6 +1,6 @@
 //! The rows of an event that are still to be passed.
 ghost use Rattle.std.specs.Prelude.{◌≡◌, ◌==◌, ◌+◌, ◌≤◌, ◌++◌, ◌∷◌, [], OnOk, length, vec_capacity, vec_len};
-ghost use Rattle.js_ordered.specs.Driven.{IsLeft, left_rows};
+ghost use Rattle.js_ordered.specs.Drive.{IsLeft, left_rows};
 ghost use Rattle.js_ordered_table.specs.Tasks.{next_rows};
 ghost use Rattle.js_ordered_table.specs.Consumer.{Matter};
 
@@ -43,7 +43,7 @@ impl TaskStack {
     }
 
     // The first task is taken out. The caller knows that one is left.
-    #[tactic(auto, using(crate::proofs::Taking::left_counts, crate::proofs::Taking::popped))]
+    #[tactic(auto, using(crate::proofs::TakenTasks::left_counts, crate::proofs::TakenTasks::popped))]
     #[inline]
     pub(crate) fn pop(&mut self) -> Task
         requires left { IsLeft self.old.tasks.items }

@@ -15,7 +15,7 @@ use Rattle.js_ordered_recorder.specs.Acts.{Act, Does, DoesAll, Gives, Passes, St
 use Rattle.js_ordered_recorder.specs.Life.{AreSentAs}
 use Rattle.js_ordered_recorder.specs.LinkInput.{AnswersAs, ArrivesAs, GivesAnswer, GivesArrival, awaited_at, awaited_in, listened_at, read_in}
 use Rattle.js_ordered_recorder.specs.Recorder.{Answers, Goes, HandsOver}
-use Rattle.js_ordered_recorder.specs.Sending.{AsksAs, ClosesAt, GoesTo, OpensAs, Outgoing, PublishesAs}
+use Rattle.js_ordered_recorder.specs.Sends.{AsksAs, ClosesAt, GoesTo, OpensAs, Outgoing, PublishesAs}
 use Rattle.js_ordered_recorder.specs.declared.link_event.Taken.{Taken}
 use Rattle.js_ordered_recorder.specs.declared.link_event.Taken.TheVariants as taken
 use Rattle.js_ordered_recorder.specs.declared.link_input.Awaited.{Awaited}

@@ -13,7 +13,7 @@ use Rattle.js_ordered_table.specs.declared.event.Event.{Event}
 use Rattle.js_ordered_table.specs.declared.run.Output.{Output}
 use Rattle.js_ordered_table.specs.declared.run.Output.TheVariants as out
 use Rattle.js_ordered_table.specs.declared.setup.OrderedSetup.{OrderedSetup}
-use Rattle.js_ordered_recorder.proofs.Standing.{outputs_on}
+use Rattle.js_ordered_recorder.proofs.RecorderStates.{outputs_on}
 use Rattle.js_ordered_recorder.specs.Recorder.{half_passed}
 
 -- ---- numbers of a list's front

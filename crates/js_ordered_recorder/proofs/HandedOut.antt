@@ -34,16 +34,16 @@ use Rattle.js_ordered_table.specs.declared.setup.OrderedSetup.TheVariants.{Pull,
 use Rattle.js_pull.specs.Poll.{same_state}
 use Rattle.js_ordered_recorder.proofs.OwnArrival.{AreOwn, HoldsNone, IsOwn, IsOwnOf, Ready, arrived, uses}
 use Rattle.js_ordered_recorder.proofs.OwnEvents.{RanFits, event_fits, opening_fits}
-use Rattle.js_ordered_recorder.proofs.Standing.{drop_first, some_none}
+use Rattle.js_ordered_recorder.proofs.RecorderStates.{drop_first, some_none}
 use Rattle.js_ordered_recorder.specs.Acts.{Act, AreSilent, Does, DoesAll, Gives, Passes, PassesEvent, Stops, StopsWithin, Takes, TakesOne, Works, WorksOff, World, Writes, WritesDown, event_of, events_of, outgoing, outputs_of, phase_of}
 use Rattle.js_ordered_recorder.specs.Life.{HandsOut, IsArrival}
 use Rattle.js_ordered_recorder.specs.LinkInput.{AnswersAs, ArrivesAs, GivesArrival, change_in, kind_of, link_in, listened_at, message_at, message_in, read_in, tick_in}
 use Rattle.js_ordered_recorder.specs.Recorder.{Answers, Goes, HandsError, HandsMessage, HandsOver, Stands, half_passed}
-use Rattle.js_ordered_recorder.specs.Sending.{GoesTo, Outgoing, left_by, yielded}
+use Rattle.js_ordered_recorder.specs.Sends.{GoesTo, Outgoing, left_by, yielded}
 use Rattle.js_ordered_recorder.specs.declared.link_event.Taken.{Taken}
 use Rattle.js_ordered_recorder.specs.declared.link_event.Taken.TheVariants as taken
 use Rattle.js_ordered_recorder.specs.declared.recorder.Recorder.{Recorder}
-use Rattle.js_ordered_recorder.specs.declared.sends.Sends.{Sends}
+use Rattle.js_ordered_recorder.specs.declared.sends.LinkNumbers.{LinkNumbers}
 
 -- ---- the last event of a run
 
@@ -148,7 +148,7 @@ tick_where inbox message true is = cc
 tick_where inbox message false is = cc
 
 -- an inbox is read where the consumer is not recreated
-reads_ready : (m : Matter) (number : ℕ) (message : Message) (phase : Phase) (sends : Sends) (v w : LinkView) → GivesArrival number message (listened_at (read_in phase) sends) v w → Ready m phase
+reads_ready : (m : Matter) (number : ℕ) (message : Message) (phase : Phase) (sends : LinkNumbers) (v w : LinkView) → GivesArrival number message (listened_at (read_in phase) sends) v w → Ready m phase
 reads_ready m number message (Recreates r) sends v w gives = absurd gives
 reads_ready m number message (Pulls reader) sends v w gives = tt
 reads_ready m number message (Pushes inbox heartbeat_timer) sends v w gives = tt
@@ -326,7 +326,7 @@ left_before g start es o a b step owns =
     let P : List Output → Type 0 = λ os. LeavesOne es a.recorder.message os in
     subst P (drop_first a.recorder.replay.value.outputs a.recorder.worked o step.first) (owns.left step.rests.event)
 
-owns_with : (g : ReplayInput) (start : ℕ) (es : List Event) (r : Recorder) (worked : ℕ) (sends : Sends) (message : Option Message) → r.event ≡ None → LeavesOne es message (drop worked r.replay.value.outputs) → Owns g start es r
+owns_with : (g : ReplayInput) (start : ℕ) (es : List Event) (r : Recorder) (worked : ℕ) (sends : LinkNumbers) (message : Option Message) → r.event ≡ None → LeavesOne es message (drop worked r.replay.value.outputs) → Owns g start es r
     → Owns g start es (record r { worked = worked; sends = sends; message = message })
 owns_with g start es r worked sends message none leaves owns = record {
   passed = owns.passed;

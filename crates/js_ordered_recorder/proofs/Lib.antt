@@ -1,6 +1,6 @@
 mod Written
-mod Standing
-mod Going
+mod RecorderStates
+mod ActSequences
 mod OwnArrival
 mod OwnEvents
 mod Delivery

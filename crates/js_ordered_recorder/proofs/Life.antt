@@ -5,12 +5,12 @@ use Rattle.std.proofs.lemmas.List.Elements.{filter-append}
 use Rattle.js_ordered_recorder.proofs.Delivery.{answers_deliver}
 use Rattle.js_ordered_recorder.proofs.GaplessFront.{worked_gapless}
 use Rattle.js_ordered_recorder.proofs.HandedOut.{Owns, new_owns, poll_hands, said_owns}
-use Rattle.js_ordered_recorder.proofs.Standing.{answers_come, at_same}
+use Rattle.js_ordered_recorder.proofs.RecorderStates.{answers_come, at_same}
 use Rattle.js_ordered_recorder.proofs.Written.{writes_on}
 use Rattle.js_ordered_recorder.specs.Acts.{World, queue}
 use Rattle.js_ordered_recorder.specs.Life.{ArePolls, HandsOutAll, HasLife, IsLife, IsNew, Poll, Sends, begun, events_in, outputs_in}
 use Rattle.js_ordered_recorder.specs.Recorder.{IsAt}
-use Rattle.js_ordered_recorder.specs.Writing.{WritesAll}
+use Rattle.js_ordered_recorder.specs.Recording.{WritesAll}
 use Rattle.js_ordered_recorder.specs.declared.recorder.Recorder.{Recorder}
 use Rattle.js_ordered_recorder.specs.declared.recording.RecordingFault.{RecordingFault}
 use Rattle.js_ordered_table.specs.Fold.{fold}

@@ -2,7 +2,7 @@
 use Rattle.std.proofs.Common.{◌≡◌, ◌∙◌, Option, List, [], ◌∷◌, ◌++◌, refl, sym, subst}
 use Rattle.js_ordered_table.specs.declared.event.Event.{Event}
 use Rattle.js_ordered_recorder.specs.declared.recording.RecordingFault.{RecordingFault}
-use Rattle.js_ordered_recorder.specs.Writing.{Writes, WritesAll}
+use Rattle.js_ordered_recorder.specs.Recording.{Writes, WritesAll}
 
 pub writes_on : {R : Type 0} (writes : R → Event → Option RecordingFault → R → Type 0) (es fs : List Event) (was kept told : Option RecordingFault) (a b c : R) → WritesAll writes was es kept a b → WritesAll writes kept fs told b c
     → WritesAll writes was (es ++ fs) told a c

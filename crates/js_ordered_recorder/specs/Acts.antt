@@ -2,7 +2,7 @@
 use Rattle.std.specs.Prelude.{◌≡◌, ◌⊎◌, ℕ, ◌+◌, max, Bool, true, false, List, [], ◌∷◌, ◌++◌, drop, slice_get, Option, Some, None, ⊤}
 use Rattle.js_base.specs.declared.message.Message.{Message}
 use Rattle.js_link.specs.LinkView.{LinkView}
-use Rattle.js_ordered_recorder.specs.Sending.{GoesTo, Outgoing, worked_as}
+use Rattle.js_ordered_recorder.specs.Sends.{GoesTo, Outgoing, worked_as}
 use Rattle.js_ordered_recorder.specs.LinkInput.{AnswersAs, ArrivesAs, HasNoAnswer, HasNoArrival, awaited_at, awaited_in, change_in, kind_of, link_in, listened_at, message_at, read_in, tick_in}
 use Rattle.js_ordered_recorder.specs.declared.recorder.Recorder.{Recorder}
 use Rattle.js_ordered_recorder.specs.declared.output_delivery.Worked.{Worked}

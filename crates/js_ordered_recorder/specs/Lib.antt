@@ -1,6 +1,6 @@
-pub mod Writing
+pub mod Recording
 pub mod Lines
-pub mod Sending
+pub mod Sends
 pub mod LinkInput
 pub mod Acts
 pub mod Recorder

@@ -12,7 +12,7 @@ use Rattle.js_link.specs.declared.sent.Sent.{Sent}
 use Rattle.js_link.specs.declared.sent.Sent.TheVariants as sends
 use Rattle.js_ordered_recorder.specs.Acts.{World, queue}
 use Rattle.js_ordered_recorder.specs.Recorder.{Answers, IsAt}
-use Rattle.js_ordered_recorder.specs.Writing.{WritesAll}
+use Rattle.js_ordered_recorder.specs.Recording.{WritesAll}
 use Rattle.js_ordered_recorder.specs.declared.recorder.Recorder.{Recorder}
 use Rattle.js_ordered_recorder.specs.declared.recording.RecordingFault.{RecordingFault}
 use Rattle.js_message.specs.AckSubject.{Place, readable_as}

@@ -10,7 +10,7 @@ use Rattle.js_link.specs.declared.link.Watch.TheVariants as watch
 use Rattle.js_link.specs.declared.sent.InboxId.{InboxId}
 use Rattle.js_link.specs.declared.sent.RequestId.{RequestId}
 use Rattle.js_ordered_recorder.specs.declared.sends.Asked.{Asked}
-use Rattle.js_ordered_recorder.specs.declared.sends.Sends.{Sends}
+use Rattle.js_ordered_recorder.specs.declared.sends.LinkNumbers.{LinkNumbers}
 use Rattle.js_ordered_recorder.specs.declared.link_event.Taken.{Taken}
 use Rattle.js_ordered_recorder.specs.declared.link_event.Taken.TheVariants as taken
 use Rattle.js_ordered_recorder.specs.declared.link_input.Awaited.{Awaited}
@@ -92,7 +92,7 @@ abbrev pub listened_as : ℕ → ℕ → Option InboxId → Option Listened
 listened_as number last None = None
 listened_as number last (Some inbox) = if number == last then Some (record { number = number; inbox = inbox }) else None
 
-abbrev pub listened_at : Option ℕ → Sends → Option Listened
+abbrev pub listened_at : Option ℕ → LinkNumbers → Option Listened
 listened_at None sends = None
 listened_at (Some number) sends = listened_as number sends.number sends.inbox
 

@@ -8,8 +8,8 @@ use Rattle.js_base.specs.declared.turn.Next.TheVariants as next
 use Rattle.js_link.specs.LinkView.{LinkView}
 use Rattle.js_ordered_recorder.specs.Acts.{Act, AreSilent, DoesAll, LiesNothing, Rests, WorksOff, World, events_of, outputs_of, phase_of, queue}
 use Rattle.js_ordered_recorder.specs.LinkInput.{link_in}
-use Rattle.js_ordered_recorder.specs.Sending.{left_by}
-use Rattle.js_ordered_recorder.specs.Writing.{WritesAll}
+use Rattle.js_ordered_recorder.specs.Sends.{left_by}
+use Rattle.js_ordered_recorder.specs.Recording.{WritesAll}
 use Rattle.js_ordered_recorder.specs.declared.recorder.Ending.{Ending}
 use Rattle.js_ordered_recorder.specs.declared.recorder.Ending.TheVariants as ending
 use Rattle.js_ordered_recorder.specs.declared.recorder.Recorder.{Recorder}

@@ -2,7 +2,7 @@
 ghost use Rattle.std.specs.Prelude.{◌≡◌, None};
 ghost use Rattle.js_base.specs.Error.{kind_of, source_of};
 ghost use Rattle.js_ordered_stream.specs.Ordered.{error_kind, source_by};
-ghost use Rattle.js_ordered_recorder.specs.Sending.{left_by};
+ghost use Rattle.js_ordered_recorder.specs.Sends.{left_by};
 
 use js_base::{Error, Message, Source};
 use js_ordered_stream::{OrderedError, OrderedErrorKind};

@@ -1,6 +1,6 @@
 //! A recording in memory of the events themselves.
 ghost use Rattle.std.specs.Prelude.{◌≡◌, [], IfOk};
-ghost use Rattle.js_ordered_recorder.specs.Writing.{adds_event};
+ghost use Rattle.js_ordered_recorder.specs.Recording.{adds_event};
 
 use crate::recording::{Recording, RecordingFault};
 use js_base::{Items, OutOfMemory, TryClone};

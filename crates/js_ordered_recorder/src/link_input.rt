@@ -4,7 +4,7 @@ ghost use Rattle.js_ordered_table.specs.Timers.{phase_due};
 ghost use Rattle.js_ordered_recorder.specs.LinkInput.{AnswersAs, ArrivesAs, awaited_at, awaited_in, change_in, link_in, listened_at, read_in, request_in, stage_request, tick_in};
 
 use crate::link_event::Taken;
-use crate::sends::{Asked, Sends};
+use crate::sends::{Asked, LinkNumbers};
 use js_base::{Moment, State};
 use js_link::{Answer, InboxId, Link, RequestId, Taken as Found, Watch};
 use js_ordered_table::{OrderedSetup, Phase, Stage, phase_wakes_at};
@@ -108,7 +108,7 @@ fn inbox_read(phase: &Phase) -> Option<u64>
 }
 
 // The inbox that is read, where it is the one that was opened last.
-fn current_inbox(number: Option<u64>, sends: &Sends) -> Option<Listened>
+fn current_inbox(number: Option<u64>, sends: &LinkNumbers) -> Option<Listened>
     ensures { result ≡ listened_at number sends.now }
 {
     match (number, sends.inbox) {
@@ -157,7 +157,11 @@ pub(crate) fn take_change(setup: &OrderedSetup, last: State, watch: Watch) -> Op
 }
 
 // The answer that is awaited, or that none will come.
-pub(crate) fn take_answer<L: Link>(phase: &Phase, sends: &Sends, link: &mut L) -> Option<Taken>
+pub(crate) fn take_answer<L: Link>(
+    phase: &Phase,
+    sends: &LinkNumbers,
+    link: &mut L,
+) -> Option<Taken>
     ensures { AnswersAs (awaited_at (awaited_in phase.now) sends.now.asked) result (L.view link.old) (L.view link.new) }
 {
     match awaited_answer(awaited_request(phase), sends.asked) {
@@ -175,7 +179,11 @@ pub(crate) fn take_answer<L: Link>(phase: &Phase, sends: &Sends, link: &mut L) -
 }
 
 // The first message of the inbox that is read.
-pub(crate) fn take_arrival<L: Link>(phase: &Phase, sends: &Sends, link: &mut L) -> Option<Taken>
+pub(crate) fn take_arrival<L: Link>(
+    phase: &Phase,
+    sends: &LinkNumbers,
+    link: &mut L,
+) -> Option<Taken>
     ensures { ArrivesAs (listened_at (read_in phase.now) sends.now) result (L.view link.old) (L.view link.new) }
 {
     match current_inbox(inbox_read(phase), sends) {

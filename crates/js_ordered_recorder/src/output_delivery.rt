@@ -1,8 +1,8 @@
 //! How an output is worked off: it is sent, or it is for the user.
 ghost use Rattle.std.specs.Prelude.{◌≡◌, IfOk, OnErr, OnOk, is_some, true};
-ghost use Rattle.js_ordered_recorder.specs.Sending.{GoesTo, HasMessage, bare_message as bare_message_in, worked_as, yielded};
+ghost use Rattle.js_ordered_recorder.specs.Sends.{GoesTo, HasMessage, bare_message as bare_message_in, worked_as, yielded};
 
-use crate::sends::Sends;
+use crate::sends::LinkNumbers;
 use bytes::Bytes;
 use js_base::{Message, OutOfMemory, Subject, TryClone, both, replace_with};
 use js_link::Link;
@@ -74,7 +74,7 @@ fn send<L: Link>(
     alloc: Global,
     link: &mut L,
     output: &Output,
-    sends: &mut Sends,
+    sends: &mut LinkNumbers,
     message: &mut Option<Message>,
 ) -> Result<(), OutOfMemory>
     ensures goes { OnOk result (GoesTo output.now (record { sends = sends.old; message = message.old; link = L.view link.old }) (record { sends = sends.new; message = message.new; link = L.view link.new })) }
@@ -109,7 +109,7 @@ pub(crate) fn work_off<L: Link>(
     alloc: Global,
     link: &mut L,
     output: &Output,
-    sends: &mut Sends,
+    sends: &mut LinkNumbers,
     message: &mut Option<Message>,
 ) -> Result<Worked, OutOfMemory>
     ensures goes { OnOk result (GoesTo output.now (record { sends = sends.old; message = message.old; link = L.view link.old }) (record { sends = sends.new; message = message.new; link = L.view link.new })) }

@@ -8,8 +8,8 @@ ghost use Rattle.js_ordered_table.specs.Fold.{is_over as has_ended};
 ghost use Rattle.js_ordered_recorder.specs.Acts.{Rests, TakenBy, WorksNext, World, phase_of, queue};
 ghost use Rattle.js_ordered_recorder.specs.Recorder.{Answers, EndsAs, IsAt, Polls, TurnsTo, WorksTo, has_rest, has_work};
 ghost use Rattle.js_ordered_recorder.specs.Life.{IsNew};
-ghost use Rattle.js_ordered_recorder.specs.Sending.{ClosesAt, HasMessage};
-ghost use Rattle.js_ordered_recorder.specs.Writing.{WritesAll};
+ghost use Rattle.js_ordered_recorder.specs.Sends.{ClosesAt, HasMessage};
+ghost use Rattle.js_ordered_recorder.specs.Recording.{WritesAll};
 ghost use Rattle.js_tool_transcript.specs.TranscriptReplay.{replay_input};
 
 use crate::error::error_of;
@@ -17,7 +17,7 @@ use crate::link_event::Taken;
 use crate::link_input::{later, take_answer, take_arrival, take_change, take_link, take_tick};
 use crate::output_delivery::{Worked, work_off};
 use crate::recording::{Recording, RecordingFault};
-use crate::sends::Sends;
+use crate::sends::LinkNumbers;
 use js_base::{Message, Moment, Next, OutOfMemory, replace_with};
 use js_link::{InboxId, Link};
 use js_ordered::IncrementalReplay;
@@ -58,7 +58,7 @@ pub struct Recorder<'a> {
     // The moment of the last event, or the start.
     moment: Moment,
     link_up: bool,
-    sends: Sends,
+    sends: LinkNumbers,
     // What was taken from the link, and is not an event yet.
     taken: Option<Taken>,
     // The event that the replay has not passed yet, or not whole.
@@ -100,7 +100,7 @@ impl<'a> Recorder<'a> {
             setup: &setup.setup,
             moment: setup.start,
             link_up: true,
-            sends: Sends {
+            sends: LinkNumbers {
                 number: 0,
                 inbox: Some(inbox),
                 asked: None,

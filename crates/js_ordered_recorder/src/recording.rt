@@ -1,7 +1,7 @@
 //! Where a recorder writes its events.
 ghost use Rattle.std.specs.Prelude.{Option, Some, None, IfErr, OnOk};
 ghost use Rattle.js_ordered_table.specs.declared.event.Event as events;
-ghost use Rattle.js_ordered_recorder.specs.Writing.{Writes};
+ghost use Rattle.js_ordered_recorder.specs.Recording.{Writes};
 ghost use Rattle.js_ordered_recorder.specs.declared.recording.RecordingFault as faults;
 
 use js_ordered_table::Event;

@@ -1,6 +1,6 @@
 //! What stands at the link for the numbers of the replay, and how an output is sent.
 ghost use Rattle.std.specs.Prelude.{◌≡◌, OnOk, OnErr};
-ghost use Rattle.js_ordered_recorder.specs.Sending.{Asks, ClosesAt, Moves, Publishes, lost_by};
+ghost use Rattle.js_ordered_recorder.specs.Sends.{Asks, ClosesAt, Moves, Publishes, lost_by};
 
 use bytes::Bytes;
 use js_base::{OutOfMemory, Subject};
@@ -18,7 +18,7 @@ pub(crate) struct Asked {
 
 /// What stands at the link for the numbers of the replay.
 #[derive(Clone, Copy)]
-pub(crate) struct Sends {
+pub(crate) struct LinkNumbers {
     /// The replay's number of the inbox that was opened last.
     pub(crate) number: u64,
     /// The link's number of that inbox, if the link could open it.
@@ -35,7 +35,7 @@ fn lost_after(sent: bool, lost: u64) -> u64
     if sent { lost } else { lost.saturating_add(1) }
 }
 
-impl Sends {
+impl LinkNumbers {
     // Closes the inbox that is open.
     pub(crate) fn close<L: Link>(&self, link: &mut L)
         ensures { ClosesAt self.now.inbox (L.view link.old) (L.view link.new) }

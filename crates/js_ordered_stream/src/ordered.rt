@@ -135,7 +135,7 @@ pub(crate) fn first_consumer(start: Option<u64>, name: Text, phase: Phase) -> Co
 }
 
 // What a polled consumer is made with: it is tried to be made anew as often as a number counts.
-pub(crate) fn given_with(
+pub(crate) fn replay_input(
     alloc: Global,
     mut settings: Settings,
     setup: OrderedSetup,

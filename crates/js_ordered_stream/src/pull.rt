@@ -54,7 +54,7 @@ fn reader_at(mut source: PullSource, inbox: u64, subject: Subject) -> Reader
 }
 
 // Opens an inbox for the reader of the first consumer.
-fn open_consumer<L: Link>(
+fn open_first_consumer<L: Link>(
     alloc: Global,
     link: &mut L,
     given: &ReplayInput,
@@ -106,8 +106,8 @@ impl Ordered {
         ensures opens { OpensOrdered result settings config first (L.view link.old) (L.view link.new) }
         ensures gapless { IfOk result IsGaplessPull }
     {
-        let given = ordered::given_with(alloc, settings, OrderedSetup::Pull(config), first)?;
-        match open_consumer(alloc, link, given.get()) {
+        let given = ordered::replay_input(alloc, settings, OrderedSetup::Pull(config), first)?;
+        match open_first_consumer(alloc, link, given.get()) {
             Err(refused) => {
                 drop(given);
                 Err(refused)
@@ -127,8 +127,8 @@ impl Ordered {
     /// sent one. No other error has a source.
     ///
     /// After `Pending` you may sleep until something comes for it or `wakes_at` has come. Polling
-    /// earlier does nothing. What may come is a message in its inbox, the end of its inbox, an
-    /// answer that it waits for, or a change of the connection.
+    /// earlier sends nothing and hands out nothing. What may come is a message in its inbox, the
+    /// end of its inbox, an answer that it waits for, or a change of the connection.
     pub fn poll_next<L: Link>(
         &mut self,
         alloc: Global,

@@ -35,7 +35,7 @@ pub(crate) struct ReadMet {
 }
 
 // What a row is told that reads no answer.
-fn untold(alloc: Global, due: Due) -> Result<Finding, OutOfMemory>
+fn finding_without_reply(alloc: Global, due: Due) -> Result<Finding, OutOfMemory>
     ensures { IfOk result (λ finding. IsInformed (row_of None due) finding) }
 {
     let reply = None;
@@ -45,13 +45,13 @@ fn untold(alloc: Global, due: Due) -> Result<Finding, OutOfMemory>
 }
 
 // What the reply tells to the row that reads it.
-fn told_by(alloc: Global, due: Due, seen: &Seen) -> Result<Finding, OutOfMemory>
+fn finding_of(alloc: Global, due: Due, seen: &Seen) -> Result<Finding, OutOfMemory>
     ensures { IfOk result (λ finding. IsInformed (row_of (brought (answer_in seen.now)) due) finding) }
 {
     match seen {
         Seen::Reply(reply) => informed_of(alloc, due, &reply.message),
-        Seen::Nothing => untold(alloc, due),
-        Seen::Message { .. } => untold(alloc, due),
+        Seen::Nothing => finding_without_reply(alloc, due),
+        Seen::Message { .. } => finding_without_reply(alloc, due),
     }
 }
 
@@ -65,7 +65,7 @@ fn read_met<L: Link>(
 ) -> Result<ReadMet, Stop>
     ensures { MeetsReader result (row_of (brought (answer_in seen.now)) due) reader.now (L.view link.old) (L.view link.new) }
 {
-    let informed = told_by(alloc, due, seen)?;
+    let informed = finding_of(alloc, due, seen)?;
     let wish = reader.wish(alloc, due)?;
     let met = ask_for(alloc, link, wish)?;
     if met.is_shut() {
@@ -98,7 +98,7 @@ pub(crate) struct ReaderStep {
 }
 
 // What the reader tells without a message.
-fn take_told(consumer: &mut Consumer, told: Notice, due: Option<Due>) -> ReaderStep
+fn take_without_message(consumer: &mut Consumer, told: Notice, due: Option<Due>) -> ReaderStep
     ensures { (m : Matter) → (message : Option SpecMessage) → told_shown told message ≡ told_shown told None → TakesIn m (told_shown told message) (reader_rows m due) message consumer.old consumer.new result }
 {
     let PassedTask { told, next } = take_notice(consumer, told, due);
@@ -109,7 +109,7 @@ fn take_told(consumer: &mut Consumer, told: Notice, due: Option<Due>) -> ReaderS
 }
 
 // The message that the reader hands out.
-fn take_handed(consumer: &mut Consumer, message: &Message, due: Option<Due>) -> ReaderStep
+fn take_with_message(consumer: &mut Consumer, message: &Message, due: Option<Due>) -> ReaderStep
     ensures { (m : Matter) → TakesIn m (told_shown Notice.Hands (Some message.now)) (reader_rows m due) (Some message.now) consumer.old consumer.new result }
 {
     let heard = heard_from(consumer.core.consumer_sequence, message);
@@ -125,11 +125,11 @@ fn take_in(consumer: &mut Consumer, told: Notice, seen: &Seen, due: Option<Due>)
 {
     match told {
         Notice::Hands => match seen.message() {
-            Some(message) => take_handed(consumer, message, due),
-            None => take_told(consumer, Notice::Nothing, due),
+            Some(message) => take_with_message(consumer, message, due),
+            None => take_without_message(consumer, Notice::Nothing, due),
         },
-        Notice::Nothing => take_told(consumer, Notice::Nothing, due),
-        Notice::Tells(kind) => take_told(consumer, Notice::Tells(kind), due),
+        Notice::Nothing => take_without_message(consumer, Notice::Nothing, due),
+        Notice::Tells(kind) => take_without_message(consumer, Notice::Tells(kind), due),
     }
 }
 
@@ -198,7 +198,7 @@ fn pass_alone(
     if is_quiet(step) {
         return Ok(followed_by(NextTasks::Nothing));
     }
-    let ReaderStep { handed, next } = take_told(consumer, step.told, step.next);
+    let ReaderStep { handed, next } = take_without_message(consumer, step.told, step.next);
     Ok(Stepped {
         handed,
         looked: false,
@@ -236,7 +236,7 @@ fn pass_arrival<L: Link>(
         Taken::Closed => Err(Stop::Closed),
         Taken::Empty => {
             let step = reader.pass_check_arrival(context.moment, &Met::Empty, None);
-            let ReaderStep { handed, next } = take_told(consumer, step.told, step.next);
+            let ReaderStep { handed, next } = take_without_message(consumer, step.told, step.next);
             Ok(Stepped {
                 handed,
                 looked: false,

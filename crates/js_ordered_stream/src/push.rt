@@ -81,7 +81,7 @@ fn subscribe<L: Link>(alloc: Global, link: &mut L, first: &Info) -> Result<u64, 
 }
 
 // Opens the inbox of the first consumer, which listens there.
-fn open_consumer<L: Link>(
+fn open_first_consumer<L: Link>(
     alloc: Global,
     link: &mut L,
     given: &ReplayInput,
@@ -136,8 +136,8 @@ impl Ordered {
         ensures opens { OpensPushed result settings config first (L.view link.old) (L.view link.new) }
         ensures gapless { IfOk result IsGaplessPush }
     {
-        let given = ordered::given_with(alloc, settings, OrderedSetup::Push(config), first)?;
-        match open_consumer(alloc, link, given.get()) {
+        let given = ordered::replay_input(alloc, settings, OrderedSetup::Push(config), first)?;
+        match open_first_consumer(alloc, link, given.get()) {
             Err(refused) => {
                 drop(given);
                 Err(refused)
@@ -155,8 +155,9 @@ impl Ordered {
     /// refuses it.
     ///
     /// After `Pending` you may sleep until something comes for it or `wakes_at` has come. Polling
-    /// earlier does nothing. What may come is a message in its inbox, the end of its inbox, an
-    /// answer that it waits for, a change of the connection, or the end of the watcher.
+    /// earlier sends nothing and hands out nothing. What may come is a message in its inbox, the
+    /// end of its inbox, an answer that it waits for, a change of the connection, or the end of the
+    /// watcher.
     pub fn poll_next<L: Link>(
         &mut self,
         alloc: Global,

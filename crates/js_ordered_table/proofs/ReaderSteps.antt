@@ -7,7 +7,7 @@ use Rattle.js_base.specs.declared.message.Message.{Message}
 use Rattle.js_link.specs.declared.wish.Met.{Met}
 use Rattle.js_link.specs.declared.wish.Met.TheVariants.{Empty, Took, Got, Gone}
 use Rattle.js_link.specs.RowInput.{RowInput}
-use Rattle.js_pull.specs.declared.rows.PassedRow.{PassedRow as Read}
+use Rattle.js_pull.specs.declared.passed_row.PassedRow.{PassedRow as Read}
 use Rattle.js_pull.specs.Rows.{ReadsTo, brought, row_list, told_shown}
 use Rattle.js_pull.specs.Rows.{StepsTo as PullStepsTo, requesting as pull_requesting}
 use Rattle.js_pull.specs.declared.reader.InfoRequest.{InfoRequest}

@@ -2,6 +2,7 @@
 //! memory. A replay passes them with what its events bring, a polled reader with what its link
 //! returns.
 
+mod create_reply;
 pub mod event;
 pub mod pull;
 pub mod push;

@@ -6,7 +6,7 @@ use Rattle.js_pull.specs.declared.reader.Reader.{Reader}
 use Rattle.js_pull.specs.declared.replies.Finding.TheVariants as finds
 use Rattle.js_pull.specs.declared.replies.InfoReply.{InfoReply}
 use Rattle.js_pull.specs.declared.replies.InfoReply.TheVariants as reply
-use Rattle.js_pull.specs.declared.rows.PassedRow.{PassedRow}
+use Rattle.js_pull.specs.declared.passed_row.PassedRow.{PassedRow}
 use Rattle.js_pull.specs.Reader as rows
 use Rattle.js_pull.specs.Rows.{ReadsTo, finding_of}
 

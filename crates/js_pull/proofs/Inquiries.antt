@@ -10,7 +10,7 @@ use Rattle.js_pull.specs.declared.reader.InfoRequest.TheVariants.{NoInfoRequest,
 use Rattle.js_pull.specs.declared.reader.Reader.{Reader}
 use Rattle.js_pull.specs.declared.reader.Row.TheVariants.{Inquire, FailInfoRequest, Answered}
 use Rattle.js_pull.specs.declared.rows.Due.TheVariants as due
-use Rattle.js_pull.specs.declared.rows.PassedRow.{PassedRow}
+use Rattle.js_pull.specs.declared.passed_row.PassedRow.{PassedRow}
 use Rattle.js_pull.specs.Reader as rows
 use Rattle.js_pull.specs.Reader.{Answer, reply_to}
 use Rattle.js_pull.specs.Rows.{IsInquired, ReadsTo, brought, inquiry_step, quiet_step}

@@ -19,7 +19,7 @@ use Rattle.js_pull.specs.declared.reader.ReaderOutput.TheVariants.{Nothing, Hand
 use Rattle.js_pull.specs.declared.rows.Due.{Due}
 use Rattle.js_pull.specs.declared.rows.Notice.{Notice}
 use Rattle.js_pull.specs.declared.rows.Notice.TheVariants as notice
-use Rattle.js_pull.specs.declared.rows.PassedRow.{PassedRow}
+use Rattle.js_pull.specs.declared.passed_row.PassedRow.{PassedRow}
 use Rattle.js_pull.specs.Reader.{wish}
 use Rattle.js_pull.specs.Reader as rows
 use Rattle.js_pull.specs.Rows.{Steps, met_row, row_list, row_of, told_shown}

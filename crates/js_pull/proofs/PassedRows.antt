@@ -15,7 +15,7 @@ use Rattle.js_pull.specs.declared.reader.InfoRequest.TheVariants.{NoInfoRequest,
 use Rattle.js_pull.specs.declared.reader.Row.{Row}
 use Rattle.js_pull.specs.declared.reader.Row.TheVariants.{Ask, Inquire}
 use Rattle.js_pull.specs.declared.rows.Due.{Due}
-use Rattle.js_pull.specs.declared.rows.PassedRow.{PassedRow}
+use Rattle.js_pull.specs.declared.passed_row.PassedRow.{PassedRow}
 use Rattle.js_pull.specs.Passes.{publishing}
 use Rattle.js_pull.specs.Reader as rows
 use Rattle.js_pull.specs.Rows.{StepsTo, Steps, brought, inquiry_row, inquiry_step, passing_at, requesting, row_of}

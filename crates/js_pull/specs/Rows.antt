@@ -27,7 +27,7 @@ use Rattle.js_pull.specs.declared.rows.DueRows.{DueRows}
 use Rattle.js_pull.specs.declared.rows.DueRows.TheVariants as todo
 use Rattle.js_pull.specs.declared.rows.Notice.{Notice}
 use Rattle.js_pull.specs.declared.rows.Notice.TheVariants as notice
-use Rattle.js_pull.specs.declared.rows.PassedRow.{PassedRow}
+use Rattle.js_pull.specs.declared.passed_row.PassedRow.{PassedRow}
 
 -- ---- rows, as the code keeps them
 

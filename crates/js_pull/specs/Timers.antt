@@ -9,6 +9,7 @@ use Rattle.js_pull.specs.declared.reader.Reader.{Reader}
 use Rattle.js_pull.specs.declared.reader.InfoRequest.{InfoRequest}
 use Rattle.js_pull.specs.declared.reader.InfoRequest.TheVariants.{NoInfoRequest, Asked, Resting}
 use Rattle.js_pull.specs.Poll.{Position, PollAnswer, Waits, Lacks, change_met}
+use Rattle.js_pull.specs.Stream.{rows_empty}
 
 -- an open info looks at its clock; without one the expiry is looked at
 abbrev pub inquiry_due : ℕ → InfoRequest → Option Timer → Bool
@@ -19,6 +20,10 @@ inquiry_due now (Resting wait failures) expiry = is_due wait now
 -- a timer of a reader is due
 abbrev pub timer_due : ℕ → Reader → Bool
 timer_due now r = if r.ended then false else (inquiry_due now r.inquiry r.expiry || is_any_due r.heartbeat_timer now)
+
+-- A stream has something to do by itself: a row of its last event is left, as after want of memory, or one of its timers is due.
+abbrev pub something_due : ℕ → Position → Bool
+something_due now at = if rows_empty at.todo then timer_due now at.reader else true
 
 -- no answer has come to the info that is asked for
 abbrev pub IsUnanswered : InfoRequest → LinkView → Type 0

@@ -14,10 +14,12 @@
 #![tactic(auto)]
 
 mod arrivals;
+mod connection_change;
 mod error_text;
 mod kind;
 mod limits;
 mod needs;
+mod passed_row;
 mod reader;
 mod remaining_rows;
 mod replies;
@@ -27,15 +29,17 @@ mod rows;
 mod stream;
 mod timers;
 
+pub use connection_change::same_state;
 pub use kind::{HeaderNumber, Kind, header_number, pull_kind};
 pub use limits::{clamp_batch, clamp_expires, clamp_heartbeat, ordered_batch_config};
 pub use needs::{finding_of, informed_of};
+pub use passed_row::PassedRow;
 pub use reader::{
     InfoRequest, MessagesErrorKind, PullSource, Reader, ReaderOutput, Reason, Row, armed_silence,
     is_any_due, is_asking, retry_wait, timeout_from,
 };
 pub use replies::{Finding, InfoReply, info_of_reply, info_reply};
 pub use resilience::Resilience;
-pub use rows::{Due, DueRows, Notice, PassedRow, Spare, check_inquiry};
-pub use stream::{Advance, Consumer, MessagesError, Stream, description_of, same_state};
+pub use rows::{Due, DueRows, Notice, Spare, check_inquiry};
+pub use stream::{Advance, Consumer, MessagesError, Stream, description_of};
 pub use timers::wakes_at;

@@ -3,7 +3,7 @@ ghost use Rattle.std.specs.Prelude.{◌≡◌};
 ghost use Rattle.js_pull.specs.Resilience.{all, none};
 
 /// What an ordered reader does beyond what the readers of async-nats do, so that it never hangs and
-/// never goes back without a word. With all options off it does what those do. A reader of a pull
+/// reports a stream that is gone. With all options off it does what those do. A reader of a pull
 /// consumer that is not ordered has all of them off.
 #[derive(Clone, Copy, Debug, PartialEq, Eq)]
 pub struct Resilience {

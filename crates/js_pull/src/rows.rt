@@ -18,6 +18,7 @@ ghost use Rattle.js_pull.specs.declared.reader.Row.TheVariants as read;
 ghost use Rattle.js_pull.specs.Rows.{IsInformed, ReadsTo, Steps, StepsTo, finding_of, inquiry_step, passing_at, pin_brought, requesting, row_list, row_of, rows_with};
 
 use crate::kind::{Kind, pull_kind};
+use crate::passed_row::{PassedRow, heard, silent_row, tells};
 use crate::reader::{
     InfoRequest, MessagesErrorKind, Reader, Reason, is_any_due, is_asking, retry_wait, timeout_from,
 };
@@ -70,15 +71,6 @@ pub enum Notice {
     Tells(MessagesErrorKind),
 }
 
-/// What a passed row reports, and the row that follows it.
-#[derive(Clone, Copy)]
-pub struct PassedRow {
-    pub told: Notice,
-    /// The row that follows at once. `Answered` reads the reply that was met, which is `None` if
-    /// the replier is gone.
-    pub next: Option<Due>,
-}
-
 /// What a row needs that takes memory, apart from the texts of what it wishes.
 #[derive(Drop)]
 pub struct Spare {
@@ -86,26 +78,6 @@ pub struct Spare {
     pub informed: Finding,
     /// The pin that an arrival brings.
     pub pin: Option<Text>,
-}
-
-// A row that tells nothing.
-fn silent_row(next: Option<Due>) -> PassedRow
-    ensures { result ≡ record { told = Notice.Nothing; next = next } }
-{
-    PassedRow {
-        told: Notice::Nothing,
-        next,
-    }
-}
-
-// A row that tells an error.
-fn tells(kind: MessagesErrorKind, next: Option<Due>) -> PassedRow
-    ensures { result ≡ record { told = Notice.Tells kind; next = next } }
-{
-    PassedRow {
-        told: Notice::Tells(kind),
-        next,
-    }
 }
 
 // ---- rows
@@ -373,16 +345,6 @@ impl Reader {
             Due::CheckArrival => self.pass_check_arrival(now, met, spare.pin),
             Due::CheckSilence => self.pass_check_silence(now),
         }
-    }
-}
-
-// An arrival was heard, after which the threshold is looked at.
-fn heard(told: Notice) -> PassedRow
-    ensures { result ≡ record { told = told; next = Some Due.Threshold } }
-{
-    PassedRow {
-        told,
-        next: Some(Due::Threshold),
     }
 }
 

@@ -3,22 +3,23 @@ ghost use Rattle.std.specs.Prelude.{◌≡◌, ◌<◌, ◌^◌, ℕ, IfOk, None
 ghost use Rattle.js_link.specs.Calls.{Closes};
 ghost use Rattle.js_link.specs.LinkView.{LinkView};
 ghost use Rattle.js_link.specs.Meets.{Meets};
-ghost use Rattle.js_link.specs.Wish.{message_of, watch_met};
+ghost use Rattle.js_link.specs.Wish.{message_of};
 ghost use Rattle.js_pull.specs.Reader.{opening};
 ghost use Rattle.js_pull.specs.Rows.{pin_brought};
 ghost use Rattle.js_pull.specs.declared.rows.Due.TheVariants as due_of;
-ghost use Rattle.js_pull.specs.Poll.{IsAdvance, IsBoundedAt, IsPoll, Fails, change_met, closed_at, description_of, same_state, text_of, text_source};
+ghost use Rattle.js_pull.specs.Poll.{IsAdvance, IsBoundedAt, IsPoll, Fails, closed_at, description_of, text_of, text_source};
 ghost use Rattle.js_pull.specs.Stream.{BeginsAt, FirstOf, IsMeeting, OpensStream, PassesAt, advance_answer, begun, fails_by, poll_answer, position_of, rows_empty, seen_by, outcome_by};
 ghost use Rattle.js_base.specs.Clock.{has_come};
-ghost use Rattle.js_pull.specs.Timers.{SleepsIfLeftAlone, timer_due};
+ghost use Rattle.js_pull.specs.Timers.{SleepsIfLeftAlone, something_due};
 
 use crate::arrivals::{Meeting, meet};
+use crate::connection_change::change_of;
 use crate::remaining_rows::RemainingRows;
 use crate::timers::wakes_at;
 use crate::{Due, DueRows, MessagesErrorKind, Notice, PullSource, Reader, Resilience};
 use js_base::{Error, Message, Moment, Nanos, Next, State, Text};
 use js_json::pull::BatchConfig;
-use js_link::{InboxId, Link, LinkError, Watch};
+use js_link::{InboxId, Link, LinkError};
 use std::alloc::Global;
 
 /// An error that a stream reports in place of a message. The source of an error of kind
@@ -138,34 +139,6 @@ fn error_of(kind: MessagesErrorKind, text: Option<Text>) -> MessagesError
     match text {
         None => Error::new(kind),
         Some(text) => Error::with_source(kind, js_base::Source::Text(text)),
-    }
-}
-
-/// Returns whether two connection states are the same.
-pub fn same_state(last: State, state: State) -> bool
-    ensures { result ≡ same_state last state }
-{
-    match (last, state) {
-        (State::Pending, State::Pending) => true,
-        (State::Connected, State::Connected) => true,
-        (State::Disconnected, State::Disconnected) => true,
-        _ => false,
-    }
-}
-
-// A change of the connection, where one is shown.
-fn change_of(watch: Watch, last: State) -> Option<State>
-    ensures { result ≡ change_met last (watch_met watch) }
-{
-    match watch {
-        Watch::State(state) => {
-            if same_state(last, state) {
-                None
-            } else {
-                Some(state)
-            }
-        }
-        Watch::Ended => None,
     }
 }
 
@@ -359,13 +332,18 @@ impl Stream {
         self.poll(alloc, link, now)
     }
 
-    /// Returns the first moment at which one of its timers is due, if one is set. The timers are
-    /// that of the heartbeat, and that of the info request after a reconnection or, without one,
-    /// that of the pull requests. A stream that has ended has none.
+    /// Returns the first moment at which it has something to do by itself: 0 if a row of its last
+    /// event is left, as after want of memory, and else the moment at which one of its timers is
+    /// due, if one is set. The timers are that of the heartbeat, and that of the info request after
+    /// a reconnection or, without one, that of the pull requests. A stream that has ended has none.
     pub fn wakes_at(&self) -> Option<Moment>
-        ensures { (now : ℕ) → now < 2 ^ 64 → has_come result now ≡ timer_due now (position_of self.now).reader }
+        ensures { (now : ℕ) → now < 2 ^ 64 → has_come result now ≡ something_due now (position_of self.now) }
     {
-        wakes_at(&self.reader)
+        if self.rests() {
+            wakes_at(&self.reader)
+        } else {
+            Some(0)
+        }
     }
 
     fn poll<L: Link>(

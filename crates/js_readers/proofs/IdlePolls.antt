@@ -1,5 +1,5 @@
 -- A poll of a subscription that was left alone does nothing.
-use Rattle.std.proofs.Common.{◌≡◌, ℕ, ◌+◌, Bool, true, false, not, ◌&&◌, ◌||◌, List, [], ◌∷◌, Option, Some, None, Result, Ok, Err, refl, sym, ◌∙◌, ap, subst, inl, inr, ◌⊎◌, ⊎_elim, arith, ◌==◌}
+use Rattle.std.proofs.Common.{◌≡◌, ℕ, ◌+◌, Bool, true, false, not, ◌&&◌, ◌||◌, List, [], ◌∷◌, Option, Some, None, if◌then◌else◌, Result, Ok, Err, refl, sym, ◌∙◌, ap, subst, inl, inr, ◌⊎◌, ⊎_elim, arith, ◌==◌}
 use Rattle.js_base.specs.Error.{kind_of}
 use Rattle.js_base.specs.declared.error.Error.{Error}
 use Rattle.js_base.specs.declared.message.Message as base
@@ -24,9 +24,10 @@ use Rattle.js_ordered_table.specs.declared.consumer.ReplayInput.{ReplayInput}
 use Rattle.js_ordered_table.specs.declared.row.Row.{Row}
 use Rattle.js_pull.specs.HeldMessage.{put_back, seen, seen_open}
 use Rattle.js_pull.specs.Poll as pull
-use Rattle.js_pull.specs.Stream.{position_of, seen_by}
+use Rattle.js_pull.specs.Stream.{position_of, rows_empty, seen_by}
 use Rattle.js_pull.specs.Timers as pull_timers
 use Rattle.js_pull.specs.declared.reader.MessagesErrorKind.{MessagesErrorKind}
+use Rattle.js_pull.specs.declared.reader.Row as pull_row
 use Rattle.js_readers.specs.Batch as batches
 use Rattle.js_readers.specs.OrderedConsumers.{IsOrderedQuiet}
 use Rattle.js_readers.specs.OrderedPolls as orders
@@ -128,6 +129,10 @@ waited next.End told = absurd (false_true told)
 waited (next.Item (Ok m)) told = absurd (false_true told)
 waited (next.Item (Err f)) told = absurd (false_true told)
 
+-- at rest only a timer is due
+at_rest : (now : ℕ) (at : pull.Position) → at.todo ≡ [] → pull_timers.something_due now at ≡ pull_timers.timer_due now at.reader
+at_rest now at e = ap (λ (rows : List pull_row.Row). if rows_empty rows then pull_timers.timer_due now at.reader else true) e
+
 pub stream_idles : (now : ℕ) (old new : Stream) (v u : LinkView) (answer : Next (Result Message (Error MessagesErrorKind)))
     → pull_timers.SleepsIfLeftAlone now (position_of old.reader) (position_of new.reader) (seen_by old.reader v) (seen_by new.reader u) (given_answer answer)
     → IdlesIfQuiet stream_due IsStreamQuiet now old new v u answer
@@ -135,7 +140,7 @@ stream_idles now old new v u answer sleeps early left =
     let s = sleeps (record {
       rests = left.rests;
       alive = left.alive;
-      early = early;
+      early = sym (at_rest now (position_of old.reader) left.rests) ∙ early;
       connection = left.connection;
       is_open = left.is_open;
       empty = left.empty;
@@ -153,7 +158,7 @@ stream_idles now old new v u answer sleeps early left =
       silent = sym (seen_sent new.reader.held new.reader.reader.source.inbox u) ∙ ap (λ (w : LinkView). w.sent) s.same ∙ seen_sent old.reader.held old.reader.reader.source.inbox v;
       same = link;
       still_quiet = λ e. subst (λ (p : pull.Position). IsRestingAt p (seen_by new.reader u)) (sym (place e)) (subst (λ (w : LinkView). IsRestingAt (position_of old.reader) w) (sym s.same) left);
-      still_due = λ e moment. ap (λ (p : pull.Position). pull_timers.timer_due moment p.reader) (place e);
+      still_due = λ e moment. ap (λ (p : pull.Position). pull_timers.something_due moment p) (place e);
     }
 
 -- ---- an ordered consumer

@@ -98,4 +98,4 @@ last_kept next.OutOfMemory now old new v u lacks = keeps_same v u lacks.unanswer
 
 pub keeps_push_poll : (now : ℕ) (old new : Messages) (answer : PollAnswer) (v u : LinkView) → IsPoll now old answer new v u → KeepsConnection v u
 keeps_push_poll now old new answer v u poll =
-    keeps_both v poll.between u (quietly_kept now poll.mets old poll.last v poll.between poll.quietly) (last_kept answer now poll.last new poll.between u poll.answers)
+    keeps_both v poll.between u (quietly_kept now poll.mets old poll.last v poll.between poll.silent) (last_kept answer now poll.last new poll.between u poll.answers)

@@ -12,7 +12,7 @@ use Rattle.js_link.specs.declared.wish.Wish.TheVariants.{Nothing, Reads}
 use Rattle.js_link.specs.declared.wish.Met.{Met}
 use Rattle.js_link.specs.declared.wish.Met.TheVariants.{Unasked, GoneOut, Refused, Took, Empty, Shut}
 use Rattle.js_ordered_table.specs.Arrivals.{answer_subject}
-use Rattle.js_readers.specs.PushRows.{answer_wish, armed, arrival_row, hear, next_row, pass, quietly, wish, Passed}
+use Rattle.js_readers.specs.PushRows.{answer_wish, armed, arrival_row, hear, next_row, pass, silent_row, wish, Passed}
 use Rattle.js_readers.specs.PushMessages.{AnswersBy, IsLeftAlone, Lacks, IsPoll, Passes, PassesQuietly, PollAnswer, Sleeps, due_at}
 use Rattle.js_readers.specs.declared.push.error.MessagesErrorKind.{MessagesErrorKind}
 use Rattle.js_readers.specs.declared.push.error.MessagesErrorKind.TheVariants as error
@@ -55,7 +55,7 @@ polled_more now told first at new before v u quiet polled passes =
 -- ---- the last row answers
 
 answers_by : (now : ℕ) (answer : PollAnswer) (first at new : Messages) (before v u : LinkView) → Polled now first at before v → AnswersBy answer now at new v u → IsPoll now first answer new before u
-answers_by now answer first at new before v u polled answers = record { mets = polled.mets; last = at; between = v; quietly = polled.quiet; answers = answers }
+answers_by now answer first at new before v u polled answers = record { mets = polled.mets; last = at; between = v; silent = polled.quiet; answers = answers }
 
 pub poll_hands : (now : ℕ) (told : RowOutcome) (m : base.Message) (timeout : ℕ) (first at new : Messages) (before v u : LinkView) → told ≡ Hands m → timeout ≡ new.timeout
     → Polled now first at before v → Passes now told at new v u → IsPoll now first (next.Item (Ok (record { message = m; timeout = timeout }))) new before u
@@ -111,7 +111,7 @@ heard_falls : (status : Option StatusCode) (m : base.Message) (r new : Messages)
 heard_falls None m r new v u rests less is = absurd (let no : Hands m ≡ tells.Nothing = ap (λ (p : Passed). p.told) is in cc)
 heard_falls (Some status) m r new v u rests less is = by_test (status.0 == 100) is
   where
-    by_test : (b : Bool) → (if b then quietly (next_row (Answer m) r) else quietly r) ≡ record { told = tells.Nothing; messages = new } → Falls (2 * v.count r.inbox) new u
+    by_test : (b : Bool) → (if b then silent_row (next_row (Answer m) r) else silent_row r) ≡ record { told = tells.Nothing; messages = new } → Falls (2 * v.count r.inbox) new u
     by_test true e = subst (λ (x : Messages). Falls (2 * v.count r.inbox) x u) (ap (λ (p : Passed). p.messages) e) (omega (arith, less))
     by_test false e = subst (λ (x : Messages). Falls (2 * v.count r.inbox) x u) (ap (λ (p : Passed). p.messages) e) (let none : weight r.next ≡ 0 = ap weight rests in omega (arith, less, none))
 
@@ -202,4 +202,4 @@ walk_waits (met ∷ mets) answer now old last new v between u alone (middle, aft
     absurd (let no = waited.waits in cc)
 
 pub poll_sleeps : (now : ℕ) (old new : Messages) (answer : PollAnswer) (v u : LinkView) → IsPoll now old answer new v u → IsLeftAlone now old v → Sleeps old answer new v u
-poll_sleeps now old new answer v u poll alone = walk_waits poll.mets answer now old poll.last new v poll.between u alone poll.quietly poll.answers
+poll_sleeps now old new answer v u poll alone = walk_waits poll.mets answer now old poll.last new v poll.between u alone poll.silent poll.answers

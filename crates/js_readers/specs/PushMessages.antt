@@ -89,7 +89,7 @@ pub record IsPoll (now : ℕ) (old : Messages) (answer : PollAnswer) (new : Mess
   pub mets : List Met
   pub last : Messages
   pub between : LinkView
-  pub quietly : PassesQuietly now mets old last before between
+  pub silent : PassesQuietly now mets old last before between
   pub answers : AnswersBy answer now last new between after
 
 -- ---- when it has something to do by itself

@@ -51,13 +51,13 @@ abbrev pub next_row : Row → Messages → Messages
 next_row row r = record r { next = row }
 
 -- nothing is told
-abbrev pub quietly : Messages → Passed
-quietly r = record { told = tells.Nothing; messages = r }
+abbrev pub silent_row : Messages → Passed
+silent_row r = record { told = tells.Nothing; messages = r }
 
 -- a message without a status is handed out; a heartbeat, of status 100, is answered next; any other status is passed over
 abbrev pub hear : Option StatusCode → Message → Messages → Passed
 hear None m r = record { told = Hands m; messages = r }
-hear (Some status) m r = if status.0 == 100 then quietly (next_row (Answer m) r) else quietly r
+hear (Some status) m r = if status.0 == 100 then silent_row (next_row (Answer m) r) else silent_row r
 
 -- where nothing has come, a heartbeat that is missing is told, and the timer begins anew
 abbrev pub silence_row : ℕ → Messages → Passed
@@ -72,9 +72,9 @@ arrival_row now met r = silence_row now r
 
 -- the table
 abbrev pub pass : ℕ → Met → Row → Messages → Passed
-pass now met Arm r = quietly (next_row CheckArrival (armed now r))
+pass now met Arm r = silent_row (next_row CheckArrival (armed now r))
 pass now met CheckArrival r = arrival_row now met r
-pass now met (Answer m) r = quietly (next_row CheckArrival r)
+pass now met (Answer m) r = silent_row (next_row CheckArrival r)
 pass now met Ended r = record { told = Ends; messages = r }
 
 -- ---- worked rows

@@ -9,7 +9,7 @@ use Rattle.js_link.specs.declared.sent.InboxId.{InboxId}
 use Rattle.js_message.specs.declared.message.Message.{Message}
 use Rattle.js_pull.specs.Poll.{IsPoll, Position, change_met}
 use Rattle.js_pull.specs.Stream.{position_of, seen_by}
-use Rattle.js_pull.specs.Timers.{IsUnanswered, timer_due}
+use Rattle.js_pull.specs.Timers.{IsUnanswered, something_due}
 use Rattle.js_pull.specs.declared.reader.MessagesErrorKind.{MessagesErrorKind}
 use Rattle.js_readers.specs.Batch.{IsQuietAt}
 use Rattle.js_readers.specs.Sequence.{KeepsAsking, PollsSequence}
@@ -28,9 +28,9 @@ pub record PollsStream (now : ℕ) (old new : Stream) (before after : LinkView) 
   pub timed : IsTimed old.timeout result
   pub kept : new.timeout ≡ old.timeout
 
--- one of its timers is due
+-- a row of its last event is left, or one of its timers is due
 abbrev pub stream_due : ℕ → Stream → Bool
-stream_due now s = timer_due now (position_of s.reader).reader
+stream_due now s = something_due now (position_of s.reader)
 
 -- nothing has come for a stream at rest: its inbox is open and empty, and there is no answer to its info request
 pub record IsRestingAt (at : Position) (v : LinkView) : Type 0 where

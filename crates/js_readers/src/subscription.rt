@@ -46,8 +46,8 @@ pub trait Subscription: Drop {
     /// before stays sent, and a poll changes neither the connection's state nor its limits.
     ///
     /// After `Pending` you may sleep until something comes for it or `wakes_at` has come. Polling
-    /// earlier does nothing. After `OutOfMemory` free memory and poll again; nothing is lost. `End`
-    /// means that nothing more comes.
+    /// earlier sends nothing and hands out nothing. After `OutOfMemory` free memory and poll again;
+    /// nothing is lost. `End` means that nothing more comes.
     fn poll_next<L: Link>(
         &mut self,
         alloc: Global,

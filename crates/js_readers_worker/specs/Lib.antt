@@ -1,3 +1,3 @@
-pub mod WorkerError
+pub mod Error
 pub mod Worker
 pub mod WorkerRuns

@@ -1,5 +1,5 @@
 //! What a worker returns in place of a message.
-ghost use Rattle.js_readers_worker.specs.WorkerError.{error_text};
+ghost use Rattle.js_readers_worker.specs.Error.{error_text};
 
 use js_message::AckError;
 use std::{error, fmt};

@@ -90,7 +90,7 @@ impl<R: Subscription<Item = Message>> Worker<R> {
     /// - `OutOfMemory`: free memory and poll again.
     ///
     /// After `Pending` you may sleep until something comes for it or `wakes_at` has come. Polling
-    /// earlier does nothing.
+    /// earlier sends nothing.
     pub fn poll<L: Link>(
         &mut self,
         alloc: Global,

@@ -10,7 +10,7 @@ use Rattle.js_ordered_table.specs.Fold.{Ran, event, fold, last_state, opening, r
 use Rattle.js_ordered.specs.IncrementalReplay.{last, last_ran}
 use Rattle.js_ordered.proofs.EventByEvent.{run_on}
 use Rattle.js_tool_explain.specs.declared.step.Before.{Before}
-use Rattle.js_tool_explain.specs.Explained.{before, causes_text, explained, last_line, opening_lines, opening_text, replay_text, results_text, steps_text, text_so_far}
+use Rattle.js_tool_explain.specs.Sentences.{before, causes_text, explained, last_line, opening_lines, opening_text, replay_text, results_text, steps_text, text_so_far}
 
 -- ---- the state after some events
 

@@ -3,7 +3,7 @@ use Rattle.std.specs.Prelude.{ℕ, List, Option}
 use Rattle.js_tool.specs.declared.status.Status.{Status}
 use Rattle.js_tool.specs.Answer.{AnswersText}
 use Rattle.js_tool_transcript.specs.Transcript.{transcript, extended_transcript}
-use Rattle.js_tool_explain.specs.Explained.{replay_text}
+use Rattle.js_tool_explain.specs.Sentences.{replay_text}
 
 -- The sentences on the replay are written, over ends before and after it: what the source had left, what the sink had taken, and the sink's count
 -- of faults. Extended lines are read too.

@@ -4,5 +4,5 @@ pub mod Replies
 pub mod Arrivals
 pub mod RetryWait
 pub mod Outcome
-pub mod Explained
+pub mod Sentences
 pub mod Answer

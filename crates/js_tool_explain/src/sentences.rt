@@ -1,7 +1,7 @@
 //! The sentences on a replay, as they grow step after step.
 
 ghost use Rattle.std.specs.Prelude.{◌≡◌};
-ghost use Rattle.js_tool_explain.specs.Explained.{replay_text, text_so_far};
+ghost use Rattle.js_tool_explain.specs.Sentences.{replay_text, text_so_far};
 
 use crate::step::{push_causes, push_last, push_opening, push_results, standing_before};
 use js_base::OutOfMemory;

@@ -1,7 +1,7 @@
 //! The sentences of one step: why it happens, what is put out, and what follows.
 
 ghost use Rattle.std.specs.Prelude.{◌≡◌, ◌++◌, ◌∷◌, [], OnOk};
-ghost use Rattle.js_tool_explain.specs.Explained as sentences;
+ghost use Rattle.js_tool_explain.specs.Sentences as sentences;
 ghost use Rattle.js_tool_explain.specs.SentencePart.{said_text};
 ghost use Rattle.js_ordered_table.specs.declared.consumer.ReplayInput.{ReplayInput};
 
@@ -95,7 +95,7 @@ fn push_any_arrived(
 }
 
 /// Adds the sentences on why something happens in an event. `consumer` is the one before it.
-#[tactic(auto, unfolding(crate::specs::Explained::causes_text))]
+#[tactic(auto, unfolding(crate::specs::Sentences::causes_text))]
 pub(crate) fn push_causes(
     alloc: Global,
     out: &mut Vec<u8>,
@@ -131,7 +131,7 @@ fn push_end_of(
 }
 
 /// Adds the sentences on what comes of an event. `state` is the one after it.
-#[tactic(auto, unfolding(crate::specs::Explained::results_text))]
+#[tactic(auto, unfolding(crate::specs::Sentences::results_text))]
 pub(crate) fn push_results(
     out: &mut Vec<u8>,
     at: Moment,

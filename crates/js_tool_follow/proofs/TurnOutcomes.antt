@@ -8,7 +8,7 @@ use Rattle.js_tool.specs.declared.status.Status.TheVariants as status
 use Rattle.js_tool.specs.declared.command.FollowOptions.{FollowOptions}
 use Rattle.js_tool_follow.specs.declared.incoming_lines.Incoming.{Incoming}
 use Rattle.js_tool_follow.specs.declared.incoming_lines.Incoming.TheVariants as incoming
-use Rattle.js_tool_follow.specs.declared.peer.Turn.{Turn}
+use Rattle.js_tool_follow.specs.declared.peer.PeerCall.{PeerCall}
 use Rattle.js_tool.specs.declared.status.Status.{Status}
 use Rattle.js_tool_follow.specs.declared.answer.Listener.{Listener}
 use Rattle.js_tool_follow.specs.Conversation.{Stands, StandsOr, IsAt, IsOver, HasBegun, HasEnded, HasGone, IsCut, IsReadStop, TakesTurn, all_lines}
@@ -118,8 +118,8 @@ all_left : (known : Option (List ℕ)) (held : List ℕ) → held ≡ [] → IsC
 all_left None held none = tt
 all_left (Some bytes) held none = ap (λ (h : List ℕ). lines_of (h ++ bytes)) (sym none)
 
-none_said : (asked : FollowOptions) (turns : Option (List Turn)) (held : List ℕ) → held ≡ [] → turns ≡ Some [] → Holds turns (TurnsSoFar asked [] held (answered asked []) (answered asked []))
-none_said asked turns held none is = subst (λ (t : Option (List Turn)). Holds t (TurnsSoFar asked [] held (answered asked []) (answered asked []))) (sym is) (record {
+none_said : (asked : FollowOptions) (turns : Option (List PeerCall)) (held : List ℕ) → held ≡ [] → turns ≡ Some [] → Holds turns (TurnsSoFar asked [] held (answered asked []) (answered asked []))
+none_said asked turns held none is = subst (λ (t : Option (List PeerCall)). Holds t (TurnsSoFar asked [] held (answered asked []) (answered asked []))) (sym is) (record {
   punctual = tt;
   cut = λ more. ap (λ (h : List ℕ). whole_lines (h ++ more)) (sym none);
   written = sym (ap (said asked) (none_told asked));

@@ -8,7 +8,7 @@ use Rattle.js_ordered_table.specs.declared.run.Output.TheVariants as out
 use Rattle.js_tool.specs.declared.command.FollowOptions.{FollowOptions}
 use Rattle.js_tool.specs.declared.status.Status.TheVariants as status
 use Rattle.js_tool_follow.specs.declared.incoming_lines.Incoming.TheVariants as incoming
-use Rattle.js_tool_follow.specs.declared.peer.Turn.TheVariants as turn
+use Rattle.js_tool_follow.specs.declared.peer.PeerCall.TheVariants as turn
 use Rattle.js_tool_transcript.specs.Text.{count, line_text}
 use Rattle.js_tool_follow.specs.Details.{details_line, details_text, header_line, headers_text, messages_at}
 use Rattle.js_tool_follow.specs.Wakes.{earlier, moment_or_null, wakes_at, wakes_line, wakes_text}

@@ -3,8 +3,8 @@ use Rattle.std.specs.Prelude.{◌≡◌, ◌≤◌, ℕ, List, [], ◌∷◌, �
 use Rattle.std.specs.Io.{ReadsAtMost, WritesAtMost}
 use Rattle.std.specs.Io.KnownBytes.{ReadConsumes, WriteAppends}
 use Rattle.js_tool_io.specs.Causes.{HasCause, HasWriteCause}
-use Rattle.js_tool_follow.specs.declared.peer.Turn.{Turn}
-use Rattle.js_tool_follow.specs.declared.peer.Turn.TheVariants as turn
+use Rattle.js_tool_follow.specs.declared.peer.PeerCall.{PeerCall}
+use Rattle.js_tool_follow.specs.declared.peer.PeerCall.TheVariants as turn
 use base.Fml.{GName}
 
 -- The bytes that are left to be read, those that were taken, and the calls, of which the last stands first, each where the peer tells it. How often reads
@@ -12,7 +12,7 @@ use base.Fml.{GName}
 pub record Dialogue : Type 0 where
   pub left : Option (List ℕ)
   pub taken : Option (List ℕ)
-  pub turns : Option (List Turn)
+  pub turns : Option (List PeerCall)
   pub read_faults : ℕ
   pub write_faults : ℕ
   pub place : Option (GName × GName)
@@ -25,17 +25,17 @@ bytes_of (Ok n) bytes = take n bytes
 bytes_of (Err e) bytes = []
 
 -- a call was made after the others
-abbrev pub Takes : Option (List Turn) → Option (List Turn) → Turn → Type 0
+abbrev pub Takes : Option (List PeerCall) → Option (List PeerCall) → PeerCall → Type 0
 Takes None after call = ⊤
 Takes (Some before) None call = ⊥
 Takes (Some before) (Some after) call = after ≡ call ∷ before
 
 -- bytes were read
-abbrev pub TakesRead : Option (List Turn) → Option (List Turn) → List ℕ → Type 0
+abbrev pub TakesRead : Option (List PeerCall) → Option (List PeerCall) → List ℕ → Type 0
 TakesRead before after bytes = Takes before after (turn.Read bytes)
 
 -- all was flushed, or a flush failed, which passes nothing on
-abbrev pub flush_turn : {T E : Type 0} → Result T E → Turn
+abbrev pub flush_turn : {T E : Type 0} → Result T E → PeerCall
 flush_turn (Ok done) = turn.Flushed
 flush_turn (Err e) = turn.Wrote []
 
@@ -82,21 +82,21 @@ pub record Flushes {T E : Type 0} (old new : Dialogue) (result : Result T E) : T
 -- ---- what the calls come to
 
 -- all that was read
-abbrev pub heard : List Turn → List ℕ
+abbrev pub heard : List PeerCall → List ℕ
 heard [] = []
 heard (turn.Read bytes ∷ before) = heard before ++ bytes
 heard (turn.Wrote bytes ∷ before) = heard before
 heard (turn.Flushed ∷ before) = heard before
 
 -- all that was taken
-abbrev pub written : List Turn → List ℕ
+abbrev pub written : List PeerCall → List ℕ
 written [] = []
 written (turn.Read bytes ∷ before) = written before
 written (turn.Wrote bytes ∷ before) = written before ++ bytes
 written (turn.Flushed ∷ before) = written before
 
 -- all that was taken and passed on
-abbrev pub flushed : List Turn → List ℕ
+abbrev pub flushed : List PeerCall → List ℕ
 flushed [] = []
 flushed (turn.Read bytes ∷ before) = flushed before
 flushed (turn.Wrote bytes ∷ before) = flushed before

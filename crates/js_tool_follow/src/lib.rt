@@ -18,5 +18,5 @@ mod source_sink_peer;
 mod wakes;
 
 pub use conversation::{converse, converse_with};
-pub use peer::{Peer, Turn};
+pub use peer::{Peer, PeerCall};
 pub use source_sink_peer::{Ends, follow, follow_with};

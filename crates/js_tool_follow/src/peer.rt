@@ -8,7 +8,7 @@ use js_tool_io::Failed;
 
 /// One call of a [`Peer`].
 #[derive(Drop)]
-pub enum Turn {
+pub enum PeerCall {
     /// These bytes were read.
     Read(Items<u8>),
     /// These bytes were taken.

@@ -1,14 +1,14 @@
 //! The arrivals of a pull reader in a replay. A row borrows the arrival from the event, and makes
 //! the output of a message before it handles it.
 ghost use Rattle.std.specs.Prelude.{◌≡◌, ◌≢◌, ◌+◌, ◌≤◌, ◌∷◌, ◌↔◌, [], IfOk, OnOk, OnErr, IsTrue, false, option_to_list, vec_capacity, vec_len};
-ghost use Rattle.js_ordered.specs.Driven.{Arrives, PassesTo, matter_now};
+ghost use Rattle.js_ordered.specs.Drive.{Arrives, PassesTo, matter_now};
 ghost use Rattle.js_pull.specs.Kind.{pull_kind as kind_of};
 ghost use Rattle.js_ordered_table.specs.Tasks.{IsHeardFrom, heard_outputs};
 ghost use Rattle.js_pull.specs.declared.reader.Row.TheVariants as read;
 ghost use Rattle.js_ordered_table.specs.Passes.{heard};
 ghost use Rattle.js_ordered_table.specs.declared.row.Row.TheVariants as row;
 
-use crate::drive::give::put;
+use crate::drive::give::push_output;
 use crate::drive::pull_rows::finish;
 use crate::drive::push_rows::output_of;
 use crate::event_context::EventContext;
@@ -84,7 +84,7 @@ fn hear_message(
             };
             reader.lower(1, message.length);
             let next = take_message(&mut state.consumer, ready.heard, Some(Due::Threshold));
-            put(ready.output, outputs);
+            push_output(ready.output, outputs);
             Ok(next)
         }
         _ => {

@@ -1,6 +1,6 @@
 //! How a replay sends what a row sends: if the link is up, it goes out with the next number.
 ghost use Rattle.std.specs.Prelude.{◌≡◌, ◌+◌, ◌≤◌, ◌++◌, ◌∷◌, [], ℕ, List, Bool, true, Some, IfOk, option_to_list, vec_capacity, vec_len};
-ghost use Rattle.js_ordered.specs.Giving.{IsOpening, IsSending, Sends, Subscribes};
+ghost use Rattle.js_ordered.specs.Give.{IsOpening, IsSending, Sends, Subscribes};
 ghost use Rattle.js_ordered_table.specs.Tasks.{told_outputs};
 
 use bytes::Bytes;
@@ -133,7 +133,7 @@ pub(crate) fn tell(told: RowOutput, outputs: &mut Vec<Output>)
 
 // What was made ready is put out, where there is something.
 #[inline]
-pub(crate) fn put(output: Option<Output>, outputs: &mut Vec<Output>)
+pub(crate) fn push_output(output: Option<Output>, outputs: &mut Vec<Output>)
     requires room { vec_len outputs.old + 1 ≤ vec_capacity outputs.old }
     ensures { outputs.new.items ≡ outputs.old.items ++ option_to_list output }
 {

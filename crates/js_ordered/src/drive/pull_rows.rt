@@ -1,8 +1,8 @@
 //! The rows of a pull reader in a replay. What a row sends, and what is put out of an arrival, is
 //! made first.
 ghost use Rattle.std.specs.Prelude.{◌≡◌, ◌+◌, ◌≤◌, ◌∷◌, [], IfOk, List, codes, vec_capacity, vec_len};
-ghost use Rattle.js_ordered.specs.Driven.{Finishes, PassesOn, PassesTo, matter_now};
-ghost use Rattle.js_ordered.specs.Giving.{IsPublishing, IsSending};
+ghost use Rattle.js_ordered.specs.Drive.{Finishes, PassesOn, PassesTo, matter_now};
+ghost use Rattle.js_ordered.specs.Give.{IsPublishing, IsSending};
 ghost use Rattle.js_ordered_table.specs.Tasks.{next_rows};
 ghost use Rattle.js_pull.specs.Rows.{IsInquired, brought, finding_of as finding_in, row_of};
 ghost use Rattle.js_pull.specs.Reader.{info_reply, info_subject};

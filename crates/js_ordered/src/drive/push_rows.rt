@@ -1,7 +1,7 @@
 //! The rows by which push reads its inbox, in a replay. A row borrows what arrives from the event,
 //! and what is put out of it is made first.
 ghost use Rattle.std.specs.Prelude.{◌≡◌, ◌+◌, ◌≤◌, ◌++◌, ◌∷◌, [], IfOk, List, is_some, option_to_list, vec_capacity, vec_len};
-ghost use Rattle.js_ordered.specs.Driven.{PassesOn, PassesTo, matter_now};
+ghost use Rattle.js_ordered.specs.Drive.{PassesOn, PassesTo, matter_now};
 ghost use Rattle.js_ordered_table.specs.Tasks.{heard_outputs, next_rows};
 ghost use Rattle.js_ordered_table.specs.Passes.{listens_to};
 ghost use Rattle.js_ordered_table.specs.Arrivals.{beat_answer, beat_subject as subject_of};
@@ -9,7 +9,7 @@ ghost use Rattle.js_ordered_table.specs.Recreation.{message_on};
 ghost use Rattle.js_ordered_table.specs.declared.row.Row.TheVariants as row;
 ghost use Rattle.js_ordered_table.specs.declared.run.Output.{Output as SpecOutput};
 
-use crate::drive::give::{put, tell};
+use crate::drive::give::{push_output, tell};
 use crate::event_context::EventContext;
 use bytes::Bytes;
 use js_base::{Message, OutOfMemory, Subject};
@@ -166,6 +166,6 @@ pub(crate) fn hear(
     let stalled = context.consumer.settings.resilience.answers_stalled;
     let output = output_of(alloc, stalled, state.link_up, message, heard)?;
     let next = pass_hear(&context.consumer, &mut state.consumer, inbox, heard);
-    put(output, outputs);
+    push_output(output, outputs);
     Ok(next)
 }

@@ -2,8 +2,8 @@
 //! memory changes nothing.
 ghost use Rattle.std.specs.Prelude.{◌≡◌, ◌+◌, ◌≤◌, ◌∷◌, [], IfOk, OnOk, OnErr, Option, codes, is_some, option_map, vec_capacity, vec_len};
 ghost use Rattle.js_base.specs.declared.message.Message.{Message as SpecMessage};
-ghost use Rattle.js_ordered.specs.Driven.{PassesOn, PassesTo, matter_now};
-ghost use Rattle.js_ordered.specs.Giving.{IsOpening, IsSending};
+ghost use Rattle.js_ordered.specs.Drive.{PassesOn, PassesTo, matter_now};
+ghost use Rattle.js_ordered.specs.Give.{IsOpening, IsSending};
 ghost use Rattle.js_ordered_table.specs.Tasks.{IsAnswered, answered_rows, next_rows};
 ghost use Rattle.js_pull.specs.Reader.{info_reply as info_said, reply_to};
 ghost use Rattle.js_ordered_table.specs.Invariant.{IsPull, IsPush};

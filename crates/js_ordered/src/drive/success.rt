@@ -1,7 +1,7 @@
 //! The end of a recreation in a replay. What the next reader needs is made before it reads.
 ghost use Rattle.std.specs.Prelude.{◌≡◌, ◌+◌, ◌≤◌, ◌∷◌, [], IfOk, vec_capacity, vec_len};
-ghost use Rattle.js_ordered.specs.Driven.{PassesTo};
-ghost use Rattle.js_ordered.specs.Giving.{IsOpening};
+ghost use Rattle.js_ordered.specs.Drive.{PassesTo};
+ghost use Rattle.js_ordered.specs.Give.{IsOpening};
 ghost use Rattle.js_ordered_table.specs.Tasks.{held_rows, next_rows};
 ghost use Rattle.js_ordered_table.specs.Consumer.{Matter};
 ghost use Rattle.js_ordered_table.specs.Invariant.{IsPull, IsPush};

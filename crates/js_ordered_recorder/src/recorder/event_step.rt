@@ -5,7 +5,7 @@ ghost use Rattle.js_ordered_table.specs.declared.event.Event as events;
 ghost use Rattle.js_ordered_recorder.specs.Acts.{Rests};
 ghost use Rattle.js_ordered_recorder.specs.Recorder.{Goes, IsCounted};
 ghost use Rattle.js_ordered_recorder.specs.LinkInput.{message_at};
-ghost use Rattle.js_ordered_recorder.specs.Writing.{WritesAll};
+ghost use Rattle.js_ordered_recorder.specs.Recording.{WritesAll};
 
 use super::Recorder;
 use crate::link_event::message_of;

@@ -1,22 +1,22 @@
 //! The rows of a recreation: it deletes the old consumer, and creates a new one that continues
 //! after the last yield.
-ghost use Rattle.std.specs.Prelude.{ℕ, ◌≡◌, ◌<◌, ◌+◌, [], ◌∷◌, Some, codes, is_some, min};
+ghost use Rattle.std.specs.Prelude.{ℕ, ◌≡◌, ◌<◌, ◌+◌, [], Some, codes, is_some, min};
 ghost use Rattle.js_link.specs.RowInput.{RowInput};
-ghost use Rattle.js_ordered_table.specs.Tasks.{IsAnswered, Listens, StepsTo, at_moment, create_outputs, next_rows, opening_to, requested, requesting, rows_of, subscribed, told_outputs};
-ghost use Rattle.js_pull.specs.Reader.{info_in, reply_to, u64_max};
+ghost use Rattle.js_ordered_table.specs.Tasks.{IsAnswered, Listens, StepsTo, at_moment, create_outputs, next_rows, opening_to, requested, requesting, subscribed, told_outputs};
+ghost use Rattle.js_pull.specs.Reader.{reply_to, u64_max};
 ghost use Rattle.js_ordered_table.specs.Passes.{input_of, timeout_at, waiting};
 ghost use Rattle.js_ordered_table.specs.Recreation as rows;
 ghost use Rattle.js_ordered_table.specs.Consumer.{Matter, at_phase, silent_row as silent_passed};
 ghost use Rattle.js_ordered_table.specs.Texts as texts_of;
 ghost use Rattle.js_json.specs.declared.consumer.info.Info.{Info as SpecInfo};
 
+use crate::transitions::create_reply::{answered, missing_after, missing_output};
 use crate::transitions::event::silent_row;
 use crate::transitions::task::{Held, Inbox, NextTasks, PassedTask, RowOutput, Task};
 use crate::{
     Consumer, ConsumerContext, ItemKind, Opened, OrderedSetup, Phase, Recreation, Stage, texts,
 };
-use js_base::{Boxed, Items, Moment, Text, Timer, replace_with};
-use js_codes::errors::ErrorCode;
+use js_base::{Items, Moment, Text, Timer, replace_with};
 use js_json::consumer::Info;
 use js_pull::{Due, InfoReply, PullSource, Reader, retry_wait};
 use std::alloc::Global;
@@ -295,70 +295,6 @@ pub fn pass_await(
 }
 
 // ---- an answer to the create
-
-// Push needs a subject that is delivered to.
-fn has_subject(setup: &OrderedSetup, info: &Info) -> bool
-    ensures { result ≡ rows.has_subject setup.now info.now }
-{
-    match setup {
-        OrderedSetup::Pull(_) => true,
-        OrderedSetup::Push(_) => info.config.deliver_subject.is_some(),
-    }
-}
-
-// A create was answered with an info.
-fn informed(setup: &OrderedSetup, info: Boxed<Info>) -> Task
-    ensures { (m : Matter) → rows_of m result ≡ rows.answered setup.now (Some info) ∷ [] }
-{
-    if has_subject(setup, info.get()) {
-        Task::Succeed(info)
-    } else {
-        Task::Fail
-    }
-}
-
-// A create was answered: well or not.
-fn answered(setup: &OrderedSetup, reply: InfoReply) -> Task
-    ensures { (m : Matter) → rows_of m result ≡ rows.answered setup.now (info_in reply) ∷ [] }
-{
-    match reply {
-        InfoReply::Info(info) => informed(setup, info),
-        InfoReply::Error(_) => Task::Fail,
-        InfoReply::Nothing => Task::Fail,
-    }
-}
-
-fn is_stream_missing(reply: &InfoReply) -> bool
-    ensures { result ≡ rows.is_stream_missing reply.now }
-{
-    match reply {
-        InfoReply::Info(_) => false,
-        InfoReply::Error(code) => *code == ErrorCode::STREAM_NOT_FOUND,
-        InfoReply::Nothing => false,
-    }
-}
-
-// Whether the stream is missing after a reply, as it is kept where that is told.
-fn missing_after(tells: bool, reply: &InfoReply, was_missing: bool) -> bool
-    ensures { result ≡ rows.missing_after tells reply.now was_missing }
-{
-    if tells {
-        is_stream_missing(reply)
-    } else {
-        was_missing
-    }
-}
-
-// A stream that is missing is told where it was not missing before.
-fn missing_output(is_missing: bool, was_missing: bool) -> RowOutput
-    ensures { told_outputs result ≡ rows.missing_outputs is_missing was_missing }
-{
-    if is_missing && !was_missing {
-        RowOutput::Tells(ItemKind::StreamNotFound)
-    } else {
-        RowOutput::Nothing
-    }
-}
 
 /// Handles the reply to a create request. The try has failed if the reply held no info or, for
 /// push, if the info has no deliver subject. By the option `tells_missing_stream` it reports that

@@ -102,8 +102,8 @@ impl Ordered {
     /// sent one. No other error has a source.
     ///
     /// After `Pending` you may sleep until something comes for it or `wakes_at` has come. Polling
-    /// earlier does nothing. What may come is a message in its inbox, the end of its inbox, an
-    /// answer that it waits for, or a change of the connection.
+    /// earlier sends nothing and hands out nothing. What may come is a message in its inbox, the
+    /// end of its inbox, an answer that it waits for, or a change of the connection.
     pub fn poll_next<L: Link>(
         &mut self,
         alloc: Global,

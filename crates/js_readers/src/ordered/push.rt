@@ -111,8 +111,9 @@ impl Ordered {
     /// for its answer as long as the scope of the consumer says, or five seconds.
     ///
     /// After `Pending` you may sleep until something comes for it or `wakes_at` has come. Polling
-    /// earlier does nothing. What may come is a message in its inbox, the end of its inbox, an
-    /// answer that it waits for, a change of the connection, or the end of the watcher.
+    /// earlier sends nothing and hands out nothing. What may come is a message in its inbox, the
+    /// end of its inbox, an answer that it waits for, a change of the connection, or the end of the
+    /// watcher.
     pub fn poll_next<L: Link>(
         &mut self,
         alloc: Global,

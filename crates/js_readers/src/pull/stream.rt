@@ -5,7 +5,7 @@ ghost use Rattle.js_link.specs.Meets.{Meets};
 ghost use Rattle.js_pull.specs.Poll.{IsAdvance, IsPoll};
 ghost use Rattle.js_pull.specs.Stream.{position_of, seen_by};
 ghost use Rattle.js_base.specs.Clock.{has_come};
-ghost use Rattle.js_pull.specs.Timers.{SleepsIfLeftAlone, timer_due};
+ghost use Rattle.js_pull.specs.Timers.{SleepsIfLeftAlone, something_due};
 ghost use Rattle.js_readers.specs.Stream.{IsTimed, IsTimedAdvance, OpensStream, given_advance, given_answer};
 
 use crate::ack_timeout::timed;
@@ -124,7 +124,7 @@ impl Stream {
     /// consumer says, or five seconds.
     ///
     /// After `Pending` you may sleep until something comes for it or `wakes_at` has come. Polling
-    /// earlier does nothing.
+    /// earlier sends nothing and hands out nothing.
     pub fn poll_next<L: Link>(
         &mut self,
         alloc: Global,
@@ -139,10 +139,11 @@ impl Stream {
         timed(self.reader.poll_next(alloc, link, now), self.timeout)
     }
 
-    /// Returns the first moment at which one of its timers is due. `None` if no timer is set, or if
-    /// the stream has ended.
+    /// Returns the first moment at which it has something to do by itself: 0 if a row of its last
+    /// event is left, as after want of memory, and else the moment at which one of its timers is
+    /// due. `None` if no timer is set, or if the stream has ended.
     pub fn wakes_at(&self) -> Option<Moment>
-        ensures { (now : ℕ) → now < 2 ^ 64 → has_come result now ≡ timer_due now (position_of self.now.reader).reader }
+        ensures { (now : ℕ) → now < 2 ^ 64 → has_come result now ≡ something_due now (position_of self.now.reader) }
     {
         self.reader.wakes_at()
     }

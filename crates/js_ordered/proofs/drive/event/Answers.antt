@@ -1,8 +1,8 @@
 use Rattle.std.proofs.Common.{refl, sym, ◌∙◌}
 use Rattle.js_ordered_table.specs.Passes.{input_of}
-use Rattle.js_ordered.specs.Driven.{matter_now}
+use Rattle.js_ordered.specs.Drive.{matter_now}
 use Rattle.js_ordered_table.specs.Fold.{passing}
-use Rattle.js_ordered.proofs.Driving.{event_over, event_passed}
+use Rattle.js_ordered.proofs.DrivenRows.{event_over, event_passed}
 use Rattle.js_ordered.proofs.drive.event.Goals as goal
 
 pub returns-then-is_over : goal.returns-then-is_over

@@ -1,7 +1,7 @@
 use Rattle.js_ordered_table.specs.Recreation.{message_on}
 use Rattle.js_ordered_table.specs.Passes.{input_of}
-use Rattle.js_ordered.specs.Driven.{matter_now}
-use Rattle.js_ordered.proofs.Driving.{brought_heard, brought_nothing}
+use Rattle.js_ordered.specs.Drive.{matter_now}
+use Rattle.js_ordered.proofs.DrivenRows.{brought_heard, brought_nothing}
 use Rattle.js_ordered.proofs.drive.hear_brought.Goals as goal
 
 pub returns-in-None : goal.returns-in-None

@@ -1,8 +1,8 @@
 use Rattle.std.proofs.Common.{ap, arith, length, List}
 use Rattle.js_base.specs.declared.message.Message.{Message}
 use Rattle.js_ordered_table.specs.Passes.{input_of}
-use Rattle.js_ordered.specs.Driven.{matter_now}
-use Rattle.js_ordered.proofs.Driving.{held_heard, held_nothing}
+use Rattle.js_ordered.specs.Drive.{matter_now}
+use Rattle.js_ordered.proofs.DrivenRows.{held_heard, held_nothing}
 use Rattle.js_ordered.proofs.drive.hear_held.Goals as goal
 
 pub returns-then-place-messages : goal.returns-then-place-messages

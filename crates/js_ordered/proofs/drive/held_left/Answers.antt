@@ -1,9 +1,9 @@
 use Rattle.std.proofs.Common.{◌≡◌, ◌++◌, ◌+◌, List, ap, arith, length, subst, sym, ◌∙◌}
 use Rattle.js_base.specs.declared.message.Message.{Message}
-use Rattle.js_ordered.specs.Driven.{first_held}
+use Rattle.js_ordered.specs.Drive.{first_held}
 use Rattle.js_ordered_table.specs.Tasks.{hearings_of}
 use Rattle.js_ordered_table.specs.declared.transitions.task.Held.{Held}
-use Rattle.js_ordered.proofs.Driving.{held_goes_on, held_ends}
+use Rattle.js_ordered.proofs.DrivenRows.{held_goes_on, held_ends}
 use Rattle.js_ordered.proofs.drive.held_left.Goals as goal
 
 pub returns-then-deref-as_slice : goal.returns-then-deref-as_slice

@@ -1,4 +1,4 @@
-use Rattle.js_ordered.specs.Driven.{LeadsOn, left_rows, left_to_do, matter_now}
+use Rattle.js_ordered.specs.Drive.{LeadsOn, left_rows, left_to_do, matter_now}
 use Rattle.js_ordered.proofs.drive.pass_left.Given as goal
 
 abbrev pub invariant-rows : goal.invariant-rows

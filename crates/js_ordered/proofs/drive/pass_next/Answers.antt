@@ -1,7 +1,7 @@
 use Rattle.js_ordered_table.specs.Passes.{input_of}
-use Rattle.js_ordered.specs.Driven.{matter_now}
+use Rattle.js_ordered.specs.Drive.{matter_now}
 use Rattle.js_ordered.proofs.EventByEvent.{on_ok}
-use Rattle.js_ordered.proofs.Taking.{less_taken, took_on}
+use Rattle.js_ordered.proofs.TakenTasks.{less_taken, took_on}
 use Rattle.js_ordered.proofs.drive.pass_next.Goals as goal
 
 pub returns-clause-leads : goal.returns-clause-leads

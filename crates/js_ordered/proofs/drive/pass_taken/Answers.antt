@@ -1,8 +1,8 @@
 use Rattle.std.proofs.Common.{ap, arith}
 use Rattle.js_ordered_table.specs.Passes.{input_of}
-use Rattle.js_ordered.specs.Driven.{first_rows, left_rows, matter_now}
-use Rattle.js_ordered.proofs.Driving.{fewer_on, leads_on}
-use Rattle.js_ordered.proofs.Taking.{err_passes, leads_without, left_again, less_by_row, less_without, ok_passes, refused_on}
+use Rattle.js_ordered.specs.Drive.{first_rows, left_rows, matter_now}
+use Rattle.js_ordered.proofs.DrivenRows.{fewer_on, leads_on}
+use Rattle.js_ordered.proofs.TakenTasks.{err_passes, leads_without, left_again, less_by_row, less_without, ok_passes, refused_on}
 use Rattle.js_ordered.proofs.drive.pass_taken.Goals as goal
 
 pub returns-then-not-has_row-clause-leads : goal.returns-then-not-has_row-clause-leads

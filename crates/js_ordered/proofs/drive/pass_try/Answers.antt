@@ -1,6 +1,6 @@
 use Rattle.std.proofs.Common.{sym, ◌∙◌}
 use Rattle.js_ordered_table.specs.Passes.{input_of}
-use Rattle.js_ordered.specs.Driven.{matter_now}
+use Rattle.js_ordered.specs.Drive.{matter_now}
 use Rattle.js_ordered.proofs.Nowhere.{tries_elsewhere, tries_here}
 use Rattle.js_ordered.proofs.drive.pass_try.Goals as goal
 

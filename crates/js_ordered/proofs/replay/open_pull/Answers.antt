@@ -1,5 +1,5 @@
 use Rattle.std.proofs.Common.{ap, sym, subst, ◌∙◌}
-use Rattle.js_ordered.specs.Driven.{Leads, left_rows}
+use Rattle.js_ordered.specs.Drive.{Leads, left_rows}
 use Rattle.js_pull.specs.declared.reader.Reader.{Reader}
 use Rattle.js_ordered_table.specs.declared.consumer.Phase.TheVariants.{Pulls}
 use Rattle.js_ordered_table.specs.declared.replay_state.ReplayState.{ReplayState}

@@ -24,10 +24,10 @@ returns c = λ reply v.
     let now = c.args.context.now.moment in
     let one = row_of reply c.args.due in
     let asks = c.requires reply c.in-Pulls.reader in
-    let done : Stepped = record { handed = c.take_told-handed.result.handed; looked = false; next = c.take_told-handed.result.next } in
-    row_at_phase given now (row.Read one) (Pulls c.in-Pulls.reader) c.args.consumer.now c.take_told-handed.new.consumer v v sight.Nothing (Ok done) c.in-Pulls.is
-    (read_passes given now one c.in-Pulls.reader c.alone-step.new.reader c.args.consumer.now c.take_told-handed.new.consumer Unasked c.alone-step.result c.take_told-handed.result sight.Nothing done v v
-    (meets_as _ _ Unasked v v (sym asks.0) refl) refl (c.alone-step.ensures reply) refl refl refl (c.take_told-handed.ensures (read_by None None) None refl) refl)
+    let done : Stepped = record { handed = c.take_without_message-handed.result.handed; looked = false; next = c.take_without_message-handed.result.next } in
+    row_at_phase given now (row.Read one) (Pulls c.in-Pulls.reader) c.args.consumer.now c.take_without_message-handed.new.consumer v v sight.Nothing (Ok done) c.in-Pulls.is
+    (read_passes given now one c.in-Pulls.reader c.alone-step.new.reader c.args.consumer.now c.take_without_message-handed.new.consumer Unasked c.alone-step.result c.take_without_message-handed.result sight.Nothing done v v
+    (meets_as _ _ Unasked v v (sym asks.0) refl) refl (c.alone-step.ensures reply) refl refl refl (c.take_without_message-handed.ensures (read_by None None) None refl) refl)
 
 pub returns-then-is_quiet : goal.returns-then-is_quiet
 returns-then-is_quiet c = λ reply v.

@@ -30,10 +30,10 @@ returns-in-Empty-clause-passes g c =
     let new = g.L.Link.view c.take.new.self in
     let given = input_of c.args.context.now in
     let now = c.args.context.now.moment in
-    let done : Stepped = record { handed = c.take_told-handed.result.handed; looked = false; next = c.take_told-handed.result.next } in
-    row_at_phase given now (row.Read read.CheckArrival) (Pulls c.in-Pulls.reader) c.args.consumer.now c.take_told-handed.new.consumer old new sight.Nothing (Ok done) c.in-Pulls.is
-    (read_passes given now read.CheckArrival c.in-Pulls.reader c.pass_check_arrival-step.new.self c.args.consumer.now c.take_told-handed.new.consumer Empty c.pass_check_arrival-step.result c.take_told-handed.result sight.Nothing done old new
-    c.in-Empty.ensures refl c.pass_check_arrival-step.ensures refl refl refl (c.take_told-handed.ensures (read_by None None) None refl) refl)
+    let done : Stepped = record { handed = c.take_without_message-handed.result.handed; looked = false; next = c.take_without_message-handed.result.next } in
+    row_at_phase given now (row.Read read.CheckArrival) (Pulls c.in-Pulls.reader) c.args.consumer.now c.take_without_message-handed.new.consumer old new sight.Nothing (Ok done) c.in-Pulls.is
+    (read_passes given now read.CheckArrival c.in-Pulls.reader c.pass_check_arrival-step.new.self c.args.consumer.now c.take_without_message-handed.new.consumer Empty c.pass_check_arrival-step.result c.take_without_message-handed.result sight.Nothing done old new
+    c.in-Empty.ensures refl c.pass_check_arrival-step.ensures refl refl refl (c.take_without_message-handed.ensures (read_by None None) None refl) refl)
 
 pub returns-in-Message-clause-passes : goal.returns-in-Message-clause-passes
 returns-in-Message-clause-passes g c =

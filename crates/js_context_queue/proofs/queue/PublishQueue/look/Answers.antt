@@ -1,5 +1,5 @@
 use Rattle.std.proofs.Common.{◌≡◌, ◌<◌, [], length, refl, arith}
-use Rattle.js_context_queue.specs.declared.queue.StepResult.TheVariants.{Made}
+use Rattle.js_context_queue.specs.declared.step_result.StepResult.TheVariants.{Made}
 use Rattle.js_context_queue.specs.Steps.{outcome_of}
 use Rattle.js_context_queue.proofs.Counts.{each_then, keeps_same, keeps_then, looks_each}
 use Rattle.js_context_queue.proofs.Rounds.{clocks_at, looks_made, rests_all, rests_more, rests_none}

@@ -1,6 +1,6 @@
 use Rattle.std.proofs.Common.{◌≡◌, []}
 use Rattle.js_context_queue.specs.declared.published.Published.{Published}
-use Rattle.js_context_queue.specs.declared.queue.StepResult.TheVariants.{Made, Over, Stays}
+use Rattle.js_context_queue.specs.declared.step_result.StepResult.TheVariants.{Made, Over, Stays}
 use Rattle.js_context_queue.specs.Queue.{handed}
 use Rattle.js_context_queue.specs.Steps.{outcome_of}
 use Rattle.js_context_queue.proofs.Counts.{each_then}

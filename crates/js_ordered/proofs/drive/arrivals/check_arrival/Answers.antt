@@ -1,10 +1,10 @@
 use Rattle.std.proofs.Common.{sym, subst, [], ◌∷◌}
 use Rattle.js_pull.specs.declared.reader.Row.TheVariants as read
 use Rattle.js_ordered_table.specs.Passes.{at, input_of}
-use Rattle.js_ordered.specs.Driven.{Arrives, Passes, matter_now}
+use Rattle.js_ordered.specs.Drive.{Arrives, Passes, matter_now}
 use Rattle.js_ordered_table.specs.declared.consumer.Phase.{Phase}
 use Rattle.js_ordered_table.specs.declared.row.Row.TheVariants as row
-use Rattle.js_ordered.proofs.ReadDriving.{leads_silent}
+use Rattle.js_ordered.proofs.DrivenReads.{leads_silent}
 use Rattle.js_ordered.proofs.Nowhere.{reads_nowhere}
 use Rattle.js_ordered.proofs.drive.arrivals.check_arrival.Goals as goal
 

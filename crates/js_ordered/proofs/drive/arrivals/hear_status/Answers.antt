@@ -3,9 +3,9 @@ use Rattle.js_ordered_table.specs.Tasks.{next_rows}
 use Rattle.js_pull.specs.Rows.{brought}
 use Rattle.js_pull.specs.declared.reader.Row.TheVariants as read
 use Rattle.js_ordered_table.specs.Passes.{input_of}
-use Rattle.js_ordered.specs.Driven.{Arrives, matter_now}
+use Rattle.js_ordered.specs.Drive.{Arrives, matter_now}
 use Rattle.js_ordered_table.specs.declared.consumer.Phase.{Phase}
-use Rattle.js_ordered.proofs.ReadDriving.{leads_status}
+use Rattle.js_ordered.proofs.DrivenReads.{leads_status}
 use Rattle.js_ordered.proofs.Nowhere.{reads_here, reads_nowhere}
 use Rattle.js_ordered.proofs.drive.arrivals.hear_status.Goals as goal
 

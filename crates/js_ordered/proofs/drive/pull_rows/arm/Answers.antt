@@ -1,8 +1,8 @@
 use Rattle.std.proofs.Common.{refl, []}
 use Rattle.js_pull.specs.declared.reader.Row.TheVariants as read
 use Rattle.js_ordered_table.specs.Passes.{input_of}
-use Rattle.js_ordered.specs.Driven.{matter_now}
-use Rattle.js_ordered.proofs.ReadDriving.{leads_armed}
+use Rattle.js_ordered.specs.Drive.{matter_now}
+use Rattle.js_ordered.proofs.DrivenReads.{leads_armed}
 use Rattle.js_ordered.proofs.Nowhere.{reads_here, reads_nowhere}
 use Rattle.js_ordered.proofs.drive.pull_rows.arm.Goals as goal
 

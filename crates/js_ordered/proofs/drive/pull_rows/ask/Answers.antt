@@ -6,10 +6,10 @@ use Rattle.js_pull.specs.declared.reader.Row.TheVariants as read
 use Rattle.js_pull.specs.Reader as pull
 use Rattle.js_ordered_table.specs.Fold.{passing}
 use Rattle.js_ordered_table.specs.Passes.{input_of}
-use Rattle.js_ordered.specs.Driven.{matter_now}
-use Rattle.js_ordered.specs.Giving.{IsPublishing}
-use Rattle.js_ordered.proofs.Driving.{ok_holds}
-use Rattle.js_ordered.proofs.ReadDriving.{leads_asked, leads_finish, sent_is}
+use Rattle.js_ordered.specs.Drive.{matter_now}
+use Rattle.js_ordered.specs.Give.{IsPublishing}
+use Rattle.js_ordered.proofs.DrivenRows.{ok_holds}
+use Rattle.js_ordered.proofs.DrivenReads.{leads_asked, leads_finish, sent_is}
 use Rattle.js_ordered.proofs.Nowhere.{reads_here, reads_nowhere}
 use Rattle.js_ordered.proofs.drive.pull_rows.ask.Goals as goal
 

@@ -5,8 +5,8 @@ use Rattle.js_pull.specs.Reader as pull
 use Rattle.js_ordered_table.specs.Fold.{passing}
 use Rattle.js_ordered_table.specs.Passes.{at, input_of}
 use Rattle.js_ordered_table.specs.declared.consumer.Phase.{Phase}
-use Rattle.js_ordered.specs.Driven.{Finishes, matter_now}
-use Rattle.js_ordered.proofs.ReadDriving.{leads_finish}
+use Rattle.js_ordered.specs.Drive.{Finishes, matter_now}
+use Rattle.js_ordered.proofs.DrivenReads.{leads_finish}
 use Rattle.js_ordered_table.proofs.ReaderSteps.{inquiry_sends}
 use Rattle.js_pull.proofs.Inquiries.{inquiry_read}
 use Rattle.js_ordered.proofs.Nowhere.{reads_here, reads_nowhere}

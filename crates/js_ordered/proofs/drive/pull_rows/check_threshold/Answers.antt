@@ -5,8 +5,8 @@ use Rattle.js_pull.specs.declared.reader.Row.TheVariants as read
 use Rattle.js_pull.specs.Reader as pull
 use Rattle.js_ordered_table.specs.Fold.{passing}
 use Rattle.js_ordered_table.specs.Passes.{input_of}
-use Rattle.js_ordered.specs.Driven.{matter_now}
-use Rattle.js_ordered.proofs.ReadDriving.{leads_finish}
+use Rattle.js_ordered.specs.Drive.{matter_now}
+use Rattle.js_ordered.proofs.DrivenReads.{leads_finish}
 use Rattle.js_ordered_table.proofs.ReaderSteps.{threshold_sends}
 use Rattle.js_ordered.proofs.Nowhere.{reads_here, reads_nowhere}
 use Rattle.js_ordered.proofs.drive.pull_rows.check_threshold.Goals as goal

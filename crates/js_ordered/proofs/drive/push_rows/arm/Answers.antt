@@ -2,8 +2,8 @@ use Rattle.std.proofs.Common.{refl, sym}
 use Rattle.js_ordered_table.specs.declared.consumer.Phase.TheVariants.{Pulls, Pushes, Recreates, Idle, Ended, Exhausted}
 use Rattle.js_ordered_table.specs.declared.row.Row.TheVariants as row
 use Rattle.js_ordered_table.specs.Passes.{input_of}
-use Rattle.js_ordered.specs.Driven.{matter_now}
-use Rattle.js_ordered.proofs.Driving.{look_nowhere, told_here}
+use Rattle.js_ordered.specs.Drive.{matter_now}
+use Rattle.js_ordered.proofs.DrivenRows.{look_nowhere, told_here}
 use Rattle.js_ordered_table.specs.declared.transitions.task.NextTasks.TheVariants as next
 use Rattle.js_ordered_table.specs.declared.transitions.task.RowOutput.TheVariants as tells
 use Rattle.std.proofs.Common.{append-nil}

@@ -3,8 +3,8 @@ use Rattle.js_ordered_table.specs.declared.consumer.Phase.TheVariants.{Pulls, Pu
 use Rattle.js_ordered_table.specs.declared.row.Row.TheVariants as row
 use Rattle.js_ordered_table.specs.Fold.{passing}
 use Rattle.js_ordered_table.specs.Passes.{input_of}
-use Rattle.js_ordered.specs.Driven.{matter_now}
-use Rattle.js_ordered.proofs.Driving.{look_nowhere, looks_on}
+use Rattle.js_ordered.specs.Drive.{matter_now}
+use Rattle.js_ordered.proofs.DrivenRows.{look_nowhere, looks_on}
 use Rattle.js_ordered_table.specs.Consumer.{at_phase}
 use Rattle.js_ordered.proofs.drive.push_rows.look_at_silence.Goals as goal
 

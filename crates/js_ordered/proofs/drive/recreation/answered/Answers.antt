@@ -1,10 +1,10 @@
 use Rattle.std.proofs.Common.{ap, ◌∙◌}
 use Rattle.std.specs.Prelude.{◌≡◌, Ok, Some, option_map}
 use Rattle.js_ordered_table.specs.Passes.{input_of}
-use Rattle.js_ordered.specs.Driven.{matter_now}
+use Rattle.js_ordered.specs.Drive.{matter_now}
 use Rattle.js_ordered_table.specs.Tasks.{next_rows}
 use Rattle.js_pull.specs.Reader.{info_reply, reply_to}
-use Rattle.js_ordered.proofs.Driving.{ok_holds, reply_came}
+use Rattle.js_ordered.proofs.DrivenRows.{ok_holds, reply_came}
 use Rattle.js_ordered.proofs.drive.recreation.answered.Goals as goal
 
 pub returns-in-Ok-Some : goal.returns-in-Ok-Some

@@ -1,12 +1,12 @@
 use Rattle.std.proofs.Common.{refl}
 use Rattle.std.specs.Prelude.{codes}
 use Rattle.js_ordered_table.specs.Passes.{input_of}
-use Rattle.js_ordered.specs.Driven.{matter_now}
+use Rattle.js_ordered.specs.Drive.{matter_now}
 use Rattle.js_ordered_table.specs.declared.row.Row.TheVariants as row
-use Rattle.js_ordered.specs.Giving.{IsSending}
+use Rattle.js_ordered.specs.Give.{IsSending}
 use Rattle.js_ordered_table.specs.Fold.{passing}
 use Rattle.js_ordered_table.specs.Texts.{delete_subject}
-use Rattle.js_ordered.proofs.Driving.{leads_sent, ok_holds}
+use Rattle.js_ordered.proofs.DrivenRows.{leads_sent, ok_holds}
 use Rattle.js_ordered.proofs.drive.recreation.begin_try.Goals as goal
 
 pub returns-in-Ok : goal.returns-in-Ok

@@ -1,8 +1,8 @@
 use Rattle.std.proofs.Common.{refl}
 use Rattle.js_ordered_table.specs.Passes.{input_of}
-use Rattle.js_ordered.specs.Driven.{matter_now}
+use Rattle.js_ordered.specs.Drive.{matter_now}
 use Rattle.js_ordered_table.specs.Fold.{passing}
-use Rattle.js_ordered.proofs.Driving.{creates_pull}
+use Rattle.js_ordered.proofs.DrivenRows.{creates_pull}
 use Rattle.js_ordered.proofs.drive.recreation.create_pull.Goals as goal
 
 pub returns : goal.returns

@@ -1,10 +1,10 @@
 use Rattle.std.proofs.Common.{refl}
 use Rattle.js_ordered_table.specs.Passes.{input_of}
-use Rattle.js_ordered.specs.Driven.{matter_now}
-use Rattle.js_ordered.specs.Giving.{IsOpening}
+use Rattle.js_ordered.specs.Drive.{matter_now}
+use Rattle.js_ordered.specs.Give.{IsOpening}
 use Rattle.js_ordered_table.specs.Fold.{passing}
 use Rattle.js_ordered_table.specs.Texts.{inbox_subject}
-use Rattle.js_ordered.proofs.Driving.{creates_push, ok_holds}
+use Rattle.js_ordered.proofs.DrivenRows.{creates_push, ok_holds}
 use Rattle.js_ordered.proofs.drive.recreation.create_push.Goals as goal
 
 pub returns-in-Ok : goal.returns-in-Ok

@@ -1,10 +1,10 @@
 use Rattle.std.proofs.Common.{refl}
 use Rattle.js_ordered_table.specs.Passes.{input_of}
-use Rattle.js_ordered.specs.Driven.{matter_now}
+use Rattle.js_ordered.specs.Drive.{matter_now}
 use Rattle.js_ordered_table.specs.declared.row.Row.TheVariants as row
 use Rattle.js_ordered_table.specs.Fold.{passing}
 use Rattle.js_ordered_table.specs.declared.consumer.Phase.TheVariants.{Recreates}
-use Rattle.js_ordered.proofs.Driving.{leads_told}
+use Rattle.js_ordered.proofs.DrivenRows.{leads_told}
 use Rattle.js_ordered.proofs.drive.recreation.fail.Goals as goal
 
 pub returns : goal.returns

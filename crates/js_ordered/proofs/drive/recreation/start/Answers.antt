@@ -1,7 +1,7 @@
 use Rattle.std.proofs.Common.{refl}
 use Rattle.js_ordered_table.specs.Passes.{input_of}
-use Rattle.js_ordered.specs.Driven.{matter_now}
-use Rattle.js_ordered.proofs.Driving.{starts}
+use Rattle.js_ordered.specs.Drive.{matter_now}
+use Rattle.js_ordered.proofs.DrivenRows.{starts}
 use Rattle.js_ordered.proofs.drive.recreation.start.Goals as goal
 
 pub returns : goal.returns

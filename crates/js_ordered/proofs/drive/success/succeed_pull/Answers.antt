@@ -1,12 +1,12 @@
 use Rattle.std.proofs.Common.{refl}
 use Rattle.js_ordered_table.specs.Passes.{input_of}
-use Rattle.js_ordered.specs.Driven.{matter_now}
-use Rattle.js_ordered.specs.Giving.{IsOpening}
+use Rattle.js_ordered.specs.Drive.{matter_now}
+use Rattle.js_ordered.specs.Give.{IsOpening}
 use Rattle.js_ordered_table.specs.Fold.{passing}
 use Rattle.js_ordered_table.specs.Texts.{inbox_subject}
 use Rattle.js_ordered_table.specs.Texts.{pull_source}
 use Rattle.std.proofs.Common.{◌≡◌, []}
-use Rattle.js_ordered.proofs.Driving.{succeeds_pull, ok_holds}
+use Rattle.js_ordered.proofs.DrivenRows.{succeeds_pull, ok_holds}
 use Rattle.js_ordered.proofs.drive.success.succeed_pull.Goals as goal
 
 pub returns-in-Ok : goal.returns-in-Ok

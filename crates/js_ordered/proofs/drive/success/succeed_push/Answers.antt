@@ -1,8 +1,8 @@
 use Rattle.std.proofs.Common.{refl, ◌∙◌}
 use Rattle.js_ordered_table.specs.Passes.{input_of}
-use Rattle.js_ordered.specs.Driven.{matter_now}
+use Rattle.js_ordered.specs.Drive.{matter_now}
 use Rattle.js_ordered_table.specs.Fold.{passing}
-use Rattle.js_ordered.proofs.Driving.{succeeds_push}
+use Rattle.js_ordered.proofs.DrivenRows.{succeeds_push}
 use Rattle.js_ordered.proofs.drive.success.succeed_push.Goals as goal
 
 pub returns-in-Ok : goal.returns-in-Ok

@@ -1,9 +1,9 @@
 use Rattle.std.proofs.Common.{◌∙◌, ap, sym, List, ◌++◌, append_assoc}
 use Rattle.js_ordered_table.specs.declared.row.Row.{Row}
-use Rattle.js_ordered.specs.Driven.{left_rows}
+use Rattle.js_ordered.specs.Drive.{left_rows}
 use Rattle.js_ordered_table.specs.Tasks.{next_rows, rows_of}
-use Rattle.js_ordered.proofs.Driving.{left_first}
-use Rattle.js_ordered.proofs.Taking.{tasks_same}
+use Rattle.js_ordered.proofs.DrivenRows.{left_first}
+use Rattle.js_ordered.proofs.TakenTasks.{tasks_same}
 use Rattle.js_ordered.proofs.task_stack.TaskStack.push_next.Goals as goal
 
 pub returns-in-One-clause-tasks : goal.returns-in-One-clause-tasks

@@ -1,5 +1,5 @@
 use Rattle.std.proofs.Common.{◌≡◌, Some, sym}
-use Rattle.js_ordered_recorder.proofs.Going.{hands_answer, tells_answer}
+use Rattle.js_ordered_recorder.proofs.ActSequences.{hands_answer, tells_answer}
 use Rattle.js_ordered_recorder.proofs.recorder.Recorder.answer.Goals as goal
 
 pub returns-in-Some-clause-answers : goal.returns-in-Some-clause-answers

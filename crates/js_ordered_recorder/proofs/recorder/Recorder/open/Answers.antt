@@ -2,7 +2,7 @@ use Rattle.std.proofs.Common.{[], refl, sym, subst}
 use Rattle.js_ordered.specs.IncrementalReplay.{HasCome}
 use Rattle.js_ordered.specs.declared.incremental_replay.IncrementalReplay.{IncrementalReplay}
 use Rattle.js_tool_transcript.specs.TranscriptReplay.{replay_input}
-use Rattle.js_ordered_recorder.proofs.Standing.{opens_at}
+use Rattle.js_ordered_recorder.proofs.RecorderStates.{opens_at}
 use Rattle.js_ordered_recorder.proofs.recorder.Recorder.open.Goals as goal
 
 pub returns-clause-stands : goal.returns-clause-stands

@@ -5,7 +5,7 @@ use Rattle.js_ordered.specs.declared.incremental_replay.IncrementalReplay.{Incre
 use Rattle.js_ordered_table.specs.declared.event.Event.{Event}
 use Rattle.js_ordered_recorder.specs.Acts.{Passes, Stops}
 use Rattle.js_ordered_recorder.specs.declared.recorder.Recorder.{Recorder}
-use Rattle.js_ordered_recorder.proofs.Going.{goes_one, world}
+use Rattle.js_ordered_recorder.proofs.ActSequences.{goes_one, world}
 use Rattle.js_ordered_recorder.proofs.recorder.Recorder.pass_event.Goals as goal
 
 pub returns-in_err-advance-clause-goes : goal.returns-in_err-advance-clause-goes

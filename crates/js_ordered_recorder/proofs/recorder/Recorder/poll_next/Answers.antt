@@ -1,9 +1,9 @@
 use Rattle.std.proofs.Common.{Option, sym, subst}
 use Rattle.js_ordered_recorder.specs.declared.recording.RecordingFault.{RecordingFault}
 use Rattle.js_ordered_recorder.specs.Acts.{World}
-use Rattle.js_ordered_recorder.specs.Writing.{WritesAll}
-use Rattle.js_ordered_recorder.proofs.Going.{world}
-use Rattle.js_ordered_recorder.proofs.Standing.{answers_come}
+use Rattle.js_ordered_recorder.specs.Recording.{WritesAll}
+use Rattle.js_ordered_recorder.proofs.ActSequences.{world}
+use Rattle.js_ordered_recorder.proofs.RecorderStates.{answers_come}
 use Rattle.js_ordered_recorder.proofs.recorder.Recorder.poll_next.Goals as goal
 
 pub returns : goal.returns

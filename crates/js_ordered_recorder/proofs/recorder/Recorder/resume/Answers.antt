@@ -1,4 +1,4 @@
-use Rattle.js_ordered_recorder.proofs.Going.{world, writes_then}
+use Rattle.js_ordered_recorder.proofs.ActSequences.{world, writes_then}
 use Rattle.js_ordered_recorder.proofs.recorder.Recorder.resume.Goals as goal
 
 pub returns-clause-goes : goal.returns-clause-goes

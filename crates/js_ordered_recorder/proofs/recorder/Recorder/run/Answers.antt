@@ -1,6 +1,6 @@
 use Rattle.std.proofs.Common.{◌++◌, []}
 use Rattle.js_ordered_recorder.specs.Acts.{World}
-use Rattle.js_ordered_recorder.proofs.Going.{ends_on, goes_on, world}
+use Rattle.js_ordered_recorder.proofs.ActSequences.{ends_on, goes_on, world}
 use Rattle.js_ordered_recorder.proofs.Written.{writes_on}
 use Rattle.js_ordered_recorder.proofs.recorder.Recorder.run.Goals as goal
 

@@ -3,7 +3,7 @@ use Rattle.js_ordered_table.specs.declared.event.Event.{Event}
 use Rattle.js_ordered_table.specs.declared.run.Output.{Output}
 use Rattle.js_ordered_recorder.specs.Acts.{Rests, World}
 use Rattle.js_ordered_recorder.specs.Recorder.{Goes}
-use Rattle.js_ordered_recorder.specs.Writing.{WritesAll}
+use Rattle.js_ordered_recorder.specs.Recording.{WritesAll}
 use Rattle.js_ordered_recorder.proofs.recorder.Recorder.run.Given as goal
 
 -- nothing was for the user so far

@@ -2,7 +2,7 @@ use Rattle.std.proofs.Common.{Option, [], refl, ap}
 use Rattle.std.specs.Prelude.{is_some}
 use Rattle.js_ordered_recorder.specs.declared.recorder.Recorder.{Recorder}
 use Rattle.js_ordered_recorder.specs.declared.link_event.Taken.{Taken}
-use Rattle.js_ordered_recorder.proofs.Going.{quiet_turn, turn_on}
+use Rattle.js_ordered_recorder.proofs.ActSequences.{quiet_turn, turn_on}
 use Rattle.js_ordered_recorder.proofs.recorder.Recorder.take_turn.Goals as goal
 
 pub returns-in-None : goal.returns-in-None

@@ -2,8 +2,8 @@ use Rattle.std.proofs.Common.{◌≡◌, ◌++◌, [], Option, true, refl, subst
 use Rattle.js_ordered_recorder.specs.declared.recording.RecordingFault.{RecordingFault}
 use Rattle.js_ordered_table.specs.Fold.{is_over}
 use Rattle.js_ordered_recorder.specs.Acts.{World, phase_of}
-use Rattle.js_ordered_recorder.specs.Writing.{WritesAll}
-use Rattle.js_ordered_recorder.proofs.Going.{over_turn, turns_on, world}
+use Rattle.js_ordered_recorder.specs.Recording.{WritesAll}
+use Rattle.js_ordered_recorder.proofs.ActSequences.{over_turn, turns_on, world}
 use Rattle.js_ordered_recorder.proofs.recorder.Recorder.turn.Goals as goal
 
 pub returns-in-Some : goal.returns-in-Some

@@ -2,7 +2,7 @@ use Rattle.std.proofs.Common.{◌≡◌, ℕ, ◌∙◌, Option, None, Some, ap}
 use Rattle.js_ordered_recorder.specs.Acts.{WorksNext, World}
 use Rattle.js_ordered_recorder.specs.declared.output_delivery.Worked.{Worked}
 use Rattle.js_ordered_recorder.specs.declared.output_delivery.Worked.TheVariants as worked
-use Rattle.js_ordered_recorder.proofs.Going.{as_next, message_there, works_count, works_error, works_fewer, works_lacks, works_message, works_none, works_rest, works_silent, works_fault, world, world_same}
+use Rattle.js_ordered_recorder.proofs.ActSequences.{as_next, message_there, works_count, works_error, works_fewer, works_lacks, works_message, works_none, works_rest, works_silent, works_fault, world, world_same}
 use Rattle.js_ordered_recorder.proofs.recorder.Recorder.work_all.Goals as goal
 
 pub returns-in-Err-clause-works : goal.returns-in-Err-clause-works

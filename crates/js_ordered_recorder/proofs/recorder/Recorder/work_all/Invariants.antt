@@ -1,6 +1,6 @@
 use Rattle.std.specs.Prelude.{◌≡◌, ℕ}
 use Rattle.js_ordered_recorder.specs.Acts.{Rests, World}
-use Rattle.js_ordered_recorder.proofs.Going.{WorkedSo, outputs_left}
+use Rattle.js_ordered_recorder.proofs.ActSequences.{WorkedSo, outputs_left}
 use Rattle.js_ordered_recorder.proofs.recorder.Recorder.work_all.Given as goal
 
 -- nothing was for the user so far

@@ -1,4 +1,4 @@
-use Rattle.js_ordered_recorder.proofs.Going.{writes_step}
+use Rattle.js_ordered_recorder.proofs.ActSequences.{writes_step}
 use Rattle.js_ordered_recorder.proofs.recorder.Recorder.write_taken.Goals as goal
 
 pub returns-clause-goes : goal.returns-clause-goes

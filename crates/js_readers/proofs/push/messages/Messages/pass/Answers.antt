@@ -6,7 +6,7 @@ use Rattle.js_link.specs.declared.wish.Wish.TheVariants.{Reads}
 use Rattle.js_link.specs.declared.wish.Met.TheVariants.{Unasked}
 use Rattle.js_link.specs.declared.link.Taken.{Taken}
 use Rattle.js_link.specs.declared.link.Taken.TheVariants as taken
-use Rattle.js_readers.specs.PushRows.{armed, arrival_row, next_row, pass, quietly, wish}
+use Rattle.js_readers.specs.PushRows.{armed, arrival_row, next_row, pass, silent_row, wish}
 use Rattle.js_readers.specs.PushMessages.{Passes, met_of}
 use Rattle.js_readers.specs.declared.push.messages.Messages.{Messages}
 use Rattle.js_readers.specs.declared.push.row.Row.{Row}
@@ -21,7 +21,7 @@ arms now old middle new v row begun follows = record {
   met = Unasked;
   meets = subst (λ (x : Row). Meets (wish x old.inbox) Unasked v v) (sym row) refl;
   passed = subst (λ (x : Row). pass now Unasked x old ≡ record { told = tells.Nothing; messages = new }) (sym row)
-      (ap (λ (r : Messages). quietly r) (sym (follows ∙ ap (λ (r : Messages). next_row CheckArrival r) begun)));
+      (ap (λ (r : Messages). silent_row r) (sym (follows ∙ ap (λ (r : Messages). next_row CheckArrival r) begun)));
 }
 
 taken_meets : (t : Taken) (inbox : ℕ) (v u : LinkView) → TakesOf inbox t v u → Meets (Reads inbox) (met_of t) v u

@@ -1,6 +1,6 @@
 use Rattle.std.proofs.Common.{rules}
 use Rattle.js_base.proofs.Copies.{copied}
-use Rattle.js_json.proofs.pull.OrderedConfigTryClone.try_clone.Goals as goal
+use Rattle.js_json.proofs.pull.copies.OrderedConfigTryClone.try_clone.Goals as goal
 
 pub returns : goal.returns
 returns c =

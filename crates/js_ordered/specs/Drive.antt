@@ -4,7 +4,7 @@ use Rattle.std.specs.Option.{option_copied}
 use Rattle.js_ordered_table.specs.declared.transitions.task.NextTasks.{NextTasks}
 use Rattle.js_base.specs.declared.message.Message.{Message}
 use Rattle.js_ordered_table.specs.declared.transitions.task.Held.{Held}
-use Rattle.js_pull.specs.declared.rows.PassedRow.{PassedRow as Read}
+use Rattle.js_pull.specs.declared.passed_row.PassedRow.{PassedRow as Read}
 use Rattle.js_ordered_table.specs.declared.transitions.task.Task.{Task}
 use Rattle.js_ordered_table.specs.declared.transitions.task.RowOutput.{RowOutput}
 use Rattle.js_ordered_table.specs.declared.transitions.task.Task.TheVariants as task

@@ -12,7 +12,7 @@ use Rattle.js_ordered_table.specs.Passes.{ran}
 use Rattle.js_ordered_table.specs.Fold.{Ran, after, and_then, pass_each, passing, rank, read_rank}
 use Rattle.js_ordered_table.specs.Table.{pass}
 use Rattle.js_ordered_table.proofs.Ranks.{AreBelow, row_falls}
-use Rattle.js_ordered.specs.Driven.{count_each, count_to, row_count}
+use Rattle.js_ordered.specs.Drive.{count_each, count_to, row_count}
 
 -- ---- one more depth makes no difference
 

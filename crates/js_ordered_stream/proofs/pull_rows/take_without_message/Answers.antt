@@ -2,7 +2,7 @@ use Rattle.std.proofs.Common.{None}
 use Rattle.js_ordered_table.specs.Tasks.{reader_rows}
 use Rattle.js_pull.specs.Rows.{told_shown}
 use Rattle.js_ordered_stream.proofs.ReaderRows.{takes_told}
-use Rattle.js_ordered_stream.proofs.pull_rows.take_told.Goals as goal
+use Rattle.js_ordered_stream.proofs.pull_rows.take_without_message.Goals as goal
 
 pub returns : goal.returns
 returns c = λ m message is.

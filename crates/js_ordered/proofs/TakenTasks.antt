@@ -6,7 +6,7 @@ use Rattle.js_base.specs.declared.message.Message.{Message}
 use Rattle.js_ordered_table.specs.declared.transitions.task.Held.{Held}
 use Rattle.js_ordered_table.specs.declared.transitions.task.NextTasks.{NextTasks}
 use Rattle.js_ordered_table.specs.declared.transitions.task.Task.{Task}
-use Rattle.js_ordered.specs.Driven.{IsLeft, Leads, PassesOn, PassesTo, first_held, heard_first, left_rows, left_to_do, matter_now, row_count}
+use Rattle.js_ordered.specs.Drive.{IsLeft, Leads, PassesOn, PassesTo, first_held, heard_first, left_rows, left_to_do, matter_now, row_count}
 use Rattle.js_ordered_table.specs.Tasks.{answered_rows, heard_rows, hearings_of, next_rows, rows_of}
 use Rattle.js_ordered_table.specs.declared.consumer.ReplayInput.{ReplayInput}
 use Rattle.js_ordered_table.specs.declared.row.Row.{Row}
@@ -16,7 +16,7 @@ use Rattle.js_ordered_table.specs.declared.replay_state.ReplayState.{ReplayState
 use Rattle.js_ordered_table.specs.Fold.{and_then, pass_each}
 use Rattle.js_ordered_table.specs.Passes.{hearings, input_of, ran}
 use Rattle.js_ordered_table.specs.Consumer.{Matter}
-use Rattle.js_ordered.proofs.Driving.{left_first}
+use Rattle.js_ordered.proofs.DrivenRows.{left_first}
 
 -- ---- a task that was taken
 

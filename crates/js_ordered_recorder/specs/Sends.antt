@@ -6,7 +6,7 @@ use Rattle.js_link.specs.LinkView.{LinkView}
 use Rattle.js_link.specs.declared.sent.InboxId.{InboxId}
 use Rattle.js_link.specs.declared.sent.RequestId.{RequestId}
 use Rattle.js_ordered_recorder.specs.declared.sends.Asked.{Asked}
-use Rattle.js_ordered_recorder.specs.declared.sends.Sends.{Sends}
+use Rattle.js_ordered_recorder.specs.declared.sends.LinkNumbers.{LinkNumbers}
 use Rattle.js_ordered_recorder.specs.declared.output_delivery.Worked.{Worked}
 use Rattle.js_ordered_recorder.specs.declared.output_delivery.Worked.TheVariants as worked
 use Rattle.js_ordered_table.specs.declared.run.ItemKind.{ItemKind}
@@ -25,7 +25,7 @@ AsksAs (Some request) subject payload before after = calls.Asks request.0 subjec
 AsksAs None subject payload before after = calls.FailsToSend before after
 
 -- a request goes to the link, and the link's number of it is kept
-pub record Asks (number : ℕ) (subject payload : List ℕ) (old new : Sends) (before after : LinkView) : Type 0 where
+pub record Asks (number : ℕ) (subject payload : List ℕ) (old new : LinkNumbers) (before after : LinkView) : Type 0 where
   pub request : Option RequestId
   pub goes : AsksAs request subject payload before after
   pub kept : new ≡ record old { asked = Some (record { number = number; request = request }) }
@@ -36,7 +36,7 @@ PublishesAs true subject reply payload before after = calls.Publishes subject re
 PublishesAs false subject reply payload before after = calls.FailsToSend before after
 
 -- a message goes to the link; one that could not be sent counts as lost
-pub record Publishes (subject : List ℕ) (reply : Option (List ℕ)) (payload : List ℕ) (old new : Sends) (before after : LinkView) : Type 0 where
+pub record Publishes (subject : List ℕ) (reply : Option (List ℕ)) (payload : List ℕ) (old new : LinkNumbers) (before after : LinkView) : Type 0 where
   pub sent : Bool
   pub goes : PublishesAs sent subject reply payload before after
   pub kept : new ≡ record old { lost = lost_by sent old.lost }
@@ -52,7 +52,7 @@ ClosesAt (Some inbox) before after = calls.Closes inbox.0 before after
 ClosesAt None before after = after ≡ before
 
 -- the next inbox is opened under its subject, and the one before it is closed
-pub record Moves (number : ℕ) (subject : List ℕ) (old new : Sends) (before after : LinkView) : Type 0 where
+pub record Moves (number : ℕ) (subject : List ℕ) (old new : LinkNumbers) (before after : LinkView) : Type 0 where
   pub opened : Option InboxId
   pub between : LinkView
   pub opens : OpensAs opened subject before between
@@ -77,7 +77,7 @@ worked_whole = refl
 
 -- what stands at the link, and the message that was taken last
 pub record Outgoing : Type 0 where
-  pub sends : Sends
+  pub sends : LinkNumbers
   pub message : Option Message
   pub link : LinkView
 

@@ -4,7 +4,7 @@ use Rattle.js_link.specs.declared.wish.Met.TheVariants.{Unasked}
 use Rattle.js_ordered_table.specs.Tasks.{reader_rows}
 use Rattle.js_ordered_table.proofs.PassedRows.{of_stream}
 use Rattle.js_ordered_stream.proofs.ReaderRows.{takes_handed, yields_handed}
-use Rattle.js_ordered_stream.proofs.pull_rows.take_handed.Goals as goal
+use Rattle.js_ordered_stream.proofs.pull_rows.take_with_message.Goals as goal
 
 pub take_message-requires : goal.take_message-requires
 take_message-requires c = of_stream c.args.consumer.now.core.consumer_sequence c.args.message.now c.heard_from-heard.result c.heard_from-heard.ensures

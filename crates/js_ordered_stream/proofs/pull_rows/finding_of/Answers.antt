@@ -3,7 +3,7 @@ use Rattle.js_pull.specs.Rows.{brought}
 use Rattle.js_ordered_stream.specs.declared.remaining_rows.Seen.{Seen}
 use Rattle.js_ordered_stream.specs.Rows.{answer_in}
 use Rattle.js_ordered_stream.proofs.ReaderRows.{informed_as}
-use Rattle.js_ordered_stream.proofs.pull_rows.told_by.Goals as goal
+use Rattle.js_ordered_stream.proofs.pull_rows.finding_of.Goals as goal
 
 pub returns-in-Reply : goal.returns-in-Reply
 returns-in-Reply c =
@@ -11,8 +11,8 @@ returns-in-Reply c =
 
 pub returns-in-Nothing : goal.returns-in-Nothing
 returns-in-Nothing c =
-    informed_as c.args.due None (brought (answer_in c.args.seen.now)) c.untold.result (sym (ap (λ (s : Seen). brought (answer_in s)) c.in-Nothing.is)) c.untold.ensures
+    informed_as c.args.due None (brought (answer_in c.args.seen.now)) c.finding_without_reply.result (sym (ap (λ (s : Seen). brought (answer_in s)) c.in-Nothing.is)) c.finding_without_reply.ensures
 
 pub returns-in-Message : goal.returns-in-Message
 returns-in-Message c =
-    informed_as c.args.due None (brought (answer_in c.args.seen.now)) c.untold-in-Message.result (sym (ap (λ (s : Seen). brought (answer_in s)) c.in-Message.is)) c.untold-in-Message.ensures
+    informed_as c.args.due None (brought (answer_in c.args.seen.now)) c.finding_without_reply-in-Message.result (sym (ap (λ (s : Seen). brought (answer_in s)) c.in-Message.is)) c.finding_without_reply-in-Message.ensures

@@ -18,9 +18,9 @@ use Rattle.js_ordered_table.specs.declared.run.Output.{Output}
 use Rattle.js_ordered_table.specs.declared.run.Output.TheVariants as out
 use Rattle.js_ordered_recorder.specs.Acts.{Act, AreSilent, Does, DoesAll, IsSilent, LiesNothing, Passes, Rests, Stops, TakenBy, Takes, Works, WorksNext, WorksOff, World, Writes, WritesDown, events_of, outputs_of, phase_of, queue}
 use Rattle.js_ordered_recorder.specs.Recorder.{EndsAs, Goes, HandsOver, HandsError, HandsMessage, IsEmpty, IsEnded, IsQuiet, TurnsTo, WorksTo, Yields}
-use Rattle.js_ordered_recorder.specs.Sending.{HasMessage, left_by, worked_as}
-use Rattle.js_ordered_recorder.specs.Writing.{WritesAll}
-use Rattle.js_ordered_recorder.specs.Writing as writing
+use Rattle.js_ordered_recorder.specs.Sends.{HasMessage, left_by, worked_as}
+use Rattle.js_ordered_recorder.specs.Recording.{WritesAll}
+use Rattle.js_ordered_recorder.specs.Recording as recording
 use Rattle.js_ordered_recorder.proofs.Written.{writes_one}
 use Rattle.js_ordered_recorder.specs.declared.recorder.Recorder.{Recorder}
 use Rattle.js_ordered_recorder.specs.declared.recording.RecordingFault.{RecordingFault}
@@ -206,7 +206,7 @@ works_fewer done a b next =
 -- ---- an event
 
 -- what was taken is written, and nothing else is done
-pub writes_taken : {R : Type 0} (writes : R → Event → Option RecordingFault → R → Type 0) (now : ℕ) (e : Event) (a b : World) (before after : R) → WritesDown now e a b → writing.Writes writes a.recorder.fault e b.recorder.fault before after
+pub writes_taken : {R : Type 0} (writes : R → Event → Option RecordingFault → R → Type 0) (now : ℕ) (e : Event) (a b : World) (before after : R) → WritesDown now e a b → recording.Writes writes a.recorder.fault e b.recorder.fault before after
     → (es : List Event) × Goes now a es [] b × WritesAll writes a.recorder.fault es b.recorder.fault before after
 writes_taken writes now e a b before after step wrote =
     (e ∷ [], goes_one now (Writes e) a b tt step, writes_one writes e a.recorder.fault b.recorder.fault before after wrote)
@@ -236,12 +236,12 @@ written r e w = record r { fault = w; taken = None; event = Some e; message = me
 
 pub writes_step : {R : Type 0} (writes : R → Event → Option RecordingFault → R → Type 0) (now : ℕ) (r new : Recorder) (one : Taken) (at : ℕ) (what : EventKind) (w : Option RecordingFault) (v : LinkView) (before after : R)
     → r.taken ≡ Some one → at ≡ max now r.moment → what ≡ event_kind one → new ≡ record r { fault = w; taken = None; event = Some (record { at = at; what = what }); message = message_at r.taken; moment = at }
-    → writing.Writes writes r.fault (record { at = at; what = what }) w before after
+    → recording.Writes writes r.fault (record { at = at; what = what }) w before after
     → (es : List Event) × Goes now (record { recorder = r; link = v }) es [] (record { recorder = new; link = v }) × WritesAll writes r.fault es new.fault before after
 writes_step writes now r new one at what w v before after brought is_at is_what is wrote =
     let e : Event = record { at = at; what = what } in
     let same_fault : new.fault ≡ w = ap (λ (x : Recorder). x.fault) is in
-    let P : Option RecordingFault → Type 0 = λ x. writing.Writes writes r.fault e x before after in
+    let P : Option RecordingFault → Type 0 = λ x. recording.Writes writes r.fault e x before after in
     writes_taken writes now e (record { recorder = r; link = v }) (record { recorder = new; link = v }) before after
     (record {
       one = one;

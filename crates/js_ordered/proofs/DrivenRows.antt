@@ -13,8 +13,8 @@ use Rattle.js_ordered_table.specs.declared.transitions.task.NextTasks.TheVariant
 use Rattle.js_ordered_table.specs.declared.transitions.task.Task.{Task}
 use Rattle.js_ordered_table.specs.declared.transitions.task.RowOutput.{RowOutput}
 use Rattle.js_ordered_table.specs.declared.transitions.task.RowOutput.TheVariants as tells
-use Rattle.js_ordered.specs.Driven.{Leads, Passes, PassesTo, numbered, heard_first, left_rows, row_count}
-use Rattle.js_ordered.specs.Giving.{IsInbox, IsNumber, Sends, Subscribes}
+use Rattle.js_ordered.specs.Drive.{Leads, Passes, PassesTo, numbered, heard_first, left_rows, row_count}
+use Rattle.js_ordered.specs.Give.{IsInbox, IsNumber, Sends, Subscribes}
 use Rattle.js_ordered_table.specs.Tasks.{IsHeard, StepsTo, answered_rows, create_outputs, heard_outputs, heard_row, heard_rows, next_rows, opening_to, requested, requesting, rows_of, subscribed, told_outputs}
 use Rattle.js_pull.specs.Reader.{info_reply}
 use Rattle.js_pull.specs.declared.replies.InfoReply.{InfoReply}
@@ -39,7 +39,7 @@ use Rattle.js_ordered_table.specs.Consumer.{Matter, Passed, silent_row, at_phase
 use Rattle.js_ordered_table.specs.Texts.{inbox_subject}
 use Rattle.js_ordered_table.specs.Table.{event_row, pass, row_at}
 use Rattle.js_ordered.proofs.RowRuns.{no_more, ran_from}
-use Rattle.js_ordered.proofs.Counting.{counts_from, counts_more}
+use Rattle.js_ordered.proofs.RowCounts.{counts_from, counts_more}
 use Rattle.js_ordered_table.proofs.PassedRows.{hears_as, hears_here, hears_nowhere}
 
 -- ---- one row

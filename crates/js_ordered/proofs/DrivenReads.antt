@@ -7,8 +7,8 @@ use Rattle.js_ordered_table.specs.declared.transitions.task.Heard.{Heard}
 use Rattle.js_ordered_table.specs.declared.transitions.task.NextTasks.{NextTasks}
 use Rattle.js_ordered_table.specs.declared.transitions.task.NextTasks.TheVariants as next
 use Rattle.js_ordered_table.specs.declared.transitions.task.Task.TheVariants as task
-use Rattle.js_ordered.specs.Driven.{Finishes, Passes, numbered}
-use Rattle.js_ordered.specs.Giving.{Sends}
+use Rattle.js_ordered.specs.Drive.{Finishes, Passes, numbered}
+use Rattle.js_ordered.specs.Give.{Sends}
 use Rattle.js_ordered_table.specs.Tasks.{IsHeardFrom, StepsTo, heard_outputs, heard_row, next_rows, reader_rows, requested, requesting, told_outputs}
 use Rattle.js_link.specs.declared.sent.Sent.{Sent}
 use Rattle.js_pull.specs.declared.rows.Due.TheVariants as due
@@ -22,7 +22,7 @@ use Rattle.js_pull.specs.declared.reader.ReaderOutput.TheVariants as telling
 use Rattle.js_pull.specs.Kind.{pull_kind}
 use Rattle.js_pull.specs.Limits.{pull_body}
 use Rattle.js_ordered_table.specs.declared.run.Output.TheVariants as out
-use Rattle.js_pull.specs.declared.rows.PassedRow.{PassedRow as Read}
+use Rattle.js_pull.specs.declared.passed_row.PassedRow.{PassedRow as Read}
 use Rattle.js_pull.specs.Rows.{ReadsTo, brought}
 use Rattle.js_pull.specs.Rows.{told_shown}
 use Rattle.js_pull.specs.declared.reader.Reader.{Reader}
@@ -41,7 +41,7 @@ use Rattle.js_ordered_table.specs.Recreation.{message_on}
 use Rattle.js_ordered_table.specs.Consumer.{Matter, Passed, output_of, at_phase}
 use Rattle.js_ordered_table.proofs.ReaderSteps.{hear_sends, reads_row}
 use Rattle.js_ordered_table.proofs.PassedRows.{from_stream}
-use Rattle.js_ordered.proofs.Driving.{with_request, unnumbered, no_made, told_unnumbered, heard_unnumbered, leads_at, leads_quietly, request_is}
+use Rattle.js_ordered.proofs.DrivenRows.{with_request, unnumbered, no_made, told_unnumbered, heard_unnumbered, leads_at, leads_quietly, request_is}
 
 -- ---- rows of a pull reader
 
