@@ -35,7 +35,7 @@ impl Gate for Open {
 /// One worker's passage through a gate, made at most once. Contracts see the caller as it was when
 /// it passed, if it has passed.
 #[derive(Drop)]
-pub(crate) struct GatePassage<'a, G> {
+pub struct GatePassage<'a, G> {
     gate: &'a G,
     /// The caller as it was when it passed.
     pub passed: Option<Snapshot<Pass>>,

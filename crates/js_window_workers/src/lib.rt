@@ -9,6 +9,6 @@ mod gate;
 mod worker;
 mod workers;
 
-pub use gate::{Gate, Open};
-pub use worker::{Ended, take_calls};
+pub use gate::{Gate, GatePassage, Open};
+pub use worker::{Ended, take_calls, take_calls_through};
 pub use workers::{WindowCounts, run_window};

@@ -41,11 +41,13 @@ pub fn take_calls<R: Wait, G: Gate>(
     ensures calls { TookCalls result.0 result.1 pass.old pass.new }
     ensures called { 0 < calls → G.passed gate.now worker }
 {
-    take_by(rt, window, pass, calls, worker, &mut GatePassage::new(gate))
+    take_calls_through(rt, window, pass, calls, worker, &mut GatePassage::new(gate))
 }
 
-// The same by a passage of the gate, which keeps the caller as it was when it passed.
-fn take_by<R: Wait, G: Gate>(
+/// Makes the calls of [`take_calls`] through a passage of the gate. If there is a call, the passage
+/// keeps the caller as it was when it passed: after its first take, and before it gave a permit
+/// back. The passage must not have been made before.
+pub fn take_calls_through<R: Wait, G: Gate>(
     rt: &R,
     window: &Window,
     pass: &mut Pass,

@@ -1,6 +1,6 @@
 use Rattle.std.proofs.Common.{◌≡◌, ◌<◌, ◌+◌, option_map}
 use Rattle.js_window_workers.specs.Worker.{TookCalls, PassedGate}
-use Rattle.js_window_workers.proofs.worker.take_by.Given as goal
+use Rattle.js_window_workers.proofs.worker.take_calls_through.Given as goal
 
 abbrev pub invariant-loop-call : goal.invariant-loop-call
 invariant-loop-call g l = record {

@@ -3,8 +3,8 @@ use Rattle.js_window.specs.Caller.{Caller}
 use Rattle.js_window_workers.specs.declared.gate.GatePassage.{GatePassage}
 use Rattle.js_window_workers.specs.Worker.{TookCalls, PassedGate}
 use Rattle.js_window_workers.proofs.Takes.{first_take, took_none, took_got, took_full, passed_first, passed_before}
-use Rattle.js_window_workers.proofs.worker.take_by.Goals as goal
-use Rattle.js_window_workers.proofs.worker.take_by.Goals.{in-Got, in-Full, then-call-eq0, else-call-eq0}
+use Rattle.js_window_workers.proofs.worker.take_calls_through.Goals as goal
+use Rattle.js_window_workers.proofs.worker.take_calls_through.Goals.{in-Got, in-Full, then-call-eq0, else-call-eq0}
 
 pub give-requires-clause-holds : goal.give-requires-clause-holds
 give-requires-clause-holds g c = let h = c.in-Got.ensures.call.holds in omega arith
