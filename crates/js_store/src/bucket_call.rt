@@ -46,6 +46,7 @@ pub trait BucketCallRow<X, E>: Drop {
 /// Invalid arguments fail before anything is sent. If memory runs out while reading an answer, the
 /// answer is kept for the next poll.
 #[derive(Drop)]
+#[must_use = "a call is sent by its first poll"]
 pub struct BucketCall<S, X, E, M> {
     row: M,
     stage: Stage<S, X, E>,
