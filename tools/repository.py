@@ -77,10 +77,10 @@ def write(file, text, mode=0o644):
     os.chmod(file, mode)
 
 
-def copied(name, folder, *more):
-    """Copies a crate and those below it (src, specs and proofs) into a folder, with the lines of crates.txt for them, and more lines."""
+def copied(names, folder, *more):
+    """Copies crates and those below them (src, specs and proofs) into a folder, with the lines of crates.txt for them, and more lines."""
     lines = lines_of_crates()
-    taken = [*below(name, lines), name]
+    taken = list(dict.fromkeys(it for name in names for it in [*below(name, lines), name]))
     for crate in taken:
         for part in ("src", "specs", "proofs"):
             if os.path.isdir(f"{TOP}/crates/{crate}/{part}"):

@@ -21,7 +21,7 @@ pub fn read<R: Reads>(
     Ok(())
 }
 
-/// How many of so many messages a reader yields.
+// How many of so many messages a reader yields.
 fn yielded<R: Reads>(alloc: Global, kind: Kind, messages: u64) -> Result<u64, OutOfMemory> {
     let mut link = MemoryLink::new(alloc, "_INBOX.t")?;
     let yielded = open_and_read::<R>(alloc, &mut link, kind, messages / BATCH);
@@ -62,7 +62,7 @@ pub fn deliver_alone(rt: &(impl Print + AllocGlobal), messages: u64) -> Result<(
     Ok(())
 }
 
-/// Delivers so many messages to inboxes that are closed unread, and answers how many these are.
+// Delivers so many messages to inboxes that are closed unread, and answers how many these are.
 fn delivered(alloc: Global, messages: u64) -> Result<u64, OutOfMemory> {
     let mut link = MemoryLink::new(alloc, "_INBOX.t")?;
     let delivered = deliver_all_unread(alloc, &mut link, messages / BATCH);
@@ -83,7 +83,7 @@ fn deliver_all_unread(
     Ok(delivered)
 }
 
-/// The number of a new inbox. The link is up, so only memory can be missing.
+// The number of a new inbox. The link is up, so only memory can be missing.
 fn open_inbox(alloc: Global, link: &mut MemoryLink) -> Result<InboxId, OutOfMemory> {
     match link.open_inbox(alloc) {
         Ok((inbox, _subject)) => Ok(inbox),
@@ -98,7 +98,7 @@ fn deliver_unread(alloc: Global, link: &mut MemoryLink, batch: u64) -> Result<()
     Ok(())
 }
 
-/// Delivers the messages of a batch.
+// Delivers the messages of a batch.
 fn deliver(
     alloc: Global,
     link: &mut MemoryLink,
@@ -112,7 +112,7 @@ fn deliver(
     Ok(())
 }
 
-/// Whether the reader yields a message by a poll.
+// Whether the reader yields a message by a poll.
 fn yields<T: Drop, E: Drop>(next: Next<Result<T, E>>) -> Result<bool, OutOfMemory> {
     match next {
         Next::Item(Ok(_message)) => Ok(true),
@@ -121,7 +121,7 @@ fn yields<T: Drop, E: Drop>(next: Next<Result<T, E>>) -> Result<bool, OutOfMemor
     }
 }
 
-/// Polls until the reader waits, and answers how many messages it yields.
+// Polls until the reader waits, and answers how many messages it yields.
 fn poll<R: Reads>(
     alloc: Global,
     link: &mut MemoryLink,

@@ -40,7 +40,7 @@ struct Tally {
     damages: u64,
 }
 
-/// A number below a bound, which is not 0.
+// A number below a bound, which is not 0.
 fn below(rng: &mut Pcg32, bound: usize) -> usize {
     match (rng.next_word() as usize).checked_rem(bound) {
         Some(number) => number,
@@ -52,7 +52,7 @@ fn frame(rng: &mut Pcg32) -> &'static [u8] {
     FRAMES.get(below(rng, FRAMES.len())).unwrap_or(&FRAMES[0])
 }
 
-/// Sets a random byte of a piece to a random one, or to one that the protocol uses.
+// Sets a random byte of a piece to a random one, or to one that the protocol uses.
 fn change(rng: &mut Pcg32, piece: &mut Vec<u8>) {
     let value = if below(rng, 2) == 0 {
         (rng.next_word() % 256) as u8
@@ -65,7 +65,7 @@ fn change(rng: &mut Pcg32, piece: &mut Vec<u8>) {
     }
 }
 
-/// Makes the next piece.
+// Makes the next piece.
 fn draw(rng: &mut Pcg32, piece: &mut Vec<u8>) -> Result<(), AllocError> {
     piece.clear();
     piece.extend_from_slice(frame(rng))?;
@@ -86,13 +86,13 @@ fn draw(rng: &mut Pcg32, piece: &mut Vec<u8>) -> Result<(), AllocError> {
     Ok(())
 }
 
-/// Closes the connection, and makes it again.
+// Closes the connection, and makes it again.
 fn make_again(connection: &mut Connection) {
     connection.lost();
     connection.made(0);
 }
 
-/// Counts an error that ends the connection, and makes it again. Fails if memory ran out.
+// Counts an error that ends the connection, and makes it again. Fails if memory ran out.
 fn end_by(
     connection: &mut Connection,
     tally: &mut Tally,
@@ -113,7 +113,7 @@ fn end_by(
     Ok(())
 }
 
-/// Hears a piece, and what lies behind each refusal in it.
+// Hears a piece, and what lies behind each refusal in it.
 fn hear(
     alloc: Global,
     connection: &mut Connection,
@@ -133,7 +133,7 @@ fn hear(
     Ok(())
 }
 
-/// Hears a piece, takes the messages that came, and sends what is due.
+// Hears a piece, takes the messages that came, and sends what is due.
 fn hear_and_answer(
     alloc: Global,
     connection: &mut Connection,
@@ -169,7 +169,7 @@ fn hear_all(
     Ok(tally)
 }
 
-/// What comes of pieces that a connection of their own hears.
+// What comes of pieces that a connection of their own hears.
 fn heard(alloc: Global, seed: u64, pieces: u64) -> Result<Tally, OutOfMemory> {
     let mut connection = unmade(alloc, LONGEST_BODY)?;
     let mut piece = Vec::new(alloc);

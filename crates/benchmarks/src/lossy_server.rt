@@ -1,110 +1,128 @@
-//! An honest server that loses things.
+//! A test server whose client loses things: what is sent to it may be lost, be refused, or have its answer lost, and now and then it loses a consumer.
 
-use crate::reader::Kind;
-use crate::requests::{Received, read};
-use crate::texts::{entry, status};
-use js_base::{Message, Nanos, OutOfMemory, StatusCode};
-use js_link::{InboxId, MemoryLink, RequestId};
+use bytes::Bytes;
+use jetstream::link::{OutboxLink, Outgoing, PlainMessage, StatusCode, received};
+use jetstream_testing::{Faults, OneIn, TestServer};
+use js_base::{Moment, OutOfMemory, Subject, Text};
 use rand_core::utils::NextWord;
 use rand_pcg::Pcg32;
 use std::alloc::Global;
 
-/// The server's end of a consumer.
-#[derive(Clone, Copy)]
-pub struct Consumer {
-    is_there: bool,
-    /// The sequence of the entry that it delivers next.
-    next: u64,
-    /// How many messages it has delivered.
-    number: u64,
-    /// How many more it may deliver.
-    wanted: u64,
+/// The words that a request to create a consumer of the log begins with, before its name.
+const CREATE: &str = "$JS.API.CONSUMER.CREATE.log.";
+
+/// What becomes of something that is sent.
+#[derive(Clone, Copy, PartialEq, Eq)]
+enum Fate {
+    /// It reaches the server.
+    Heard,
+    /// It is lost.
+    Lost,
+    /// It reaches nobody, and its sender is told so.
+    Refused,
+    /// It reaches the server, and the answer is lost.
+    Unanswered,
 }
 
-impl Consumer {
-    /// A consumer of the kind that delivers from this sequence on. Pull waits until messages are asked for.
-    pub fn starting_at(kind: Kind, start: u64) -> Consumer {
-        Consumer {
-            is_there: true,
-            next: start,
-            number: 0,
-            wanted: match kind {
-                Kind::Pull => 0,
-                Kind::Push => u64::MAX,
-            },
-        }
-    }
-
-    /// No consumer.
-    pub fn gone() -> Consumer {
-        Consumer {
-            is_there: false,
-            next: 0,
-            number: 0,
-            wanted: 0,
-        }
-    }
-
-    /// One more message is delivered.
-    fn advance(&mut self) {
-        self.next = self.next.saturating_add(1);
-        self.number = self.number.saturating_add(1);
-        self.wanted = self.wanted.saturating_sub(1);
+/// What becomes of deliveries: one in eight is lost, one in sixteen of the others comes twice, and one in eight late.
+fn faults(seed: u64) -> Faults {
+    Faults {
+        seed,
+        lose: OneIn(8),
+        repeat: OneIn(16),
+        delay: OneIn(8),
+        delay_by: 300_000_000,
     }
 }
 
-/// The answer where nobody hears a request.
-fn unheard(mut answer: Message) -> Message {
-    answer.status = Some(StatusCode::NO_RESPONDERS);
-    answer
+fn publishing(alloc: Global, subject: &str) -> Result<Outgoing, OutOfMemory> {
+    Ok(Outgoing::Publish {
+        subject: Subject::new(alloc, subject)?,
+        reply: None,
+        headers: None,
+        payload: Bytes::from_static(b"0123456789abcdef"),
+        request: None,
+    })
 }
 
-fn respond(link: &mut MemoryLink, number: RequestId, answer: Message) -> Result<bool, OutOfMemory> {
-    link.respond(number, Some(answer))?;
-    Ok(true)
-}
-
-/// Some answers are lost.
-fn answer_unless_lost(
-    link: &mut MemoryLink,
-    number: RequestId,
-    answer: Message,
-    fate: u32,
-) -> Result<bool, OutOfMemory> {
-    if fate >= 14 {
-        drop(answer);
-        return Ok(false);
+/// Tells the sender of a request that it has reached nobody.
+fn refuse(alloc: Global, link: &mut OutboxLink, item: &Outgoing) -> Result<(), OutOfMemory> {
+    if let Outgoing::Publish {
+        reply: Some(reply),
+        ..
+    } = item
+    {
+        let answer = received(alloc, reply.as_str(), b"")?;
+        let answer = PlainMessage {
+            status: Some(StatusCode::NO_RESPONDERS),
+            ..answer
+        };
+        link.deliver(0, answer)?;
     }
-    respond(link, number, answer)
+    Ok(())
 }
 
-/// A server of a log of 20 to 35 entries, with one consumer.
+/// The same without the subject to which its answer goes.
+fn without_reply(item: Outgoing) -> Outgoing {
+    match item {
+        Outgoing::Publish {
+            subject,
+            headers,
+            payload,
+            request,
+            ..
+        } => Outgoing::Publish {
+            subject,
+            reply: None,
+            headers,
+            payload,
+            request,
+        },
+        other => other,
+    }
+}
+
+/// A server of a log of 20 to 35 entries, with one reader.
 #[derive(Drop)]
-pub struct Server {
+pub struct LossyServer {
+    server: TestServer,
     rng: Pcg32,
-    kind: Kind,
     /// The sequence of the log's last entry.
     last: u64,
-    /// How much of what was sent has reached it, or was lost.
-    received: usize,
-    /// Where messages go. None while the reader has none.
-    inbox: Option<InboxId>,
-    consumer: Consumer,
+    /// The name of the consumer that was asked for last.
+    consumer: Text,
 }
 
-impl Server {
-    /// The server of a seed, at which a reader of the kind has its first consumer.
-    pub fn new(kind: Kind, seed: u64) -> Server {
+impl LossyServer {
+    /// The server of a seed, with its log. It loses nothing before `begin`.
+    pub fn new(alloc: Global, seed: u64) -> Result<LossyServer, OutOfMemory> {
         let mut rng = Pcg32::new(seed, 1);
-        let last = 20 + u64::from(rng.next_word() % 16);
-        Server {
+        let mut server = LossyServer {
+            server: TestServer::new(alloc, Faults::none()),
+            last: 20 + u64::from(rng.next_word() % 16),
             rng,
-            kind,
-            last,
-            received: 0,
-            inbox: None,
-            consumer: Consumer::starting_at(kind, 1),
+            consumer: Text::new(alloc),
+        };
+        match server.fill(alloc) {
+            Ok(()) => Ok(server),
+            Err(OutOfMemory) => {
+                drop(server);
+                Err(OutOfMemory)
+            }
         }
+    }
+
+    fn fill(&mut self, alloc: Global) -> Result<(), OutOfMemory> {
+        self.server.add_stream(alloc, "log", "log.>")?;
+        for _ in 0..self.last {
+            self.server.hear(alloc, publishing(alloc, "log.line")?, 0)?;
+        }
+        Ok(())
+    }
+
+    /// The test server, which answers without losses.
+    pub fn plain_mut(&mut self) -> &mut TestServer {
+        &mut self.server
     }
 
     /// The sequence of the log's last entry.
@@ -112,217 +130,109 @@ impl Server {
         self.last
     }
 
+    /// The reader has its first consumer, of this name. From here on things are lost.
+    pub fn begin(&mut self, seed: u64, consumer: Text) {
+        self.consumer = consumer;
+        self.server.set_faults(faults(seed));
+    }
+
     /// A number below 16.
     fn draw(&mut self) -> u32 {
         self.rng.next_word() % 16
     }
 
-    /// Hears all that was sent, and answers whether something came for the reader.
-    pub fn hear(&mut self, alloc: Global, link: &mut MemoryLink) -> Result<bool, OutOfMemory> {
-        let mut came = false;
-        for _ in self.received..link.sent().len() {
-            came = self.hear_next(alloc, link)? || came;
+    /// What becomes of something that is sent. Subscriptions are never lost.
+    fn fate_of(&mut self, item: &Outgoing) -> Fate {
+        match item {
+            Outgoing::Publish { request: None, .. } => match self.draw() {
+                0..=3 => Fate::Lost,
+                _ => Fate::Heard,
+            },
+            Outgoing::Publish { .. } => match self.draw() {
+                0 | 1 => Fate::Lost,
+                2 | 3 => Fate::Refused,
+                4 | 5 => Fate::Unanswered,
+                _ => Fate::Heard,
+            },
+            _ => Fate::Heard,
         }
-        Ok(came)
     }
 
-    fn hear_next(&mut self, alloc: Global, link: &mut MemoryLink) -> Result<bool, OutOfMemory> {
-        let Some(sent) = link.sent().get(self.received) else {
-            return Ok(false);
-        };
-        let received = read(alloc, self.kind, sent)?;
-        self.received = self.received.saturating_add(1);
-        self.obey(link, received)
-    }
-
-    fn obey(&mut self, link: &mut MemoryLink, received: Received) -> Result<bool, OutOfMemory> {
-        match received {
-            Received::Subscription(inbox) => {
-                self.inbox = Some(inbox);
-                Ok(false)
+    /// Notes the name of a consumer that is asked for.
+    fn note(&mut self, alloc: Global, item: &Outgoing) -> Result<(), OutOfMemory> {
+        if let Outgoing::Publish { subject, .. } = item {
+            if let Some(name) = subject.as_str().strip_prefix(CREATE) {
+                self.consumer = Text::from_str(alloc, name)?;
             }
-            Received::Wants(more) => {
-                self.want(more);
-                Ok(false)
-            }
-            Received::Request {
-                number,
-                consumer,
-                answer,
-            } => self.meet(link, number, consumer, answer),
         }
+        Ok(())
     }
 
-    /// More messages are asked for. Some such requests are lost.
-    fn want(&mut self, more: u64) {
-        if self.draw() >= 4 {
-            self.consumer.wanted = self.consumer.wanted.saturating_add(more);
-        }
-    }
-
-    /// Meets a request and answers it, where neither is lost and it is not refused.
+    // One thing that was sent. Answers whether its sender is told that it reached nobody.
     fn meet(
         &mut self,
-        link: &mut MemoryLink,
-        number: RequestId,
-        consumer: Consumer,
-        answer: Message,
+        alloc: Global,
+        link: &mut OutboxLink,
+        item: Outgoing,
+        now: Moment,
     ) -> Result<bool, OutOfMemory> {
-        if !consumer.is_there {
-            // Whoever has its consumer deleted has let go its inbox.
-            self.inbox = None;
-        }
-        match self.draw() {
-            // The request is lost.
-            0 | 1 => {
-                drop(answer);
-                Ok(false)
+        let noted = self.note(alloc, &item);
+        let fate = self.fate_of(&item);
+        let met = match fate {
+            Fate::Heard => self.server.hear(alloc, item, now),
+            Fate::Unanswered => self.server.hear(alloc, without_reply(item), now),
+            Fate::Refused => {
+                let refused = refuse(alloc, link, &item);
+                drop(item);
+                refused
             }
-            // It reaches nobody.
-            2 | 3 => respond(link, number, unheard(answer)),
-            fate => {
-                self.consumer = consumer;
-                answer_unless_lost(link, number, answer, fate)
+            Fate::Lost => {
+                drop(item);
+                Ok(())
             }
-        }
-    }
-
-    /// Whether a message is to be delivered.
-    fn has_next(&self) -> bool {
-        self.consumer.wanted > 0 && self.consumer.next <= self.last
-    }
-
-    /// How long it rests before it acts by itself: up to 1.5 seconds between messages, and else as long as its heartbeat.
-    pub fn rest(&mut self) -> Nanos {
-        if self.has_next() {
-            return u64::from(self.draw()).saturating_mul(100_000_000);
-        }
-        match self.kind {
-            Kind::Pull => 15_000_000_000,
-            Kind::Push => 5_000_000_000,
-        }
-    }
-
-    /// Acts by itself, and answers whether something came for the reader.
-    pub fn act(&mut self, alloc: Global, link: &mut MemoryLink) -> Result<bool, OutOfMemory> {
-        let Some(inbox) = self.inbox else {
-            return Ok(false);
         };
-        if !self.consumer.is_there {
-            return Ok(false);
-        }
-        if self.has_next() {
-            self.send(alloc, link, inbox)
-        } else {
-            self.idle(alloc, link, inbox)
-        }
+        noted?;
+        met?;
+        Ok(fate == Fate::Refused)
     }
 
-    /// Delivers the next message, or does something else in its place.
-    fn send(
+    /// Meets all that the reader has to send, and delivers what has arrived. Answers whether something came for the reader.
+    pub fn serve(
         &mut self,
         alloc: Global,
-        link: &mut MemoryLink,
-        inbox: InboxId,
+        link: &mut OutboxLink,
+        now: Moment,
     ) -> Result<bool, OutOfMemory> {
-        match self.draw() {
-            0 => self.delete(alloc, link, inbox),
-            1 => self.beat(alloc, link, inbox),
-            2 | 3 => self.deliver(alloc, link, inbox, 0),
-            4 => self.deliver(alloc, link, inbox, 2),
-            _ => self.deliver(alloc, link, inbox, 1),
+        let mut is_refused = false;
+        for _ in 0..link.outgoing_len() {
+            if let Some(item) = link.next_outgoing() {
+                is_refused = self.meet(alloc, link, item, now)? || is_refused;
+            }
         }
+        Ok(self.server.bring(alloc, link, now)? > 0 || is_refused)
     }
 
-    /// Delivers the next message so many times; it is lost where that is 0.
-    fn deliver(
+    /// Lets time go on to a moment. Once in sixteen times the reader's consumer is deleted first. Answers whether something came for the reader.
+    pub fn act(
         &mut self,
         alloc: Global,
-        link: &mut MemoryLink,
-        inbox: InboxId,
-        times: u32,
+        link: &mut OutboxLink,
+        now: Moment,
     ) -> Result<bool, OutOfMemory> {
-        let sequence = self.consumer.next;
-        self.consumer.advance();
-        for _ in 0..times {
-            link.deliver(inbox, entry(alloc, sequence, self.consumer.number)?)?;
+        if self.draw() == 0 {
+            let subject = format!(in alloc;
+                "$JS.API.CONSUMER.DELETE.log.{}",
+                self.consumer.as_str()
+            )?;
+            let deletion = publishing(alloc, subject.as_str());
+            drop(subject);
+            self.server.hear(alloc, deletion?, now)?;
         }
-        Ok(times > 0)
+        Ok(self.server.bring(alloc, link, now)? > 0)
     }
 
-    /// Deletes its consumer, of which it tells pull; that may be lost.
-    fn delete(
-        &mut self,
-        alloc: Global,
-        link: &mut MemoryLink,
-        inbox: InboxId,
-    ) -> Result<bool, OutOfMemory> {
-        self.consumer = Consumer::gone();
-        if self.kind == Kind::Push || self.draw() < 8 {
-            return Ok(false);
-        }
-        let told = status(
-            alloc,
-            StatusCode::REQUEST_TERMINATED,
-            "Consumer Deleted",
-            "Nats-Pending-Messages",
-            0,
-        )?;
-        link.deliver(inbox, told)?;
-        Ok(true)
-    }
-
-    /// Sends a heartbeat.
-    fn beat(
-        &mut self,
-        alloc: Global,
-        link: &mut MemoryLink,
-        inbox: InboxId,
-    ) -> Result<bool, OutOfMemory> {
-        let beat = status(
-            alloc,
-            StatusCode::IDLE_HEARTBEAT,
-            "Idle Heartbeat",
-            "Nats-Last-Consumer",
-            self.consumer.number,
-        )?;
-        link.deliver(inbox, beat)?;
-        Ok(true)
-    }
-
-    /// Nothing is to be delivered: where more is wanted it sends a heartbeat, or tells pull that its request has ended. Half of these are lost.
-    fn idle(
-        &mut self,
-        alloc: Global,
-        link: &mut MemoryLink,
-        inbox: InboxId,
-    ) -> Result<bool, OutOfMemory> {
-        if self.consumer.wanted == 0 || self.draw() < 8 {
-            return Ok(false);
-        }
-        if self.kind == Kind::Pull && self.draw() < 4 {
-            return self.end_request(alloc, link, inbox);
-        }
-        self.beat(alloc, link, inbox)
-    }
-
-    /// The request has ended, and so many of its messages will not come.
-    fn end_request(
-        &mut self,
-        alloc: Global,
-        link: &mut MemoryLink,
-        inbox: InboxId,
-    ) -> Result<bool, OutOfMemory> {
-        let left = self.consumer.wanted;
-        self.consumer.wanted = 0;
-        let told = status(
-            alloc,
-            StatusCode::TIMEOUT,
-            "Request Timeout",
-            "Nats-Pending-Messages",
-            left,
-        )?;
-        link.deliver(inbox, told)?;
-        Ok(true)
+    /// When it does something by itself, if it does.
+    pub fn wakes_at(&self) -> Option<Moment> {
+        self.server.wakes_at()
     }
 }

@@ -10,7 +10,10 @@
 //! | `receive MESSAGES` | a connection receives MESSAGES of 128 bytes, and takes each from its inbox | how many these are |
 //! | `send MESSAGES` | MESSAGES of 128 bytes are published over a connection, and its bytes sent | how many bytes these are |
 //! | `hear SEED PIECES` | a connection hears PIECES of hostile bytes that are drawn by SEED | what came of them |
-//! | `lose SEEDS` | for each number below SEEDS, a pull and a push consumer read a log each from a server that loses things | how many of each kind yield theirs whole |
+//! | `lose SEEDS` | for each number below SEEDS, a pull and a push consumer read a log each from a `TestServer`, through losses | how many of each kind yield theirs whole |
+//!
+//! `lose` alone has a server. What the others measure is a part of this client, to which the answers are written down; `publish` answers each message with the next
+//! sequence.
 //!
 //! `pull`, `push` and `deliver` count in whole batches of 500, `receive` and `send` in those of 1000. A word that is no number counts as 0. Any other line ends the program with an error that names it.
 #![tactic(auto)]
@@ -22,7 +25,6 @@ mod lossy_server;
 mod parse;
 mod publish;
 mod reader;
-mod requests;
 mod round;
 mod table;
 mod texts;
@@ -60,7 +62,7 @@ fn run_words_of(rt: &(impl Print + AllocGlobal + Wait), line: &str) -> Result<()
     run
 }
 
-/// The words of a line, after single spaces.
+// The words of a line, after single spaces.
 fn words(alloc: Global, line: &str) -> Result<Vec<&str>, AllocError> {
     let mut words = Vec::new(alloc);
     for word in line.split(' ') {
@@ -69,7 +71,7 @@ fn words(alloc: Global, line: &str) -> Result<Vec<&str>, AllocError> {
     Ok(words)
 }
 
-/// Runs the benchmark that the words of a line name.
+// Runs the benchmark that the words of a line name.
 fn run(rt: &(impl Print + AllocGlobal + Wait), line: &str, words: &[&str]) -> Result<(), Fail> {
     match *words {
         ["parse", calls, subject] => parse::run(rt, number(calls), subject),
@@ -86,7 +88,7 @@ fn run(rt: &(impl Print + AllocGlobal + Wait), line: &str, words: &[&str]) -> Re
     }
 }
 
-/// The number that a word is, or 0.
+// The number that a word is, or 0.
 fn number(word: &str) -> u64 {
     word.parse().unwrap_or(0)
 }

@@ -12,14 +12,14 @@ pub fn run(rt: &impl Print, calls: u64, subject: &str) -> Result<(), Fail> {
     Ok(())
 }
 
-/// Whether the subject is an acknowledgement subject.
+// Whether the subject is an acknowledgement subject.
 fn reads(subject: &str) -> bool
     ensures { result ≡ is_ok (ack subject.now) }
 {
     parse_info(subject).is_ok()
 }
 
-/// What the last of so many calls answers.
+// What the last of so many calls answers.
 fn reads_often(subject: &str, calls: u64) -> bool {
     let mut answer = false;
     for _ in 0..calls {

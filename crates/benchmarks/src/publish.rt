@@ -16,7 +16,7 @@ struct Tally {
     most_in_flight: usize,
 }
 
-/// The server stores what was sent as the message after this one, and answers.
+// The server stores what was sent as the message after this one, and answers.
 fn store(
     rt: &impl AllocGlobal,
     link: &mut OutboxLink,
@@ -35,7 +35,7 @@ fn store(
     Ok(())
 }
 
-/// The server stores all that was sent.
+// The server stores all that was sent.
 fn store_all(rt: &impl AllocGlobal, link: &mut OutboxLink, stored: u64) -> Result<(), AnyError> {
     let mut sequence = stored;
     for _ in 0..link.outgoing_len() {
@@ -48,7 +48,7 @@ fn store_all(rt: &impl AllocGlobal, link: &mut OutboxLink, stored: u64) -> Resul
     Ok(())
 }
 
-/// The moment of the next poll: the server answers after [`ANSWERS_AFTER`], and stores what was sent, unless the queue wakes before.
+// The moment of the next poll: the server answers after [`ANSWERS_AFTER`], and stores what was sent, unless the queue wakes before.
 fn sleep(
     rt: &impl AllocGlobal,
     queue: &PublishQueue,
@@ -66,7 +66,7 @@ fn sleep(
     }
 }
 
-/// Pushes this many messages.
+// Pushes this many messages.
 fn push(rt: &impl AllocGlobal, queue: &mut PublishQueue, messages: u64) -> Result<(), AnyError> {
     for _ in 0..messages {
         queue.publish(rt.alloc(), "log.line", b"0123456789abcdef", 0)?;
@@ -74,7 +74,7 @@ fn push(rt: &impl AllocGlobal, queue: &mut PublishQueue, messages: u64) -> Resul
     Ok(())
 }
 
-/// Sends what was pushed, and awaits what becomes of each message.
+// Sends what was pushed, and awaits what becomes of each message.
 fn send(
     rt: &(impl AllocGlobal + Wait),
     queue: &mut PublishQueue,
@@ -99,7 +99,7 @@ fn send(
     Ok(())
 }
 
-/// Publishes so many messages by a queue, and pushes so many of them at once.
+// Publishes so many messages by a queue, and pushes so many of them at once.
 fn publish_in_batches(
     rt: &(impl AllocGlobal + Wait),
     queue: &mut PublishQueue,
@@ -124,13 +124,13 @@ fn publish_in_batches(
     Ok(tally)
 }
 
-/// Opens a queue in which a message waits up to five seconds to be sent.
+// Opens a queue in which a message waits up to five seconds to be sent.
 fn open_queue(rt: &(impl AllocGlobal + Wait)) -> Result<PublishQueue, AnyError> {
     let context = Context::new(rt, rt.alloc())?;
     Ok(PublishQueue::new(rt.alloc(), context, 5_000_000_000))
 }
 
-/// Publishes so many messages over a link, and pushes so many of them at once.
+// Publishes so many messages over a link, and pushes so many of them at once.
 fn publish_all(
     rt: &(impl AllocGlobal + Wait),
     messages: u64,

@@ -43,12 +43,9 @@ pub trait Reads: Drop {
         link: &mut MemoryLink,
         now: Moment,
     ) -> Next<Result<Message, OrderedError>>;
-
-    /// When it is to be polled where nothing comes for it.
-    fn wakes(&self) -> Option<Moment>;
 }
 
-/// What was opened. The link is up and the consumer has a deliver subject, so only memory can be missing.
+// What was opened. The link is up and the consumer has a deliver subject, so only memory can be missing.
 fn opened<R: Drop, E: Drop>(opened: Result<R, E>) -> Result<R, OutOfMemory> {
     match opened {
         Ok(reader) => Ok(reader),
@@ -75,10 +72,6 @@ impl Reads for pull::Ordered {
     ) -> Next<Result<Message, OrderedError>> {
         self.poll_next(alloc, link, now)
     }
-
-    fn wakes(&self) -> Option<Moment> {
-        self.wakes_at()
-    }
 }
 
 impl Reads for push::Ordered {
@@ -100,14 +93,10 @@ impl Reads for push::Ordered {
     ) -> Next<Result<Message, OrderedError>> {
         self.poll_next(alloc, link, now)
     }
-
-    fn wakes(&self) -> Option<Moment> {
-        self.wakes_at()
-    }
 }
 
 /// What the server tells of the first consumer, which may ask for so many messages by one request.
-pub fn told(alloc: Global, kind: Kind, max_batch: i64) -> Result<Info, OutOfMemory> {
+pub fn reported_info(alloc: Global, kind: Kind, max_batch: i64) -> Result<Info, OutOfMemory> {
     let mut first = first_info(alloc, kind)?;
     if kind == Kind::Pull {
         first.config.max_batch = max_batch;
@@ -123,7 +112,7 @@ pub fn open<R: Reads>(
     max_batch: i64,
 ) -> Result<R, OutOfMemory> {
     let settings = settings(alloc)?;
-    match told(alloc, kind, max_batch) {
+    match reported_info(alloc, kind, max_batch) {
         Ok(first) => R::opened(alloc, link, settings, first),
         Err(OutOfMemory) => Err(OutOfMemory),
     }

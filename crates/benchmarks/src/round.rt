@@ -1,15 +1,22 @@
 //! One reading of the log.
 
-use crate::lossy_server::Server;
-use crate::reader::{Kind, Reads, open};
-use js_base::{Message, Moment, Next, OutOfMemory};
-use js_link::MemoryLink;
+use crate::lossy_server::LossyServer;
+use jetstream::consumer::pull::OrderedPullCalls;
+use jetstream::consumer::push::OrderedPushCalls;
+use jetstream::consumer::{Resilience, Subscription, pull, push};
+use jetstream::link::{ConnectionState, Link, OutboxLink};
+use jetstream::{AnyError, Context, Message, Moment, Next, OutOfMemory, Text, TryClone};
+use jetstream_testing::TestServer;
 use js_ordered_table::place_of;
 use std::alloc::Global;
 use std::cmp;
+use std::sync::Wait;
 
 /// More polls than any reading takes.
 const POLLS: u64 = 10_000;
+
+/// The longest that a reading may take: an hour of the server's time.
+pub const LONGEST: Moment = 3_600_000_000_000;
 
 /// More than a server does while a reader sleeps.
 const ACTS: u64 = 1_000;
@@ -22,9 +29,63 @@ enum Polled {
     Fails,
 }
 
+/// An ordered reader of the log.
+pub trait ReadsLog: Subscription<Item = Message> {
+    /// Creates a consumer of the log and opens its reader with these options. Answers the reader and
+    /// the consumer's name.
+    fn open(
+        alloc: Global,
+        context: &Context,
+        link: &mut OutboxLink,
+        server: &mut TestServer,
+        resilience: Resilience,
+    ) -> Result<(Self, Text), AnyError>;
+}
+
+/// By pull, four messages a request.
+impl ReadsLog for pull::Ordered {
+    fn open(
+        alloc: Global,
+        context: &Context,
+        link: &mut OutboxLink,
+        server: &mut TestServer,
+        resilience: Resilience,
+    ) -> Result<(pull::Ordered, Text), AnyError> {
+        let config = pull::OrderedConfig {
+            max_batch: 4,
+            ..pull::OrderedConfig::new(alloc)
+        };
+        let creating = context.create_consumer_on_stream(alloc, config, "log")?;
+        let consumer = server.answer(alloc, link, creating, 0)??;
+        let name = consumer.cached_info().name.try_clone()?;
+        Ok((consumer.messages_with(alloc, link, resilience)?, name))
+    }
+}
+
+/// By push, with a heartbeat every five seconds.
+impl ReadsLog for push::Ordered {
+    fn open(
+        alloc: Global,
+        context: &Context,
+        link: &mut OutboxLink,
+        server: &mut TestServer,
+        resilience: Resilience,
+    ) -> Result<(push::Ordered, Text), AnyError> {
+        let subject = link.fresh_subject(alloc)?;
+        let config = push::OrderedConfig {
+            deliver_subject: Text::from_str(alloc, subject.as_str())?,
+            ..push::OrderedConfig::new(alloc)
+        };
+        let creating = context.create_consumer_on_stream(alloc, config, "log")?;
+        let consumer = server.answer(alloc, link, creating, 0)??;
+        let name = consumer.cached_info().name.try_clone()?;
+        Ok((consumer.messages_with(alloc, link, resilience)?, name))
+    }
+}
+
 /// Looks at the sequence of a message, which is to be the one after the last.
 fn take(last: &mut u64, message: &Message) -> Polled {
-    match place_of(message) {
+    match place_of(&message.message) {
         Some(place) if place.sequence == last.saturating_add(1) => {
             *last = place.sequence;
             Polled::GoesOn
@@ -55,9 +116,9 @@ fn come_to<E: Drop>(last: &mut u64, next: Next<Result<Message, E>>) -> Result<Po
 /// One reading: the reader's end, and the server.
 #[derive(Drop)]
 pub struct Round<R> {
-    link: MemoryLink,
+    link: OutboxLink,
     reader: R,
-    server: Server,
+    server: LossyServer,
     now: Moment,
     /// The sequence of the last entry that was yielded.
     last: u64,
@@ -65,28 +126,41 @@ pub struct Round<R> {
     looks_before: bool,
 }
 
-impl<R: Reads> Round<R> {
-    /// The reading of a seed.
-    pub fn new(alloc: Global, kind: Kind, seed: u64) -> Result<Round<R>, OutOfMemory> {
-        let mut link = MemoryLink::new(alloc, "_INBOX.t")?;
-        match open(alloc, &mut link, kind, 4) {
-            Ok(reader) => Ok(Round::between(link, reader, kind, seed)),
-            Err(OutOfMemory) => {
-                drop(link);
-                Err(OutOfMemory)
-            }
-        }
-    }
+/// A reader of the log, over a server that begins to lose things.
+fn open<R: ReadsLog>(
+    rt: &(impl Wait + AllocGlobal),
+    link: &mut OutboxLink,
+    server: &mut LossyServer,
+    resilience: Resilience,
+    seed: u64,
+) -> Result<R, AnyError> {
+    let context = Context::new(rt, rt.alloc())?;
+    let opened = R::open(rt.alloc(), &context, link, server.plain_mut(), resilience);
+    drop(context);
+    let (reader, name) = opened?;
+    server.begin(seed, name);
+    Ok(reader)
+}
 
-    fn between(link: MemoryLink, reader: R, kind: Kind, seed: u64) -> Round<R> {
-        Round {
+impl<R: ReadsLog> Round<R> {
+    /// The reading of a seed, by a reader with these options.
+    pub fn new(
+        rt: &(impl Wait + AllocGlobal),
+        resilience: Resilience,
+        seed: u64,
+    ) -> Result<Round<R>, AnyError> {
+        let mut link = OutboxLink::new(rt.alloc(), "_INBOX", "t")?;
+        link.set_state(ConnectionState::Connected);
+        let mut server = LossyServer::new(rt.alloc(), seed)?;
+        let reader = open::<R>(rt, &mut link, &mut server, resilience, seed)?;
+        Ok(Round {
             link,
             reader,
-            server: Server::new(kind, seed),
+            server,
             now: 0,
             last: 0,
             looks_before: seed % 2 == 1,
-        }
+        })
     }
 
     /// Reads the log to its end, and answers whether each entry was yielded once, in order.
@@ -104,7 +178,7 @@ impl<R: Reads> Round<R> {
         match self.poll(alloc)? {
             Polled::GoesOn => Ok(None),
             Polled::Fails => Ok(Some(false)),
-            Polled::Waits if self.last == self.server.last() => Ok(Some(true)),
+            Polled::Waits if self.last == self.server.last() => Ok(Some(self.now <= LONGEST)),
             Polled::Waits => self.wait(alloc),
         }
     }
@@ -118,23 +192,23 @@ impl<R: Reads> Round<R> {
     }
 
     fn poll(&mut self, alloc: Global) -> Result<Polled, OutOfMemory> {
-        let next = self.reader.next(alloc, &mut self.link, self.now);
+        let next = self.reader.poll_next(alloc, &mut self.link, self.now);
         come_to(&mut self.last, next)
     }
 
     /// Lets time go on until something comes for the reader or it is to wake, and answers whether that happens.
     fn sleep(&mut self, alloc: Global) -> Result<bool, OutOfMemory> {
-        if self.server.hear(alloc, &mut self.link)? {
+        if self.server.serve(alloc, &mut self.link, self.now)? {
             return Ok(true);
         }
-        let wakes = self.reader.wakes().unwrap_or(Moment::MAX);
+        let wakes = self.reader.wakes_at().unwrap_or(Moment::MAX);
         for _ in 0..ACTS {
-            let acts = self.now.saturating_add(self.server.rest());
+            let acts = self.server.wakes_at().unwrap_or(Moment::MAX);
             if wakes <= acts {
                 return self.wake(alloc, wakes);
             }
-            self.now = acts;
-            if self.server.act(alloc, &mut self.link)? {
+            self.now = cmp::max(self.now, acts);
+            if self.server.act(alloc, &mut self.link, self.now)? {
                 return Ok(true);
             }
         }
@@ -145,18 +219,17 @@ impl<R: Reads> Round<R> {
     fn wake(&mut self, alloc: Global, wakes: Moment) -> Result<bool, OutOfMemory> {
         let sleeps = !self.looks_before || self.sleeps(alloc, wakes)?;
         self.now = cmp::max(self.now, wakes);
-        Ok(sleeps)
+        Ok(sleeps && wakes < Moment::MAX)
     }
 
     /// Whether a poll just before this moment finds nothing to do.
     fn sleeps(&mut self, alloc: Global, wakes: Moment) -> Result<bool, OutOfMemory> {
-        let sent = self.link.sent().len();
         let before = cmp::max(self.now, wakes.saturating_sub(1));
         if before >= wakes {
             return Ok(true);
         }
         self.now = before;
         let waits = self.poll(alloc)? == Polled::Waits;
-        Ok(waits && self.link.sent().len() == sent && self.reader.wakes() == Some(wakes))
+        Ok(waits && self.link.outgoing_len() == 0 && self.reader.wakes_at() == Some(wakes))
     }
 }

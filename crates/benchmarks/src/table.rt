@@ -1,7 +1,7 @@
 //! Changes of a bucket that a live table reads from an ordered push consumer.
 
 use crate::batches::BATCH;
-use crate::reader::{Kind, told};
+use crate::reader::{Kind, reported_info};
 use crate::texts::change;
 use jetstream::consumer::Consumer;
 use jetstream::consumer::push::{Ordered, OrderedConfig, OrderedPushCalls};
@@ -14,7 +14,7 @@ use std::alloc::Global;
 use std::cmp;
 use std::test::Fail;
 
-/// The bucket `config`, which keeps one entry of a key.
+// The bucket `config`, which keeps one entry of a key.
 fn places(alloc: Global) -> Result<KeyPlaces, OutOfMemory> {
     let (bucket, prefix) = both(
         Text::from_str(alloc, "config"),
@@ -36,12 +36,12 @@ fn rows(alloc: Global, changes: u64) -> Result<Rows, OutOfMemory> {
     rows
 }
 
-/// The ordered consumer of the bucket's stream.
+// The ordered consumer of the bucket's stream.
 fn consumer(alloc: Global) -> Result<Consumer<OrderedConfig>, OutOfMemory> {
     let (prefix, config, info) = all_3(
         Text::from_str(alloc, "$JS.API"),
         Ok(OrderedConfig::new(alloc)),
-        told(alloc, Kind::Push, 0),
+        reported_info(alloc, Kind::Push, 0),
     )?;
     let scope = ApiScope {
         prefix,
@@ -61,7 +61,7 @@ fn open(alloc: Global, link: &mut MemoryLink) -> Result<Ordered, OutOfMemory> {
     }
 }
 
-/// Opens a table of an empty bucket.
+// Opens a table of an empty bucket.
 fn open_table(
     alloc: Global,
     link: &mut MemoryLink,
@@ -71,7 +71,7 @@ fn open_table(
     Ok(Table::new(rows, reader))
 }
 
-/// Delivers the changes from this sequence on, as many as a batch has and no more than up to the last; each changes the next of the keys.
+// Delivers the changes from this sequence on, as many as a batch has and no more than up to the last; each changes the next of the keys.
 fn deliver(
     alloc: Global,
     link: &mut MemoryLink,
@@ -87,7 +87,7 @@ fn deliver(
     Ok(())
 }
 
-/// Whether the table tells a change by a poll.
+// Whether the table tells a change by a poll.
 fn tells<T: Drop, E: Drop>(next: Next<Result<T, E>>) -> Result<bool, OutOfMemory> {
     match next {
         Next::Item(Ok(entry)) => {
@@ -99,7 +99,7 @@ fn tells<T: Drop, E: Drop>(next: Next<Result<T, E>>) -> Result<bool, OutOfMemory
     }
 }
 
-/// Polls until the table waits, and answers how many changes it tells.
+// Polls until the table waits, and answers how many changes it tells.
 fn poll(
     alloc: Global,
     link: &mut MemoryLink,
@@ -131,7 +131,7 @@ fn read_all(
     Ok(told)
 }
 
-/// How many changes a table tells, and how many entries it keeps of them.
+// How many changes a table tells, and how many entries it keeps of them.
 fn read(
     alloc: Global,
     link: &mut MemoryLink,

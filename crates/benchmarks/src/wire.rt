@@ -30,7 +30,7 @@ pub fn unmade(alloc: Global, longest_body: u64) -> Result<Connection, OutOfMemor
     }
 }
 
-/// Takes bytes of the server. They are whole frames without damage, so only memory can be missing.
+// Takes bytes of the server. They are whole frames without damage, so only memory can be missing.
 fn hear(alloc: Global, connection: &mut Connection, bytes: &[u8]) -> Result<(), OutOfMemory> {
     match connection.received(alloc, bytes, 0) {
         Ok(()) => Ok(()),
@@ -52,7 +52,7 @@ pub fn send(alloc: Global, connection: &mut Connection) -> Result<u64, OutOfMemo
     Ok(count as u64)
 }
 
-/// Has the connection greet a server.
+// Has the connection greet a server.
 fn greet(alloc: Global, connection: &mut Connection) -> Result<(), OutOfMemory> {
     connection.made(0);
     hear(alloc, connection, b"INFO {\"max_payload\":1048576}\r\n")?;
@@ -72,7 +72,7 @@ pub fn open_inbox(
     }
 }
 
-/// The frames of a batch.
+// The frames of a batch.
 fn frames(alloc: Global, inbox: InboxId) -> Result<Vec<u8>, AllocError> {
     let number = inbox.0;
     let frame = format!(in alloc; "MSG {SUBJECT} {number} 128\r\n{PAYLOAD}\r\n")?;
@@ -102,7 +102,7 @@ pub fn take_all(connection: &mut Connection, inbox: InboxId) -> u64 {
     count
 }
 
-/// Takes the frames piece by piece, and answers how many messages came.
+// Takes the frames piece by piece, and answers how many messages came.
 fn receive(
     alloc: Global,
     connection: &mut Connection,
@@ -144,7 +144,7 @@ fn greet_and_receive(
     received
 }
 
-/// How many messages are received over a connection of their own.
+// How many messages are received over a connection of their own.
 fn received(alloc: Global, batches: u64) -> Result<u64, OutOfMemory> {
     let mut connection = unmade(alloc, LONGEST_BODY)?;
     let received = greet_and_receive(alloc, &mut connection, batches);
@@ -159,7 +159,7 @@ pub fn receive_messages(rt: &(impl Print + AllocGlobal), messages: u64) -> Resul
     Ok(())
 }
 
-/// Publishes the messages of a batch. Only memory can be missing.
+// Publishes the messages of a batch. Only memory can be missing.
 fn publish(alloc: Global, connection: &mut Connection) -> Result<(), OutOfMemory> {
     for _ in 0..BATCH {
         let link = connection.link_mut();
@@ -184,7 +184,7 @@ fn publish_all(
     Ok(sent)
 }
 
-/// How many bytes are sent of the messages that are published over a connection of their own.
+// How many bytes are sent of the messages that are published over a connection of their own.
 fn sent(alloc: Global, batches: u64) -> Result<u64, OutOfMemory> {
     let mut connection = unmade(alloc, LONGEST_BODY)?;
     let sent = match greet(alloc, &mut connection) {

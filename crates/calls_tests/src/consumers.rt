@@ -3,7 +3,8 @@
 use crate::server::{
     Answered, Asked, Case, Followed, Reply, Words, call_again, outcome, polled, scope, word,
 };
-use crate::tables::{numbered, says};
+use crate::tables::says;
+use crate::words::numbered;
 use js_base::{OutOfMemory, Text};
 use js_call::ApiScope;
 use js_call_consumers::{
@@ -88,7 +89,7 @@ fn durable(alloc: Global) -> Result<pull::Config, OutOfMemory> {
     })
 }
 
-/// An instant before the year 0.
+// An instant before the year 0.
 fn early_policy() -> DeliverPolicy {
     match instant_of("-000001-01-01T00:00:00Z") {
         Some(start_time) => DeliverPolicy::ByStartTime { start_time },
@@ -96,7 +97,7 @@ fn early_policy() -> DeliverPolicy {
     }
 }
 
-/// The configuration of a consumer that begins at an instant before the year 0.
+// The configuration of a consumer that begins at an instant before the year 0.
 fn early(alloc: Global) -> pull::Config {
     pull::Config {
         deliver_policy: early_policy(),
@@ -104,7 +105,7 @@ fn early(alloc: Global) -> pull::Config {
     }
 }
 
-/// The configuration of a consumer, of which nothing is set, or that begins early.
+// The configuration of a consumer, of which nothing is set, or that begins early.
 fn plain(alloc: Global, is_early: bool) -> pull::Config {
     if is_early {
         early(alloc)
@@ -113,7 +114,7 @@ fn plain(alloc: Global, is_early: bool) -> pull::Config {
     }
 }
 
-/// The durable one, or one that begins early.
+// The durable one, or one that begins early.
 fn durable_or(alloc: Global, is_early: bool) -> Result<pull::Config, OutOfMemory> {
     if is_early {
         Ok(early(alloc))
@@ -203,7 +204,7 @@ fn info<L: Link>(alloc: Global, link: &mut L, scope: &ApiScope) -> Words {
     call_again(alloc, link, call, 0)
 }
 
-fn told_in<L: Link>(alloc: Global, link: &mut L, scope: &ApiScope, call: Call) -> Words {
+fn outcome_text_in<L: Link>(alloc: Global, link: &mut L, scope: &ApiScope, call: Call) -> Words {
     match call {
         Call::Create => create(alloc, link, scope, false),
         Call::CreateStrict => create_strict(alloc, link, scope, false),
@@ -219,9 +220,9 @@ fn told_in<L: Link>(alloc: Global, link: &mut L, scope: &ApiScope, call: Call) -
 }
 
 impl Case for Call {
-    fn told(self, alloc: Global, server: &mut ScriptedServer) -> Words {
+    fn outcome_text(self, alloc: Global, server: &mut ScriptedServer) -> Words {
         let scope = scope(alloc, "$JS.API", None)?;
-        told_in(alloc, server, &scope, self)
+        outcome_text_in(alloc, server, &scope, self)
     }
 }
 
@@ -285,7 +286,7 @@ fn consumers_are_made_got_and_deleted(rt: HostRuntime) {
     }
 }
 
-/// What the info comes to of a consumer that was got, where the server then replies so.
+// What the info comes to of a consumer that was got, where the server then replies so.
 fn info_after(alloc: Global, reply: Reply) -> Words {
     outcome(alloc, Call::Info, &[(INFO, KNOWN), (INFO, reply)])
 }

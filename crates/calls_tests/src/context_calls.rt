@@ -52,7 +52,7 @@ fn raw<C: Requester>(context: &C, alloc: Global) -> Result<RawCall, OutOfMemory>
     context.raw_request(alloc, "a", empty())
 }
 
-/// What the first poll of a list comes to.
+// What the first poll of a list comes to.
 fn listed<T: ListItem + Answered, L: Link>(
     alloc: Global,
     link: &mut L,
@@ -68,7 +68,7 @@ fn listed<T: ListItem + Answered, L: Link>(
     }
 }
 
-/// What the server knows of the stream `events`.
+// What the server knows of the stream `events`.
 fn info(alloc: Global) -> Result<stream::Info, ReadError> {
     let value = value_of(
         alloc,
@@ -77,7 +77,7 @@ fn info(alloc: Global) -> Result<stream::Info, ReadError> {
     stream::Info::from_value(alloc, &value)
 }
 
-/// A handle that has kept nothing.
+// A handle that has kept nothing.
 fn handle_of(scope: ApiScope, name: Text, info: stream::Info) -> StreamHandle<stream::Info> {
     StreamHandle {
         scope,
@@ -87,7 +87,7 @@ fn handle_of(scope: ApiScope, name: Text, info: stream::Info) -> StreamHandle<st
     }
 }
 
-/// The handle of the stream `events`. Its texts are made before what is known of it, which is large.
+// The handle of the stream `events`. Its texts are made before what is known of it, which is large.
 fn known(alloc: Global, context: &Context) -> Result<StreamHandle<stream::Info>, ReadError> {
     let (scope, name) = both(context.scope().try_clone(), Text::from_str(alloc, "events"))?;
     Ok(handle_of(scope, name, info(alloc)?))
@@ -158,7 +158,7 @@ fn update_stream<L: Link>(alloc: Global, context: &Context, link: &mut L) -> Wor
     stream_calls::updated(alloc, link, updating(alloc, context))
 }
 
-/// The calls on streams.
+// The calls on streams.
 fn stream_call<L: Link>(alloc: Global, context: &Context, link: &mut L, call: Call) -> Words {
     match call {
         Call::GetStream => get_stream(alloc, context, link),
@@ -199,7 +199,7 @@ fn delete_consumer<L: Link>(alloc: Global, context: &Context, link: &mut L) -> W
     polled(alloc, link, call)
 }
 
-/// The calls on consumers.
+// The calls on consumers.
 fn consumer_call<L: Link>(alloc: Global, context: &Context, link: &mut L, call: Call) -> Words {
     match call {
         Call::CreateConsumer => create_consumer(alloc, context, link),
@@ -235,7 +235,12 @@ fn streams<L: Link>(alloc: Global, context: &Context, link: &mut L) -> Words {
 }
 
 /// What the first poll of a call comes to.
-pub(crate) fn told<L: Link>(alloc: Global, context: &Context, link: &mut L, call: Call) -> Words {
+pub(crate) fn first_poll<L: Link>(
+    alloc: Global,
+    context: &Context,
+    link: &mut L,
+    call: Call,
+) -> Words {
     match call {
         Call::Request => request(alloc, context, link),
         Call::RawRequest => raw_request(alloc, context, link),

@@ -1,6 +1,6 @@
 //! Where the calls of a context go.
 
-use crate::context_calls::{Call, empty, told};
+use crate::context_calls::{Call, empty, first_poll};
 use crate::server::{Asked, Words, asked_word, found_word, is_request};
 use crate::tables::{same, says};
 use bytes::Bytes;
@@ -93,7 +93,7 @@ const CALLS: &[(Call, &str, &str)] = &[
     (Call::Requester, "a", ""),
 ];
 
-/// Whether just that request was sent.
+// Whether just that request was sent.
 fn is_asked(sent: &[Sent], request: Asked) -> bool {
     match sent {
         [one] => is_request(one, request),
@@ -108,7 +108,7 @@ fn asked_over(
     call: Call,
     request: Asked,
 ) -> Words {
-    let text = told(alloc, context, link, call)?;
+    let text = first_poll(alloc, context, link, call)?;
     asked_word(alloc, text, is_asked(link.sent(), request))
 }
 
@@ -119,7 +119,7 @@ fn asked_by(alloc: Global, context: &Context, call: Call, request: Asked) -> Wor
     words
 }
 
-/// What the first poll of a call comes to. Where it sends anything but that request, that is told too.
+// What the first poll of a call comes to. Where it sends anything but that request, that is told too.
 fn asked<R: Wait>(rt: &R, alloc: Global, call: Call, request: Asked) -> Words {
     let context = Context::with_domain(rt, alloc, "hub")?;
     let words = asked_by(alloc, &context, call, request);
@@ -143,7 +143,7 @@ fn sends_as<C: RequestSender, L: Link>(
     context.send_request(alloc, link, "c", empty())
 }
 
-/// Whether the last message was published to that subject.
+// Whether the last message was published to that subject.
 fn is_published(link: &MemoryLink, on: &str) -> bool {
     match link.sent().last() {
         Some(Sent::Publish { subject, .. }) => subject.as_str() == on,
@@ -151,18 +151,18 @@ fn is_published(link: &MemoryLink, on: &str) -> bool {
     }
 }
 
-/// Whether a request that was sent is the last message, on that subject.
+// Whether a request that was sent is the last message, on that subject.
 fn is_sent(sent: Result<(), SendError>, link: &MemoryLink, on: &str) -> bool {
     sent == Ok(()) && is_published(link, on)
 }
 
-/// Whether a request that is not waited for goes under the prefix.
+// Whether a request that is not waited for goes under the prefix.
 fn sends_plainly(alloc: Global, context: &Context, link: &mut MemoryLink) -> bool {
     let sent = context.send_request(alloc, link, "d", empty());
     is_sent(sent, link, "$JS.hub.API.d")
 }
 
-/// Whether it does so by the trait.
+// Whether it does so by the trait.
 fn sends_by_trait(alloc: Global, context: &Context, link: &mut MemoryLink) -> bool {
     let sent = sends_as(context, alloc, link);
     is_sent(sent, link, "$JS.hub.API.c")
@@ -212,7 +212,7 @@ fn provides_by(alloc: Global, context: &mut Context) -> Result<bool, OutOfMemory
     Ok(publishes && has_usual(context))
 }
 
-/// Whether a context is what its traits say.
+// Whether a context is what its traits say.
 fn provides<R: Wait>(rt: &R, alloc: Global) -> Result<bool, OutOfMemory> {
     let mut context = Context::new(rt, alloc)?;
     let provides = provides_by(alloc, &mut context);
@@ -220,7 +220,7 @@ fn provides<R: Wait>(rt: &R, alloc: Global) -> Result<bool, OutOfMemory> {
     provides
 }
 
-/// The name and the prefix of the handle that is had without asking.
+// The name and the prefix of the handle that is had without asking.
 fn handle_by(alloc: Global, context: &Context) -> Words {
     found_word(alloc, context.get_stream_no_info(alloc, "events"))
 }

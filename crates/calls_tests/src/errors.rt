@@ -8,7 +8,7 @@ use js_call_consumers::{
 use js_call_streams::{CreateStreamErrorKind, GetStreamErrorKind};
 use js_codes::{ErrorCode, errors};
 
-/// What a server answers that does not know the stream.
+// What a server answers that does not know the stream.
 fn unknown() -> errors::Error {
     errors::Error {
         code: 404,
@@ -17,7 +17,7 @@ fn unknown() -> errors::Error {
     }
 }
 
-/// The code of the error that is held, 0 where none is.
+// The code of the error that is held, 0 where none is.
 fn code_of(held: Option<&errors::Error>) -> u64 {
     match held {
         Some(error) => error.code(),

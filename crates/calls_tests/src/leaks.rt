@@ -1,15 +1,15 @@
 //! A request that is given up leaves nothing in its link.
 
 use crate::server::{ended, scope, still};
-use crate::tables::{numbered, says};
-use crate::words::Words;
+use crate::tables::says;
+use crate::words::{Words, numbered};
 use js_base::OutOfMemory;
 use js_call::ApiScope;
 use js_link_outbox::OutboxLink;
 use serde_json::Value;
 use std::alloc::Global;
 
-/// What a request comes to that is sent at 0 and has 200 nanoseconds.
+// What a request comes to that is sent at 0 and has 200 nanoseconds.
 fn given_up(alloc: Global, link: &mut OutboxLink, scope: &ApiScope) -> Words {
     let call = scope.request(alloc, "INFO", &Value::Null)?;
     let call = still(alloc, link, call, 0);
@@ -17,7 +17,7 @@ fn given_up(alloc: Global, link: &mut OutboxLink, scope: &ApiScope) -> Words {
     ended(alloc, link, call, 200)
 }
 
-/// What the last of these requests comes to, and how many are open then.
+// What the last of these requests comes to, and how many are open then.
 fn left_open(alloc: Global, link: &mut OutboxLink, scope: &ApiScope, requests: u32) -> Words {
     for _ in 1..requests {
         drop(given_up(alloc, link, scope)?);

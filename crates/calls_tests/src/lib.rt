@@ -1,31 +1,26 @@
-//! Tests of the calls over a link: requests, the calls on streams and consumers, lists, contexts that ask and publish, buckets, and
-//! the work of a queue.
+//! Tests of the calls over a link: requests, the calls on streams and consumers, lists, contexts that
+//! ask, and buckets.
+//!
+//! Each test is a table of scripts: what is asked, byte for byte, and the one reply to it, which is
+//! written down. So none has a server that keeps anything. What a server makes of requests is tested
+//! in the programs over `jetstream_testing`.
+//!
+//! The crates publishing_tests and readers_tests make their words and replies by what stands here.
 #![tactic(auto)]
 
 #[cfg(test)]
-mod acks;
-#[cfg(test)]
 mod consumers;
-#[cfg(test)]
-mod context_builds;
 #[cfg(test)]
 mod context_calls;
 #[cfg(test)]
 mod contexts;
 #[cfg(test)]
-mod detached_acks;
-#[cfg(test)]
 mod errors;
-#[cfg(test)]
-mod health;
 #[cfg(test)]
 mod leaks;
 #[cfg(test)]
 mod lists;
-#[cfg(test)]
-mod publishes;
-#[cfg(test)]
-mod queue;
+mod replies;
 #[cfg(test)]
 mod requests;
 #[cfg(test)]
@@ -38,8 +33,7 @@ mod stream_calls;
 mod streams;
 #[cfg(test)]
 mod tables;
-#[cfg(test)]
-mod threads;
 mod words;
 
-pub use words::{Words, word};
+pub use replies::{NOBODY, Reply, message};
+pub use words::{Words, add_line, numbered, printed, word};

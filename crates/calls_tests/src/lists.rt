@@ -3,7 +3,8 @@
 use crate::server::{
     Answered, Asked, Case, Reply, Words, answer_word, outcome, polled, scope, word,
 };
-use crate::tables::{add_line, says};
+use crate::tables::says;
+use crate::words::add_line;
 use js_base::{Next, OutOfMemory};
 use js_call::ApiScope;
 use js_call_streams::{ListItem, Listing, StreamsError, stream_by_subject, stream_names, streams};
@@ -35,7 +36,7 @@ const KNOWN: Reply = (
     r#"{"total":1,"streams":[{"config":{"name":"events"},"created":"2026-01-01T00:00:00Z","state":{"messages":7,"bytes":70,"first_seq":1,"last_seq":7}}]}"#,
 );
 
-/// What a poll of a list hands out.
+// What a poll of a list hands out.
 fn next_word<T: Answered>(alloc: Global, next: &Next<Result<T, StreamsError>>) -> Words {
     match next {
         Next::Item(item) => answer_word(alloc, item),
@@ -57,7 +58,7 @@ pub(crate) fn next<T: ListItem + Answered, L: Link>(
     words
 }
 
-/// Adds what the next poll hands out to the words before it, as a line.
+// Adds what the next poll hands out to the words before it, as a line.
 fn add_next<T: ListItem + Answered, L: Link>(
     alloc: Global,
     list: &mut Listing<T>,
@@ -68,7 +69,7 @@ fn add_next<T: ListItem + Answered, L: Link>(
     add_line(words, word.as_str())
 }
 
-/// What a list hands out in so many polls, each word with a line's end.
+// What a list hands out in so many polls, each word with a line's end.
 fn handed_out<T: ListItem + Answered, L: Link>(
     alloc: Global,
     list: &mut Listing<T>,
@@ -121,7 +122,7 @@ fn by_subject<L: Link>(alloc: Global, link: &mut L, scope: &ApiScope, subject: &
     polled(alloc, link, stream_by_subject(alloc, scope, subject))
 }
 
-fn told_in<L: Link>(alloc: Global, link: &mut L, scope: &ApiScope, list: List) -> Words {
+fn outcome_text_in<L: Link>(alloc: Global, link: &mut L, scope: &ApiScope, list: List) -> Words {
     match list {
         List::Names(polls) => names(alloc, link, scope, polls),
         List::Infos(polls) => infos(alloc, link, scope, polls),
@@ -130,9 +131,9 @@ fn told_in<L: Link>(alloc: Global, link: &mut L, scope: &ApiScope, list: List) -
 }
 
 impl Case for List {
-    fn told(self, alloc: Global, server: &mut ScriptedServer) -> Words {
+    fn outcome_text(self, alloc: Global, server: &mut ScriptedServer) -> Words {
         let scope = scope(alloc, "$JS.API", None)?;
-        told_in(alloc, server, &scope, self)
+        outcome_text_in(alloc, server, &scope, self)
     }
 }
 

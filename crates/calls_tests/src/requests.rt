@@ -10,7 +10,7 @@ use serde_json::Value;
 use std::alloc::Global;
 use std::process::Abort;
 
-/// A request with no body of its own.
+// A request with no body of its own.
 fn empty_request(timeout: Option<Option<Nanos>>) -> RawRequest {
     RawRequest {
         payload: None,
@@ -24,13 +24,13 @@ fn request(alloc: Global, scope: &ApiScope) -> Result<ApiRequest, OutOfMemory> {
     scope.request(alloc, "INFO", &Value::Null)
 }
 
-/// A subject and a body.
+// A subject and a body.
 fn sent_word(alloc: Global, subject: &Subject, payload: &Bytes) -> Words {
     let body = String::from_utf8_lossy(alloc, payload.as_slice())?;
     paired(alloc, subject.as_str(), body.as_str())
 }
 
-/// The subject and the body of the last message, or of the last request.
+// The subject and the body of the last message, or of the last request.
 fn last(alloc: Global, link: &MemoryLink) -> Words {
     match link.sent().last() {
         Some(
@@ -61,7 +61,7 @@ const REPLIES: &[(Reply, &str)] = &[
     (crate::server::GARBLED, "request failed: not JSON"),
 ];
 
-/// What a request comes to that is sent and then replied to.
+// What a request comes to that is sent and then replied to.
 fn replied_by(alloc: Global, link: &mut MemoryLink, call: ApiRequest, reply: Message) -> Words {
     let call = still(alloc, link, call, 0);
     let _ = link.respond(RequestId(1), Some(reply));
@@ -85,7 +85,7 @@ fn replied(alloc: Global, reply: Reply) -> Words {
     replied_in(alloc, &scope, reply)
 }
 
-/// What a request comes to that is sent at 1000, has 200 nanoseconds, and has no reply.
+// What a request comes to that is sent at 1000, has 200 nanoseconds, and has no reply.
 fn unanswered_over<L: Link>(alloc: Global, link: &mut L, scope: &ApiScope) -> Words {
     let call = request(alloc, scope)?;
     waited(alloc, link, call, [1_000, 1_199, 1_200])
@@ -128,7 +128,7 @@ fn call(alloc: Global, scope: &ApiScope, subject: &str) -> Result<RawCall, OutOf
     scope.call(alloc, subject, &Value::Null)
 }
 
-/// What the first poll of the call comes to.
+// What the first poll of the call comes to.
 fn polled_raw<L: Link>(alloc: Global, link: &mut L, call: Result<RawCall, OutOfMemory>) -> Words {
     polled(alloc, link, call)
 }
@@ -158,7 +158,7 @@ fn called_again<L: Link>(alloc: Global, link: &mut L, scope: &ApiScope, subject:
     ended(alloc, link, second, 0)
 }
 
-/// The timeout of the context that asks.
+// The timeout of the context that asks.
 fn context_of(asked: Asked) -> Option<Nanos> {
     match asked {
         Asked::Value => None,
@@ -168,7 +168,7 @@ fn context_of(asked: Asked) -> Option<Nanos> {
     }
 }
 
-fn told_in<L: Link>(alloc: Global, link: &mut L, scope: &ApiScope, asked: Asked) -> Words {
+fn outcome_text_in<L: Link>(alloc: Global, link: &mut L, scope: &ApiScope, asked: Asked) -> Words {
     match asked {
         Asked::Value => requested(alloc, link, scope),
         Asked::Raw(subject, timeout) => requested_raw(alloc, link, scope, subject, timeout),
@@ -177,9 +177,9 @@ fn told_in<L: Link>(alloc: Global, link: &mut L, scope: &ApiScope, asked: Asked)
     }
 }
 
-fn told<L: Link>(alloc: Global, link: &mut L, asked: Asked) -> Words {
+fn outcome_text<L: Link>(alloc: Global, link: &mut L, asked: Asked) -> Words {
     let scope = scope(alloc, "$JS.API", context_of(asked))?;
-    told_in(alloc, link, &scope, asked)
+    outcome_text_in(alloc, link, &scope, asked)
 }
 
 /// A request, what its first poll comes to, and what was sent last.
@@ -191,7 +191,7 @@ const TESTED: &[(Asked, &str, &str)] = &[
     (Asked::CallAgain("a b"), "timed out", "$JS.API.a b null"),
 ];
 
-/// Asserts what the first poll of a request comes to, and what was sent last.
+// Asserts what the first poll of a request comes to, and what was sent last.
 fn says_over(
     rt: &impl Abort,
     alloc: Global,
@@ -201,7 +201,7 @@ fn says_over(
     sent: &str,
 ) {
     link.set_limits(3, None);
-    says(rt, wanted, told(alloc, link, asked), wanted);
+    says(rt, wanted, outcome_text(alloc, link, asked), wanted);
     says(rt, wanted, last(alloc, link), sent);
 }
 
@@ -218,7 +218,7 @@ fn requests_are_tested_and_sent(rt: HostRuntime) {
     }
 }
 
-/// Sends a request and does not wait for it.
+// Sends a request and does not wait for it.
 fn sends_in(alloc: Global, link: &mut MemoryLink, scope: &ApiScope) -> Result<(), SendError> {
     scope.send_request(alloc, link, "a", empty_request(None))
 }
@@ -228,7 +228,7 @@ fn sends(alloc: Global, link: &mut MemoryLink) -> Result<Result<(), SendError>, 
     Ok(sends_in(alloc, link, &scope))
 }
 
-/// Whether that is a message that went there, with that reply subject.
+// Whether that is a message that went there, with that reply subject.
 fn is_message(sent: &Sent, to: &str, answers: &str) -> bool {
     match sent {
         Sent::Publish {
@@ -240,7 +240,7 @@ fn is_message(sent: &Sent, to: &str, answers: &str) -> bool {
     }
 }
 
-/// Whether that is the one message.
+// Whether that is the one message.
 fn is_published(link: &MemoryLink, to: &str, answers: &str) -> bool {
     match link.sent() {
         [one] => is_message(one, to, answers),
@@ -248,7 +248,7 @@ fn is_published(link: &MemoryLink, to: &str, answers: &str) -> bool {
     }
 }
 
-/// Asserts that a request goes out while the link is up.
+// Asserts that a request goes out while the link is up.
 fn says_sends(rt: &impl Abort, alloc: Global, link: &mut MemoryLink) {
     same(rt, "up", sends(alloc, link), Ok(Ok(())));
     let went = is_published(link, "$JS.API.a", "_INBOX.t.r0");
@@ -268,7 +268,7 @@ fn says_sent(rt: &impl Abort, alloc: Global) {
     drop(link);
 }
 
-/// The timeout with which a lost consumer is made anew.
+// The timeout with which a lost consumer is made anew.
 fn recovers(scope: &ApiScope, connection: Option<Nanos>) -> Result<Option<Nanos>, OutOfMemory> {
     Ok(scope.recovery_context(connection)?.timeout)
 }
@@ -292,7 +292,7 @@ fn timeout_of(request: &RawRequest) -> Option<Option<Nanos>> {
     request.timeout
 }
 
-/// The timeout that holds for a request.
+// The timeout that holds for a request.
 fn applied_in(scope: &ApiScope, own: Option<Option<Nanos>>) -> Option<Option<Nanos>> {
     timeout_of(&scope.apply_timeout(empty_request(own)))
 }

@@ -1,9 +1,10 @@
 //! A server that answers from a script, and what a call over it comes to.
 
-use crate::tables::{numbered, paired, printed};
+pub(crate) use crate::replies::{NOBODY, Reply, message};
+use crate::tables::paired;
+use crate::words::{numbered, printed};
 pub(crate) use crate::words::{Words, word};
-use bytes::Bytes;
-use js_base::{Error, Message, OutOfMemory, StatusCode, Subject, Text, Turn};
+use js_base::{Error, Message, OutOfMemory, Text, Turn};
 use js_call::{ApiScope, State};
 use js_call_streams::StreamHandle;
 use js_json_stream_bodies::{DeleteStatus, stream};
@@ -14,12 +15,6 @@ use std::fmt::Display;
 
 /// The subject and the body of a request.
 pub(crate) type Asked = (&'static str, &'static str);
-
-/// The status and the body of a reply.
-pub(crate) type Reply = (Option<StatusCode>, &'static str);
-
-/// What comes where nobody answers.
-pub(crate) const NOBODY: Reply = (Some(StatusCode(503)), "");
 
 /// A reply that does not read.
 pub(crate) const GARBLED: Reply = (None, "{");
@@ -32,18 +27,6 @@ pub(crate) fn scope(
     Ok(ApiScope {
         prefix: Text::from_str(alloc, prefix)?,
         timeout,
-    })
-}
-
-pub(crate) fn message(alloc: Global, reply: Reply) -> Result<Message, OutOfMemory> {
-    Ok(Message {
-        subject: Subject::new(alloc, "_INBOX.t.0")?,
-        reply: None,
-        payload: Bytes::copy_from_slice(alloc, reply.1.as_bytes())?,
-        headers: None,
-        status: reply.0,
-        description: None,
-        length: 0,
     })
 }
 
@@ -61,7 +44,7 @@ pub(crate) fn scripted(
     server.script(alloc, asked.0, message(alloc, reply)?)
 }
 
-/// From here on the server answers these requests so.
+// From here on the server answers these requests so.
 fn serve(
     alloc: Global,
     server: &mut ScriptedServer,
@@ -85,7 +68,7 @@ pub(crate) fn is_request(sent: &Sent, asked: Asked) -> bool {
     }
 }
 
-/// Whether these requests were sent, and nothing else.
+// Whether these requests were sent, and nothing else.
 fn has_asked(sent: &[Sent], script: &[(Asked, Reply)]) -> bool {
     let count = sent.len();
     if script.len() != count {
@@ -165,7 +148,7 @@ pub(crate) fn found_word<A: Answered + Drop, E: Display + Drop>(
     answer_word(alloc, &answer)
 }
 
-/// What a poll comes to: its answer, its error as it is printed, or `pending`.
+// What a poll comes to: its answer, its error as it is printed, or `pending`.
 fn turn_word<S, A: Answered, K: Display>(
     alloc: Global,
     turn: &Turn<S, Result<A, Error<K>>>,
@@ -177,7 +160,7 @@ fn turn_word<S, A: Answered, K: Display>(
     }
 }
 
-/// What a poll of a call at that moment comes to.
+// What a poll of a call at that moment comes to.
 fn polled_at<S, A, K, L: Link>(alloc: Global, link: &mut L, call: S, now: u64) -> Words
 where
     S: State<Answer = Result<A, Error<K>>>,
@@ -243,7 +226,7 @@ pub(crate) fn still<S: State, L: Link>(
     }
 }
 
-/// The same of a call that was pending before.
+// The same of a call that was pending before.
 fn still_again<S: State, L: Link>(
     alloc: Global,
     link: &mut L,
@@ -293,7 +276,7 @@ where
 
 /// A call that is made and polled over a server.
 pub(crate) trait Case: Drop {
-    fn told(self, alloc: Global, server: &mut ScriptedServer) -> Words;
+    fn outcome_text(self, alloc: Global, server: &mut ScriptedServer) -> Words;
 }
 
 /// The word of a call, where it asked what it was to ask.
@@ -305,7 +288,7 @@ pub(crate) fn asked_word(alloc: Global, text: String, has_asked: bool) -> Words 
     }
 }
 
-/// The same of a call over that server.
+// The same of a call over that server.
 fn outcome_at<C: Case>(
     alloc: Global,
     server: &mut ScriptedServer,
@@ -313,7 +296,7 @@ fn outcome_at<C: Case>(
     script: &[(Asked, Reply)],
 ) -> Words {
     serve(alloc, server, script)?;
-    let text = call.told(alloc, server)?;
+    let text = call.outcome_text(alloc, server)?;
     asked_word(alloc, text, has_asked(server.link().sent(), script))
 }
 

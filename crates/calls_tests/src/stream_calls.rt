@@ -154,7 +154,7 @@ fn source(name: Text, domain: Text, external: Option<External>) -> Source {
     }
 }
 
-/// The stream `orders` of the domain `hub`, maybe with an external too.
+// The stream `orders` of the domain `hub`, maybe with an external too.
 fn hub(alloc: Global, has_external: bool) -> Result<Source, OutOfMemory> {
     let (name, domain, external) = all_3(
         Text::from_str(alloc, "orders"),
@@ -164,7 +164,7 @@ fn hub(alloc: Global, has_external: bool) -> Result<Source, OutOfMemory> {
     Ok(source(name, domain, external))
 }
 
-/// That item alone.
+// That item alone.
 fn one<T: Drop>(alloc: Global, item: T) -> Result<Items<T>, OutOfMemory> {
     let mut items = Items::new(alloc);
     items.push(item)?;
@@ -175,7 +175,7 @@ fn hubs(alloc: Global, has_external: bool) -> Result<Items<Source>, OutOfMemory>
     one(alloc, hub(alloc, has_external)?)
 }
 
-/// The configuration of the stream that copies these.
+// The configuration of the stream that copies these.
 fn copy_of(alloc: Global, name: Text, mirror: Source, sources: Items<Source>) -> Config {
     let mut config = Config::new(alloc);
     replace_with(&mut config.name, name);

@@ -87,7 +87,7 @@ enum Call {
     Copy(bool, bool),
 }
 
-/// The prefix of a call.
+// The prefix of a call.
 fn prefix_of(call: Call) -> &'static str {
     match call {
         Call::Create(prefix, _) => prefix,
@@ -95,7 +95,7 @@ fn prefix_of(call: Call) -> &'static str {
     }
 }
 
-fn told_in<L: Link>(alloc: Global, link: &mut L, scope: &ApiScope, call: Call) -> Words {
+fn outcome_text_in<L: Link>(alloc: Global, link: &mut L, scope: &ApiScope, call: Call) -> Words {
     match call {
         Call::Create(_, name) => create(alloc, link, scope, name),
         Call::Update(name) => update(alloc, link, scope, name),
@@ -110,9 +110,9 @@ fn told_in<L: Link>(alloc: Global, link: &mut L, scope: &ApiScope, call: Call) -
 }
 
 impl Case for Call {
-    fn told(self, alloc: Global, server: &mut ScriptedServer) -> Words {
+    fn outcome_text(self, alloc: Global, server: &mut ScriptedServer) -> Words {
         let scope = hurried(alloc, prefix_of(self))?;
-        told_in(alloc, server, &scope, self)
+        outcome_text_in(alloc, server, &scope, self)
     }
 }
 
@@ -275,12 +275,12 @@ const NO_NAMES: &[(&str, &str, &str)] = &[
     ),
 ];
 
-/// Asserts what a call comes to that sends nothing.
+// Asserts what a call comes to that sends nothing.
 fn says_unsent(rt: &impl Abort, alloc: Global, call: Call, wanted: &str) {
     says(rt, wanted, outcome(alloc, call, &[]), wanted);
 }
 
-/// Asserts it of the calls that make a stream of that name.
+// Asserts it of the calls that make a stream of that name.
 fn says_unmade(rt: &impl Abort, alloc: Global, name: &'static str, wanted: &str) {
     says_unsent(rt, alloc, Call::Create(PREFIX, name), wanted);
     says_unsent(rt, alloc, Call::Update(name), wanted);
@@ -288,7 +288,7 @@ fn says_unmade(rt: &impl Abort, alloc: Global, name: &'static str, wanted: &str)
     says_unsent(rt, alloc, Call::CreateOrUpdate(name), wanted);
 }
 
-/// Asserts it of the calls that find one.
+// Asserts it of the calls that find one.
 fn says_unfound(rt: &impl Abort, alloc: Global, name: &'static str, wanted: &str) {
     says_unsent(rt, alloc, Call::Get(name), wanted);
     says_unsent(rt, alloc, Call::Delete(name), wanted);
@@ -317,13 +317,13 @@ fn calls_are_refused_before_anything_is_sent(rt: HostRuntime) {
     }
 }
 
-/// What the making of a stream comes to that has no reply within 200 nanoseconds.
+// What the making of a stream comes to that has no reply within 200 nanoseconds.
 fn late_over<L: Link>(alloc: Global, link: &mut L, scope: &ApiScope) -> Words {
     let call = creating(alloc, scope, "events")?;
     waited(alloc, link, call, [0, 199, 200])
 }
 
-/// What getting a stream comes to whose replier is gone.
+// What getting a stream comes to whose replier is gone.
 fn left_over(alloc: Global, link: &mut MemoryLink, scope: &ApiScope) -> Words {
     let first = get_stream(alloc, scope, "events")?;
     let call = still(alloc, link, first, 0);

@@ -1,49 +1,13 @@
 //! What the rows of the tests' tables say.
 
 use crate::words::Words;
-use js_base::{OutOfMemory, both};
 use std::alloc::Global;
-use std::fmt::{Debug, Display};
+use std::fmt::Debug;
 use std::process::Abort;
-
-/// What is printed of a value.
-pub(crate) fn printed<T: Display>(alloc: Global, value: &T) -> Words {
-    Ok(value.to_string(alloc)?)
-}
-
-/// A text and a number.
-pub(crate) fn numbered(alloc: Global, text: &str, number: u64) -> Words {
-    Ok(format!(in alloc; "{text} {number}")?)
-}
 
 /// Two texts, one after the other.
 pub(crate) fn paired(alloc: Global, first: &str, second: &str) -> Words {
     Ok(format!(in alloc; "{first} {second}")?)
-}
-
-/// Two words, with a comma between them.
-pub(crate) fn joined(alloc: Global, first: Words, second: Words) -> Words {
-    let (first, second) = both(first, second)?;
-    let words = format!(in alloc; "{first}, {second}");
-    drop(second);
-    drop(first);
-    Ok(words?)
-}
-
-/// The word of an ack, where all permits are free.
-pub(crate) fn settled_word(alloc: Global, text: String, is_settled: bool) -> Words {
-    if is_settled {
-        Ok(text)
-    } else {
-        Ok(format!(in alloc; "{text}, and a permit is out")?)
-    }
-}
-
-/// Adds a word with a line's end.
-pub(crate) fn add_line(words: &mut String, word: &str) -> Result<(), OutOfMemory> {
-    words.push_str(word)?;
-    words.push_str("\n")?;
-    Ok(())
 }
 
 /// Asserts that what is found in a row is what is wanted.

@@ -2,8 +2,8 @@
 //! one is late and one arrives twice. In between it sleeps until something is to be done.
 #![tactic(auto)]
 
-use jetstream::consumer::pull::{Ordered, OrderedConfig};
-use jetstream::consumer::{DeliverPolicy, Resilience};
+use jetstream::consumer::Resilience;
+use jetstream::consumer::pull::{Ordered, starting_at};
 use jetstream::prelude::*;
 use jetstream_testing::{Faults, OneIn, TestServer};
 use std::alloc::Global;
@@ -40,31 +40,10 @@ fn open(
     server: &mut TestServer,
 ) -> Result<Ordered, AnyError> {
     let context = Context::new(rt, rt.alloc())?;
-    let config = OrderedConfig {
-        deliver_policy: DeliverPolicy::ByStartSequence { start_sequence: 1 },
-        ..OrderedConfig::new(rt.alloc())
-    };
-    let creating = context.create_consumer_on_stream(rt.alloc(), config, "events");
-    drop(context);
-    let consumer = answer(creating?, rt.alloc(), link, server)??;
+    let config = starting_at(rt.alloc(), 1);
+    let creating = context.create_consumer_on_stream(rt.alloc(), config, "events")?;
+    let consumer = server.answer(rt.alloc(), link, creating, 0)??;
     Ok(consumer.messages_with(rt.alloc(), link, Resilience::all())?)
-}
-
-/// Polls a call until its answer is there.
-fn answer<S: State>(
-    call: S,
-    alloc: Global,
-    link: &mut OutboxLink,
-    server: &mut TestServer,
-) -> Result<S::Answer, AnyError> {
-    let mut call = Some(call);
-    for _ in 0..10 {
-        if let Next::Item(answer) = drive(&mut call, alloc, link, 0) {
-            return Ok(answer);
-        }
-        server.serve(alloc, link, 0)?;
-    }
-    Err(AnyError::own(alloc, "no answer"))
 }
 
 fn publish(
@@ -139,40 +118,32 @@ fn run(
     Ok(())
 }
 
+/// Polls the queue. Returns whether a message has its outcome, which it prints.
 fn poll_queue(
     rt: &(impl Wait + Print + AllocGlobal),
     queue: &mut PublishQueue,
     link: &mut OutboxLink,
     now: Moment,
 ) -> Result<bool, AnyError> {
-    match queue.poll_next(rt, rt.alloc(), link, now) {
-        Next::Item(published) => {
-            let sequence = published.outcome?.sequence;
-            println!(rt; "{} s: stored as {sequence}", now / SECOND)?;
-            Ok(true)
-        }
-        Next::Pending => Ok(false),
-        Next::End => Ok(false),
-        Next::OutOfMemory => Ok(false),
-    }
+    let Next::Item(published) = queue.poll_next(rt, rt.alloc(), link, now) else {
+        return Ok(false);
+    };
+    let sequence = published.outcome?.sequence;
+    println!(rt; "{} s: stored as {sequence}", now / SECOND)?;
+    Ok(true)
 }
 
+/// Polls the reader. Returns whether it hands out an event, which it prints.
 fn poll_reader(
     rt: &(impl Print + AllocGlobal),
     reader: &mut Ordered,
     link: &mut OutboxLink,
     now: Moment,
 ) -> Result<bool, AnyError> {
-    match reader.poll_next(rt.alloc(), link, now) {
-        Next::Item(Ok(event)) => {
-            let told = println!(rt; "{} s: read {:?}", now / SECOND, event.message.payload);
-            drop(event);
-            told?;
-            Ok(true)
-        }
-        Next::Item(Err(error)) => Err(AnyError::from(error)),
-        Next::Pending => Ok(false),
-        Next::End => Ok(false),
-        Next::OutOfMemory => Ok(false),
-    }
+    let Next::Item(event) = reader.poll_next(rt.alloc(), link, now) else {
+        return Ok(false);
+    };
+    let event = event?;
+    println!(rt; "{} s: read {:?}", now / SECOND, event.payload())?;
+    Ok(true)
 }

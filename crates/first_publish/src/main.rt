@@ -1,14 +1,15 @@
 //! Looks up a consumer, publishes a message, waits for its acknowledgement, then reads it back and
-//! acknowledges it. What `serve` does, an adapter to a real connection would do.
+//! acknowledges it. Where `serve` stands, an adapter to a real connection sends and receives.
 #![tactic(auto)]
-
-mod server;
 
 use jetstream::consumer::pull::Config;
 use jetstream::prelude::*;
-use server::serve;
+use jetstream_testing::{Faults, TestServer};
 
 fn main(rt: HostRuntime) -> Result<(), AnyError> {
+    let mut server = TestServer::new(rt.alloc(), Faults::none());
+    server.add_stream(rt.alloc(), "news", "news.>")?;
+    server.add_consumer(rt.alloc(), "news", "reader")?;
     let mut link = OutboxLink::new(rt.alloc(), "_INBOX", "c1")?;
     link.set_state(ConnectionState::Connected);
     let context = Context::new(&rt, rt.alloc())?;
@@ -26,11 +27,11 @@ fn main(rt: HostRuntime) -> Result<(), AnyError> {
         if let Some(news) = &mut news {
             if let Next::Item(message) = news.poll_next(rt.alloc(), &mut link, now) {
                 let message = message?;
-                println!(rt; "read {:?}", message.message.payload)?;
+                println!(rt; "read {:?}", message.payload())?;
                 message.ack(rt.alloc(), &mut link)?;
             }
         }
-        serve(&rt, &mut link)?;
+        server.serve(rt.alloc(), &mut link, now)?;
     }
     Ok(())
 }

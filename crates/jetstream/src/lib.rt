@@ -28,11 +28,11 @@
 //!     if let Some(news) = &mut news {
 //!         if let Next::Item(message) = news.poll_next(rt.alloc(), &mut link, now) {
 //!             let message = message?;
-//!             println!(rt; "read {:?}", message.message.payload)?;
+//!             println!(rt; "read {:?}", message.payload())?;
 //!             message.ack(rt.alloc(), &mut link)?;
 //!         }
 //!     }
-//!     serve(&rt, &mut link)?;
+//!     server.serve(rt.alloc(), &mut link, now)?;
 //! }
 //! ```
 //!
@@ -45,9 +45,10 @@
 //! - `Next::OutOfMemory`: all is unchanged; free memory and poll again;
 //! - `Next::End`: nothing more will come.
 //!
-//! Then the turn exchanges bytes with the server. Here `serve` plays it. With a real connection you
-//! write what [`link::OutboxLink::next_outgoing`] returns, in order, hand what the connection
-//! received to [`link::OutboxLink::deliver`], and wait for more or for the next moment; a
+//! Then the turn exchanges messages with the server. Here that is a `TestServer` of the crate
+//! `jetstream_testing`, which tests and first programs use. With a real connection you write what
+//! [`link::OutboxLink::next_outgoing`] returns, in order, hand what the connection received to
+//! [`link::OutboxLink::deliver`], and wait for more or for the next moment; a
 //! [`connection::Connection`] does both over plain bytes.
 //!
 //! **Connection.** An [`link::OutboxLink`] starts as not connected. Call

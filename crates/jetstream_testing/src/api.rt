@@ -59,7 +59,7 @@ pub(crate) fn split_name(names: &str) -> (&str, &str) {
 
 impl TestServer {
     // Answers a request by the words of its subject after `$JS.API.`.
-    pub(crate) fn answer(
+    pub(crate) fn answer_request(
         &mut self,
         alloc: Global,
         subject: &str,

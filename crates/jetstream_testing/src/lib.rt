@@ -71,6 +71,7 @@
 mod acks;
 mod answers;
 mod api;
+mod calls;
 mod configs;
 mod connection;
 mod consumer;

@@ -184,7 +184,7 @@ impl TestServer {
     fn take(&mut self, alloc: Global, published: Published) -> Result<(), OutOfMemory> {
         let subject = published.subject.as_str();
         let taken = if let Some(call) = subject.strip_prefix("$JS.API.") {
-            self.answer(alloc, call, &published)
+            self.answer_request(alloc, call, &published)
         } else if let Some(place) = subject.strip_prefix("$JS.ACK.") {
             self.settle(alloc, place, &published)
         } else {

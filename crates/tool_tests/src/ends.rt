@@ -1,6 +1,8 @@
 //! Sources and sinks that fail, that take little at a time, or that give too much.
 
-use crate::steps::{Faults, GAP, GAP_TEXT, NO_FAULTS, Told, gap_told, told, words_of};
+use crate::steps::{
+    Faults, GAP, GAP_TEXT, NO_FAULTS, RunOutcome, gap_outcome, run_outcome, words_of,
+};
 use crate::tables::same;
 use js_tool_event_log::{Status, run_plain};
 use js_tool_io::{PlainSink, PlainSource, Sink, Source};
@@ -18,9 +20,14 @@ const READS: &[(u64, Status, &str)] = &[
 ];
 
 // The replay where this read fails.
-fn read_fails<R: Threads + Wait + Sync>(rt: &R, alloc: Global, read: u64, wanted: &str) -> Told {
+fn read_fails<R: Threads + Wait + Sync>(
+    rt: &R,
+    alloc: Global,
+    read: u64,
+    wanted: &str,
+) -> RunOutcome {
     let faults = Faults { read, ..NO_FAULTS };
-    gap_told(rt, alloc, "replay", faults, wanted.as_bytes())
+    gap_outcome(rt, alloc, "replay", faults, wanted.as_bytes())
 }
 
 #[test]
@@ -57,14 +64,19 @@ const WRITES: &[(&str, &str, Status)] = &[
 ];
 
 // The words of a line, where a write takes a byte and the one after this front fails.
-fn leaves_front<R: Threads + Wait + Sync>(rt: &R, alloc: Global, line: &str, front: &[u8]) -> Told {
+fn leaves_front<R: Threads + Wait + Sync>(
+    rt: &R,
+    alloc: Global,
+    line: &str,
+    front: &[u8],
+) -> RunOutcome {
     let write = front.len() as u64 + 1;
     let faults = Faults {
         read: 0,
         write,
         most: 1,
     };
-    gap_told(rt, alloc, line, faults, front)
+    gap_outcome(rt, alloc, line, faults, front)
 }
 
 fn leaves_each_front<R: Threads + Wait + Sync + Abort>(
@@ -95,9 +107,9 @@ const SMALL: &[(u64, Status, &str)] = &[
 ];
 
 // The replay where a write takes so little.
-fn writes<R: Threads + Wait + Sync>(rt: &R, alloc: Global, most: u64, wanted: &str) -> Told {
+fn writes<R: Threads + Wait + Sync>(rt: &R, alloc: Global, most: u64, wanted: &str) -> RunOutcome {
     let faults = Faults { most, ..NO_FAULTS };
-    gap_told(rt, alloc, "replay", faults, wanted.as_bytes())
+    gap_outcome(rt, alloc, "replay", faults, wanted.as_bytes())
 }
 
 #[test]
@@ -109,9 +121,9 @@ fn small_writes_give_the_whole_text(rt: HostRuntime) {
 }
 
 // The replay of so many line feeds.
-fn feeds<R: Threads + Wait + Sync>(rt: &R, alloc: Global, count: usize) -> Told {
+fn feeds<R: Threads + Wait + Sync>(rt: &R, alloc: Global, count: usize) -> RunOutcome {
     let bytes = vec![in alloc; b'\n'; count]?;
-    told(rt, alloc, "replay", bytes, NO_FAULTS, b"")
+    run_outcome(rt, alloc, "replay", bytes, NO_FAULTS, b"")
 }
 
 #[test]
@@ -138,13 +150,13 @@ fn plain_into<S: Source>(
     input: &mut S,
     output: &mut PlainSink,
     wanted: &str,
-) -> Told {
+) -> RunOutcome {
     let status = plain_answered(alloc, line, input, output)?;
     Ok((status, output.taken() == wanted.as_bytes()))
 }
 
 // How `run_plain` ends for the words of a line over the gap, and whether it writes just what is wanted.
-fn plain_told(alloc: Global, line: &str, wanted: &str) -> Told {
+fn plain_outcome(alloc: Global, line: &str, wanted: &str) -> RunOutcome {
     let bytes = Vec::from_slice(alloc, GAP.as_bytes())?;
     let mut input = PlainSource::new(bytes);
     plain_into(alloc, line, &mut input, &mut PlainSink::new(alloc), wanted)
@@ -159,7 +171,7 @@ const PLAIN: &[(&str, Status, &str)] = &[
 #[test]
 fn without_threads_there_is_no_window(rt: HostRuntime) {
     for &(line, status, wanted) in PLAIN {
-        let found = plain_told(rt.alloc(), line, wanted);
+        let found = plain_outcome(rt.alloc(), line, wanted);
         same(&rt, line, found, Ok((status, true)));
     }
 }

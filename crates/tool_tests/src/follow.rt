@@ -1,6 +1,6 @@
 //! `follow`: what it writes step by step is the text that the replay of the whole transcript has.
 
-use crate::steps::{GAP, GAP_TEXT, NO_FAULTS, Told, sink, source};
+use crate::steps::{GAP, GAP_TEXT, NO_FAULTS, RunOutcome, sink, source};
 use crate::tables::same;
 use js_tool::{FollowOptions, Status};
 use js_tool_follow::{follow, follow_with};
@@ -12,17 +12,17 @@ fn followed_into<S: Source>(
     input: &mut S,
     output: &mut MemorySink,
     wanted: &[u8],
-) -> Told {
+) -> RunOutcome {
     let status = follow(alloc, input, output);
     Ok((status, output.taken() == wanted))
 }
 
-fn followed_over<S: Source>(alloc: Global, input: &mut S, wanted: &[u8]) -> Told {
+fn followed_over<S: Source>(alloc: Global, input: &mut S, wanted: &[u8]) -> RunOutcome {
     followed_into(alloc, input, &mut sink(alloc, NO_FAULTS)?, wanted)
 }
 
 // How `follow` with options ends over these lines, and whether it writes just what is wanted.
-fn told(alloc: Global, options: FollowOptions, text: &str, wanted: &str) -> Told {
+fn follow_outcome(alloc: Global, options: FollowOptions, text: &str, wanted: &str) -> RunOutcome {
     let bytes = Vec::from_slice(alloc, text.as_bytes())?;
     let mut input = source(alloc, bytes, NO_FAULTS)?;
     let mut output = sink(alloc, NO_FAULTS)?;
@@ -31,7 +31,7 @@ fn told(alloc: Global, options: FollowOptions, text: &str, wanted: &str) -> Told
 }
 
 // How `follow` ends over these lines, and whether it writes just what is wanted.
-fn followed(alloc: Global, text: &str, wanted: &str) -> Told {
+fn followed(alloc: Global, text: &str, wanted: &str) -> RunOutcome {
     let bytes = Vec::from_slice(alloc, text.as_bytes())?;
     let mut input = source(alloc, bytes, NO_FAULTS)?;
     followed_over(alloc, &mut input, wanted.as_bytes())
@@ -69,6 +69,6 @@ fn options_tell_more(rt: HostRuntime) {
         details: true,
         wakes: true,
     };
-    let found = told(rt.alloc(), options, TOLD, TOLD_TEXT);
+    let found = follow_outcome(rt.alloc(), options, TOLD, TOLD_TEXT);
     same(&rt, "details and wakes", found, Ok((Status::Done, true)));
 }

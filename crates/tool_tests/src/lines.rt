@@ -1,6 +1,6 @@
 //! Lines that don't read, and words that no stored command line has.
 
-use crate::steps::{NO_FAULTS, Told, sink, source, told};
+use crate::steps::{NO_FAULTS, RunOutcome, run_outcome, sink, source};
 use crate::tables::same;
 use js_json_members::{Key, ReadError};
 use js_tool_event_log::{Lines, Status, answer_replay, run};
@@ -20,9 +20,9 @@ fn joined(alloc: Global, setup: &str, event: &str) -> Result<Vec<u8>, AllocError
 }
 
 // How the replay of a setup and a line ends, and whether nothing is written.
-fn stops<R: Threads + Wait + Sync>(rt: &R, alloc: Global, setup: &str, event: &str) -> Told {
+fn stops<R: Threads + Wait + Sync>(rt: &R, alloc: Global, setup: &str, event: &str) -> RunOutcome {
     let text = joined(alloc, setup, event)?;
-    told(rt, alloc, "replay", text, NO_FAULTS, b"")
+    run_outcome(rt, alloc, "replay", text, NO_FAULTS, b"")
 }
 
 // First lines that don't read.
@@ -138,7 +138,7 @@ fn words_may_be_empty(rt: HostRuntime) {
     same(&rt, "none", says_nothing(&rt, alloc), Status::Usage);
     for &(line, status, text) in EMPTY {
         let input = Vec::new(alloc);
-        let found = told(&rt, alloc, line, input, NO_FAULTS, text.as_bytes());
+        let found = run_outcome(&rt, alloc, line, input, NO_FAULTS, text.as_bytes());
         same(&rt, line, found, Ok((status, true)));
     }
 }

@@ -123,7 +123,7 @@ fn input(alloc: Global, settings: Settings, first: Info) -> ReplayInput {
 }
 
 // A pull consumer of that info, with no filters.
-fn given(alloc: Global) -> Result<ReplayInput, ReadError> {
+fn pull_input(alloc: Global) -> Result<ReplayInput, ReadError> {
     let api_prefix = Text::from_str(alloc, "$JS.API")?;
     let inbox_prefix = Text::from_str(alloc, "_INBOX.t")?;
     let first = info(alloc)?;
@@ -228,7 +228,7 @@ fn replays<R: Replayed>(
 #[test]
 fn events_are_replayed_at_once_or_one_by_one(rt: HostRuntime) {
     let events = events(rt.alloc()).expect(&rt, "memory");
-    replays(&rt, rt.alloc(), given(rt.alloc()), events.as_slice());
+    replays(&rt, rt.alloc(), pull_input(rt.alloc()), events.as_slice());
 }
 
 // The same core, after whose last message the consumer has no number.

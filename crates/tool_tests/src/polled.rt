@@ -21,7 +21,7 @@ const SEEDS: u64 = 20;
 
 const EVENTS: u64 = 60;
 
-/// Asserts that a polled consumer does what the replay puts out, at the opening and at each event, and ends as it does.
+// Asserts that a polled consumer does what the replay puts out, at the opening and at each event, and ends as it does.
 fn says<C: Replayed, E: Debug + Drop>(
     rt: &impl Abort,
     alloc: Global,
@@ -35,7 +35,7 @@ fn says<C: Replayed, E: Debug + Drop>(
     said
 }
 
-/// The same of the run of the replay.
+// The same of the run of the replay.
 fn says_run<C: Replayed, E: Debug + Drop>(
     rt: &impl Abort,
     alloc: Global,

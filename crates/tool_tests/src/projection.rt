@@ -65,7 +65,7 @@ fn add_row(alloc: Global, text: &mut String, entry: &Entry) -> Result<(), OutOfM
     Ok(text.push_str(row.as_str())?)
 }
 
-fn told(alloc: Global, entries: &[Entry]) -> Result<String, OutOfMemory> {
+fn entries_text(alloc: Global, entries: &[Entry]) -> Result<String, OutOfMemory> {
     let mut text = String::new(alloc);
     for entry in entries {
         add_row(alloc, &mut text, entry)?;
@@ -80,18 +80,18 @@ fn rows(
     filter: &str,
 ) -> Result<String, OutOfMemory> {
     match sequence {
-        None => told(alloc, &projection.matching(filter)?),
-        Some(sequence) => told(alloc, &projection.at(sequence, filter)?),
+        None => entries_text(alloc, &projection.matching(filter)?),
+        Some(sequence) => entries_text(alloc, &projection.at(sequence, filter)?),
     }
 }
 
-/// The sequence of the last entry of a subject.
+// The sequence of the last entry of a subject.
 fn sequence_of(projection: &Projection, subject: &str) -> Option<u64> {
     let entry = projection.get(subject)?;
     Some(entry.sequence)
 }
 
-/// The table after the steps, each of which is asserted.
+// The table after the steps, each of which is asserted.
 fn stepped(rt: &impl Abort, alloc: Global) -> Projection {
     let mut projection = Projection::new(alloc);
     same(rt, "new", projection.last(), 0);
@@ -102,14 +102,14 @@ fn stepped(rt: &impl Abort, alloc: Global) -> Projection {
     projection
 }
 
-/// Asserts the rows and what was applied.
+// Asserts the rows and what was applied.
 fn says_rows(rt: &impl Abort, alloc: Global, projection: &Projection) {
     for &(sequence, filter, wanted) in ROWS {
         let found = rows(alloc, projection, sequence, filter);
         says(rt, filter, found, wanted);
     }
     for &(sequence, wanted) in CHANGES {
-        let found = told(alloc, projection.changes_after(sequence));
+        let found = entries_text(alloc, projection.changes_after(sequence));
         says(rt, wanted, found, wanted);
     }
 }

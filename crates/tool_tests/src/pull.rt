@@ -27,25 +27,25 @@ fn info(alloc: Global) -> Result<Info, ReadError> {
 
 // What is read of an info. What is generic over it does not open how so large a value is let go.
 trait Informed: Drop {
-    type Told: Drop;
+    type Fact: Drop;
 
-    fn told(&self) -> Self::Told;
+    fn fact(&self) -> Self::Fact;
 }
 
 // What its consumer's readers ask for.
 impl Informed for Info {
-    type Told = BatchConfig;
+    type Fact = BatchConfig;
 
-    fn told(&self) -> BatchConfig {
+    fn fact(&self) -> BatchConfig {
         ordered_batch_config(self)
     }
 }
 
 // How many requests wait, where there is one.
 impl Informed for Option<Info> {
-    type Told = Option<u64>;
+    type Fact = Option<u64>;
 
-    fn told(&self) -> Option<u64> {
+    fn fact(&self) -> Option<u64> {
         match self {
             Some(info) => Some(info.num_waiting),
             None => None,
@@ -53,9 +53,9 @@ impl Informed for Option<Info> {
     }
 }
 
-fn told_of<I: Informed, E: Drop>(info: Result<I, E>) -> Result<I::Told, E> {
+fn fact_of<I: Informed, E: Drop>(info: Result<I, E>) -> Result<I::Fact, E> {
     match info {
-        Ok(info) => Ok(info.told()),
+        Ok(info) => Ok(info.fact()),
         Err(error) => Err(error),
     }
 }
@@ -88,7 +88,7 @@ fn reader(alloc: Global) -> Result<Reader, ReadError> {
         Text::from_str(alloc, "c1"),
         Subject::new(alloc, "_INBOX.t.0"),
     )?;
-    let ((api, stream, name, subject), config) = both(Ok(named), told_of(info(alloc)))?;
+    let ((api, stream, name, subject), config) = both(Ok(named), fact_of(info(alloc)))?;
     Ok(Reader::new(source(api, stream, name, subject, config)))
 }
 
@@ -167,7 +167,7 @@ fn message(
 }
 
 fn waiting_of(alloc: Global, reply: &Message) -> Result<Option<u64>, OutOfMemory> {
-    told_of(info_of_reply(alloc, Some(reply)))
+    fact_of(info_of_reply(alloc, Some(reply)))
 }
 
 fn waiting(
@@ -231,7 +231,7 @@ fn an_arrival_may_name_a_pin(rt: HostRuntime) {
 
 // A stream of the messages of that consumer, which reads the first inbox of the link.
 fn opened(alloc: Global, link: &mut MemoryLink) -> Result<Stream, ReadError> {
-    let config = told_of(info(alloc))?;
+    let config = fact_of(info(alloc))?;
     let asked = Consumer {
         api: "$JS.API",
         stream: "events",

@@ -46,7 +46,7 @@ pub(crate) const NO_FAULTS: Faults = Faults {
 };
 
 /// How a run ended, and whether it wrote just what is wanted.
-pub(crate) type Told = Result<(Status, bool), AllocError>;
+pub(crate) type RunOutcome = Result<(Status, bool), AllocError>;
 
 fn add_word(alloc: Global, words: &mut Vec<String>, word: &str) -> Result<(), AllocError> {
     Ok(words.push(String::from_str(alloc, word)?)?)
@@ -88,39 +88,39 @@ pub(crate) fn answered<R: Threads + Wait + Sync, S: Source, K: Sink>(
     Ok(run(rt, alloc, &words, input, output))
 }
 
-fn told_into<R: Threads + Wait + Sync, S: Source>(
+fn run_outcome_into<R: Threads + Wait + Sync, S: Source>(
     rt: &R,
     alloc: Global,
     line: &str,
     input: &mut S,
     output: &mut MemorySink,
     wanted: &[u8],
-) -> Told {
+) -> RunOutcome {
     let status = answered(rt, alloc, line, input, output)?;
     Ok((status, output.taken() == wanted))
 }
 
-fn told_over<R: Threads + Wait + Sync, S: Source>(
+fn run_outcome_over<R: Threads + Wait + Sync, S: Source>(
     rt: &R,
     alloc: Global,
     line: &str,
     input: &mut S,
     faults: Faults,
     wanted: &[u8],
-) -> Told {
-    told_into(rt, alloc, line, input, &mut sink(alloc, faults)?, wanted)
+) -> RunOutcome {
+    run_outcome_into(rt, alloc, line, input, &mut sink(alloc, faults)?, wanted)
 }
 
 /// How `run` ends for the words of a line, and whether it writes just what is wanted.
-pub(crate) fn told<R: Threads + Wait + Sync>(
+pub(crate) fn run_outcome<R: Threads + Wait + Sync>(
     rt: &R,
     alloc: Global,
     line: &str,
     input: Vec<u8>,
     faults: Faults,
     wanted: &[u8],
-) -> Told {
-    told_over(
+) -> RunOutcome {
+    run_outcome_over(
         rt,
         alloc,
         line,
@@ -131,13 +131,13 @@ pub(crate) fn told<R: Threads + Wait + Sync>(
 }
 
 /// The same for the words of a line over the transcript with the gap.
-pub(crate) fn gap_told<R: Threads + Wait + Sync>(
+pub(crate) fn gap_outcome<R: Threads + Wait + Sync>(
     rt: &R,
     alloc: Global,
     line: &str,
     faults: Faults,
     wanted: &[u8],
-) -> Told {
+) -> RunOutcome {
     let bytes = Vec::from_slice(alloc, GAP.as_bytes())?;
-    told(rt, alloc, line, bytes, faults, wanted)
+    run_outcome(rt, alloc, line, bytes, faults, wanted)
 }

@@ -23,7 +23,7 @@ enum By {
     Nobody,
 }
 
-/// Acknowledges with a kind, or plainly.
+// Acknowledges with a kind, or plainly.
 fn ack<L: Link>(alloc: Global, link: &mut L, by: By, kind: Option<AckKind>) -> Acked {
     match by {
         By::Message => ack_by_message(alloc, link, kind),
@@ -77,7 +77,7 @@ fn ended(alloc: Global, found: Result<(), AckError>) -> Acked {
     }
 }
 
-/// A double ack with a kind, or a plain one.
+// A double ack with a kind, or a plain one.
 fn double_ack(alloc: Global, by: By, kind: Option<AckKind>) -> Result<DoubleAck, OutOfMemory> {
     match by {
         By::Message => ask_by_message(alloc, kind),
@@ -123,7 +123,7 @@ fn acker_asks(
     }
 }
 
-/// Polls a call, which is put back while it is pending.
+// Polls a call, which is put back while it is pending.
 fn poll<L: Link>(alloc: Global, link: &mut L, call: &mut Option<DoubleAck>, after: u64) -> Acked {
     let Some(state) = call.take() else {
         return word(alloc, "none");
@@ -168,7 +168,7 @@ fn is_sent(sent: Option<&Sent>, body: &str) -> bool {
     }
 }
 
-/// What befalls a link, and what has become of it.
+// What befalls a link, and what has become of it.
 fn befalls(alloc: Global, link: &mut MemoryLink, event: Event) -> Acked {
     match event {
         Event::Ack(by, kind) => ack(alloc, link, by, kind),
@@ -189,7 +189,12 @@ fn befalls(alloc: Global, link: &mut MemoryLink, event: Event) -> Acked {
     }
 }
 
-fn told(alloc: Global, link: &mut MemoryLink, call: &mut Option<DoubleAck>, event: Event) -> Acked {
+fn event_word(
+    alloc: Global,
+    link: &mut MemoryLink,
+    call: &mut Option<DoubleAck>,
+    event: Event,
+) -> Acked {
     match event {
         Event::Begin(by, kind) => {
             let asked = double_ack(alloc, by, kind)?;
@@ -264,7 +269,7 @@ fn acks_follow_what_befalls(rt: HostRuntime) {
     let mut link = MemoryLink::new(rt.alloc(), "_INBOX.t").expect(&rt, "a link");
     let mut call = None;
     for (place, (event, wanted)) in EVENTS.iter().enumerate() {
-        let found = told(rt.alloc(), &mut link, &mut call, *event);
+        let found = event_word(rt.alloc(), &mut link, &mut call, *event);
         says_at(&rt, place, found, wanted);
     }
     drop(call);

@@ -90,7 +90,7 @@ pub(crate) fn pairs(alloc: Global, headers: &HeaderMap) -> Result<String, OutOfM
     Ok(text)
 }
 
-/// Makes a change: the names and values afterwards.
+// Makes a change: the names and values afterwards.
 fn changed(alloc: Global, headers: &mut HeaderMap, change: Change) -> Result<String, OutOfMemory> {
     make(alloc, headers, change)?;
     pairs(alloc, headers)
@@ -100,7 +100,7 @@ fn has_equal_copy(headers: &HeaderMap) -> Result<bool, OutOfMemory> {
     Ok(headers.try_clone()? == *headers)
 }
 
-/// Headers after the changes, each of which is asserted.
+// Headers after the changes, each of which is asserted.
 fn set_and_added(rt: &impl Abort, alloc: Global) -> HeaderMap {
     let mut headers = HeaderMap::new(alloc);
     same(rt, "none", headers.wire_len(), 0);
@@ -112,7 +112,7 @@ fn set_and_added(rt: &impl Abort, alloc: Global) -> HeaderMap {
     headers
 }
 
-/// The length of one header on the wire.
+// The length of one header on the wire.
 fn wire_length(alloc: Global, name: &str, value: &str) -> Result<u64, OutOfMemory> {
     let mut headers = HeaderMap::new(alloc);
     headers.append(alloc, name, value)?;
@@ -270,7 +270,7 @@ fn values_print(rt: HostRuntime) {
     );
 }
 
-/// Whether a copy of a value is equal to it.
+// Whether a copy of a value is equal to it.
 fn is_copied<T: TryClone + PartialEq>(value: T) -> Result<bool, OutOfMemory> {
     Ok(value.try_clone()? == value)
 }
@@ -311,7 +311,7 @@ fn is_box_copied(alloc: Global) -> Result<bool, OutOfMemory> {
     is_copied(Boxed::new(alloc, message(alloc)?)?)
 }
 
-/// Texts by name, of which there is one.
+// Texts by name, of which there is one.
 fn texts(alloc: Global) -> Result<TextMap, OutOfMemory> {
     let (name, value) = both(Text::from_str(alloc, "n"), Text::from_str(alloc, "v"))?;
     let mut texts = TextMap::new(alloc);
@@ -323,13 +323,13 @@ fn is_map_copied(alloc: Global) -> Result<bool, OutOfMemory> {
     is_copied(ByName::from(texts(alloc)?.into_map()))
 }
 
-/// What is made of the plain map of strings that is made of texts by name.
+// What is made of the plain map of strings that is made of texts by name.
 fn by_strings(alloc: Global, texts: &TextMap) -> Result<TextMap, OutOfMemory> {
     let strings = texts.to_strings(alloc)?;
     TextMap::from_strings(alloc, &strings)
 }
 
-/// Whether that is equal to the texts.
+// Whether that is equal to the texts.
 fn are_strings_copied(alloc: Global) -> Result<bool, OutOfMemory> {
     let texts = texts(alloc)?;
     let copy = by_strings(alloc, &texts);
@@ -360,7 +360,7 @@ fn add_and_keep(items: &mut Items<u64>) -> Result<(), OutOfMemory> {
     Ok(())
 }
 
-/// How many items are left where those of one name go and another is added.
+// How many items are left where those of one name go and another is added.
 fn kept(alloc: Global) -> Result<usize, OutOfMemory> {
     let mut items = Items::new(alloc);
     add_and_keep(&mut items)?;

@@ -43,12 +43,12 @@ fn read<T: FromValue>(alloc: Global, text: &str) -> Result<T, ReadError> {
     T::from_value(alloc, &value)
 }
 
-/// What is written for what is read.
+// What is written for what is read.
 fn rewritten<T: FromValue + ToValue>(alloc: Global, text: &str) -> Words {
     read::<T>(alloc, text)?.to_text(alloc)
 }
 
-/// Whether a copy of what is read, and what is read of the text that is written for it, are equal to it.
+// Whether a copy of what is read, and what is read of the text that is written for it, are equal to it.
 fn is_kept<T: FromValue + ToValue + TryClone + PartialEq>(
     alloc: Global,
     text: &str,
@@ -59,7 +59,7 @@ fn is_kept<T: FromValue + ToValue + TryClone + PartialEq>(
     Ok(again == value && value.try_clone()? == value)
 }
 
-/// What is written, or what is printed of the fault.
+// What is written, or what is printed of the fault.
 fn word(alloc: Global, written: Words) -> Words {
     match written {
         Ok(text) => Ok(text),
@@ -108,7 +108,7 @@ fn streams_are_written(rt: HostRuntime) {
     }
 }
 
-/// How many messages the consumer has got and has to get, and its configuration.
+// How many messages the consumer has got and has to get, and its configuration.
 fn consumer_info(alloc: Global, info: &consumer::Info) -> Words {
     let config = info.config.to_text(alloc)?;
     let delivered = info.delivered.stream_sequence;
@@ -116,7 +116,7 @@ fn consumer_info(alloc: Global, info: &consumer::Info) -> Words {
     Ok(format!(in alloc; "{delivered} {pending} {config}")?)
 }
 
-/// The same of a copy.
+// The same of a copy.
 fn copied_consumer_info(alloc: Global, info: &consumer::Info) -> Words {
     let copy = info.try_clone()?;
     let words = consumer_info(alloc, &copy);
@@ -124,7 +124,7 @@ fn copied_consumer_info(alloc: Global, info: &consumer::Info) -> Words {
     words
 }
 
-/// The info, or the error.
+// The info, or the error.
 fn answered(alloc: Global, response: &Response<consumer::Info>) -> Words {
     match response {
         Response::Ok(info) => copied_consumer_info(alloc, info),
@@ -139,7 +139,7 @@ fn in_answer(alloc: Global, text: &str) -> Words {
     words
 }
 
-/// Messages, bytes, first and last sequence.
+// Messages, bytes, first and last sequence.
 fn state_text(alloc: Global, state: &stream::State) -> Words {
     let messages = state.messages;
     let bytes = state.bytes;
@@ -148,7 +148,7 @@ fn state_text(alloc: Global, state: &stream::State) -> Words {
     Ok(format!(in alloc; "{messages} {bytes} {first} {last}")?)
 }
 
-/// The same of a copy.
+// The same of a copy.
 fn copied_state_text(alloc: Global, state: &stream::State) -> Words {
     let copy = state.try_clone()?;
     let words = state_text(alloc, &copy);
@@ -156,7 +156,7 @@ fn copied_state_text(alloc: Global, state: &stream::State) -> Words {
     words
 }
 
-/// The state, when the stream was made, in nanoseconds, and its configuration.
+// The state, when the stream was made, in nanoseconds, and its configuration.
 fn stream_info(alloc: Global, info: &stream::Info) -> Words {
     let state = copied_state_text(alloc, &info.state);
     let (state, config) = both(state, info.config.to_text(alloc))?;
@@ -167,7 +167,7 @@ fn stream_info(alloc: Global, info: &stream::Info) -> Words {
     Ok(words?)
 }
 
-/// The same of a copy.
+// The same of a copy.
 fn copied_stream_info(alloc: Global, info: &stream::Info) -> Words {
     let copy = info.try_clone()?;
     let words = stream_info(alloc, &copy);
@@ -182,7 +182,7 @@ fn in_stream_info(alloc: Global, text: &str) -> Words {
     words
 }
 
-/// How many a list has in all, and how many stand in this page.
+// How many a list has in all, and how many stand in this page.
 fn page_text(alloc: Global, total: u64, here: Option<usize>) -> Words {
     match here {
         None => Ok(format!(in alloc; "{total} none")?),
@@ -208,7 +208,7 @@ fn deletion(alloc: Global, text: &str) -> Words {
     Ok(format!(in alloc; "{success}")?)
 }
 
-/// The stream and the sequence, or the code of the error.
+// The stream and the sequence, or the code of the error.
 fn stored(alloc: Global, response: &Response<PublishAck>) -> Words {
     match response {
         Response::Ok(ack) => {
@@ -240,7 +240,7 @@ fn printed(alloc: Global, text: &str) -> Words {
     Ok(read::<Error>(alloc, text)?.to_string(alloc)?)
 }
 
-/// When a reader was pinned, in nanoseconds.
+// When a reader was pinned, in nanoseconds.
 fn pin(alloc: Global, text: &str) -> Words {
     let state = read::<consumer::PriorityGroupState>(alloc, text)?;
     let pinned = state.pinned_ts;
@@ -270,7 +270,7 @@ fn cluster(alloc: Global, text: &str) -> Words {
     Ok(words?)
 }
 
-fn told(alloc: Global, body: Body, text: &str) -> Words {
+fn body_text(alloc: Global, body: Body, text: &str) -> Words {
     match body {
         Body::ConsumerInfo => in_answer(alloc, text),
         Body::StreamInfo => in_stream_info(alloc, text),
@@ -289,18 +289,18 @@ fn told(alloc: Global, body: Body, text: &str) -> Words {
     }
 }
 
-fn told_word(alloc: Global, body: Body, text: &str) -> Words {
-    word(alloc, told(alloc, body, text))
+fn body_word(alloc: Global, body: Body, text: &str) -> Words {
+    word(alloc, body_text(alloc, body, text))
 }
 
 #[test]
 fn answers_are_read(rt: HostRuntime) {
     for &(body, text, wanted) in answer_rows::ANSWERS {
-        says(&rt, text, told_word(rt.alloc(), body, text), wanted);
+        says(&rt, text, body_word(rt.alloc(), body, text), wanted);
     }
 }
 
-/// The limits of an account, how many requests it has made, and whether it has no tiers.
+// The limits of an account, how many requests it has made, and whether it has no tiers.
 fn limits_of(alloc: Global, text: &str) -> Result<(Limits, u64, bool), ReadError> {
     let read = read::<Account>(alloc, text)?;
     let copy = read.try_clone();
@@ -312,7 +312,7 @@ fn limits_of(alloc: Global, text: &str) -> Result<(Limits, u64, bool), ReadError
     Ok((limits, total, has_no_tiers))
 }
 
-/// The limits that the account tells.
+// The limits that the account tells.
 fn limits() -> Limits {
     Limits {
         max_storage: Some(10),

@@ -23,12 +23,12 @@ enum LinkCall {
     State,
 }
 
-/// The body of a message.
+// The body of a message.
 fn body(alloc: Global, message: &Message) -> Result<String, OutOfMemory> {
     Ok(String::from_utf8_lossy(alloc, message.payload.as_slice())?)
 }
 
-/// The same of a message that is let go of.
+// The same of a message that is let go of.
 fn owned_body(alloc: Global, message: Message) -> Result<String, OutOfMemory> {
     let text = body(alloc, &message);
     drop(message);
@@ -53,7 +53,7 @@ fn fresh_subject<L: Link>(alloc: Global, link: &mut L) -> Result<String, OutOfMe
     }
 }
 
-/// A number, or a refusal.
+// A number, or a refusal.
 fn number(alloc: Global, found: Result<u64, LinkError>) -> Result<String, OutOfMemory> {
     match found {
         Ok(number) => Ok(format!(in alloc; "{number}")?),
@@ -91,7 +91,7 @@ fn state<L: Link>(alloc: Global, link: &mut L) -> Result<String, OutOfMemory> {
     }
 }
 
-/// What one call answers.
+// What one call answers.
 fn called<L: Link>(alloc: Global, link: &mut L, call: LinkCall) -> Result<String, OutOfMemory> {
     match call {
         LinkCall::OpenInbox => open_inbox(alloc, link),
@@ -146,7 +146,7 @@ fn respond(
     link.respond(RequestId(request), Some(received(alloc, text, None, None)?))
 }
 
-/// What befalls a link, and nothing is told of it.
+// What befalls a link, and nothing is told of it.
 fn befalls(alloc: Global, link: &mut MemoryLink, event: Event) -> Result<(), OutOfMemory> {
     match event {
         Event::Call(_) => Ok(()),
@@ -164,7 +164,7 @@ fn befalls(alloc: Global, link: &mut MemoryLink, event: Event) -> Result<(), Out
     }
 }
 
-fn told(alloc: Global, link: &mut MemoryLink, event: Event) -> Result<String, OutOfMemory> {
+fn event_word(alloc: Global, link: &mut MemoryLink, event: Event) -> Result<String, OutOfMemory> {
     if let Event::Call(call) = event {
         return called(alloc, link, call);
     }
@@ -228,12 +228,17 @@ const EVENTS: &[(Event, &str)] = &[
 fn a_link_does_what_it_is_told(rt: HostRuntime) {
     let mut link = MemoryLink::new(rt.alloc(), "_INBOX.t").expect(&rt, "a link");
     for (place, (event, wanted)) in EVENTS.iter().enumerate() {
-        says_at(&rt, place, told(rt.alloc(), &mut link, *event), wanted);
+        says_at(
+            &rt,
+            place,
+            event_word(rt.alloc(), &mut link, *event),
+            wanted,
+        );
     }
     drop(link);
 }
 
-/// Whether the first thing that a link sent is a message to `a` with this reply, and with these headers.
+// Whether the first thing that a link sent is a message to `a` with this reply, and with these headers.
 fn is_kept(link: &MemoryLink, wanted: &HeaderMap) -> bool {
     match link.sent().first() {
         Some(
@@ -253,7 +258,7 @@ fn is_kept(link: &MemoryLink, wanted: &HeaderMap) -> bool {
     }
 }
 
-/// Whether a message is kept as it was handed in.
+// Whether a message is kept as it was handed in.
 fn keeps(alloc: Global, link: &mut MemoryLink) -> Result<bool, LinkError> {
     let mut headers = HeaderMap::new(alloc);
     headers.append(alloc, "A", "1")?;
@@ -261,7 +266,7 @@ fn keeps(alloc: Global, link: &mut MemoryLink) -> Result<bool, LinkError> {
     Ok(is_kept(link, &headers))
 }
 
-/// How many bytes a link sends at most, and how long its requests wait.
+// How many bytes a link sends at most, and how long its requests wait.
 fn limits(link: &MemoryLink) -> (u64, Option<u64>) {
     (link.max_payload(), link.request_timeout())
 }
@@ -301,7 +306,7 @@ fn script_all(alloc: Global, server: &mut ScriptedServer) -> Result<(), OutOfMem
     Ok(())
 }
 
-/// A server with that script.
+// A server with that script.
 fn serving(alloc: Global) -> Result<ScriptedServer, OutOfMemory> {
     let mut server = ScriptedServer::new(alloc, MemoryLink::new(alloc, "_INBOX.t")?);
     let scripted = script_all(alloc, &mut server);

@@ -131,7 +131,7 @@ fn acknowledgement_subjects_are_read(rt: HostRuntime) {
     same(&rt, "+7", read_u64("+7"), Some(7));
 }
 
-/// The sequence that a message tells, or what is printed of the refusal.
+// The sequence that a message tells, or what is printed of the refusal.
 fn place_of(alloc: Global, message: &Message) -> Result<String, OutOfMemory> {
     match message.info() {
         Ok(info) => {
@@ -159,13 +159,13 @@ const PLACES: &[(Option<&str>, &str)] = &[
     ),
 ];
 
-/// Whether that acknowledges to the reply subject.
+// Whether that acknowledges to the reply subject.
 fn acks_reply(alloc: Global, acker: &Acker) -> Result<bool, OutOfMemory> {
     let reply = reply_of(alloc, Some(REPLY))?;
     Ok(*acker == Acker::new(WAIT, reply))
 }
 
-/// Whether a message is split into one without its reply subject and what acknowledges to that.
+// Whether a message is split into one without its reply subject and what acknowledges to that.
 fn is_split(alloc: Global) -> Result<bool, OutOfMemory> {
     let (message, acker) = delivered(alloc, Some(REPLY))?.split();
     let has_reply = message.reply.is_some();
@@ -246,7 +246,7 @@ const SET: &[(&str, &str)] = &[
     ("A", "1"),
 ];
 
-/// A message whose name is set.
+// A message whose name is set.
 fn named(alloc: Global) -> Result<PublishMessage, OutOfMemory> {
     PublishMessage::build()
         .headers(HeaderMap::new(alloc))
@@ -254,7 +254,7 @@ fn named(alloc: Global) -> Result<PublishMessage, OutOfMemory> {
         .message_id(alloc, "x")
 }
 
-/// The same with all setters called.
+// The same with all setters called.
 fn with_all(alloc: Global) -> Result<PublishMessage, OutOfMemory> {
     let mut message = named(alloc)?;
     for &setter in SETTERS {
@@ -274,13 +274,13 @@ fn has_all(message: &OutboundMessage) -> bool {
     }
 }
 
-/// The body of a kind.
+// The body of a kind.
 fn body(alloc: Global, kind: AckKind) -> Result<String, OutOfMemory> {
     let body = kind.to_bytes(alloc)?;
     Ok(String::from_utf8_lossy(alloc, body.as_slice())?)
 }
 
-/// Asserts what the message with all setters called is.
+// Asserts what the message with all setters called is.
 fn says_all(rt: &impl Abort, message: &OutboundMessage) {
     same(rt, "subject", message.subject.as_str(), "events.a");
     same(rt, "payload", message.payload.as_slice(), b"a".as_slice());

@@ -105,8 +105,8 @@ fn ordered_push(alloc: Global, start_sequence: u64) -> Result<push::OrderedConfi
     })
 }
 
-/// A request to make or change a consumer. Its texts are made before, since a configuration that is alive where memory may be
-/// wanting costs minutes to prove.
+// A request to make or change a consumer. Its texts are made before, since a configuration that is alive where memory may be
+// wanting costs minutes to prove.
 fn request(action: Action, config: Config, stream_name: Text) -> CreateRequest {
     CreateRequest {
         action,
@@ -191,7 +191,7 @@ fn config_of(alloc: Global, text: &str) -> Result<Config, ReadError> {
     Config::from_value(alloc, &value)
 }
 
-/// Whether the general configuration of a configuration is that configuration again.
+// Whether the general configuration of a configuration is that configuration again.
 fn comes_back<C: FromConsumer + TryClone + PartialEq>(
     alloc: Global,
     config: C,
@@ -220,7 +220,7 @@ fn push_comes_back(alloc: Global) -> Result<bool, ReadError> {
     }
 }
 
-/// What is printed of the refusal of a general configuration as one of that kind.
+// What is printed of the refusal of a general configuration as one of that kind.
 fn refusal<C: FromConsumer>(alloc: Global, text: &str) -> Words {
     match C::try_from_consumer_config(config_of(alloc, text)?) {
         Ok(_) => Ok(String::from_str(alloc, "none")?),
@@ -294,7 +294,7 @@ fn kinds_of_consumers_are_told_apart(rt: HostRuntime) {
     }
 }
 
-/// Asserts that a policy is the default of its kind.
+// Asserts that a policy is the default of its kind.
 fn is_default<P: Debug + Default + PartialEq + Drop>(rt: &impl Abort, policy: P) {
     same(rt, "default", P::default(), policy);
 }

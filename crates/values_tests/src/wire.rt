@@ -37,7 +37,7 @@ fn description_text(description: &Option<Text>) -> &str {
     }
 }
 
-/// A status, and what is said of it.
+// A status, and what is said of it.
 fn status_word(
     alloc: Global,
     status: Option<StatusCode>,

@@ -2,12 +2,10 @@
 //! the server waits for its acknowledgement, and yet is delivered once.
 #![tactic(auto)]
 
-use jetstream::consumer::CreateConsumerOnStream;
 use jetstream::consumer::pull::{Config, Stream};
 use jetstream::context::ContextBuilder;
 use jetstream::prelude::*;
 use jetstream_testing::{Faults, TestServer};
-use std::alloc::Global;
 use std::sync::Wait;
 
 fn main(rt: HostRuntime) -> Result<(), AnyError> {
@@ -33,27 +31,14 @@ fn publish_and_work(
     done
 }
 
-/// Publishes ten jobs under four permits.
+/// Publishes ten jobs under four permits, and prints where each was stored.
 fn publish(
     rt: &(impl Wait + Print + AllocGlobal),
     link: &mut OutboxLink,
     server: &mut TestServer,
 ) -> Result<(), AnyError> {
     let builder = ContextBuilder::new(rt.alloc())?.max_ack_inflight(4);
-    let context = builder.build(rt, rt.alloc())?;
-    let mut queue = PublishQueue::new(rt.alloc(), context, seconds(5));
-    let done = publish_by(rt, &mut queue, link, server);
-    drop(queue);
-    done
-}
-
-/// Publishes ten jobs, and prints where each was stored.
-fn publish_by(
-    rt: &(impl Wait + Print + AllocGlobal),
-    queue: &mut PublishQueue,
-    link: &mut OutboxLink,
-    server: &mut TestServer,
-) -> Result<(), AnyError> {
+    let mut queue = PublishQueue::new(rt.alloc(), builder.build(rt, rt.alloc())?, seconds(5));
     for number in 1..11_u64 {
         let job = format!(in rt.alloc(); "job {number}")?;
         queue.publish(rt.alloc(), "jobs.new", job.as_bytes(), 0)?;
@@ -65,56 +50,30 @@ fn publish_by(
                 println!(rt; "stored as {sequence}, {} in flight", queue.in_flight())?;
             }
             Next::End => break,
-            Next::Pending => {}
-            Next::OutOfMemory => {}
+            Next::Pending | Next::OutOfMemory => {}
         }
         server.serve(rt.alloc(), link, now)?;
     }
     Ok(())
 }
 
-/// Creates a consumer, and starts its worker.
+/// Creates a consumer, and starts its worker. The consumer hands out one job at a time, and waits
+/// thirty seconds for its acknowledgement.
 fn start(
     rt: &(impl Wait + AllocGlobal),
     link: &mut OutboxLink,
     server: &mut TestServer,
 ) -> Result<Worker<Stream>, AnyError> {
     let context = Context::new(rt, rt.alloc())?;
-    let creating = create(rt.alloc(), &context);
-    drop(context);
-    let consumer = answer(creating?, rt.alloc(), link, server)??;
-    let jobs = consumer.messages(rt.alloc(), link);
-    drop(consumer);
-    Ok(Worker::new(jobs?, seconds(30)))
-}
-
-/// The consumer hands out one job at a time, and waits thirty seconds for its acknowledgement.
-fn create(alloc: Global, context: &Context) -> Result<CreateConsumerOnStream<Config>, AnyError> {
-    let durable_name = Some(Text::from_str(alloc, "worker")?);
     let config = Config {
-        durable_name,
+        durable_name: Some(Text::from_str(rt.alloc(), "worker")?),
         ack_wait: seconds(30),
         max_ack_pending: 1,
-        ..Config::new(alloc)
+        ..Config::new(rt.alloc())
     };
-    Ok(context.create_consumer_on_stream(alloc, config, "jobs")?)
-}
-
-/// Polls a call until its answer is there.
-fn answer<S: State>(
-    call: S,
-    alloc: Global,
-    link: &mut OutboxLink,
-    server: &mut TestServer,
-) -> Result<S::Answer, AnyError> {
-    let mut call = Some(call);
-    for _ in 0..10 {
-        if let Next::Item(answer) = drive(&mut call, alloc, link, 100) {
-            return Ok(answer);
-        }
-        server.serve(alloc, link, 100)?;
-    }
-    Err(AnyError::own(alloc, "no answer"))
+    let creating = context.create_consumer_on_stream(rt.alloc(), config, "jobs")?;
+    let consumer = server.answer(rt.alloc(), link, creating, 100)??;
+    Ok(Worker::new(consumer.messages(rt.alloc(), link)?, seconds(30)))
 }
 
 /// Works off the jobs, one a minute, and prints each. It polls every ten seconds, so that the worker
@@ -147,6 +106,6 @@ fn tell(rt: &impl Print, job: Option<&Message>) -> Result<bool, AnyError> {
         Ok(info) => info.delivered,
         Err(error) => return Err(AnyError::from(error)),
     };
-    println!(rt; "did {:?}, delivery {delivered}", job.message.payload)?;
+    println!(rt; "did {:?}, delivery {delivered}", job.payload())?;
     Ok(true)
 }

@@ -17,7 +17,7 @@ fn main(rt: HostRuntime) -> io::Result<()> {
     for row in rows.lines(rt.alloc()) {
         let row = row?;
         println!(rt; "$ {row}")?;
-        let (line, bytes) = asked(&rt, row.as_str())?;
+        let (line, bytes) = words_and_input(&rt, row.as_str())?;
         let mut output = WriteSink::new(io::writer(&rt));
         let status = answered(&rt, rt.alloc(), line, bytes, &mut output)?;
         println!(rt; "{} {status}", status.exit_code())?;
@@ -26,7 +26,7 @@ fn main(rt: HostRuntime) -> io::Result<()> {
 }
 
 // The words, and what stands in the file.
-fn asked<'r>(rt: &HostRuntime, row: &'r str) -> io::Result<(&'r str, Vec<u8>)> {
+fn words_and_input<'r>(rt: &HostRuntime, row: &'r str) -> io::Result<(&'r str, Vec<u8>)> {
     match row.split_once(" < ") {
         Some((line, file)) => Ok((line, fs::read(rt, file)?)),
         None => Ok((row, Vec::new(rt.alloc()))),

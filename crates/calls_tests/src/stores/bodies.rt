@@ -7,8 +7,8 @@ mod requests;
 use crate::server::still;
 use crate::stores::script::{Asked, Reply};
 use crate::stores::server::{context, serving};
-use crate::tables::{add_line, paired, says};
-use crate::words::{Words, word};
+use crate::tables::{paired, says};
+use crate::words::{Words, add_line, word};
 use js_base::OutOfMemory;
 use js_call::State;
 use js_link::{ScriptedServer, Sent};
@@ -16,7 +16,7 @@ use keys::KEYS;
 use objects::OBJECTS;
 use std::alloc::Global;
 
-/// The last of these requests, with its body.
+// The last of these requests, with its body.
 fn last(alloc: Global, sent: &[Sent]) -> Words {
     match sent.last() {
         Some(
@@ -38,7 +38,7 @@ fn asked_of<S: State>(alloc: Global, server: &mut ScriptedServer, call: S) -> Wo
     last(alloc, server.link().sent())
 }
 
-/// The last request that the first poll of a call sends. The account that it may ask for first has an API of level 1, so that markers are asked for.
+// The last request that the first poll of a call sends. The account that it may ask for first has an API of level 1, so that markers are asked for.
 fn asked<S: State>(alloc: Global, call: Result<S, OutOfMemory>) -> Words {
     match call {
         Ok(call) => {
@@ -51,7 +51,7 @@ fn asked<S: State>(alloc: Global, call: Result<S, OutOfMemory>) -> Words {
     }
 }
 
-/// Adds a request.
+// Adds a request.
 fn add(lines: &mut String, request: Words) -> Result<(), OutOfMemory> {
     add_line(lines, request?.as_str())
 }
@@ -60,7 +60,7 @@ fn add(lines: &mut String, request: Words) -> Result<(), OutOfMemory> {
 fn buckets_of_keys_send_these_bodies(rt: HostRuntime) {
     let context = context(&rt, rt.alloc(), "$JS.API").expect(&rt, "context");
     for &keys in KEYS {
-        let told = keys.told(rt.alloc(), &context);
+        let told = keys.requests_text(rt.alloc(), &context);
         says(&rt, keys.bucket(), told, keys.requests());
     }
     drop(context);
@@ -70,7 +70,7 @@ fn buckets_of_keys_send_these_bodies(rt: HostRuntime) {
 fn buckets_of_objects_send_these_bodies(rt: HostRuntime) {
     let context = context(&rt, rt.alloc(), "$JS.API").expect(&rt, "context");
     for &objects in OBJECTS {
-        let told = objects.told(rt.alloc(), &context);
+        let told = objects.requests_text(rt.alloc(), &context);
         says(&rt, objects.bucket(), told, objects.requests());
     }
     drop(context);

@@ -47,7 +47,12 @@ fn updated(alloc: Global, context: &Context, server: &mut ScriptedServer, made: 
     polled(alloc, server, context.update_key_value(alloc, config))
 }
 
-fn put(alloc: Global, context: &Context, server: &mut ScriptedServer, made: Made) -> Words {
+fn created_or_updated(
+    alloc: Global,
+    context: &Context,
+    server: &mut ScriptedServer,
+    made: Made,
+) -> Words {
     let config = config(alloc, made)?;
     polled(
         alloc,
@@ -69,14 +74,14 @@ fn queried(alloc: Global, context: &Context, server: &mut ScriptedServer) -> Wor
 }
 
 impl ContextCase for Call {
-    fn told(self, alloc: Global, context: &Context, server: &mut ScriptedServer) -> Words {
+    fn outcome_text(self, alloc: Global, context: &Context, server: &mut ScriptedServer) -> Words {
         match self {
             Call::Account => queried(alloc, context, server),
             Call::Get(bucket) => got(alloc, context, server, bucket),
             Call::Delete(bucket) => removed(alloc, context, server, bucket),
             Call::Create(made) => created(alloc, context, server, made),
             Call::Update(made) => updated(alloc, context, server, made),
-            Call::Put(made) => put(alloc, context, server, made),
+            Call::Put(made) => created_or_updated(alloc, context, server, made),
         }
     }
 }
@@ -257,7 +262,7 @@ fn another_api_is_told(rt: HostRuntime) {
     drop(context);
 }
 
-/// What the making of a bucket comes to whose account is told at once, and whose stream is not within 200 nanoseconds.
+// What the making of a bucket comes to whose account is told at once, and whose stream is not within 200 nanoseconds.
 fn late_over(alloc: Global, context: &Context, server: &mut ScriptedServer) -> Words {
     let config = config(alloc, ("cfg", 0, None))?;
     polled_twice(alloc, server, context.create_key_value(alloc, config))

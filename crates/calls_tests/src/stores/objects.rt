@@ -40,7 +40,7 @@ fn removed(alloc: Global, context: &Context, server: &mut ScriptedServer, bucket
 }
 
 impl ContextCase for Call {
-    fn told(self, alloc: Global, context: &Context, server: &mut ScriptedServer) -> Words {
+    fn outcome_text(self, alloc: Global, context: &Context, server: &mut ScriptedServer) -> Words {
         match self {
             Call::Create(bucket) => created(alloc, context, server, bucket),
             Call::Get(bucket) => got(alloc, context, server, bucket),

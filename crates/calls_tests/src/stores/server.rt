@@ -37,7 +37,7 @@ pub(crate) fn serving(
     Ok(server)
 }
 
-/// Whether these requests were sent, and nothing else.
+// Whether these requests were sent, and nothing else.
 fn has_asked(sent: &[Sent], script: &[(Asked, Reply)]) -> bool {
     sent.len() == script.len()
         && sent
@@ -112,7 +112,7 @@ where
 
 /// A call of a context that is made and polled over a server.
 pub(crate) trait ContextCase: Copy {
-    fn told(self, alloc: Global, context: &Context, server: &mut ScriptedServer) -> Words;
+    fn outcome_text(self, alloc: Global, context: &Context, server: &mut ScriptedServer) -> Words;
 }
 
 /// A context whose requests wait for 200 nanoseconds.
@@ -126,18 +126,18 @@ pub(crate) fn context<R: Wait>(
     Ok(context)
 }
 
-fn told<C: ContextCase>(
+fn checked_outcome<C: ContextCase>(
     alloc: Global,
     context: &Context,
     call: C,
     script: &[(Asked, Reply)],
     server: &mut ScriptedServer,
 ) -> Words {
-    let text = call.told(alloc, context, server)?;
+    let text = call.outcome_text(alloc, context, server)?;
     asked_word(alloc, text, has_asked(server.link().sent(), script))
 }
 
-/// What a call comes to over a server that answers so. Where it asks anything else, that is told too.
+// What a call comes to over a server that answers so. Where it asks anything else, that is told too.
 fn outcome<C: ContextCase>(
     alloc: Global,
     context: &Context,
@@ -145,7 +145,7 @@ fn outcome<C: ContextCase>(
     script: &[(Asked, Reply)],
 ) -> Words {
     let mut server = serving(alloc, script)?;
-    let words = told(alloc, context, call, script, &mut server);
+    let words = checked_outcome(alloc, context, call, script, &mut server);
     drop(server);
     words
 }

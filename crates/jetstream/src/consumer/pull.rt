@@ -20,6 +20,10 @@
 //! **Closing.** `close` ends a reader and closes its inbox: what lies in it is lost, and requests
 //! that are open at the server expire by themselves. Dropping a reader leaves its inbox open: the
 //! server goes on delivering, and the link keeps what comes. A batch closes its inbox when it ends.
+ghost use Rattle.std.specs.Prelude.{◌≡◌};
+ghost use Rattle.jetstream.specs.Stream.{starting_at};
+
+use js_json::consumer::DeliverPolicy;
 pub use js_json::pull::{BatchConfig, Config, OrderedConfig};
 pub use js_readers::ordered::pull::Ordered;
 pub use js_readers::ordered::{OrderedError, OrderedErrorKind, OrderedPullCalls};
@@ -28,3 +32,15 @@ pub use js_readers::pull::{
     BatchRequestErrorKind, FetchBuilder, MessagesError, MessagesErrorKind, PullCalls, Sequence,
     Stream, StreamBuilder,
 };
+use std::alloc::Global;
+
+/// Returns the configuration of an ordered consumer that begins at this sequence; 1 reads the whole
+/// stream. All else is as in `OrderedConfig::new`. Allocates no memory.
+pub fn starting_at(alloc: Global, start_sequence: u64) -> OrderedConfig
+    ensures { result ≡ starting_at start_sequence }
+{
+    OrderedConfig {
+        deliver_policy: DeliverPolicy::ByStartSequence { start_sequence },
+        ..OrderedConfig::new(alloc)
+    }
+}

@@ -75,10 +75,10 @@ pub(crate) fn fill(alloc: Global, mirror: &mut Mirror) -> Result<(), MirrorError
 }
 
 fn got(alloc: Global, mirror: &Mirror, sequence: u64) -> Answer {
-    Ok(slot_told(alloc, mirror.get(sequence))?)
+    Ok(slot_text(alloc, mirror.get(sequence))?)
 }
 
-fn slot_told(alloc: Global, slot: Slot<'_>) -> Result<String, AllocError> {
+fn slot_text(alloc: Global, slot: Slot<'_>) -> Result<String, AllocError> {
     match slot {
         Slot::Before => String::from_str(alloc, "before"),
         Slot::Message(entry) => format!(in alloc; "message {}", entry.subject),
@@ -92,18 +92,18 @@ fn served(alloc: Global, mirror: &Mirror, from: u64) -> Answer {
 }
 
 fn pushed(alloc: Global, mirror: &mut Mirror, sequence: u64) -> Answer {
-    Ok(told(alloc, mirror.push(entry(alloc, sequence)?))?)
+    Ok(outcome_text(alloc, mirror.push(entry(alloc, sequence)?))?)
 }
 
 fn merged_later(alloc: Global, mirror: &mut Mirror) -> Answer {
-    Ok(told(alloc, mirror.merge(&Mirror::new(alloc, 4)))?)
+    Ok(outcome_text(alloc, mirror.merge(&Mirror::new(alloc, 4)))?)
 }
 
 fn merged_differing(alloc: Global, mirror: &mut Mirror) -> Answer {
-    Ok(told(alloc, mirror.merge(&differing(alloc)?))?)
+    Ok(outcome_text(alloc, mirror.merge(&differing(alloc)?))?)
 }
 
-/// A mirror with another entry 5.
+// A mirror with another entry 5.
 fn differing(alloc: Global) -> Result<Mirror, MirrorError> {
     let other = entry_with(alloc, 5, b"other")?;
     let mut mirror = Mirror::new(alloc, 3);
@@ -111,7 +111,7 @@ fn differing(alloc: Global) -> Result<Mirror, MirrorError> {
     Ok(mirror)
 }
 
-fn told(alloc: Global, outcome: Result<(), MirrorError>) -> Result<String, AllocError> {
+fn outcome_text(alloc: Global, outcome: Result<(), MirrorError>) -> Result<String, AllocError> {
     match outcome {
         Ok(()) => String::from_str(alloc, "done"),
         Err(error) => error.to_string(alloc),
@@ -128,7 +128,7 @@ fn a_mirror_answers_and_refuses(rt: HostRuntime) -> Result<(), Fail> {
     Ok(())
 }
 
-/// A mirror of start 1 with these entries.
+// A mirror of start 1 with these entries.
 fn holding(alloc: Global, sequences: &[u64]) -> Result<Mirror, MirrorError> {
     let mut mirror = Mirror::new(alloc, 1);
     for &sequence in sequences {
@@ -137,7 +137,7 @@ fn holding(alloc: Global, sequences: &[u64]) -> Result<Mirror, MirrorError> {
     Ok(mirror)
 }
 
-/// What two mirrors of start 1 hold together.
+// What two mirrors of start 1 hold together.
 fn merged(alloc: Global, ours: &[u64], theirs: &[u64]) -> Answer {
     let mut mirror = holding(alloc, ours)?;
     mirror.merge(&holding(alloc, theirs)?)?;

@@ -29,7 +29,7 @@ pub(crate) fn look(alloc: Global, seed: u64) -> Result<Findings, Fail> {
     join(alloc, &mut one, &mut other)
 }
 
-/// Looks at what two mirrors come to.
+// Looks at what two mirrors come to.
 fn join(alloc: Global, one: &mut Mirror, other: &mut Mirror) -> Result<Findings, Fail> {
     let has_holes = merge(one, other)?;
     let is_served_whole = is_served_whole(one)? && has_holes;
@@ -41,14 +41,14 @@ fn join(alloc: Global, one: &mut Mirror, other: &mut Mirror) -> Result<Findings,
     })
 }
 
-/// Joins another mirror, and answers whether the holes are the holes of both.
+// Joins another mirror, and answers whether the holes are the holes of both.
 fn merge(one: &mut Mirror, other: &Mirror) -> Result<bool, Fail> {
     let alone = one.serve(0, u64::MAX)?;
     one.merge(other)?;
     Ok(has_holes(one, &alone, other)?)
 }
 
-/// Whether its entries are served in pieces of seven.
+// Whether its entries are served in pieces of seven.
 fn is_served_whole(mirror: &Mirror) -> Result<bool, OutOfMemory> {
     let mut from = mirror.start();
     for piece in mirror.entries().chunks(7) {
@@ -63,7 +63,7 @@ fn is_served_whole(mirror: &Mirror) -> Result<bool, OutOfMemory> {
     Ok(true)
 }
 
-/// Whether what it lacks is a hole or lies beyond in the other, and is not among the entries that it had alone.
+// Whether what it lacks is a hole or lies beyond in the other, and is not among the entries that it had alone.
 fn has_holes(merged: &Mirror, alone: &[Entry], other: &Mirror) -> Result<bool, OutOfMemory> {
     for (first, last) in merged.holes()? {
         for sequence in first..=last {
@@ -82,7 +82,7 @@ fn is_there(mirror: &Mirror, sequence: u64) -> bool {
     }
 }
 
-/// Whether a mirror of what a replay of the relayed one hands out is the same.
+// Whether a mirror of what a replay of the relayed one hands out is the same.
 fn comes_back(alloc: Global, mirror: &Mirror) -> Result<bool, Fail> {
     let events = mirror.relay(alloc, "events", "gen")?;
     let is_back = is_replayed(alloc, mirror, &events);
@@ -121,7 +121,7 @@ pub(crate) fn reader_from(alloc: Global, start: u64) -> OrderedSetup {
     OrderedSetup::Pull(config)
 }
 
-/// The mirror of a run's yields.
+// The mirror of a run's yields.
 fn mirror_of(alloc: Global, start: u64, run: &Run) -> Result<Mirror, Fail>
     requires { 0 < start }
 {

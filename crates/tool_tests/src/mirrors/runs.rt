@@ -10,14 +10,14 @@ use std::alloc::Global;
 use std::process::Abort;
 use std::test::Fail;
 
-/// The arrivals of entries 4, 5 and 9.
+// The arrivals of entries 4, 5 and 9.
 fn events(alloc: Global) -> Result<Vec<Event>, Fail> {
     let mut mirror = Mirror::new(alloc, 3);
     fill(alloc, &mut mirror)?;
     Ok(mirror.relay(alloc, "events", "gen")?)
 }
 
-/// The run that hands out entries 4, 5 and 9.
+// The run that hands out entries 4, 5 and 9.
 fn relayed(alloc: Global) -> Result<Run, Fail> {
     let events = events(alloc)?;
     let run = replayed(alloc, 3, &events);
@@ -25,7 +25,7 @@ fn relayed(alloc: Global) -> Result<Run, Fail> {
     Ok(run?)
 }
 
-/// The same table, as the outputs come.
+// The same table, as the outputs come.
 fn advanced(alloc: Global, run: &Run) -> Result<Projection, Fail> {
     let mut table = RunProjection::new(alloc);
     advance(&mut table, run)?;
@@ -39,14 +39,14 @@ fn advance(table: &mut RunProjection, run: &Run) -> Result<(), Fail> {
     Ok(())
 }
 
-/// What is told of a table.
-fn told(alloc: Global, table: Projection) -> Result<String, OutOfMemory> {
-    let text = told_of(alloc, &table);
+// What is told of a table.
+fn owned_table_text(alloc: Global, table: Projection) -> Result<String, OutOfMemory> {
+    let text = table_text(alloc, &table);
     drop(table);
     text
 }
 
-fn told_of(alloc: Global, table: &Projection) -> Result<String, OutOfMemory> {
+fn table_text(alloc: Global, table: &Projection) -> Result<String, OutOfMemory> {
     let rows = table.matching(">")?.len();
     let mut text = format!(in alloc; "table up to {}: {rows} rows\n", table.last())?;
     if let Some(entry) = table.get("key.4") {
@@ -65,8 +65,12 @@ fn says_table(rt: &impl Abort, row: &str, told: Result<String, OutOfMemory>) -> 
 }
 
 fn says_both(rt: &impl Abort, alloc: Global, run: &Run) -> Result<(), Fail> {
-    says_table(rt, "at once", told(alloc, project(alloc, run)?))?;
-    says_table(rt, "as they come", told(alloc, advanced(alloc, run)?))
+    says_table(rt, "at once", owned_table_text(alloc, project(alloc, run)?))?;
+    says_table(
+        rt,
+        "as they come",
+        owned_table_text(alloc, advanced(alloc, run)?),
+    )
 }
 
 #[test]

@@ -15,7 +15,7 @@ use std::alloc::{AllocError, Global};
 use std::process::Abort;
 use std::test::Fail;
 
-/// Two sessions, of which the second starts after what the first has saved.
+// Two sessions, of which the second starts after what the first has saved.
 fn sessions(alloc: Global) -> Result<Vec<Session>, Fail> {
     let mut sessions = Vec::new(alloc);
     add(&mut sessions, session(alloc, 3, 1))?;
@@ -30,14 +30,14 @@ fn add<T: Drop>(list: &mut Vec<T>, made: Result<T, Fail>) -> Result<(), Fail> {
     }
 }
 
-/// The entries from a sequence on, among 4, 5 and 9.
+// The entries from a sequence on, among 4, 5 and 9.
 fn entries_from(alloc: Global, start: u64) -> Result<Vec<Entry>, Fail> {
     let mut mirror = Mirror::new(alloc, 3);
     fill(alloc, &mut mirror)?;
     Ok(mirror.serve(start, 3)?)
 }
 
-/// A mirror of these entries.
+// A mirror of these entries.
 fn mirror_with(alloc: Global, entries: Vec<Entry>) -> Result<Mirror, Fail> {
     let mut mirror = Mirror::new(alloc, 1);
     for entry in entries {
@@ -46,7 +46,7 @@ fn mirror_with(alloc: Global, entries: Vec<Entry>) -> Result<Mirror, Fail> {
     Ok(mirror)
 }
 
-/// The arrivals of the entries from a sequence on.
+// The arrivals of the entries from a sequence on.
 fn events_from(alloc: Global, start: u64) -> Result<Vec<Event>, Fail> {
     let mirror = mirror_with(alloc, entries_from(alloc, start)?)?;
     let events = mirror.relay(alloc, "events", "gen");
@@ -54,7 +54,7 @@ fn events_from(alloc: Global, start: u64) -> Result<Vec<Event>, Fail> {
     Ok(events?)
 }
 
-/// A session that starts at a sequence, and saves after the event at a place.
+// A session that starts at a sequence, and saves after the event at a place.
 fn session(alloc: Global, start: u64, saved: usize) -> Result<Session, Fail> {
     let lines = lines_of(alloc, events_from(alloc, start)?, saved)?;
     match replay_input(alloc) {
@@ -104,11 +104,11 @@ fn push_event(lines: &mut Items<Line>, event: Event, saves: bool) -> Result<(), 
     Ok(())
 }
 
-/// What the sessions come to from a bookmark on.
+// What the sessions come to from a bookmark on.
 fn run(alloc: Global, next: u64, sessions: &[Session]) -> Result<String, AllocError> {
     match run_sessions(alloc, next, sessions) {
         Ok(runs) => {
-            let text = runs_told(alloc, runs.as_slice());
+            let text = runs_text(alloc, runs.as_slice());
             drop(runs);
             text
         }
@@ -116,7 +116,7 @@ fn run(alloc: Global, next: u64, sessions: &[Session]) -> Result<String, AllocEr
     }
 }
 
-fn runs_told(alloc: Global, runs: &[SessionRun]) -> Result<String, AllocError> {
+fn runs_text(alloc: Global, runs: &[SessionRun]) -> Result<String, AllocError> {
     let mut text = String::new(alloc);
     for run in runs {
         writeln!(text, "committed {}, next {}", run.committed, run.next)?;
@@ -124,8 +124,8 @@ fn runs_told(alloc: Global, runs: &[SessionRun]) -> Result<String, AllocError> {
     Ok(text)
 }
 
-/// The same, told line by line.
-fn told(alloc: Global, sessions: &[Session]) -> Result<String, Fail> {
+// The same, told line by line.
+fn line_by_line(alloc: Global, sessions: &[Session]) -> Result<String, Fail> {
     let mut text = String::new(alloc);
     tell(alloc, &mut text, sessions)?;
     Ok(text)
@@ -241,7 +241,7 @@ fn says_both(rt: &impl Abort, alloc: Global, sessions: &[Session]) -> Result<(),
         let found = run(alloc, next, sessions)?;
         same(rt, wanted, found.as_str(), wanted);
     }
-    let found = told(alloc, sessions)?;
+    let found = line_by_line(alloc, sessions)?;
     same(rt, "line by line", found.as_str(), LINE_BY_LINE);
     Ok(())
 }

@@ -20,7 +20,7 @@ impl Tally {
         self.relayed = self.relayed.saturating_add(u64::from(seen.comes_back));
     }
 
-    fn told(&self, alloc: Global, seeds: u64) -> Result<String, AllocError> {
+    fn text(&self, alloc: Global, seeds: u64) -> Result<String, AllocError> {
         let Tally {
             merged,
             served,
@@ -32,13 +32,13 @@ impl Tally {
     }
 }
 
-/// Looks at the mirrors of each number below `seeds`.
+// Looks at the mirrors of each number below `seeds`.
 fn look_at_all(alloc: Global, seeds: u64) -> Result<String, Fail> {
     let mut tally = Tally::default();
     for seed in 0..seeds {
         tally.add(look(alloc, seed)?);
     }
-    Ok(tally.told(alloc, seeds)?)
+    Ok(tally.text(alloc, seeds)?)
 }
 
 /// What is told of a thousand seeds.

@@ -21,7 +21,7 @@ enum Reader {
     Push(push::Ordered),
 }
 
-/// The scope of a consumer with these settings. The link is told how long a request waits where the scope leaves that to it.
+// The scope of a consumer with these settings. The link is told how long a request waits where the scope leaves that to it.
 fn scope_of(link: &mut MemoryLink, settings: Settings) -> ApiScope {
     let Settings {
         api_prefix,
@@ -40,7 +40,7 @@ fn scope_of(link: &mut MemoryLink, settings: Settings) -> ApiScope {
 }
 
 impl Reader {
-    /// Opens it by the call on its consumer.
+    // Opens it by the call on its consumer.
     fn open(alloc: Global, link: &mut MemoryLink, setup: Setup) -> Result<Reader, Fail> {
         let Setup {
             settings,
@@ -74,7 +74,7 @@ impl Reader {
     }
 }
 
-/// The next output but a recreation, of which a step has one at most.
+// The next output but a recreation, of which a step has one at most.
 fn next_shown<'a>(outputs: &mut Iter<'a, Output>) -> Option<&'a Output> {
     match outputs.next() {
         Some(Output::Recreate { .. }) => outputs.next(),
@@ -82,7 +82,7 @@ fn next_shown<'a>(outputs: &mut Iter<'a, Output>) -> Option<&'a Output> {
     }
 }
 
-/// Whether what was sent since so much was is what is put out next.
+// Whether what was sent since so much was is what is put out next.
 fn has_sent(sent: &[Sent], before: usize, outputs: &mut Iter<'_, Output>) -> bool {
     for one in sent.iter().skip(before) {
         if !is_sent(one, next_shown(outputs)) {
@@ -92,7 +92,7 @@ fn has_sent(sent: &[Sent], before: usize, outputs: &mut Iter<'_, Output>) -> boo
     true
 }
 
-/// Whether what a poll hands out is what is put out next, or none where it is and another poll follows.
+// Whether what a poll hands out is what is put out next, or none where it is and another poll follows.
 fn agreement(
     alloc: Global,
     next: &Next<Result<Message, OrderedError>>,
@@ -131,7 +131,7 @@ impl PolledConsumer {
         }
     }
 
-    /// Whether polls until it waits or has ended do just what a step of the replay puts out.
+    // Whether polls until it waits or has ended do just what a step of the replay puts out.
     fn agrees(&mut self, alloc: Global, now: Moment, step: &Step) -> bool {
         let mut outputs = step.outputs.as_slice().iter();
         for _ in 0..u64::MAX {
@@ -142,7 +142,7 @@ impl PolledConsumer {
         false
     }
 
-    /// Whether a poll does what is put out next, or none where it does and another poll follows.
+    // Whether a poll does what is put out next, or none where it does and another poll follows.
     fn polled(
         &mut self,
         alloc: Global,
@@ -156,7 +156,7 @@ impl PolledConsumer {
         agrees
     }
 
-    /// The same of what was sent since so much was, and of what a poll hands out.
+    // The same of what was sent since so much was, and of what a poll hands out.
     fn compared(
         &mut self,
         alloc: Global,
@@ -171,7 +171,7 @@ impl PolledConsumer {
         agreement(alloc, next, outputs)
     }
 
-    /// Whether it does what the replay puts out for an event.
+    // Whether it does what the replay puts out for an event.
     fn meets(&mut self, alloc: Global, event: Event, step: &Step) -> bool {
         let Event { at, what } = event;
         happen(&mut self.link, what).is_ok() && self.agrees(alloc, at, step)

@@ -53,7 +53,7 @@ pub(crate) fn is_sent(sent: &Sent, output: Option<&Output>) -> bool {
     }
 }
 
-/// Whether that is the message, with its place.
+// Whether that is the message, with its place.
 fn is_yield(message: &Message, output: Option<&Output>) -> bool {
     match (place_of(message), output) {
         (
@@ -76,7 +76,7 @@ fn is_yield(message: &Message, output: Option<&Output>) -> bool {
     }
 }
 
-/// The kind of item that a kind of error is. That there is no sequence to go on from is told by the end of a run, and three kinds never come.
+// The kind of item that a kind of error is. That there is no sequence to go on from is told by the end of a run, and three kinds never come.
 fn item_kind(kind: OrderedErrorKind) -> Option<ItemKind> {
     match kind {
         OrderedErrorKind::MissingHeartbeat => Some(ItemKind::MissingHeartbeat),
@@ -93,8 +93,8 @@ fn item_kind(kind: OrderedErrorKind) -> Option<ItemKind> {
     }
 }
 
-/// Whether a limit is told with what the server says of it. No other error has that to tell.
-fn is_explained(alloc: Global, error: &OrderedError) -> bool {
+// Whether a limit is told with what the server says of it. No other error has that to tell.
+fn has_limit_text(alloc: Global, error: &OrderedError) -> bool {
     if *error.kind() != OrderedErrorKind::RequestLimitExceeded {
         return true;
     }
@@ -113,7 +113,7 @@ pub(crate) fn is_handed(
     match (item, output) {
         (Ok(message), _) => is_yield(&message.message, output),
         (Err(error), Some(Output::Item { kind })) => {
-            item_kind(*error.kind()) == Some(*kind) && is_explained(alloc, error)
+            item_kind(*error.kind()) == Some(*kind) && has_limit_text(alloc, error)
         }
         _ => false,
     }

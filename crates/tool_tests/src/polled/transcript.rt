@@ -46,7 +46,7 @@ impl Replayed for Transcript {
     }
 }
 
-/// What the lines behind the first one say.
+// What the lines behind the first one say.
 fn read_lines(alloc: Global, payloads: &mut Payloads, text: &str) -> Result<Vec<Event>, Unread> {
     let mut events = Vec::new(alloc);
     let mut number: u64 = 2;

@@ -203,7 +203,7 @@ fn text_of_frame(alloc: Global, frame: &ClientFrame) -> Result<String, OutOfMemo
     }
 }
 
-/// What is written, or what is printed of the refusal.
+// What is written, or what is printed of the refusal.
 fn written(alloc: Global, said: Said) -> Result<String, OutOfMemory> {
     let frame = frame_of(alloc, said)?;
     let text = text_of_frame(alloc, &frame);

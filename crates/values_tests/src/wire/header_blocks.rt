@@ -59,7 +59,7 @@ fn owned_word(alloc: Global, block: HeaderBlock) -> Result<String, OutOfMemory> 
     said
 }
 
-/// What a block says, or what is wrong with it.
+// What a block says, or what is wrong with it.
 fn read(alloc: Global, bytes: &[u8]) -> Result<String, OutOfMemory> {
     match read_headers(alloc, bytes) {
         Ok(block) => owned_word(alloc, block),

@@ -71,7 +71,7 @@ fn message_word(alloc: Global, frame: ServerFrame) -> Result<String, OutOfMemory
     }
 }
 
-/// The message of the frame that a text begins with.
+// The message of the frame that a text begins with.
 fn received(alloc: Global, text: &str) -> Result<String, OutOfMemory> {
     match read_frame(alloc, text.as_bytes(), 45)? {
         Reading::Whole { frame, .. } => message_word(alloc, frame),

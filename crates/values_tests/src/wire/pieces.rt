@@ -30,7 +30,7 @@ fn next_word(alloc: Global, reader: &mut FrameReader) -> Result<String, OutOfMem
     }
 }
 
-/// Adds what comes next, if anything does.
+// Adds what comes next, if anything does.
 fn add_next(
     alloc: Global,
     reader: &mut FrameReader,
@@ -44,7 +44,7 @@ fn add_next(
     Ok(())
 }
 
-/// Pushes what the server writes in pieces, and reads behind each.
+// Pushes what the server writes in pieces, and reads behind each.
 fn add_pieces(
     alloc: Global,
     reader: &mut FrameReader,
@@ -61,7 +61,7 @@ fn add_pieces(
     Ok(())
 }
 
-/// Reads as often as there are frames.
+// Reads as often as there are frames.
 fn add_rest(
     alloc: Global,
     reader: &mut FrameReader,
@@ -73,7 +73,7 @@ fn add_rest(
     Ok(())
 }
 
-/// Pushes what is no frame, and reads twice.
+// Pushes what is no frame, and reads twice.
 fn add_damage(
     alloc: Global,
     reader: &mut FrameReader,
@@ -84,7 +84,7 @@ fn add_damage(
     add_next(alloc, reader, words)
 }
 
-/// What is read, a line each.
+// What is read, a line each.
 fn read_in_pieces(alloc: Global, size: usize) -> Result<String, OutOfMemory> {
     let mut reader = FrameReader::new(alloc, 0);
     let mut words = String::new(alloc);

@@ -172,7 +172,7 @@ fn whole_word(alloc: Global, frame: ServerFrame, length: usize) -> Result<String
     Ok(format!(in alloc; "{length} {said}")?)
 }
 
-/// What bytes begin with.
+// What bytes begin with.
 fn read(alloc: Global, bytes: &[u8], most: u64) -> Result<String, OutOfMemory> {
     match read_frame(alloc, bytes, most)? {
         Reading::More => word(alloc, "more"),
@@ -181,7 +181,7 @@ fn read(alloc: Global, bytes: &[u8], most: u64) -> Result<String, OutOfMemory> {
     }
 }
 
-/// All bytes but the last.
+// All bytes but the last.
 fn shortened(bytes: &[u8]) -> &[u8] {
     match bytes {
         [front @ .., _] => front,

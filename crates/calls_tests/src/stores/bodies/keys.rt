@@ -48,7 +48,7 @@ fn republish(alloc: Global) -> Result<Republish, OutOfMemory> {
     })
 }
 
-/// The API of another domain.
+// The API of another domain.
 fn external(alloc: Global) -> Result<External, OutOfMemory> {
     Ok(External {
         api_prefix: Text::from_str(alloc, "$JS.hub.API")?,
@@ -66,14 +66,14 @@ fn source(alloc: Global, bucket: &str, start_sequence: Option<u64>) -> Result<So
     })
 }
 
-/// The bucket of another domain.
+// The bucket of another domain.
 fn elsewhere(alloc: Global) -> Result<Source, OutOfMemory> {
     let (external, mut source) = both(external(alloc), source(alloc, "plain", None))?;
     replace_with(&mut source.external, Some(external));
     Ok(source)
 }
 
-/// One by the name of its bucket, and one by that of its stream.
+// One by the name of its bucket, and one by that of its stream.
 fn sources(alloc: Global) -> Result<Items<Source>, OutOfMemory> {
     let mut sources = Items::new(alloc);
     add_sources(alloc, &mut sources)?;
@@ -95,8 +95,11 @@ fn placement(alloc: Global) -> Result<Placement, OutOfMemory> {
     })
 }
 
-/// Puts there what was made.
-fn put<T: Drop>(place: &mut Option<T>, made: Result<T, OutOfMemory>) -> Result<(), OutOfMemory> {
+// Puts there what was made.
+fn set_place<T: Drop>(
+    place: &mut Option<T>,
+    made: Result<T, OutOfMemory>,
+) -> Result<(), OutOfMemory> {
     *place = Some(made?);
     Ok(())
 }
@@ -137,7 +140,7 @@ impl Keys {
         }
     }
 
-    /// Sets what is a number or a word.
+    // Sets what is a number or a word.
     fn set(self, config: &mut kv::Config) {
         match self {
             Keys::History => config.history = 64,
@@ -153,14 +156,14 @@ impl Keys {
         }
     }
 
-    /// Sets what takes memory.
+    // Sets what takes memory.
     fn fill(self, alloc: Global, config: &mut kv::Config) -> Result<(), OutOfMemory> {
         match self {
-            Keys::Republished => put(&mut config.republish, republish(alloc)),
-            Keys::Mirror => put(&mut config.mirror, source(alloc, "plain", None)),
-            Keys::Elsewhere => put(&mut config.mirror, elsewhere(alloc)),
-            Keys::Gathered => put(&mut config.sources, sources(alloc)),
-            Keys::Placed => put(&mut config.placement, placement(alloc)),
+            Keys::Republished => set_place(&mut config.republish, republish(alloc)),
+            Keys::Mirror => set_place(&mut config.mirror, source(alloc, "plain", None)),
+            Keys::Elsewhere => set_place(&mut config.mirror, elsewhere(alloc)),
+            Keys::Gathered => set_place(&mut config.sources, sources(alloc)),
+            Keys::Placed => set_place(&mut config.placement, placement(alloc)),
             _ => Ok(()),
         }
     }
@@ -184,7 +187,7 @@ impl Keys {
         asked(alloc, context.create_key_value(alloc, config))
     }
 
-    /// The same bucket in other words for people.
+    // The same bucket in other words for people.
     fn updated(self, alloc: Global, context: &Context) -> Words {
         let config = self.config(alloc, "a bucket that was changed")?;
         asked(alloc, context.update_key_value(alloc, config))
@@ -199,7 +202,7 @@ impl Keys {
     }
 
     /// The bucket is made, changed, got and deleted.
-    pub(crate) fn told(self, alloc: Global, context: &Context) -> Words {
+    pub(crate) fn requests_text(self, alloc: Global, context: &Context) -> Words {
         let mut lines = String::new(alloc);
         self.tell(alloc, context, &mut lines)?;
         Ok(lines)

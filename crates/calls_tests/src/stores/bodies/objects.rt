@@ -77,7 +77,7 @@ impl Objects {
     }
 
     /// The bucket is made, got and deleted.
-    pub(crate) fn told(self, alloc: Global, context: &Context) -> Words {
+    pub(crate) fn requests_text(self, alloc: Global, context: &Context) -> Words {
         let bucket = self.bucket();
         let mut lines = String::new(alloc);
         add(&mut lines, self.created(alloc, context))?;

@@ -1,14 +1,13 @@
 //! A worker of the queue: what it reads by, and the last job that it was given.
 
-use crate::queue::call_text::{done, outcome};
-use crate::queue::pushed::push_consumer;
-use crate::queue::reader::Reader;
-use crate::queue::renewal::Renewal;
-use crate::queue::server::{
+use crate::call_text::{done, outcome};
+use crate::pushed::push_consumer;
+use crate::reader::Reader;
+use crate::renewal::Renewal;
+use crate::server::{
     consumer, flow_control, job, limited_consumer, number, reply, stalled, status,
 };
-use crate::tables::numbered;
-use crate::words::{Words, word};
+use calls_tests::{Words, numbered, word};
 use js_base::{Message as Received, OutOfMemory};
 use js_call_consumers::PullConsumer;
 use js_json::consumer::PriorityPolicy;
@@ -41,7 +40,7 @@ pub(crate) trait Works: Drop {
     fn note_sent(&mut self);
 }
 
-/// The first word of a line, and what stands after it.
+// The first word of a line, and what stands after it.
 fn cut(line: &str) -> (&str, &str) {
     match line.split_once(' ') {
         Some(parts) => parts,
@@ -81,7 +80,7 @@ fn answered(alloc: Global, link: &mut MemoryLink, request: u64, rest: &str) -> W
     }
 }
 
-/// The server sends something, or its link changes.
+// The server sends something, or its link changes.
 fn serve(alloc: Global, link: &mut MemoryLink, verb: &str, rest: &str) -> Words {
     let (first, rest) = cut(rest);
     let number = number(first);
@@ -206,7 +205,7 @@ impl Worker {
         self.renewal.poll(alloc, &mut self.link)
     }
 
-    /// Has the consumer limited to so many messages and so many nanoseconds a request.
+    // Has the consumer limited to so many messages and so many nanoseconds a request.
     fn limit(&mut self, alloc: Global, rest: &str) -> Words {
         let (batch, expires) = cut(rest);
         match limited_consumer(alloc, number(batch), number(expires)) {
@@ -218,7 +217,7 @@ impl Worker {
         }
     }
 
-    /// Has the clients of the consumer pinned.
+    // Has the clients of the consumer pinned.
     fn pin(&mut self, alloc: Global) -> Words {
         self.consumer.config.priority_policy = PriorityPolicy::PinnedClient;
         word(alloc, "done")

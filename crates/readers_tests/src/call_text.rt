@@ -1,10 +1,14 @@
 //! What is told of a call.
 
-use crate::server::Answered;
-use crate::words::{Words, word};
+use calls_tests::{Words, word};
 use js_base::{Next, OutOfMemory, Turn};
 use std::alloc::Global;
 use std::fmt::Display;
+
+/// What a reader or a call answers, in a word.
+pub(crate) trait Answered {
+    fn word(&self, alloc: Global) -> Words;
+}
 
 /// That something was done.
 pub(crate) fn done(alloc: Global, outcome: Result<(), OutOfMemory>) -> Words {
@@ -41,7 +45,7 @@ pub(crate) fn opened<R: From<T> + Drop, T: Drop, E: Display + Drop>(
 }
 
 /// What a reader gives. A job is kept as the last one.
-pub(crate) fn given<J: Answered + Drop, E: Display + Drop>(
+pub(crate) fn reader_text<J: Answered + Drop, E: Display + Drop>(
     alloc: Global,
     last: &mut Option<J>,
     next: Next<Result<J, E>>,

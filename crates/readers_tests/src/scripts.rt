@@ -1,9 +1,9 @@
 //! Scripts for a worker of a queue, and what it answers and sends.
 
-use crate::queue::sent_text;
-use crate::queue::worker::{Worker, Works};
+use crate::sent_text;
 use crate::tables::says;
-use crate::words::Words;
+use crate::worker::{Worker, Works};
+use calls_tests::Words;
 use js_base::OutOfMemory;
 use js_link::Sent;
 use std::alloc::Global;
@@ -13,13 +13,13 @@ use std::process::Abort;
 type Row = (&'static str, &'static str);
 
 fn add_sent(alloc: Global, words: &mut String, sent: &Sent) -> Result<(), OutOfMemory> {
-    let sent = sent_text::told(alloc, sent)?;
+    let sent = sent_text::text_of(alloc, sent)?;
     words.push_str("\n> ")?;
     words.push_str(sent.as_str())?;
     Ok(())
 }
 
-/// The answer, and below it what was sent.
+// The answer, and below it what was sent.
 fn with_sent(alloc: Global, answer: String, sent: &[Sent]) -> Words {
     let mut words = answer;
     for sent in sent {
@@ -28,22 +28,22 @@ fn with_sent(alloc: Global, answer: String, sent: &[Sent]) -> Words {
     Ok(words)
 }
 
-/// What a worker answers to a line, and what is sent.
-fn told<W: Works>(alloc: Global, worker: &mut W, line: &str) -> Words {
+// What a worker answers to a line, and what is sent.
+fn answer_text<W: Works>(alloc: Global, worker: &mut W, line: &str) -> Words {
     let answer = worker.obey(alloc, line)?;
     let words = with_sent(alloc, answer, worker.newly_sent());
     worker.note_sent();
     words
 }
 
-/// Asserts what a worker answers and sends.
+// Asserts what a worker answers and sends.
 fn says_each<W: Works>(rt: &impl Abort, alloc: Global, worker: &mut W, rows: &[Row]) {
     for &(line, wanted) in rows {
-        says(rt, line, told(alloc, worker, line), wanted);
+        says(rt, line, answer_text(alloc, worker, line), wanted);
     }
 }
 
-/// The same of tables that one worker obeys one after the other.
+// The same of tables that one worker obeys one after the other.
 fn works<W: Works>(
     rt: &impl Abort,
     alloc: Global,
@@ -56,7 +56,7 @@ fn works<W: Works>(
     }
 }
 
-/// The same of a new worker.
+// The same of a new worker.
 fn new_one_works(rt: &impl Abort, alloc: Global, tables: &[&[Row]]) {
     works(rt, alloc, Worker::new(alloc), tables);
 }
@@ -76,6 +76,8 @@ const STREAMS: &[Row] = &[
         r#"done
 > publishes "" to $JS.ACK.jobs.c1.1.1.1.0.0"#,
     ),
+    ("wakes", "at 0"),
+    ("poll 1", "pending"),
     ("wakes", "at 30000000001"),
     ("poll 30000000001", "error: missed idle heartbeat"),
     ("stream", "done\n> subscribes to _INBOX.t.1"),
@@ -355,7 +357,7 @@ const PARTS: &[Row] = &[
     ("advance 2", "over"),
 ];
 
-/// In one test, since each table's inboxes are numbered after those of the tables before it.
+// In one test, since each table's inboxes are numbered after those of the tables before it.
 #[test]
 fn a_worker_reads_streams_batches_sequences_and_what_is_pushed(rt: HostRuntime) {
     let tables = &[STREAMS, BATCHES, SEQUENCES, PINNED, PUSHED];

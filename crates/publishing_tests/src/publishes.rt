@@ -1,8 +1,7 @@
 //! A context that publishes.
 
-use crate::server::{Reply, Words, message, word};
-use crate::tables::printed;
 use bytes::Bytes;
+use calls_tests::{Reply, Words, message, printed, word};
 use js_base::{HeaderMap, Message, OutOfMemory, Turn};
 use js_context::{Context, ContextBuilder, Sending};
 use js_link::Link;
@@ -15,7 +14,7 @@ pub(crate) const SECOND: u64 = 1_000_000_000;
 
 pub(crate) const STORED: Reply = (None, r#"{"stream":"TEST","seq":1}"#);
 
-/// What was made, or want of memory in place of why it was not.
+// What was made, or want of memory in place of why it was not.
 fn unless_refused<T: Drop, E: Drop>(made: Result<T, E>) -> Result<T, OutOfMemory> {
     match made {
         Ok(made) => Ok(made),
@@ -48,17 +47,17 @@ pub(crate) fn opened_limited<R: Wait>(
     unless_refused(builder.build(rt, alloc))
 }
 
-/// Why it was not sent.
+// Why it was not sent.
 fn refused<E: Display + Drop>(alloc: Global, error: E) -> Words {
     printed(alloc, &error)
 }
 
-/// That, where what was to be sent is let go.
+// That, where what was to be sent is let go.
 fn left<T: Drop>(_sending: T, told: Words) -> Words {
     told
 }
 
-/// Polls a publish once, and detaches its ack where it was sent.
+// Polls a publish once, and detaches its ack where it was sent.
 fn polled<R: Wait, L: Link>(
     rt: &R,
     alloc: Global,
@@ -89,7 +88,7 @@ pub(crate) fn published<R: Wait, L: Link>(
     polled(rt, alloc, context, link, sending)
 }
 
-/// Publishes once. Whether that waits.
+// Publishes once. Whether that waits.
 fn waits<R: Wait, L: Link>(
     rt: &R,
     alloc: Global,
@@ -122,7 +121,7 @@ fn headers(alloc: Global) -> Result<HeaderMap, OutOfMemory> {
     Ok(headers)
 }
 
-/// A message to `events.new` with one header of 24 bytes, and a payload so long.
+// A message to `events.new` with one header of 24 bytes, and a payload so long.
 fn sized(alloc: Global, len: usize) -> Result<OutboundMessage, OutOfMemory> {
     let payload = Bytes::from_vec(vec![in alloc; b'x'; len]?)?;
     let sized = PublishMessage::build()

@@ -1,6 +1,6 @@
 //! The push consumer of the work queue.
 
-use crate::queue::server::{api, info};
+use crate::server::{api, info};
 use js_base::{Nanos, OutOfMemory, Text, both};
 use js_call_consumers::PushConsumer;
 use js_json::consumer::Info;

@@ -1,8 +1,7 @@
 //! What a worker reads by.
 
-use crate::queue::call_text::{followed, given, opened};
-use crate::server::Answered;
-use crate::words::{Words, word};
+use crate::call_text::{Answered, followed, opened, reader_text};
+use calls_tests::{Words, word};
 use js_base::{Moment, Next, OutOfMemory};
 use js_call_consumers::{PullConsumer, PushConsumer};
 use js_json::pull::BatchConfig;
@@ -78,7 +77,7 @@ fn endless(
         .messages(alloc, link)
 }
 
-/// A stream of ten messages a request, opened by the scope and the info of its consumer.
+// A stream of ten messages a request, opened by the scope and the info of its consumer.
 fn opened_by_info(
     alloc: Global,
     consumer: &PullConsumer,
@@ -91,7 +90,7 @@ fn opened_by_info(
     Stream::open(alloc, link, &consumer.scope, &consumer.info, batch, false)
 }
 
-/// A stream for which everything is set.
+// A stream for which everything is set.
 fn set_stream(alloc: Global, consumer: &PullConsumer) -> Result<StreamBuilder<'_>, OutOfMemory> {
     consumer
         .stream()
@@ -105,7 +104,7 @@ fn set_stream(alloc: Global, consumer: &PullConsumer) -> Result<StreamBuilder<'_
         .group(alloc, "g")
 }
 
-/// The same of a batch that waits.
+// The same of a batch that waits.
 fn several(
     alloc: Global,
     consumer: &PullConsumer,
@@ -122,7 +121,7 @@ fn several(
         .group(alloc, "g")
 }
 
-/// A batch for which everything is set.
+// A batch for which everything is set.
 fn set_batch(
     alloc: Global,
     consumer: &PullConsumer,
@@ -229,9 +228,13 @@ impl Reader {
     ) -> Words {
         match self {
             Reader::Nothing => word(alloc, "nothing is read"),
-            Reader::Stream(stream) => given(alloc, last, stream.poll_next(alloc, link, now)),
-            Reader::Batch(batch) => given(alloc, last, batch.poll_next(link, now)),
-            Reader::Messages(messages) => given(alloc, last, messages.poll_next(alloc, link, now)),
+            Reader::Stream(stream) => reader_text(alloc, last, stream.poll_next(alloc, link, now)),
+            Reader::Batch(batch) => reader_text(alloc, last, batch.poll_next(link, now)),
+            Reader::Messages(messages) => reader_text(
+                alloc,
+                last,
+                messages.poll_next(alloc, link, now),
+            ),
             Reader::Sequence(sequence) => {
                 let next = sequence.poll_next(alloc, link, now);
                 followed(alloc, self, next)
@@ -251,8 +254,12 @@ impl Reader {
             return word(alloc, "no stream");
         };
         match stream.advance(alloc, link, now, None) {
-            Advance::Message(job) => given(alloc, last, Next::Item(Ok::<_, MessagesError>(job))),
-            Advance::Item(error) => given(alloc, last, Next::Item(Err(error))),
+            Advance::Message(job) => reader_text(
+                alloc,
+                last,
+                Next::Item(Ok::<_, MessagesError>(job)),
+            ),
+            Advance::Item(error) => reader_text(alloc, last, Next::Item(Err(error))),
             Advance::Closed => word(alloc, "closed"),
             Advance::Done => word(alloc, "over"),
             Advance::OutOfMemory => Err(OutOfMemory),

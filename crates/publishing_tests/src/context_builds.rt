@@ -1,7 +1,8 @@
 //! How contexts are built.
 
-use crate::server::{Answered, Words, found_word};
-use crate::tables::{numbered, printed, same, says};
+use crate::answers::{Answered, found_word};
+use crate::tables::{same, says};
+use calls_tests::{Words, numbered, printed};
 use js_base::OutOfMemory;
 use js_context::{BuildError, Context, ContextBuilder, No, ToAssign, Yes};
 use std::alloc::Global;
@@ -99,7 +100,7 @@ impl Answered for Context {
     }
 }
 
-/// The prefix and the timeout of a context, or why it is not built.
+// The prefix and the timeout of a context, or why it is not built.
 fn made_word<R: Wait>(rt: &R, alloc: Global, how: Made) -> Words {
     found_word(alloc, context_of(rt, alloc, how))
 }
@@ -116,7 +117,7 @@ const MADE: &[(Made, &str)] = &[
     (Made::AllSet("hub"), "$JS.hub.API 3"),
 ];
 
-/// What a context of a domain tells whose timeout was set.
+// What a context of a domain tells whose timeout was set.
 fn set<R: Wait>(rt: &R, alloc: Global) -> Words {
     let mut context = Context::with_domain(rt, alloc, "hub")?;
     context.set_timeout(7);

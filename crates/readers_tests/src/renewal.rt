@@ -1,9 +1,8 @@
 //! Asking anew what the server knows of the consumer.
 
-use crate::queue::call_text::turned;
-use crate::queue::server::consumer;
-use crate::server::Answered;
-use crate::words::{Words, word};
+use crate::call_text::{Answered, turned};
+use crate::server::consumer;
+use calls_tests::{Words, word};
 use js_base::OutOfMemory;
 use js_call::State;
 use js_call_consumers::{ConsumerCalls, InfoCall, PullConsumer, Reset};
@@ -48,7 +47,7 @@ impl<E: Display> Answered for (PullConsumer, Result<Info, E>) {
     }
 }
 
-/// A call that was begun takes the place of the one before.
+// A call that was begun takes the place of the one before.
 fn begun<R: From<S> + Drop, S: Drop, E: Drop>(
     renewal: &mut R,
     begun: Result<S, E>,

@@ -4,10 +4,11 @@ ghost use Rattle.std.specs.Prelude.{IfSome};
 ghost use Rattle.js_context.specs.AckFuture.{IsAwaitedBy};
 ghost use Rattle.js_context.specs.Context.{ContextView};
 
+use crate::answers::{Answered, found_word};
 use crate::publishes::{SECOND, STORED, answer_of, number, opened, published};
-use crate::server::{Answered, NOBODY, Reply, Words, found_word, message, word};
 use crate::tables::{joined, says, settled_word};
 use bytes::Bytes;
+use calls_tests::{NOBODY, Reply, Words, message, word};
 use js_base::{Message, Moment, Nanos, OutOfMemory, Turn};
 use js_context::{Context, PublishAckFuture, Sending};
 use js_json::PublishAck;
@@ -15,7 +16,7 @@ use js_link::{Link, MemoryLink, RequestId};
 use std::alloc::Global;
 use std::sync::Wait;
 
-/// Polls a publish once: its ack, where it was sent.
+// Polls a publish once: its ack, where it was sent.
 fn went<R: Wait, L: Link>(
     rt: &R,
     alloc: Global,
@@ -38,7 +39,7 @@ fn went<R: Wait, L: Link>(
     }
 }
 
-/// Publishes to `events.new`: its ack, where it was sent.
+// Publishes to `events.new`: its ack, where it was sent.
 fn sent<R: Wait, L: Link>(
     rt: &R,
     alloc: Global,
@@ -59,7 +60,7 @@ impl Answered for PublishAck {
     }
 }
 
-/// Detaches an ack that has no answer.
+// Detaches an ack that has no answer.
 fn detached(alloc: Global, context: &mut Context, future: PublishAckFuture) -> Words
     requires { IsAwaitedBy future context.old }
 {
@@ -67,7 +68,7 @@ fn detached(alloc: Global, context: &mut Context, future: PublishAckFuture) -> W
     word(alloc, "waits")
 }
 
-/// Polls an ack once, and detaches it where it has no answer.
+// Polls an ack once, and detaches it where it has no answer.
 fn end_of<R: Wait, L: Link>(
     rt: &R,
     alloc: Global,
@@ -85,7 +86,7 @@ fn end_of<R: Wait, L: Link>(
     }
 }
 
-/// Polls an ack that has no answer yet.
+// Polls an ack that has no answer yet.
 fn still<R: Wait, L: Link>(
     rt: &R,
     alloc: Global,
@@ -110,7 +111,7 @@ fn still<R: Wait, L: Link>(
     }
 }
 
-/// What an ack comes to whose message is answered so.
+// What an ack comes to whose message is answered so.
 fn ended<R: Wait>(
     rt: &R,
     alloc: Global,
@@ -154,7 +155,7 @@ fn answered_by<R: Wait>(
     settled_word(alloc, text?, context.acks_settled(rt))
 }
 
-/// What an ack comes to that is answered so. Where its permit is not free then, that is told too.
+// What an ack comes to that is answered so. Where its permit is not free then, that is told too.
 fn answered<R: Wait>(rt: &R, alloc: Global, reply: Option<Reply>) -> Words {
     let mut context = opened(rt, alloc, 1, true)?;
     let words = answered_by(rt, alloc, &mut context, reply);
@@ -206,8 +207,8 @@ pub(crate) fn awaited<R: Wait, L: Link>(
 /// The moments at which an ack is polled.
 type Moments = (Moment, Moment, Moment);
 
-/// What an ack without an answer comes to at the last of three moments, where it waits at the second. Before that one the
-/// context's timeout is set.
+// What an ack without an answer comes to at the last of three moments, where it waits at the second. Before that one the
+// context's timeout is set.
 fn waits_on<R: Wait, L: Link>(
     rt: &R,
     alloc: Global,
@@ -226,7 +227,7 @@ fn waits_on<R: Wait, L: Link>(
     }
 }
 
-/// The same, where it waits at the first of them too.
+// The same, where it waits at the first of them too.
 fn waits_from<R: Wait, L: Link>(
     rt: &R,
     alloc: Global,
@@ -244,8 +245,8 @@ fn waits_from<R: Wait, L: Link>(
     }
 }
 
-/// What an ack without an answer comes to at the last of three moments, where it waits at those before. After the first of them
-/// the context's timeout is set.
+// What an ack without an answer comes to at the last of three moments, where it waits at those before. After the first of them
+// the context's timeout is set.
 fn waits<R: Wait, L: Link>(
     rt: &R,
     alloc: Global,
@@ -260,7 +261,7 @@ fn waits<R: Wait, L: Link>(
     }
 }
 
-/// What two acks after one another come to.
+// What two acks after one another come to.
 fn both_wait<R: Wait, L: Link>(
     rt: &R,
     alloc: Global,
@@ -332,14 +333,14 @@ fn acks_are_out_of_time(rt: HostRuntime) {
     }
 }
 
-/// What the second context's publish comes to, and then the first request is answered.
+// What the second context's publish comes to, and then the first request is answered.
 fn meanwhile<R: Wait>(rt: &R, alloc: Global, second: &mut Context, link: &mut MemoryLink) -> Words {
     let early = published(rt, alloc, second, link, "events.new")?;
     link.respond(RequestId(1), Some(message(alloc, STORED)?))?;
     Ok(early)
 }
 
-/// What a second context's publish comes to while the first one's ack waits, and that ack at its answer.
+// What a second context's publish comes to while the first one's ack waits, and that ack at its answer.
 fn while_waiting<R: Wait>(
     rt: &R,
     alloc: Global,
@@ -355,7 +356,7 @@ fn while_waiting<R: Wait>(
     joined(alloc, early, end)
 }
 
-/// The same, where the first context's message is sent before.
+// The same, where the first context's message is sent before.
 fn after_sending<R: Wait>(
     rt: &R,
     alloc: Global,
@@ -369,7 +370,7 @@ fn after_sending<R: Wait>(
     }
 }
 
-/// The same, and what the second one's publish comes to afterwards.
+// The same, and what the second one's publish comes to afterwards.
 fn turns_of<R: Wait>(rt: &R, alloc: Global, first: &mut Context, second: &mut Context) -> Words {
     let mut link = MemoryLink::new(alloc, "_INBOX.t")?;
     let early = after_sending(rt, alloc, first, second, &mut link);

@@ -1,20 +1,20 @@
 //! The health that a queue of published messages tells.
 
 use crate::tables::says;
-use crate::words::Words;
+use calls_tests::Words;
 use js_context::Context;
 use js_context_queue::PublishQueue;
 use std::alloc::Global;
 use std::sync::Wait;
 
-/// What a queue tells after a message was pushed.
+// What a queue tells after a message was pushed.
 fn pushed(alloc: Global, queue: &mut PublishQueue) -> Words {
     queue.publish(alloc, "events.a", b"a", 7)?;
     let health = queue.health();
     Ok(format!(in alloc; "{health}")?)
 }
 
-fn told<R: Wait>(rt: &R, alloc: Global) -> Words {
+fn queue_health<R: Wait>(rt: &R, alloc: Global) -> Words {
     let context = Context::new(rt, alloc)?;
     let mut queue = PublishQueue::new(alloc, context, 9);
     let words = pushed(alloc, &mut queue);
@@ -27,7 +27,7 @@ fn a_queue_counts_what_it_holds(rt: HostRuntime) {
     says(
         &rt,
         "one message",
-        told(&rt, rt.alloc()),
+        queue_health(&rt, rt.alloc()),
         "pushed: 1; in flight: 0; unsent: 1, the first since 7 ns",
     );
 }

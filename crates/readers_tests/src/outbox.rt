@@ -1,10 +1,10 @@
 //! A link with a limit that refuses a pull request, and not the subscription before it.
 
-use crate::queue::call_text::opened;
-use crate::queue::reader::Reader;
-use crate::queue::server::consumer;
+use crate::call_text::opened;
+use crate::reader::Reader;
+use crate::server::consumer;
 use crate::tables::says;
-use crate::words::Words;
+use calls_tests::Words;
 use js_base::OutOfMemory;
 use js_call_consumers::PullConsumer;
 use js_link::LinkError;

@@ -1,8 +1,8 @@
 //! Contexts in two threads over one window.
 
 use crate::publishes::{STORED, opened, published};
-use crate::server::message;
 use crate::tables::same;
+use calls_tests::message;
 use js_base::OutOfMemory;
 use js_context::Context;
 use js_link::{MemoryLink, RequestId};
@@ -12,7 +12,7 @@ use std::sync::atomic::{AtomicU64, Ordering};
 use std::test::Fail;
 use std::thread;
 
-/// Waits until the other thread has come to that stage, for a long time at most.
+// Waits until the other thread has come to that stage, for a long time at most.
 fn wait_for(stage: &AtomicU64, number: u64) {
     for _ in 0..100_000_000u64 {
         if stage.load(Ordering::SeqCst) == number {
@@ -22,7 +22,7 @@ fn wait_for(stage: &AtomicU64, number: u64) {
     }
 }
 
-/// A message that is sent, whose ack is there and not reaped.
+// A message that is sent, whose ack is there and not reaped.
 fn send_and_answer<R: Wait>(
     rt: &R,
     alloc: Global,
@@ -34,7 +34,7 @@ fn send_and_answer<R: Wait>(
     link.respond(RequestId(1), Some(answer))
 }
 
-/// Holds the permit until the other thread has begun to wait, and then gives it back. How many were given back.
+// Holds the permit until the other thread has begun to wait, and then gives it back. How many were given back.
 fn give_back<R: Wait>(
     rt: &R,
     holder: &mut Context,
@@ -73,14 +73,14 @@ fn hold_by<R: Wait>(rt: &R, alloc: Global, holder: &mut Context, stage: &AtomicU
     }
 }
 
-/// Takes a permit, and gives it back once the other thread waits. How many were given back.
+// Takes a permit, and gives it back once the other thread waits. How many were given back.
 fn hold<R: Wait + AllocGlobal>(rt: &R, mut holder: Context, stage: &AtomicU64) -> u64 {
     let reaped = hold_by(rt, rt.alloc(), &mut holder, stage);
     drop(holder);
     reaped
 }
 
-/// Waits for the other thread's permit. Whether it was out at first, and all are free at the end.
+// Waits for the other thread's permit. Whether it was out at first, and all are free at the end.
 fn wait_by<R: Wait>(rt: &R, waiter: &mut Context, stage: &AtomicU64) -> bool {
     wait_for(stage, 1);
     if waiter.awaited() > 0 || waiter.detached_len() > 0 || waiter.acks_settled(rt) {

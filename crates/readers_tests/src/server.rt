@@ -1,6 +1,5 @@
 //! What the server side of the link says.
 
-use crate::server::scope;
 use bytes::Bytes;
 use js_base::{HeaderMap, Message, OutOfMemory, StatusCode, Subject, Text, TryClone, all_3};
 use js_call::ApiScope;
@@ -14,7 +13,7 @@ use std::alloc::Global;
 const INFO: &str =
     "{\"stream_name\":\"jobs\",\"name\":\"c1\",\"created\":\"2026-01-01T00:00:00Z\",\"config\":{\"deliver_policy\":\"all\",\"max_batch\":100},\"delivered\":{\"consumer_seq\":0,\"stream_seq\":0},\"ack_floor\":{\"consumer_seq\":0,\"stream_seq\":0},\"num_ack_pending\":0,\"num_redelivered\":0,\"num_waiting\":0,\"num_pending\":7}";
 
-/// An answer that is no error.
+// An answer that is no error.
 fn answered<T: Drop, E: Drop>(read: Result<Response<T>, E>) -> Result<T, OutOfMemory> {
     match read {
         Ok(Response::Ok(answer)) => Ok(answer),
@@ -29,10 +28,13 @@ pub(crate) fn info(alloc: Global) -> Result<Info, OutOfMemory> {
 
 /// Where the calls on the consumer go.
 pub(crate) fn api(alloc: Global) -> Result<ApiScope, OutOfMemory> {
-    scope(alloc, "$JS.API", None)
+    Ok(ApiScope {
+        prefix: Text::from_str(alloc, "$JS.API")?,
+        timeout: None,
+    })
 }
 
-/// What was made, where it could be.
+// What was made, where it could be.
 fn made<T: Drop, E: Drop>(made: Result<T, E>) -> Result<T, OutOfMemory> {
     match made {
         Ok(value) => Ok(value),
@@ -89,7 +91,7 @@ fn body(alloc: Global, payload: &str) -> Result<Body, OutOfMemory> {
     Ok((subject, Bytes::copy_from_slice(alloc, payload.as_bytes())?))
 }
 
-/// A message from the stream, or one that is no more than its payload.
+// A message from the stream, or one that is no more than its payload.
 fn stored(body: Body, reply: Option<Subject>, length: usize) -> Message {
     let (subject, payload) = body;
     Message {
@@ -124,7 +126,7 @@ pub(crate) fn job(
     Ok(stored(body(alloc, payload)?, Some(reply), payload.len()))
 }
 
-/// A message without a payload that says a status.
+// A message without a payload that says a status.
 fn said(
     body: Body,
     status: (u16, Text),

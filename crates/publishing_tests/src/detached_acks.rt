@@ -5,8 +5,8 @@ use crate::publishes::{
     SECOND, STORED, answer_of, number, opened, opened_limited, published, published_named,
     published_often, published_sized, published_with_headers,
 };
-use crate::server::{Reply, Words, word};
-use crate::tables::{add_line, says};
+use crate::tables::says;
+use calls_tests::{Reply, Words, add_line, word};
 use js_base::{Moment, OutOfMemory};
 use js_context::Context;
 use js_link::{Link, MemoryLink, RequestId};
@@ -38,7 +38,7 @@ enum Action {
     Sent,
 }
 
-/// Answers a request, or ends it without an answer.
+// Answers a request, or ends it without an answer.
 fn answer(alloc: Global, link: &mut MemoryLink, request: u64, reply: Option<Reply>) -> Words {
     let answer = answer_of(alloc, reply)?;
     link.respond(RequestId(request), answer)?;
@@ -55,7 +55,7 @@ fn limit(alloc: Global, link: &mut MemoryLink, most: u64) -> Words {
     word(alloc, "")
 }
 
-/// The actions of the link.
+// The actions of the link.
 fn befalls(alloc: Global, link: &mut MemoryLink, action: Action) -> Words {
     match action {
         Action::Answer(request, reply) => answer(alloc, link, request, reply),
@@ -103,7 +103,7 @@ fn done<R: Wait>(
     }
 }
 
-/// Adds what a action comes to, as a line.
+// Adds what a action comes to, as a line.
 fn add<R: Wait>(
     rt: &R,
     alloc: Global,
@@ -130,7 +130,7 @@ fn run_over<R: Wait>(
     Ok(words)
 }
 
-/// What a context comes to, action by action, each word with a line's end.
+// What a context comes to, action by action, each word with a line's end.
 fn run_in<R: Wait>(rt: &R, alloc: Global, context: &mut Context, actions: &[Action]) -> Words {
     let mut link = MemoryLink::new(alloc, "_INBOX.t")?;
     let words = run_over(rt, alloc, context, &mut link, actions);

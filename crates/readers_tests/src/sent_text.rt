@@ -1,7 +1,7 @@
 //! What is told of what was sent.
 
-use crate::words::Words;
 use bytes::Bytes;
+use calls_tests::Words;
 use js_base::{Subject, Text};
 use js_link::Sent;
 use std::alloc::Global;
@@ -29,7 +29,7 @@ fn published(alloc: Global, subject: &Subject, reply: &Option<Subject>, payload:
 }
 
 /// One thing that was sent.
-pub(crate) fn told(alloc: Global, sent: &Sent) -> Words {
+pub(crate) fn text_of(alloc: Global, sent: &Sent) -> Words {
     match sent {
         Sent::Subscribe { subject, group, .. } => subscribed(alloc, subject, group),
         Sent::Request {
