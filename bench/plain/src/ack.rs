@@ -1,10 +1,14 @@
 //! The reply subject of a message that JetStream delivered.
 
-/// The sequences that a reply subject tells.
+/// Where a message stands, as its reply subject tells it.
 #[derive(Clone, Copy, Debug, PartialEq, Eq)]
 pub struct Delivery {
     pub stream_sequence: u64,
     pub consumer_sequence: u64,
+    /// When the stream stored it, in nanoseconds since 1970.
+    pub published: i128,
+    /// How many messages are still to come.
+    pub pending: u64,
 }
 
 /// The nanoseconds since 1970 that an instant may have.
@@ -28,8 +32,8 @@ pub fn read_delivery(reply: &str) -> Option<Delivery> {
     let stream_sequence = tokens.next()?.parse().ok()?;
     let consumer_sequence = tokens.next()?.parse().ok()?;
     let published: i128 = tokens.next()?.parse().ok()?;
-    let _pending: u64 = tokens.next()?.parse().ok()?;
-    INSTANTS.contains(&published).then_some(Delivery { stream_sequence, consumer_sequence })
+    let pending = tokens.next()?.parse().ok()?;
+    INSTANTS.contains(&published).then_some(Delivery { stream_sequence, consumer_sequence, published, pending })
 }
 
 #[cfg(test)]
@@ -38,7 +42,7 @@ mod tests {
 
     #[test]
     fn reads_both_forms() {
-        let delivery = Some(Delivery { stream_sequence: 4, consumer_sequence: 7 });
+        let delivery = Some(Delivery { stream_sequence: 4, consumer_sequence: 7, published: 0, pending: 0 });
         assert_eq!(read_delivery("$JS.ACK.s.c.1.4.7.0.0"), delivery);
         assert_eq!(read_delivery("$JS.ACK._.a.s.c.1.4.+7.0.0"), delivery);
         assert_eq!(read_delivery("$JS.ACK.d.a.s.c.1.4.7.0.0.random.more"), delivery);

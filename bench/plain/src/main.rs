@@ -1,5 +1,6 @@
 //! `replay`, `project FILTER`, `mirror` and `relay STREAM NAME` in plain Rust: each reads a transcript from standard input and writes its text. `info CALLS SUBJECT` reads
 //! an acknowledgement subject so many times, and prints whether it reads. `poll MODE MESSAGES` has an ordered consumer hear so many messages, and prints how many it yields.
+//! `table CHANGES KEYS` has a live table of a bucket read so many changes, each of the next of so many keys, and prints how many it tells and how many entries it keeps.
 //!
 //! It is written from the repository's documents alone, with one `serde_json::Value` a line, and shares no line with the
 //! proved program. The bench measures the proved program against it, and compares what the two write.
@@ -15,6 +16,7 @@ mod push;
 mod recreation;
 mod replay;
 mod requests;
+mod table;
 mod text;
 mod transcript;
 
@@ -22,6 +24,7 @@ use logs::{Entry, NoLog};
 use names::is_valid_name;
 use std::hint::black_box;
 use std::io::{self, Read, Write};
+use std::num::NonZeroU64;
 use std::process::ExitCode;
 use transcript::{Setup, Transcript};
 
@@ -77,6 +80,7 @@ fn main() -> ExitCode {
         }
         [command, calls, subject] if command == "info" => info(calls, subject),
         [command, mode, messages] if command == "poll" => poll(mode, messages),
+        [command, changes, keys] if command == "table" => table(changes, keys),
         _ => Status::Usage,
     };
     if let Some(line) = status.line() {
@@ -138,6 +142,16 @@ fn batch(mode: &str) -> String {
 
 fn yields(run: &replay::Run) -> usize {
     run.outputs.iter().filter(|(_, output)| matches!(output, replay::Output::Yield { .. })).count()
+}
+
+/// Has a table read so many changes of so many keys.
+fn table(changes: &str, keys: &str) -> Status {
+    let (Ok(changes), Ok(keys)) = (changes.parse(), keys.parse::<NonZeroU64>()) else {
+        return Status::Usage;
+    };
+    let (told, kept) = table::read(changes, keys.get());
+    println!("{told} changes told, {kept} entries kept");
+    Status::Done
 }
 
 /// Reads the input to its end as a transcript.

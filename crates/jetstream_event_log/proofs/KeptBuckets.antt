@@ -6,7 +6,7 @@ use Rattle.js_store.specs.Kv.{history_of}
 use Rattle.js_store.specs.declared.kv.Config.{Config}
 use Rattle.js_store_table.specs.Removals.{KeepsLast}
 use Rattle.jetstream_event_log.specs.BucketLimits.{NothingExpires, bucket_limits}
-use Rattle.jetstream_event_log.specs.Places.{history_in}
+use Rattle.jetstream_event_log.specs.KeyPlaces.{history_in}
 
 without_value : {A : Type 0} (o : Option A) → is_some o ≡ false → o ≡ None
 without_value None none = refl

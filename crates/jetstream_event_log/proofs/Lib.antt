@@ -1,1 +1,2 @@
 pub mod KeptBuckets
+pub mod SessionYields

@@ -16,7 +16,7 @@ use Rattle.js_store_keys.specs.declared.entry.Entry.{Entry}
 use Rattle.js_store_table.specs.BucketLog.{AreOvertaken, IsBucketLog, TellYields, last_from}
 use Rattle.js_store_table.specs.Removals.{Limits, KeepsLast, LastStays, RemovesWithin}
 use Rattle.js_store_table.specs.TableRows.{KeyRows, IsTable}
-use Rattle.jetstream_event_log.specs.Places.{history_in}
+use Rattle.jetstream_event_log.specs.KeyPlaces.{history_in}
 
 -- ---- the limits of a stream
 

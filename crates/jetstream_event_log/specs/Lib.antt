@@ -1,3 +1,5 @@
 pub mod BucketLimits
 pub mod Entry
-pub mod Places
+pub mod KeyPlaces
+pub mod SessionRows
+pub mod TableReader

@@ -1,6 +1,6 @@
 //! Where the keys of a bucket are, taken from what a call on buckets returned.
 ghost use Rattle.std.specs.Prelude.{◌≡◌, IfOk};
-ghost use Rattle.jetstream_event_log.specs.Places.{api_prefix_in, history_in, places_in, reads_in};
+ghost use Rattle.jetstream_event_log.specs.KeyPlaces.{api_prefix_in, history_in, places_in, reads_in};
 
 use js_base::{OutOfMemory, Text, TryClone, all_4, both};
 use js_store::Store;
@@ -25,7 +25,7 @@ fn api_prefix(is_used: bool, prefix: &Text) -> Result<Option<Text>, OutOfMemory>
     }
 }
 
-fn history(limit: i64) -> u64
+fn kept_per_key(limit: i64) -> u64
     ensures { result ≡ history_in limit }
 {
     u64::try_from(limit).unwrap_or(0)
@@ -33,6 +33,10 @@ fn history(limit: i64) -> u64
 
 /// Returns where the keys of a bucket are, as a table and the messages of writes need it. Fails
 /// only with `OutOfMemory`.
+///
+/// It finds no key of a mirror of a bucket of the same API: the mirror keeps the messages under the
+/// subjects of the bucket that it copies, and `prefix` of its `Store` is another. Set `prefix` of
+/// what this returns to `$KV.`, the copied bucket's name and a dot.
 pub fn key_places(store: &Store) -> Result<KeyPlaces, OutOfMemory>
     ensures { IfOk result (λ places. places ≡ places_in store.now) }
 {
@@ -47,7 +51,7 @@ pub fn key_places(store: &Store) -> Result<KeyPlaces, OutOfMemory>
         prefix,
         put_prefix,
         api_prefix,
-        history: history(store.stream.info.config.max_messages_per_subject),
+        history: kept_per_key(store.stream.info.config.max_messages_per_subject),
     })
 }
 

@@ -29,7 +29,9 @@ mod key_places;
 pub mod mirror;
 pub mod projection;
 pub mod replay;
+mod session_rows;
 pub mod table;
+mod table_reader;
 
 pub use entry::entry_of_message;
 pub use js_base::Entry;

@@ -2,7 +2,7 @@
 use Rattle.std.proofs.Common.{◌≡◌, ℕ, zero, Bool, true, false, List, [], ◌∷◌, inl, inr, refl, subst, arith}
 use Rattle.js_store_keys.specs.declared.entry.Entry.{Entry}
 use Rattle.js_store_table.specs.BucketLog.{AreOvertaken, IsOvertaken, Overtake}
-use Rattle.js_store_table.specs.History.{changes_of}
+use Rattle.js_store_table.specs.KeyHistory.{changes_of}
 use Rattle.js_store_table.specs.Removals.{Limits, KeepsLast, LastStays, MayExpire, MayBeDropped, MayRemove, LimitsOvertake, LimitsKeepLast}
 use Rattle.js_store_table.specs.WorkedLimits.{two_kept, RemovesOvertaken, RemovesByAge}
 use Rattle.js_store_table.specs.WorkedLogs.{first_removed, three_changes, two_changes, last_one, put}

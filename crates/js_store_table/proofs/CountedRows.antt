@@ -7,7 +7,7 @@ use Rattle.std.specs.declared.alloc.Global.{Global}
 use Rattle.std.proofs.lemmas.List.{length-map}
 use Rattle.std.proofs.lemmas.List.Sums.{sum_by-cons, sum_by-le}
 use Rattle.js_store_keys.specs.declared.entry.Entry.{Entry}
-use Rattle.js_store_table.specs.History.{history_of, keys_of}
+use Rattle.js_store_table.specs.KeyHistory.{history_of, keys_of}
 use Rattle.js_store_table.specs.TableRows.{KeyRows, IsTable, count_of, kept_count, kept_in, most}
 use Rattle.js_store_table.proofs.Histories.{history_bounded}
 

@@ -9,7 +9,7 @@ use Rattle.std.proofs.lemmas.List.Sums.{fold_push}
 use Rattle.js_store_keys.specs.declared.operation.Operation.{Operation}
 use Rattle.js_store_keys.specs.declared.operation.Operation.TheVariants.{Put, Delete, Purge}
 use Rattle.js_store_keys.specs.declared.entry.Entry.{Entry}
-use Rattle.js_store_table.specs.History.{overtaken, with_entry, changes_of, history_of, keys_of}
+use Rattle.js_store_table.specs.KeyHistory.{overtaken, with_entry, changes_of, history_of, keys_of}
 use Rattle.js_store_table.specs.TableRows.{most}
 
 pub keys_push : (es : List Entry) (e : Entry) → keys_of (es ++ e ∷ []) ≡ insert_key (slice_cmp nat_cmp) (keys_of es) e.key

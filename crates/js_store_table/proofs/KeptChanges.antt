@@ -13,7 +13,7 @@ use Rattle.js_store_keys.specs.declared.entry.Entry.{Entry}
 use Rattle.js_store_keys.specs.declared.operation.Operation.{Operation}
 use Rattle.js_store_keys.specs.declared.operation.Operation.TheVariants.{Put, Delete, Purge}
 use Rattle.js_store_table.specs.BucketLog.{HasPurge, Overtake, IsOvertaken, KeepsTable}
-use Rattle.js_store_table.specs.History.{overtaken, with_entry, changes_of, history_of}
+use Rattle.js_store_table.specs.KeyHistory.{overtaken, with_entry, changes_of, history_of}
 use Rattle.js_store_table.specs.TableRows.{KeyRows, IsTable, most}
 use Rattle.js_store_table.proofs.Histories.{bounded_with}
 

@@ -5,7 +5,7 @@ use Rattle.std.specs.Option.{option_copied}
 use Rattle.std.specs.Str.{IsCharBoundary}
 use Rattle.std.specs.Str.Pattern.{FindsTextPrefix, StripsPrefix}
 use Rattle.std.proofs.lemmas.Str.Pattern.{starts_text}
-use Rattle.js_store_table.specs.Entry.{key_in}
+use Rattle.js_store_table.specs.MessageEntry.{key_in}
 
 pub key_cut : (prefix s : List ℕ) (r : Option (Bor (List ℕ)))
     → MatchOption r (FindsTextPrefix prefix s None) (λ x. StripsPrefix (FindsTextPrefix prefix) s x.now) → option_copied r ≡ key_in prefix s

@@ -9,3 +9,4 @@ pub mod NotedRows
 pub mod ShownKeys
 pub mod CountedRows
 mod WorkedTables
+pub mod IdleTables

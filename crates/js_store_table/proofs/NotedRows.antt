@@ -12,7 +12,7 @@ use Rattle.std.specs.BTreeMap.{insert_entry, is_at, get_by_text, IsOrdered, Upda
 use Rattle.std.specs.BTreeSet.{insert_key}
 use Rattle.std.proofs.lemmas.Map.Text.{btree_map_updates_text, text_cmp}
 use Rattle.js_store_keys.specs.declared.entry.Entry.{Entry}
-use Rattle.js_store_table.specs.History.{overtaken, with_entry}
+use Rattle.js_store_table.specs.KeyHistory.{overtaken, with_entry}
 use Rattle.js_store_table.specs.TableRows.{KeyRows, names, kept_in, entries_at, IsTable, Notes, IsSame}
 use Rattle.js_store_table.proofs.Histories.{keys_push, history_push}
 

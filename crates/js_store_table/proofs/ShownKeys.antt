@@ -6,7 +6,7 @@ use Rattle.std.specs.List.{cons_option}
 use Rattle.std.specs.Map.{keys_of as keys_of_pairs}
 use Rattle.std.specs.BTreeMap.{get}
 use Rattle.js_store_keys.specs.declared.entry.Entry.{Entry}
-use Rattle.js_store_table.specs.History.{history_of, last_of, is_shown, keys_matching}
+use Rattle.js_store_table.specs.KeyHistory.{history_of, last_of, is_shown, keys_matching}
 use Rattle.js_store_table.specs.TableRows.{KeyRows, kept_in, IsTable, shown_keys}
 
 shown_step : (b : Bool) (key : List ℕ) (rows all : List (List ℕ)) → rows ≡ all → cons_option (if b then Some key else None) rows ≡ cond b (key ∷ all) all

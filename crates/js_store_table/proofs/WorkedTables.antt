@@ -3,7 +3,7 @@ use Rattle.std.specs.Prelude.{◌≡◌, ℕ, pos, List, [], ◌∷◌, Some, No
 use Rattle.js_store_keys.specs.declared.operation.Operation.{Operation}
 use Rattle.js_store_keys.specs.declared.operation.Operation.TheVariants.{Put, Delete, Purge}
 use Rattle.js_store_keys.specs.declared.entry.Entry.{Entry}
-use Rattle.js_store_table.specs.History.{history_of, value_of, keys_matching}
+use Rattle.js_store_table.specs.KeyHistory.{history_of, value_of, keys_matching}
 
 abbrev entry : ℕ → Operation → List ℕ → List ℕ → Entry
 entry revision operation key value = record {

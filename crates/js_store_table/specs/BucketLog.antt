@@ -7,7 +7,7 @@ use Rattle.js_ordered_table.specs.Gapless as gapless
 use Rattle.js_ordered_table.specs.Texts.{configured_start}
 use Rattle.js_store_keys.specs.declared.entry.Entry.{Entry}
 use Rattle.js_store_keys.specs.declared.operation.Operation.TheVariants.{Purge}
-use Rattle.js_store_table.specs.History.{changes_of}
+use Rattle.js_store_table.specs.KeyHistory.{changes_of}
 use Rattle.js_store_table.specs.TableRows.{KeyRows, IsTable, most}
 
 -- ---- what was removed

@@ -1,6 +1,6 @@
 pub mod BucketLog
-pub mod Entry
-pub mod History
+pub mod MessageEntry
+pub mod KeyHistory
 pub mod Removals
 pub mod Resume
 pub mod TableRows

@@ -6,7 +6,7 @@ use Rattle.js_ordered_table.specs.Gapless.{Server, IsGapless}
 use Rattle.js_ordered_table.specs.Gapless as gapless
 use Rattle.js_ordered_table.specs.Texts.{configured_start}
 use Rattle.js_store_table.specs.BucketLog.{AreOvertaken, HasPurge, IsBucketLog, TellYields, last_from}
-use Rattle.js_store_table.specs.History.{changes_of}
+use Rattle.js_store_table.specs.KeyHistory.{changes_of}
 use Rattle.js_store_table.specs.TableRows.{KeyRows, IsTable}
 
 -- what the configuration of a stream says of the messages that its server removes

@@ -11,7 +11,7 @@ use Rattle.js_store_table.specs.declared.table_rows.Progress.{Progress}
 use Rattle.js_store_table.specs.declared.table.Table.{Table}
 use Rattle.js_store_table.specs.declared.table_error.TableError.{TableError}
 use Rattle.js_store_table.specs.declared.table_error.TableError.TheVariants.{Reader, NoEntry}
-use Rattle.js_store_table.specs.Entry.{told_by}
+use Rattle.js_store_table.specs.MessageEntry.{told_by}
 use Rattle.js_store_table.specs.TableRows.{at_entry}
 
 -- how an error is printed
@@ -82,3 +82,7 @@ due_with None below = below
 
 abbrev pub table_due : {R : Type 0} → (ℕ → R → Bool) → ℕ → Table R → Bool
 table_due due now t = due_with t.unread (due now t.reader)
+
+-- nothing has come for its reader
+abbrev pub IsTableQuiet : {R : Type 0} → (R → LinkView → Type 0) → Table R → LinkView → Type 0
+IsTableQuiet quiet t v = quiet t.reader v

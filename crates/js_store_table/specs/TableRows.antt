@@ -12,7 +12,7 @@ use Rattle.js_store_keys.specs.declared.entry.Entry.{Entry}
 use Rattle.js_store_table.specs.declared.message_entry.Untold.{Untold}
 use Rattle.js_store_table.specs.declared.table_rows.BucketKeys.{BucketKeys}
 use Rattle.js_store_table.specs.declared.table_rows.Progress.{Progress}
-use Rattle.js_store_table.specs.History.{with_entry, history_of, keys_of, last_of, is_shown}
+use Rattle.js_store_table.specs.KeyHistory.{with_entry, history_of, keys_of, last_of, is_shown}
 
 -- what is kept of each key
 abbrev pub KeyRows : Type 0

@@ -3,7 +3,7 @@ use Rattle.std.specs.Prelude.{ℕ, ◌≡◌, pos, List, [], ◌∷◌, codes}
 use Rattle.js_store_keys.specs.declared.entry.Entry.{Entry}
 use Rattle.js_store_keys.specs.declared.operation.Operation.TheVariants.{Put}
 use Rattle.js_store_table.specs.BucketLog.{AreOvertaken, KeepsTable}
-use Rattle.js_store_table.specs.History.{history_of, keys_of}
+use Rattle.js_store_table.specs.KeyHistory.{history_of, keys_of}
 
 -- a value of the key `mode`
 abbrev pub put : ℕ → List ℕ → Entry

@@ -1,12 +1,16 @@
 //! The entries that are kept for a key.
 ghost use Rattle.std.specs.Prelude.{◌≡◌, ◌≤◌, ◌∷◌, [], IfOk, OnOk, OnErr, drop, length};
 ghost use Rattle.std.specs.Option.{option_copied};
-ghost use Rattle.js_store_table.specs.History.{overtaken as overtaken_by, last_of, with_entry};
+ghost use Rattle.js_store_table.specs.KeyHistory.{overtaken as overtaken_by, last_of, with_entry};
 
 use js_base::OutOfMemory;
 use js_store_keys::{Entry, Operation};
-use std::alloc::Global;
+use std::alloc::{AllocError, Global};
 use std::marker::Model;
+
+/// How many entries a key's first memory has room for: all that a bucket ever needs that keeps one
+/// entry of a key, since the next one is added before the one that it overtakes goes.
+const FIRST_ROOM: usize = 2;
 
 /// The entries that are kept for a key, in the order in which they were returned. Contracts see
 /// their list.
@@ -50,9 +54,16 @@ impl KeyHistory {
     pub(crate) fn new(alloc: Global, entry: Entry) -> Result<KeyHistory, OutOfMemory>
         ensures { IfOk result (λ history. history ≡ entry ∷ []) }
     {
-        let mut entries = Vec::new(alloc);
-        entries.push(entry)?;
-        Ok(KeyHistory { entries })
+        match Vec::with_capacity(alloc, FIRST_ROOM) {
+            Ok(mut entries) => {
+                entries.push(entry)?;
+                Ok(KeyHistory { entries })
+            }
+            Err(AllocError) => {
+                drop(entry);
+                Err(OutOfMemory)
+            }
+        }
     }
 
     // Its entries.

@@ -2,7 +2,7 @@
 ghost use Rattle.std.specs.Prelude.{◌≡◌, IfOk, option_map};
 ghost use Rattle.std.specs.Option.{option_copied};
 ghost use Rattle.js_message.specs.Info.{shown};
-ghost use Rattle.js_store_table.specs.Entry.{Tells, entry_with, info_in as info_in_reply, key_in as key_in_subject, told_by};
+ghost use Rattle.js_store_table.specs.MessageEntry.{Tells, entry_with, info_in as info_in_reply, key_in as key_in_subject, told_by};
 
 use js_base::{Message, OutOfMemory, Subject, Text, TryClone, all_3};
 use js_message::{Info, parse_info};

@@ -2,21 +2,24 @@
 ghost use Rattle.std.specs.Prelude.{◌≡◌, ◌<◌, ◌^◌, ℕ, None};
 ghost use Rattle.js_base.specs.Clock.{has_come};
 ghost use Rattle.js_ordered_stream.specs.Inbox.{ClosesInbox};
+ghost use Rattle.js_readers.specs.Subscription.{IdlesIfQuiet, KeepsConnection};
 ghost use Rattle.js_store_table.specs.Resume.{GoesOn, resumed};
 ghost use Rattle.js_store_table.specs.TableRows.{Follows};
-ghost use Rattle.js_store_table.specs.Table.{PollsTable, ReadsNext, TellsMessage, progress_after, table_due, told_of};
+ghost use Rattle.js_store_table.specs.Table.{IsTableQuiet, PollsTable, ReadsNext, TellsAnswer, TellsMessage, progress_after, table_due, told_of};
 
 use crate::message_entry::Untold;
 use crate::table_error::TableError;
 use crate::table_rows::Rows;
 use js_base::{Message, Moment, Next, replace_with};
 use js_link::{InboxId, Link};
+use js_message::Message as Delivered;
+use js_readers::Subscription;
 use js_readers::ordered::OrderedReader;
 use js_store_keys::Entry;
 use std::alloc::Global;
 
 /// A live table of the keys of a bucket. It reads the bucket's stream in order, returns each
-/// change, and keeps the last entries of each key.
+/// change, and keeps the last entries of each key. It is itself a [`Subscription`], of entries.
 ///
 /// Call `close` when you are done with a table; dropping it leaves its reader's inbox open.
 #[derive(Drop)]
@@ -75,6 +78,9 @@ impl<R: OrderedReader> Table<R> {
     /// message that is not one of the bucket's is returned as `NoEntry`. If memory runs out for a
     /// message, `OutOfMemory` is returned, the rows are those of the changes returned so far, and
     /// the table keeps the message. The next poll returns it without looking at the link.
+    ///
+    /// After `Pending` you may sleep until something comes for the reader or `wakes_at` has come.
+    /// Polling earlier does nothing.
     pub fn poll_next<L: Link>(
         &mut self,
         alloc: Global,
@@ -85,6 +91,8 @@ impl<R: OrderedReader> Table<R> {
         ensures bucket { self.new.rows.bucket ≡ self.old.rows.bucket }
         ensures table { Follows self.old.rows.bucket.history self.old.rows.rows self.new.rows.rows (told_of result) }
         ensures progress { self.new.rows.progress ≡ progress_after self.old.rows.progress result }
+        ensures keeps { KeepsConnection (L.view link.old) (L.view link.new) }
+        ensures idles { IdlesIfQuiet (table_due R.due) (IsTableQuiet R.quiet) now self.old self.new (L.view link.old) (L.view link.new) result }
     {
         match self.unread.take() {
             Some(message) => self.tell(alloc, message),
@@ -104,8 +112,27 @@ impl<R: OrderedReader> Table<R> {
         ensures bucket { self.new.rows.bucket ≡ self.old.rows.bucket }
         ensures table { Follows self.old.rows.bucket.history self.old.rows.rows self.new.rows.rows (told_of result) }
         ensures progress { self.new.rows.progress ≡ progress_after self.old.rows.progress result }
+        ensures keeps { KeepsConnection (L.view link.old) (L.view link.new) }
+        ensures idles { IdlesIfQuiet (table_due R.due) (IsTableQuiet R.quiet) now self.old self.new (L.view link.old) (L.view link.new) result }
     {
-        match self.reader.poll_next(alloc, link, now) {
+        let answer = self.reader.poll_next(alloc, link, now);
+        self.tell_answer(alloc, answer)
+    }
+
+    // Tells what its reader answered.
+    fn tell_answer(
+        &mut self,
+        alloc: Global,
+        answer: Next<Result<Delivered, R::Error>>,
+    ) -> Next<Result<Entry, TableError<R::Error>>>
+        requires { self.old.unread ≡ None }
+        ensures tells { TellsAnswer self.old.rows.bucket answer self.new.unread result }
+        ensures reader { self.new.reader ≡ self.old.reader }
+        ensures bucket { self.new.rows.bucket ≡ self.old.rows.bucket }
+        ensures table { Follows self.old.rows.bucket.history self.old.rows.rows self.new.rows.rows (told_of result) }
+        ensures progress { self.new.rows.progress ≡ progress_after self.old.rows.progress result }
+    {
+        match answer {
             Next::Item(Ok(message)) => self.tell(alloc, message.message),
             Next::Item(Err(error)) => Next::Item(Err(TableError::Reader(error))),
             Next::Pending => Next::Pending,
@@ -188,5 +215,40 @@ impl<R: OrderedReader> Table<R> {
         drop(rows);
         drop(unread);
         reader.close(link);
+    }
+}
+
+impl<R: OrderedReader> Subscription for Table<R> {
+    type Item = Entry;
+
+    type Error = TableError<R::Error>;
+
+    ghost polls = { λ now old new before after result. PollsTable R.polls now old new before after result };
+
+    ghost due = { λ now t. table_due R.due now t };
+
+    ghost quiet = { λ t view. IsTableQuiet R.quiet t view };
+
+    ghost opened = { λ t. R.opened t.reader };
+
+    fn poll_next<L: Link>(
+        &mut self,
+        alloc: Global,
+        link: &mut L,
+        now: Moment,
+    ) -> Next<Result<Entry, TableError<R::Error>>> {
+        self.poll_next(alloc, link, now)
+    }
+
+    fn inbox(&self) -> Option<InboxId> {
+        self.inbox()
+    }
+
+    fn wakes_at(&self) -> Option<Moment> {
+        self.wakes_at()
+    }
+
+    fn close<L: Link>(self, link: &mut L) {
+        self.close(link);
     }
 }

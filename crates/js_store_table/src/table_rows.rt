@@ -3,8 +3,8 @@ ghost use Rattle.std.specs.Prelude.{◌≡◌, ◌==◌, ◌≤◌, ◌<◌, ◌
 ghost use Rattle.std.specs.Option.{option_copied};
 ghost use Rattle.std.specs.List.{cons_option};
 ghost use Rattle.js_store_keys.specs.declared.entry.Entry.{Entry};
-ghost use Rattle.js_store_table.specs.Entry.{Tells, told_by};
-ghost use Rattle.js_store_table.specs.History.{history_of, is_shown as is_shown_key, keys_matching, keys_of, valued as valued_entry, value_of};
+ghost use Rattle.js_store_table.specs.MessageEntry.{Tells, told_by};
+ghost use Rattle.js_store_table.specs.KeyHistory.{history_of, is_shown as is_shown_key, keys_matching, keys_of, valued as valued_entry, value_of};
 ghost use Rattle.js_store_table.specs.Resume.{resumed as resumed_with};
 ghost use Rattle.js_store_table.specs.TableRows.{Follows, IsTable, at_first, kept_count, keys_in, most, progress_by, shown_by, told_in};
 
@@ -216,6 +216,9 @@ impl Rows {
 
     /// Returns whether nothing was to come after the last entry, by that message's own count.
     /// Before the first entry, returns whether the bucket was empty when its consumer was created.
+    ///
+    /// If messages that were to come are removed before they are delivered, and no later one comes,
+    /// it stays false: as where values expire, or the stream is purged by a request.
     pub fn is_current(&self) -> bool
         ensures { result ≡ (self.now.progress.pending == 0) }
     {

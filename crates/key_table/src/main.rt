@@ -2,13 +2,13 @@
 //! the way; the fourth shows that, so the table's consumer is made anew.
 #![tactic(auto)]
 
-use jetstream::consumer::pull::{Ordered, OrderedConfig};
-use jetstream::consumer::{DeliverPolicy, Resilience};
+use jetstream::consumer::pull::Ordered;
 use jetstream::kv;
 use jetstream::message::OutboundMessage;
 use jetstream::prelude::*;
 use jetstream_event_log::table::{
-    Entry, KeyPlaces, Rows, Table, WriteError, create, delete, key_places, put, refusal_of, update,
+    Entry, KeyPlaces, Rows, Table, WriteError, create, delete, key_places, open_reader, put,
+    reader_config, refusal_of, update,
 };
 use jetstream_testing::{Faults, OneIn, TestServer};
 use std::alloc::Global;
@@ -49,69 +49,26 @@ fn open_bucket(
     link: &mut OutboxLink,
     server: &mut TestServer,
 ) -> Result<KeyPlaces, AnyError> {
-    let bucket = Text::from_str(rt.alloc(), "config")?;
     let context = Context::new(rt, rt.alloc())?;
-    let config = kv::Config {
-        bucket,
-        history: 5,
-        ..kv::Config::new(rt.alloc())
-    };
-    let creating = context.create_key_value(rt.alloc(), config);
-    drop(context);
-    let store = answer(creating?, rt.alloc(), link, server)??;
-    let places = key_places(&store);
-    drop(store);
-    Ok(places?)
+    let config = kv::named(rt.alloc(), "config", 5)?;
+    let creating = context.create_key_value(rt.alloc(), config)?;
+    let store = server.answer(rt.alloc(), link, creating, 0)??;
+    Ok(key_places(&store)?)
 }
 
-/// Opens a table of the bucket, which has no entry yet.
+/// Opens a table of the bucket, from its first entry on.
 fn open_table(
     rt: &(impl Wait + AllocGlobal),
     places: &KeyPlaces,
     link: &mut OutboxLink,
     server: &mut TestServer,
 ) -> Result<Table<Ordered>, AnyError> {
-    let reader = open_reader(rt, link, server)?;
-    match Rows::new(rt.alloc(), places, 0) {
-        Ok(rows) => Ok(Table::new(rows, reader)),
-        Err(error) => {
-            reader.close(link);
-            Err(AnyError::from(error))
-        }
-    }
-}
-
-fn open_reader(
-    rt: &(impl Wait + AllocGlobal),
-    link: &mut OutboxLink,
-    server: &mut TestServer,
-) -> Result<Ordered, AnyError> {
+    let rows = Rows::new(rt.alloc(), places, 0)?;
     let context = Context::new(rt, rt.alloc())?;
-    let config = OrderedConfig {
-        deliver_policy: DeliverPolicy::ByStartSequence { start_sequence: 1 },
-        ..OrderedConfig::new(rt.alloc())
-    };
-    let creating = context.create_consumer_on_stream(rt.alloc(), config, "KV_config");
-    drop(context);
-    let consumer = answer(creating?, rt.alloc(), link, server)??;
-    Ok(consumer.messages_with(rt.alloc(), link, Resilience::all())?)
-}
-
-/// Polls a call until its answer is there.
-fn answer<S: State>(
-    call: S,
-    alloc: Global,
-    link: &mut OutboxLink,
-    server: &mut TestServer,
-) -> Result<S::Answer, AnyError> {
-    let mut call = Some(call);
-    for _ in 0..10 {
-        if let Next::Item(answer) = drive(&mut call, alloc, link, 0) {
-            return Ok(answer);
-        }
-        server.serve(alloc, link, 0)?;
-    }
-    Err(AnyError::own(alloc, "no answer"))
+    let config = reader_config(rt.alloc(), places, rows.next_sequence())?;
+    let creating = context.create_consumer_on_stream(rt.alloc(), config, "KV_config")?;
+    let consumer = server.answer(rt.alloc(), link, creating, 0)??;
+    Ok(open_reader(rt.alloc(), link, consumer)?.table(rows))
 }
 
 /// Deliveries to the table are lost until the last write.
@@ -192,8 +149,7 @@ fn store(
                 Err(error) => println!(rt; "{:?}", refusal_of(1, error))?,
             },
             Next::End => break,
-            Next::Pending => {}
-            Next::OutOfMemory => {}
+            Next::Pending | Next::OutOfMemory => {}
         }
         server.serve(rt.alloc(), link, 0)?;
     }
@@ -209,15 +165,9 @@ fn follow(
 ) -> Result<(), AnyError> {
     for _ in 0..20 {
         match table.poll_next(rt.alloc(), link, 0) {
-            Next::Item(Ok(entry)) => {
-                let told = tell(rt, &entry);
-                drop(entry);
-                told?;
-            }
+            Next::Item(Ok(entry)) => tell(rt, &entry)?,
             Next::Item(Err(error)) => println!(rt; "{error}")?,
-            Next::Pending => {}
-            Next::End => {}
-            Next::OutOfMemory => {}
+            Next::Pending | Next::End | Next::OutOfMemory => {}
         }
         server.serve(rt.alloc(), link, 0)?;
     }
@@ -225,12 +175,9 @@ fn follow(
 }
 
 fn tell(rt: &impl Print, entry: &Entry) -> Result<(), AnyError> {
+    let (key, value) = (&entry.key, &entry.value);
     let (revision, operation) = (entry.revision, entry.operation);
-    println!(rt;
-        "change {revision}: {operation:?} {} {:?}",
-        entry.key, entry.value
-    )?;
-    Ok(())
+    Ok(println!(rt; "change {revision}: {operation:?} {key} {value:?}")?)
 }
 
 /// Prints each key that has a value.

@@ -145,7 +145,7 @@ fn answer_text(
     }
 }
 
-fn told(
+fn read_text(
     alloc: Global,
     places: &KeyPlaces,
     allow_direct: bool,
@@ -157,7 +157,7 @@ fn told(
     answer_text(alloc, answer)
 }
 
-fn told_direct(
+fn direct_answer_text(
     alloc: Global,
     places: &KeyPlaces,
     status: Option<u16>,
@@ -165,12 +165,16 @@ fn told_direct(
     payload: &str,
 ) -> Result<String, OutOfMemory> {
     let message = received(alloc, "_INBOX.t1.1", None, status, headers, payload)?;
-    told(alloc, places, true, message)
+    read_text(alloc, places, true, message)
 }
 
-fn told_stream(alloc: Global, places: &KeyPlaces, payload: &str) -> Result<String, OutOfMemory> {
+fn stream_answer_text(
+    alloc: Global,
+    places: &KeyPlaces,
+    payload: &str,
+) -> Result<String, OutOfMemory> {
     let message = received(alloc, "_INBOX.t1.1", None, None, &[], payload)?;
-    told(alloc, places, false, message)
+    read_text(alloc, places, false, message)
 }
 
 #[test]
@@ -191,14 +195,14 @@ fn a_key_is_asked_for(rt: HostRuntime) {
 fn answers_are_read(rt: HostRuntime) {
     let places = places(rt.alloc()).expect(&rt, "places");
     for (place, &(status, headers, payload, wanted)) in DIRECT.iter().enumerate() {
-        let found = told_direct(rt.alloc(), &places, status, headers, payload);
+        let found = direct_answer_text(rt.alloc(), &places, status, headers, payload);
         says_at(&rt, place, found, wanted);
     }
     for (place, &(payload, wanted)) in STREAM.iter().enumerate() {
         says_at(
             &rt,
             place,
-            told_stream(rt.alloc(), &places, payload),
+            stream_answer_text(rt.alloc(), &places, payload),
             wanted,
         );
     }

@@ -237,7 +237,7 @@ fn entry_text(alloc: Global, entry: &Entry) -> Result<String, OutOfMemory> {
     Ok(format!(in alloc; "{key}={value} {operation} {revision} of {delta}")?)
 }
 
-fn told(
+fn poll_text(
     alloc: Global,
     answer: Next<Result<Entry, TableError<OutOfMemory>>>,
 ) -> Result<String, OutOfMemory> {
@@ -269,7 +269,7 @@ fn keys(alloc: Global, rows: &Rows, filter: &str) -> Result<String, OutOfMemory>
     Ok(text)
 }
 
-/// What becomes of an update by the revision that the rows have, where the server says this of it.
+// What becomes of an update by the revision that the rows have, where the server says this of it.
 fn updated(alloc: Global, rows: &Rows, key: &str, says: &str) -> Result<String, OutOfMemory> {
     let revision = match rows.history(key).last() {
         Some(entry) => entry.revision,
@@ -303,7 +303,7 @@ fn answer(
     step: Step,
 ) -> Result<String, OutOfMemory> {
     match step {
-        Step::Poll => told(alloc, table.poll_next(alloc, link, 0)),
+        Step::Poll => poll_text(alloc, table.poll_next(alloc, link, 0)),
         Step::Get(key) => match table.rows().get(key) {
             Some(entry) => entry_text(alloc, entry),
             None => word(alloc, "none"),

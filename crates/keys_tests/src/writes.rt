@@ -77,8 +77,13 @@ fn message_text(alloc: Global, message: &OutboundMessage) -> Result<String, OutO
     Ok(text)
 }
 
-/// The text of a write's message, or what is printed of the refusal.
-fn told(alloc: Global, places: &KeyPlaces, write: Write, key: &str) -> Result<String, OutOfMemory> {
+// The text of a write's message, or what is printed of the refusal.
+fn write_text(
+    alloc: Global,
+    places: &KeyPlaces,
+    write: Write,
+    key: &str,
+) -> Result<String, OutOfMemory> {
     match written(alloc, places, write, key) {
         Ok(message) => {
             let text = message_text(alloc, &message);
@@ -93,7 +98,12 @@ fn told(alloc: Global, places: &KeyPlaces, write: Write, key: &str) -> Result<St
 fn a_write_is_one_message(rt: HostRuntime) {
     let places = places(rt.alloc()).expect(&rt, "places");
     for (place, &(write, key, wanted)) in MESSAGES.iter().enumerate() {
-        says_at(&rt, place, told(rt.alloc(), &places, write, key), wanted);
+        says_at(
+            &rt,
+            place,
+            write_text(rt.alloc(), &places, write, key),
+            wanted,
+        );
     }
     drop(places);
 }

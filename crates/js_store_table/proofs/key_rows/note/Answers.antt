@@ -2,7 +2,7 @@ use Rattle.std.proofs.Common.{◌≡◌, Some, sym, ap, ◌∙◌, subst}
 use Rattle.std.specs.Prelude.{string_cmp}
 use Rattle.std.specs.BTreeMap.{get_by_text, WritesThrough}
 use Rattle.std.proofs.lemmas.Map.Text.{text_cmp}
-use Rattle.js_store_table.specs.History.{with_entry}
+use Rattle.js_store_table.specs.KeyHistory.{with_entry}
 use Rattle.js_store_table.proofs.NotedRows.{noted_through, same_through, on_ok, on_err}
 use Rattle.js_store_table.proofs.key_rows.note.Goals as goal
 

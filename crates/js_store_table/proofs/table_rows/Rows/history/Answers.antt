@@ -1,5 +1,5 @@
 use Rattle.std.proofs.Common.{◌≡◌, ◌≤◌, length, sym, ap, ◌∙◌, subst}
-use Rattle.js_store_table.specs.History.{history_of}
+use Rattle.js_store_table.specs.KeyHistory.{history_of}
 use Rattle.js_store_table.specs.TableRows.{kept_in, most}
 use Rattle.js_store_table.proofs.Histories.{history_bounded}
 use Rattle.js_store_table.proofs.table_rows.Rows.history.Goals as goal
