@@ -47,6 +47,15 @@ def shut(*ends):
             pass
 
 
+def connected(port):
+    """A connection to a server of this machine, as soon as it takes one."""
+    while True:
+        try:
+            return socket.create_connection(("127.0.0.1", port))
+        except OSError:
+            time.sleep(0.05)
+
+
 class Relay:
     """Joins clients to a server, and cuts a connection once so many bytes of the server have passed."""
 
@@ -62,7 +71,7 @@ class Relay:
                 client, _ = self.listening.accept()
             except OSError:
                 return
-            server = socket.create_connection(("127.0.0.1", self.port))
+            server = connected(self.port)
             threading.Thread(target=self.carry, args=(client, server, None), daemon=True).start()
             left = random.randint(self.least, self.most)
             threading.Thread(target=self.carry, args=(server, client, left), daemon=True).start()
@@ -100,7 +109,7 @@ class Loser:
                 client, _ = self.listening.accept()
             except OSError:
                 return
-            server = socket.create_connection(("127.0.0.1", self.port))
+            server = connected(self.port)
             threading.Thread(target=Relay.carry, args=(client, server, None), daemon=True).start()
             threading.Thread(target=self.sieve, args=(server, client), daemon=True).start()
 

@@ -40,8 +40,12 @@ class Server:
     def __exit__(self, *_):
         self.stop()
 
+    def words(self):
+        """What it is started with, beside its address."""
+        return ["-js", "-sd", self.folder]
+
     def start(self):
-        words = [executable(), "-a", "127.0.0.1", "-p", str(self.port), "-js", "-sd", self.folder]
+        words = [executable(), "-a", "127.0.0.1", "-p", str(self.port), *self.words()]
         self.process = subprocess.Popen([*words, "-l", os.path.join(self.folder, "log")], start_new_session=True)
         last = time.monotonic() + PATIENCE
         while not self.answers():
@@ -72,3 +76,19 @@ class Server:
     def restart(self):
         self.stop()
         self.start()
+
+
+class Domain(Server):
+    """A server that is a JetStream domain of this name, and that others join as leaf nodes, or that joins another, as `leafnodes` says."""
+
+    def __init__(self, folder, name, leafnodes):
+        super().__init__(os.path.join(folder, name))
+        self.name = name
+        self.leafnodes = leafnodes
+
+    def words(self):
+        os.makedirs(self.folder, exist_ok=True)
+        path = os.path.join(self.folder, "conf")
+        with open(path, "w", encoding="utf-8") as it:
+            it.write(f'jetstream {{ domain: {self.name}, store_dir: "{self.folder}" }}\nleafnodes {{ {self.leafnodes} }}\n')
+        return ["-c", path]

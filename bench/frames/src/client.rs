@@ -10,6 +10,10 @@ const LONGEST_INFO: usize = 1_048_576;
 #[derive(Debug)]
 pub struct Damage;
 
+/// The message can't be published: its subject or its reply subject is none, or it is longer than the server takes.
+#[derive(Debug)]
+pub struct Refused;
+
 /// A message that came.
 #[allow(dead_code)]
 pub struct Message {
@@ -17,6 +21,8 @@ pub struct Message {
     pub reply: Option<String>,
     pub headers: Option<Vec<u8>>,
     pub payload: Vec<u8>,
+    /// The bytes of all of these.
+    pub length: usize,
 }
 
 /// A message that is to be sent.
@@ -85,12 +91,16 @@ impl Client {
         self.last
     }
 
-    pub fn publish(&mut self, subject: &str, reply: Option<&str>, payload: &[u8]) {
+    pub fn publish(&mut self, subject: &str, reply: Option<&str>, payload: &[u8]) -> Result<(), Refused> {
+        if !is_subject(subject) || !reply.is_none_or(is_subject) || payload.len() as u64 > self.most {
+            return Err(Refused);
+        }
         self.outgoing.push_back(Published {
             subject: subject.to_owned(),
             reply: reply.map(str::to_owned),
             payload: payload.to_vec(),
         });
+        Ok(())
     }
 
     /// Removes the first message of an inbox.
@@ -110,12 +120,13 @@ impl Client {
                 }
                 Frame::Message { subject, subscription, reply, headers, payload } => {
                     if let Some(inbox) = self.inboxes.get_mut(&subscription) {
-                        let (subject, reply) = (subject.to_owned(), reply.map(str::to_owned));
+                        let length = subject.len() + reply.map_or(0, str::len) + headers.map_or(0, <[u8]>::len) + payload.len();
                         inbox.push_back(Message {
-                            subject,
-                            reply,
+                            subject: subject.to_owned(),
+                            reply: reply.map(str::to_owned),
                             headers: headers.map(<[u8]>::to_vec),
                             payload: payload.to_vec(),
+                            length,
                         });
                     }
                 }
@@ -151,6 +162,11 @@ impl Client {
     pub fn sent(&mut self, count: usize) {
         self.out.next += count;
     }
+}
+
+/// Whether a text can stand as a subject in a line: it is not empty, has no white space, and neither begins nor ends with a dot.
+fn is_subject(text: &str) -> bool {
+    !text.is_empty() && !text.starts_with('.') && !text.ends_with('.') && !text.bytes().any(|it| it.is_ascii_whitespace())
 }
 
 /// The number behind `"max_payload":` in an INFO.

@@ -4,7 +4,7 @@
 
 mod client;
 
-use client::{Client, Damage};
+use client::{Client, Damage, Refused};
 use std::process::ExitCode;
 
 /// How many messages the server sends, or the client publishes, at once.
@@ -50,7 +50,7 @@ fn send(messages: u64) -> Result<usize, Damage> {
     let mut sent = 0;
     for _ in 0..messages / BATCH {
         for _ in 0..BATCH {
-            client.publish(SUBJECT, None, &payload);
+            client.publish(SUBJECT, None, &payload).map_err(|Refused| Damage)?;
         }
         client.write();
         let count = client.to_send().len();

@@ -12,6 +12,7 @@ exit_code failure.Usage = 2
 exit_code failure.Refused = 3
 exit_code failure.Fault = 4
 exit_code failure.OutOfMemory = 5
+exit_code failure.Unrecorded = 6
 
 -- an error of the connection: after damaged bytes, and where the server does not answer, another connection may serve
 abbrev pub failure_of : ConnectionError → Failure

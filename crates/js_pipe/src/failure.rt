@@ -21,6 +21,8 @@ pub enum Failure {
     /// A file, standard input, standard output or the clock failed.
     Fault,
     OutOfMemory,
+    /// All that was asked for is done, but its recording is not whole.
+    Unrecorded,
 }
 
 impl Failure {
@@ -34,6 +36,7 @@ impl Failure {
             Failure::Refused => 3,
             Failure::Fault => 4,
             Failure::OutOfMemory => 5,
+            Failure::Unrecorded => 6,
         }
     }
 }

@@ -1,14 +1,13 @@
 //! The command `consume`: the messages of a stream, in order and without a gap.
 
 ghost use Rattle.std.specs.Prelude.{◌≡◌, ◌<◌, [], OnOk};
+ghost use Rattle.std.specs.Io.KnownBytes.{Appends};
 
-use crate::consumers::{Opens, open, pull_config, push_config};
+use crate::consumers::{open_pull, open_push};
 use crate::read_progress::Reading;
 use crate::reader::Reads;
 use js_base::Next;
-use js_context::Context;
-use js_link::Link;
-use js_pipe::{Failure, Options, Session, tell, told};
+use js_pipe::{Failure, Options, Session, tell};
 use js_tool_io::Sink;
 use std::alloc::Global;
 use std::sync::Wait;
@@ -55,7 +54,26 @@ fn read_next<R: Clock + Eprint, P: Reads>(
     }
 }
 
-// Writes what was read and recorded, and sleeps until something comes.
+// Writes what is recorded, and then the lines of what was read: none is written before what it came
+// of is recorded. What is written does not depend on whether the reader records.
+fn write<R: Eprint, P: Reads, K: Sink>(
+    rt: &R,
+    alloc: Global,
+    reader: &mut P,
+    reading: &mut Reading,
+    output: &mut K,
+) -> Result<(), Failure>
+    ensures recorded { P.unwritten reader.new ≡ [] }
+    ensures printed { OnOk result (Appends (K.taken output.old) (K.taken output.new) reading.old.page.items) }
+    ensures empty { OnOk result (reading.new.page.items ≡ []) }
+    ensures written { OnOk result (reading.new.written ≡ reading.new.last) }
+    ensures left { reading.new.left ≡ reading.old.left }
+{
+    reader.keep(rt, alloc);
+    reading.write(output)
+}
+
+// Writes what was recorded and read, and sleeps until something comes.
 fn sleep<R: Clock + Wait + Eprint, P: Reads, K: Sink>(
     rt: &R,
     alloc: Global,
@@ -64,8 +82,7 @@ fn sleep<R: Clock + Wait + Eprint, P: Reads, K: Sink>(
     reading: &mut Reading,
     output: &mut K,
 ) -> Result<(), Failure> {
-    reading.write(output)?;
-    reader.keep(rt, alloc)?;
+    write(rt, alloc, reader, reading, output)?;
     drop(session.turn(rt, alloc, reader.wakes_at())?);
     Ok(())
 }
@@ -95,12 +112,14 @@ fn read<R: Clock + Wait + Eprint, P: Reads, K: Sink>(
     unreachable!()
 }
 
-/// Reads until all messages that are wanted came, and closes the reader. What was read and recorded
-/// is written whenever the program sleeps.
+/// Reads until all messages that are wanted came, and writes a line for each. What was recorded is
+/// written before it. Then closes the reader, and tells on standard error with which `--start` the
+/// next run goes on.
 ///
 /// # Errors
 ///
-/// Fails as [`consume`] does, and with `Fault` if the file of a recording can't be written.
+/// Fails as [`consume`] does, and with `Unrecorded` if all was read and written, but the reader's
+/// recording is not whole.
 pub fn read_and_close<R: Clock + Wait + Eprint, P: Reads, K: Sink>(
     rt: &R,
     alloc: Global,
@@ -110,85 +129,19 @@ pub fn read_and_close<R: Clock + Wait + Eprint, P: Reads, K: Sink>(
     output: &mut K,
 ) -> Result<(), Failure>
     ensures all { OnOk result (reading.new.left ≡ 0) }
+    ensures empty { OnOk result (reading.new.page.items ≡ []) }
+    ensures written { OnOk result (reading.new.written ≡ reading.new.last) }
 {
     let mut reader = reader;
     let ended = read(rt, alloc, session, &mut reader, reading, output);
-    let kept = reader.keep(rt, alloc);
-    reader.close(session.link());
-    ended?;
-    kept
-}
-
-// Creates a consumer, opens a reader of it, and reads.
-fn read_from<C: Opens, R: Clock + Wait + Eprint, K: Sink>(
-    rt: &R,
-    alloc: Global,
-    session: &mut Session,
-    config: C,
-    stream: &str,
-    reading: &mut Reading,
-    output: &mut K,
-) -> Result<(), Failure>
-    ensures all { OnOk result (reading.new.left ≡ 0) }
-{
-    let context = Context::new(rt, alloc)?;
-    let reader = open(rt, alloc, session, &context, config, stream);
-    drop(context);
-    read_and_close(rt, alloc, session, reader?, reading, output)
-}
-
-// Reads what the server delivers unasked.
-fn read_pushed<R: Clock + Wait + Eprint, K: Sink>(
-    rt: &R,
-    alloc: Global,
-    session: &mut Session,
-    options: &Options<'_>,
-    reading: &mut Reading,
-    output: &mut K,
-) -> Result<(), Failure>
-    ensures all { OnOk result (reading.new.left ≡ 0) }
-{
-    let subject = session.link().fresh_subject(alloc);
-    let subject = told(rt, subject, Failure::OutOfMemory)?;
-    let config = push_config(alloc, subject.as_str(), options);
-    drop(subject);
-    read_from(rt, alloc, session, config?, options.name, reading, output)
-}
-
-// Reads by the reader that the words ask for.
-fn read_all<R: Clock + Wait + Eprint, K: Sink>(
-    rt: &R,
-    alloc: Global,
-    session: &mut Session,
-    options: &Options<'_>,
-    reading: &mut Reading,
-    output: &mut K,
-) -> Result<(), Failure>
-    ensures all { OnOk result (reading.new.left ≡ 0) }
-{
-    if options.is_push {
-        return read_pushed(rt, alloc, session, options, reading, output);
-    }
-    let config = pull_config(alloc, options)?;
-    read_from(rt, alloc, session, config, options.name, reading, output)
-}
-
-/// Writes the lines that are left, and tells on standard error with which `--start` the next run goes
-/// on. Fails with `Fault` if the output fails.
-pub fn finish<R: Eprint, K: Sink>(
-    rt: &R,
-    reading: &mut Reading,
-    output: &mut K,
-) -> Result<(), Failure>
-    ensures empty { OnOk result (reading.new.page.items ≡ []) }
-    ensures written { OnOk result (reading.new.written ≡ reading.new.last) }
-    ensures left { reading.new.left ≡ reading.old.left }
-{
-    let written = reading.write(output);
+    let written = write(rt, alloc, &mut reader, reading, output);
+    let recorded = reader.close(rt, session.link());
     if let Some(next) = reading.bookmark() {
         let _ = eprintln!(rt; "go on with --start {next}");
     }
-    written
+    ended?;
+    written?;
+    recorded
 }
 
 /// Reads the messages that the words ask for, and writes a line for each. At its end it tells on
@@ -211,8 +164,10 @@ pub fn consume<R: Clock + Wait + Eprint, K: Sink>(
     ensures empty { OnOk result (reading.new.page.items ≡ []) }
     ensures written { OnOk result (reading.new.written ≡ reading.new.last) }
 {
-    let ended = read_all(rt, alloc, session, options, reading, output);
-    let written = finish(rt, reading, output);
-    ended?;
-    written
+    if options.is_push {
+        let reader = open_push(rt, alloc, session, options)?;
+        return read_and_close(rt, alloc, session, reader, reading, output);
+    }
+    let reader = open_pull(rt, alloc, session, options)?;
+    read_and_close(rt, alloc, session, reader, reading, output)
 }

@@ -1,16 +1,13 @@
 //! The consumers that are read, and how each is opened.
 
-use crate::reader::Reads;
-use js_base::{OutOfMemory, Text, both};
+use js_base::{OutOfMemory, Subject, Text, both};
 use js_call_consumers::Consumer;
 use js_context::Context;
 use js_json::consumer::{DeliverPolicy, FromConsumer};
 use js_json::{pull as pull_bodies, push as push_bodies};
-use js_link_outbox::OutboxLink;
+use js_link::Link;
 use js_pipe::{Failure, Options, Session, told};
-use js_readers::ordered::{
-    OrderedPullCalls, OrderedPushCalls, Resilience, StreamError, pull, push,
-};
+use js_readers::ordered::{OrderedPullCalls, OrderedPushCalls, Resilience, pull, push};
 use std::alloc::Global;
 use std::sync::Wait;
 use std::time::Clock;
@@ -50,59 +47,77 @@ pub fn push_config(
     Ok(config)
 }
 
-/// A configuration whose consumer can be read.
-pub trait Opens: FromConsumer {
-    type Reader: Reads;
-
-    /// Opens a reader of the consumer that was created.
-    fn opened(
-        consumer: Consumer<Self>,
-        alloc: Global,
-        link: &mut OutboxLink,
-    ) -> Result<Self::Reader, StreamError>;
-}
-
-impl Opens for pull_bodies::OrderedConfig {
-    type Reader = pull::Ordered;
-
-    fn opened(
-        consumer: Consumer<pull_bodies::OrderedConfig>,
-        alloc: Global,
-        link: &mut OutboxLink,
-    ) -> Result<pull::Ordered, StreamError> {
-        OrderedPullCalls::messages_with(consumer, alloc, link, Resilience::all())
-    }
-}
-
-impl Opens for push_bodies::OrderedConfig {
-    type Reader = push::Ordered;
-
-    fn opened(
-        consumer: Consumer<push_bodies::OrderedConfig>,
-        alloc: Global,
-        link: &mut OutboxLink,
-    ) -> Result<push::Ordered, StreamError> {
-        OrderedPushCalls::messages_with(consumer, alloc, link, Resilience::all())
-    }
-}
-
-/// Creates a consumer, and opens a reader of it.
-///
-/// # Errors
-///
-/// `Refused` if the server does not create it, or its reader can't be opened; otherwise as
-/// `Session::turn`.
-pub fn open<C: Opens, R: Clock + Wait + Eprint>(
+/// A subject that nobody else uses.
+pub fn fresh_subject<R: Eprint>(
     rt: &R,
     alloc: Global,
     session: &mut Session,
-    context: &Context,
+) -> Result<Subject, Failure> {
+    let subject = session.link().fresh_subject(alloc);
+    told(rt, subject, Failure::OutOfMemory)
+}
+
+/// Creates a consumer of a stream.
+///
+/// # Errors
+///
+/// `Refused` if the server does not create it; otherwise as `Session::turn`.
+pub fn create<C: FromConsumer, R: Clock + Wait + Eprint>(
+    rt: &R,
+    alloc: Global,
+    session: &mut Session,
     config: C,
     stream: &str,
-) -> Result<C::Reader, Failure> {
-    let call = context.create_consumer_on_stream(alloc, config, stream)?;
-    let created = session.answer(rt, alloc, call)?;
-    let consumer = told(rt, created, Failure::Refused)?;
-    let reader = C::opened(consumer, alloc, session.link());
+) -> Result<Consumer<C>, Failure> {
+    let context = Context::new(rt, alloc)?;
+    let call = context.create_consumer_on_stream(alloc, config, stream);
+    drop(context);
+    let created = session.answer(rt, alloc, call?)?;
+    told(rt, created, Failure::Refused)
+}
+
+/// Creates a pull consumer, and opens a reader of it.
+///
+/// # Errors
+///
+/// Fails as `create` does, and with `Refused` if its reader can't be opened.
+pub fn open_pull<R: Clock + Wait + Eprint>(
+    rt: &R,
+    alloc: Global,
+    session: &mut Session,
+    options: &Options<'_>,
+) -> Result<pull::Ordered, Failure> {
+    let config = pull_config(alloc, options)?;
+    let consumer = create(rt, alloc, session, config, options.name)?;
+    let reader = OrderedPullCalls::messages_with(
+        consumer,
+        alloc,
+        session.link(),
+        Resilience::all(),
+    );
+    told(rt, reader, Failure::Refused)
+}
+
+/// Creates a push consumer, and opens a reader of it.
+///
+/// # Errors
+///
+/// Fails as `create` does, and with `Refused` if its reader can't be opened.
+pub fn open_push<R: Clock + Wait + Eprint>(
+    rt: &R,
+    alloc: Global,
+    session: &mut Session,
+    options: &Options<'_>,
+) -> Result<push::Ordered, Failure> {
+    let subject = fresh_subject(rt, alloc, session)?;
+    let config = push_config(alloc, subject.as_str(), options);
+    drop(subject);
+    let consumer = create(rt, alloc, session, config?, options.name)?;
+    let reader = OrderedPushCalls::messages_with(
+        consumer,
+        alloc,
+        session.link(),
+        Resilience::all(),
+    );
     told(rt, reader, Failure::Refused)
 }
