@@ -47,15 +47,16 @@
 //!
 //! Then the turn exchanges messages with the server. Here that is a `TestServer` of the crate
 //! `jetstream_testing`, which tests and first programs use. With a real connection you write what
-//! [`link::OutboxLink::next_outgoing`] returns, in order, hand what the connection received to
+//! [`link::OutboxLink::first_outgoing`] returns, in order, take each with
+//! [`link::OutboxLink::next_outgoing`] once it is written, hand what the connection received to
 //! [`link::OutboxLink::deliver`], and wait for more or for the next moment; a
-//! [`connection::Connection`] does both over plain bytes.
+//! [`connection::Connection`] does both over plain bytes, and subscribes again after a loss.
 //!
 //! **Connection.** An [`link::OutboxLink`] starts as not connected. Call
 //! [`link::OutboxLink::set_state`] before you poll a reader and at every change: an ordered push
 //! consumer treats a missing connection as a lost consumer and recreates it. Call
-//! [`link::OutboxLink::set_limits`] with the longest body that the server's greeting allows, and
-//! [`link::OutboxLink::close`] when no connection will come again.
+//! [`link::OutboxLink::set_max_payload`] with the longest body that the server's greeting allows,
+//! and [`link::OutboxLink::close`] when no connection will come again.
 //!
 //! **Order.** Poll, then send all that the link has for you, then wait for the connection or for
 //! the next moment, then deliver what came, and poll again. A poll sees what was delivered before

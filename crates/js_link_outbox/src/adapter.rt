@@ -1,5 +1,6 @@
 //! What an adapter calls: it takes what is to be sent, and brings what came.
-ghost use Rattle.std.specs.Prelude.{◌≡◌, ◌++◌, ◌∷◌, [], ◌&&◌, None, Some, IfOk, OnErr, IfErr, is_some, length, string_bytes};
+ghost use Rattle.std.specs.Prelude.{◌≡◌, ◌++◌, ◌∷◌, [], ◌&&◌, None, Some, IfOk, OnErr, IfErr, is_some, length, slice_get, string_bytes};
+ghost use Rattle.std.specs.Option.{option_copied};
 ghost use Rattle.js_base.specs.Subject.{is_valid_subject};
 ghost use Rattle.js_link.specs.Calls.{Fails};
 ghost use Rattle.js_link_outbox.specs.Calls.{Brings, IsWantedBy, SendsNothing, TakesNext, closed_view, watch_after};
@@ -73,6 +74,15 @@ impl OutboxLink {
         ensures same { outbox_view self.new ≡ record (outbox_view self.old) { sent = (outbox_view self.new).sent } }
     {
         self.outgoing.pop_front()
+    }
+
+    /// Returns the first thing to send, or `None` if nothing is to be sent. It stays the first until
+    /// you take it with `next_outgoing`: write it, take it once that worked, and write it again if
+    /// that failed, so nothing is lost.
+    pub fn first_outgoing(&self) -> Option<&Outgoing>
+        ensures { option_copied result ≡ slice_get (outgoing self.now) 0 }
+    {
+        self.outgoing.front()
     }
 
     /// Returns how many things are to be sent.
@@ -156,14 +166,21 @@ impl OutboxLink {
         }
     }
 
-    /// Sets what `max_payload` and `request_timeout` return: the greatest length of a body with its
-    /// headers that the server accepts, in bytes, and how long a request waits by default, in
-    /// nanoseconds, or `None` if it waits for ever.
-    pub fn set_limits(&mut self, max_payload: u64, request_timeout: Option<Nanos>)
-        ensures view { outbox_view self.new ≡ record (outbox_view self.old) { max_payload = max_payload; request_timeout = request_timeout } }
+    /// Sets what `max_payload` returns: the greatest length of a body with its headers that the
+    /// server accepts, in bytes.
+    pub fn set_max_payload(&mut self, max_payload: u64)
+        ensures view { outbox_view self.new ≡ record (outbox_view self.old) { max_payload = max_payload } }
         ensures outgoing { SendsNothing self.old self.new }
     {
         self.max_payload = max_payload;
+    }
+
+    /// Sets what `request_timeout` returns: how long a request waits by default, in nanoseconds, or
+    /// `None` if it waits for ever.
+    pub fn set_request_timeout(&mut self, request_timeout: Option<Nanos>)
+        ensures view { outbox_view self.new ≡ record (outbox_view self.old) { request_timeout = request_timeout } }
+        ensures outgoing { SendsNothing self.old self.new }
+    {
         self.request_timeout = request_timeout;
     }
 

@@ -5,10 +5,13 @@
 //! Whoever owns the real connection, the *adapter*, does three things, in any order and as often as
 //! it likes:
 //!
-//! - It takes what is to be sent with [`OutboxLink::next_outgoing`], and writes it to the server.
+//! - It writes to the server what is to be sent: it takes each thing with
+//!   [`OutboxLink::next_outgoing`], or reads it with [`OutboxLink::first_outgoing`] and takes it once
+//!   it is written.
 //! - It hands over what the server sent with [`OutboxLink::deliver`].
-//! - It tells what it knows of the connection with [`OutboxLink::set_state`] and
-//!   [`OutboxLink::set_limits`], and its end with [`OutboxLink::close`].
+//! - It tells what it knows of the connection with [`OutboxLink::set_state`],
+//!   [`OutboxLink::set_max_payload`] and [`OutboxLink::set_request_timeout`], and its end with
+//!   [`OutboxLink::close`].
 //!
 //! The states are polled between these calls. Nothing in this crate waits, reads a clock, or knows
 //! the wire protocol.

@@ -26,6 +26,10 @@ pub(crate) const ANSWERS: u64 = 0;
 ///
 /// It cannot know beforehand whether a send will fail, so it does not tell whether it is up. Of what
 /// it sent it tells only what was not taken yet.
+///
+/// It does not keep the subjects of its subscriptions. If you reconnect after a loss, and so have to
+/// subscribe again, use the `Connection` of js_link_connection. It keeps which subject and queue
+/// group each open subscription has, and writes them again over the new connection.
 #[derive(Drop)]
 pub struct OutboxLink {
     /// What its own subjects begin with: the prefix of inboxes, a dot, the token, and a dot.

@@ -15,7 +15,8 @@ use std::alloc::Global;
 // A link that sends at most so many bytes at a time.
 fn limited(alloc: Global, max_payload: u64) -> Result<OutboxLink, LinkError> {
     let mut link = OutboxLink::new(alloc, "_INBOX", "t")?;
-    link.set_limits(max_payload, None);
+    link.set_max_payload(max_payload);
+    link.set_request_timeout(None);
     Ok(link)
 }
 
