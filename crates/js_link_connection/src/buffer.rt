@@ -1,6 +1,6 @@
 //! A buffer of bytes: appended at the end, removed from the front.
 
-ghost use Rattle.std.specs.Prelude.{◌≡◌, ◌≤◌, ◌++◌, ◌∷◌, [], None, length, drop, OnOk, OnErr, IfErr};
+ghost use Rattle.std.specs.Prelude.{◌≡◌, ◌≤◌, ◌++◌, ◌∷◌, [], None, length, drop, vec_len, OnOk, OnErr, IfErr};
 ghost use Rattle.js_link_wire.specs.Written.{written, refusal};
 ghost use Rattle.js_link_connection.specs.Errors.{IsUnwritten};
 
@@ -45,11 +45,11 @@ impl Buffer {
     }
 
     // Adds bytes behind the others.
-    pub(crate) fn push(&mut self, alloc: Global, bytes: &[u8]) -> Result<(), OutOfMemory>
+    pub(crate) fn push(&mut self, bytes: &[u8]) -> Result<(), OutOfMemory>
         ensures ok { OnOk result (self.new ≡ self.old ++ bytes.now) }
         ensures err { OnErr result (self.new ≡ self.old) }
     {
-        self.let_go(alloc)?;
+        self.let_go();
         self.held.extend_from_slice(bytes)?;
         Ok(())
     }
@@ -72,16 +72,15 @@ impl Buffer {
     }
 
     // Lets go of the bytes that are done with, if they are more than those that are left. So there are at most twice as many bytes
-    // as are left, and no more are copied than came.
-    pub(crate) fn let_go(&mut self, alloc: Global) -> Result<(), OutOfMemory>
+    // as are left, and no more are copied than came. The room of the bytes is kept for those to come.
+    pub(crate) fn let_go(&mut self)
         ensures { self.new ≡ self.old }
     {
         let left = self.held.len() - self.next;
         if self.next > left {
-            self.held = Vec::from_slice(alloc, &self.held[self.next..])?;
+            keep_from(&mut self.held, self.next);
             self.next = 0;
         }
-        Ok(())
     }
 
     // Is done with so many bytes more.
@@ -98,4 +97,14 @@ impl Buffer {
         self.held.clear();
         self.next = 0;
     }
+}
+
+// Moves the bytes from `start` on to the front, and removes the others.
+fn keep_from(bytes: &mut Vec<u8>, start: usize)
+    requires { start ≤ vec_len bytes.old }
+    ensures { bytes.new.items ≡ drop start bytes.old.items }
+{
+    let len = bytes.len();
+    bytes.copy_within(start..len, 0);
+    bytes.truncate(len - start);
 }

@@ -28,7 +28,8 @@ use std::alloc::Global;
 ///
 /// It owns the link over which this client's states are polled. It keeps that link, less than a
 /// whole frame of what came (more only after an error, until you call `received` again), the bytes
-/// to send, the open subscriptions, and the numbers of the requests that wait for an answer.
+/// to send, the open subscriptions, and the numbers of the requests that wait for an answer. The
+/// bytes that came and those to send keep the room of the most that there were.
 #[derive(Drop)]
 pub struct Connection {
     pub(crate) link: OutboxLink,
@@ -158,7 +159,7 @@ impl Connection {
         ensures link { TakesOnly self.old.link self.new.link }
         ensures same { self.new ≡ record self.old { link = self.new.link; writer = self.new.writer } }
     {
-        self.writer.out.let_go(alloc)?;
+        self.writer.out.let_go();
         self.writer.write_all(alloc, &mut self.link)
     }
 

@@ -11,12 +11,12 @@ use crate::error::ConnectionError;
 use crate::server_info::info_of;
 use crate::writer::{Phase, end_wait};
 use js_base::{Moment, OutOfMemory, State, Text, replace_with};
-use js_link::Link;
 use js_link_outbox::{Delivery, OutboxLink};
 use js_link_wire::{HeadersError, Incoming, Reading, ServerFrame, message_of_frame, read_frame};
 use std::alloc::Global;
 
 // Brings a message to whoever wants it.
+#[inline]
 fn bring(link: &mut OutboxLink, incoming: Incoming) -> Result<Delivery, OutOfMemory>
     ensures ok { IfOk result (λ delivery. Brought delivery incoming link.old link.new) }
     ensures err { OnErr result (IsSameLink link.old link.new) }
@@ -59,6 +59,7 @@ fn after_info(phase: Phase) -> Phase
 
 impl Connection {
     // Takes a message. Of another frame it takes nothing.
+    #[inline]
     fn take_message(&mut self, alloc: Global, frame: ServerFrame) -> Result<(), ConnectionError>
         ensures ok { OnOk result (TakesMessage frame self.old self.new) }
         ensures err { OnErr result (IsSame self.old self.new) }
@@ -90,6 +91,7 @@ impl Connection {
     }
 
     // Takes what the server says of itself.
+    #[cold]
     fn take_info(&mut self, alloc: Global, json: Text) -> Result<(), ConnectionError>
         ensures ok { OnOk result (Takes (frames.Info json) self.old self.new) }
         ensures err { OnErr result (IsSame self.old self.new) }
@@ -104,8 +106,7 @@ impl Connection {
         drop(json);
         match read {
             Ok(Some(info)) => {
-                let timeout = self.link.request_timeout();
-                self.link.set_limits(info.max_payload, timeout);
+                self.link.set_max_payload(info.max_payload);
                 self.link.set_state(State::Connected);
                 self.writer.phase = after_info(self.writer.phase);
                 replace_with(&mut self.info, Some(info));
@@ -117,6 +118,7 @@ impl Connection {
     }
 
     // Takes a frame that is no refusal.
+    #[inline]
     fn take_frame(&mut self, alloc: Global, frame: ServerFrame) -> Result<(), ConnectionError>
         requires { is_refusal frame ≡ false }
         ensures ok { OnOk result (Takes frame self.old self.new) }
@@ -154,6 +156,7 @@ impl Connection {
     }
 
     // Takes the frame that the first bytes are.
+    #[inline]
     fn take(
         &mut self,
         alloc: Global,
@@ -234,7 +237,7 @@ impl Connection {
         ensures quiet { QuietAfter result bytes.now now self.old self.new }
         ensures most { self.new.most ≡ self.old.most }
     {
-        self.came.push(alloc, bytes)?;
+        self.came.push(bytes)?;
         self.keep_alive.hear(bytes, now);
         self.take_all(alloc)
     }
