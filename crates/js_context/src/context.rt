@@ -205,6 +205,13 @@ impl Context {
         self.settings
     }
 
+    /// Returns how many permits its window has. Other contexts may share them.
+    pub fn max_ack_inflight(&self) -> u64
+        ensures { result ≡ self.now.pass.window.capacity }
+    {
+        self.window.capacity()
+    }
+
     /// Returns how many acks are awaited: the permits that this context holds, minus its detached
     /// acks.
     pub fn awaited(&self) -> u64

@@ -105,6 +105,13 @@ impl Window {
         Ok((Window { cell, capacity }, pass))
     }
 
+    /// Returns how many permits it has.
+    pub fn capacity(&self) -> u64
+        ensures { result ≡ self.now.capacity }
+    {
+        self.capacity
+    }
+
     /// Takes a permit, which carries the pass's number. Returns `Full` only if all permits are out
     /// at this call's place in the history. It does not wait for a permit. If others take and give
     /// at the same time, it tries again.

@@ -1,5 +1,6 @@
 //! What a user can watch of a queue.
-ghost use Rattle.std.specs.Prelude.{◌≡◌, Some};
+ghost use Rattle.std.specs.Prelude.{◌≡◌, ◌-◌, Some, length};
+ghost use Rattle.js_window.specs.Caller.{held};
 ghost use Rattle.js_context_queue.specs.Health.{counts_text, first_since, health_of, health_text, waiting_text};
 
 use super::PublishQueue;
@@ -80,6 +81,18 @@ impl PublishQueue {
             None => None,
             Some(first) => Some(first.since),
         }
+    }
+
+    /// Returns how many more messages it could send at once: the permits of its window that its
+    /// context does not hold, minus the messages that wait to be sent. If other contexts share the
+    /// window, they may hold some of these permits, and then it sends fewer.
+    pub fn room(&self) -> u64
+        ensures { result ≡ self.now.context.pass.window.capacity - held self.now.context.pass - length self.now.unsent }
+    {
+        let context = &self.context;
+        let free = context.max_ack_inflight().saturating_sub(context.awaited());
+        let free = free.saturating_sub(context.detached_len() as u64);
+        free.saturating_sub(self.unsent.len() as u64)
     }
 
     /// Returns how much it holds. Takes no memory, and looks at no link.
