@@ -76,19 +76,3 @@ class Server:
     def restart(self):
         self.stop()
         self.start()
-
-
-class Domain(Server):
-    """A server that is a JetStream domain of this name, and that others join as leaf nodes, or that joins another, as `leafnodes` says."""
-
-    def __init__(self, folder, name, leafnodes):
-        super().__init__(os.path.join(folder, name))
-        self.name = name
-        self.leafnodes = leafnodes
-
-    def words(self):
-        os.makedirs(self.folder, exist_ok=True)
-        path = os.path.join(self.folder, "conf")
-        with open(path, "w", encoding="utf-8") as it:
-            it.write(f'jetstream {{ domain: {self.name}, store_dir: "{self.folder}" }}\nleafnodes {{ {self.leafnodes} }}\n')
-        return ["-c", path]

@@ -13,7 +13,7 @@ use std::process::ExitCode;
 use std::{env, thread};
 
 // The words of the command line, the program's name first.
-fn command_line(rt: &HostRuntime) -> Result<Vec<String>, Failure> {
+fn command_words(rt: &HostRuntime) -> Result<Vec<String>, Failure> {
     let mut words = Vec::new(rt.alloc());
     for word in told(rt, env::args(rt), Failure::Usage)? {
         words.push(word)?;
@@ -23,7 +23,7 @@ fn command_line(rt: &HostRuntime) -> Result<Vec<String>, Failure> {
 
 fn main(rt: HostRuntime) -> ExitCode {
     let alloc = rt.alloc();
-    let words = match command_line(&rt) {
+    let words = match command_words(&rt) {
         Ok(words) => words,
         Err(failure) => return ExitCode::from(exit_code(Err(failure))),
     };

@@ -1,11 +1,15 @@
 //! How the program starts.
 
+ghost use Rattle.std.specs.Prelude.{◌≡◌, is_some, IfOk, IfErr};
+ghost use Rattle.js_pipe.specs.declared.failure.Failure.TheVariants.{Fault};
+
 use crate::outcomes::Outcomes;
 use crate::publish::{WINDOW, publish};
 use crate::words::read_words;
 use crossbeam_channel::{Receiver, Sender, bounded};
 use js_pipe::{Came, Failure, Options, Session, Task, told};
 use js_pipe_consume::{Reading, consume};
+use js_pipe_record::consume_recorded;
 use js_tool_io::WriteSink;
 use std::alloc::Global;
 use std::fs::File;
@@ -24,6 +28,8 @@ pub struct Work<'a> {
     session: Session,
     credits: Sender<()>,
     options: Options<'a>,
+    /// The file of a recording, if the words name one.
+    recording: Option<File>,
 }
 
 /// What the program begins with: what each of its threads takes, and what it does beside them.
@@ -51,10 +57,14 @@ impl Work<'_> {
             mut session,
             credits,
             options,
+            recording,
         } = self;
         let ended = match options.task {
-            Task::Consume => run_consume(rt, alloc, &mut session, &options),
-            Task::Publish => run_publish(rt, alloc, &mut session, &credits, &options),
+            Task::Consume => run_consume(rt, alloc, &mut session, &options, recording),
+            Task::Publish => {
+                drop(recording);
+                run_publish(rt, alloc, &mut session, &credits, &options)
+            }
         };
         drop(session);
         drop(credits);
@@ -62,16 +72,28 @@ impl Work<'_> {
     }
 }
 
-// Reads to standard output.
+// Reads to standard output, and records what is met where there is a file for it.
 fn run_consume<R: Clock + Wait + Print + Eprint>(
     rt: &R,
     alloc: Global,
     session: &mut Session,
     options: &Options<'_>,
+    recording: Option<File>,
 ) -> Result<(), Failure> {
     let mut output = WriteSink::new(io::writer(rt));
     let mut reading = Reading::new(alloc, options.count.unwrap_or(u64::MAX));
-    consume(rt, alloc, session, options, &mut reading, &mut output)
+    match recording {
+        None => consume(rt, alloc, session, options, &mut reading, &mut output),
+        Some(file) => consume_recorded(
+            rt,
+            alloc,
+            session,
+            options,
+            WriteSink::new(file),
+            &mut reading,
+            &mut output,
+        ),
+    }
 }
 
 // Publishes lines, and writes their outcomes to standard output.
@@ -117,21 +139,53 @@ fn options_of<'a, R: Print + Eprint>(
     }
 }
 
-// Makes the channels and the session.
+// Makes an empty file for a recording: what it had is gone. Tells why, where it can't.
+fn create_file<R: Files<File = File> + Eprint>(rt: &R, path: &str) -> Result<File, Failure>
+    ensures { IfErr result (λ failure. failure ≡ Fault) }
+{
+    match File::create(rt, path) {
+        Ok(file) => Ok(file),
+        Err(error) => {
+            let _ = eprintln!(rt; "the recording {path} can't be opened: {error}");
+            drop(error);
+            Err(Failure::Fault)
+        }
+    }
+}
+
+// The file of a recording, if the words name one.
+fn record_file<R: Files<File = File> + Eprint>(
+    rt: &R,
+    path: Option<&str>,
+) -> Result<Option<File>, Failure>
+    ensures opened { IfOk result (λ file. is_some file ≡ is_some path.entry) }
+    ensures fault { IfErr result (λ failure. failure ≡ Fault) }
+{
+    match path {
+        None => Ok(None),
+        Some(path) => Ok(Some(create_file(rt, path)?)),
+    }
+}
+
+// Makes the channels, the file of a recording and the session.
 fn begin<'a, R: Files<File = File> + Clock + RandomSource + Wait + Eprint>(
     rt: &R,
     alloc: Global,
     options: Options<'a>,
-) -> Result<Start<'a>, Failure> {
+) -> Result<Start<'a>, Failure>
+    ensures { IfOk result (λ start. is_some start.work.recording ≡ is_some options.entry.record) }
+{
     let from = String::from_str(alloc, options.from)?;
     let (bytes, came) = bounded::<Came, _>(alloc, PIECES)?;
     let (credits, credit) = bounded::<(), _>(alloc, WINDOW)?;
     let lines = bytes.clone()?;
+    let recording = record_file(rt, options.record)?;
     let session = Session::open(rt, alloc, &options, came)?;
     let work = Work {
         session,
         credits,
         options,
+        recording,
     };
     Ok(Start {
         from,

@@ -90,6 +90,12 @@ const CONSUME: &[Word] = &[
         kind: Kind::Number,
         help: "Ends after so many messages",
     },
+    Word {
+        name: "record",
+        value: "FILE",
+        kind: Kind::Text,
+        help: "Replaces this file by a recording of all that the reader meets, for `wilfjodi rerun`",
+    },
 ];
 
 const PUBLISH: &[Word] = &[
@@ -196,7 +202,7 @@ fn options_of<'a>(task: Task, words: &ArgMatches<'a>) -> Options<'a> {
         filter: words.get_str("filter"),
         start: words.get_one::<u64>("start"),
         count: words.get_one::<u64>("count"),
-        record: None,
+        record: words.get_str("record"),
         id: words.get_str("id"),
     }
 }

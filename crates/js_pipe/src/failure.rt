@@ -18,7 +18,8 @@ pub enum Failure {
     Usage,
     /// The server refuses, or does not say that it did what was asked.
     Refused,
-    /// A file, standard input, standard output or the clock failed.
+    /// The file to write to cannot be opened, or standard input, standard output, the clock or the
+    /// random bytes of the system failed.
     Fault,
     OutOfMemory,
     /// All that was asked for is done, but its recording is not whole.

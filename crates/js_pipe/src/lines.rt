@@ -13,6 +13,8 @@ pub enum Came {
     Bytes(Vec<u8>),
     /// The server's bytes have ended.
     Lost,
+    /// There was no memory for the server's next bytes, so no more come.
+    OutOfMemory,
     /// A line of standard input, without its line feed.
     Line(Vec<u8>),
     /// The end of standard input: whether it was read to its end, and did not fail.
@@ -20,22 +22,23 @@ pub enum Came {
 }
 
 /// Reads a file to its end, and brings what it holds piece by piece. It ends early where nobody
-/// listens any more.
+/// listens any more, or memory runs out, which it tells.
 pub fn bring_bytes<R: Files<File = File> + Wait>(
     rt: &R,
     alloc: Global,
     from: &str,
     to: &Sender<Came>,
 ) {
+    let mut end = Came::Lost;
     if let Ok(mut file) = File::open(rt, from) {
         if bring_pieces(rt, alloc, &mut file, to).is_none() {
-            return;
+            end = Came::OutOfMemory;
         }
     }
-    let _ = to.send(rt, Came::Lost);
+    let _ = to.send(rt, end);
 }
 
-// Some at the end of the file, and None where nobody listens or memory ran out.
+// Some at the end of the file, and None where memory ran out, or nobody listens any more.
 fn bring_pieces<R: Wait>(rt: &R, alloc: Global, file: &mut File, to: &Sender<Came>) -> Option<()> {
     let mut piece = vec![in alloc; 0_u8; 65_536].ok()?;
     for _ in rt.forever() {

@@ -265,6 +265,7 @@ impl Session {
             Came::Line(line) => Ok(Happened::Line(line)),
             Came::NoMoreLines { is_whole } => Ok(Happened::NoMoreLines { is_whole }),
             Came::Lost => Err(tell(rt, &LOST, Failure::Lost)),
+            Came::OutOfMemory => Err(tell(rt, &OutOfMemory, Failure::OutOfMemory)),
         }
     }
 
